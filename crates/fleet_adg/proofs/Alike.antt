@@ -16,8 +16,7 @@ use Rattle.fleet_model.specs.Program.{origin, awaits_of}
 use Rattle.fleet_model.specs.Chain.{IsAction, DirectlyNeeds, ChainFrom, Reaches, awaited}
 use Rattle.fleet_model.specs.Visit.{IsVisitOf, ComesAfterByChain, entering, leaving}
 use Rattle.fleet_model.specs.Accepted.{IsAcceptedBy}
-use Rattle.fleet_model.proofs.Visits.{goes_next, goes_enters}
-use Rattle.fleet_model.proofs.Chains.{chain_first, Reaches-first, Reaches-last, Reaches-need, Reaches-trans, Reaches-rises}
+use Rattle.fleet_model.proofs.Chains.{goes_next, goes_enters, chain_first, Reaches-first, Reaches-last, Reaches-need, Reaches-trans, Reaches-rises}
 use Rattle.fleet_plan.specs.Plan.{Plan, cell_of, steps, IsConflictFree}
 use Rattle.fleet_verify.proofs.Listing.{awaits_accepted, two_ordered}
 use Rattle.fleet_verify.specs.Reduced.{DiffersInAwaits, HaveSameChains}

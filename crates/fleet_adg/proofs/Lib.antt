@@ -16,6 +16,5 @@ pub mod Accepted
 pub mod Alike
 pub mod Staying
 pub mod Short
-pub mod StayingPlans
 pub mod Thinning
 mod RestMade

@@ -19,7 +19,7 @@ use Rattle.fleet_adg.proofs.Moves.{changes_in-same, changes_in-end, moves_by-yes
 use Rattle.fleet_model.proofs.Cells.{is_same_cell-true, is_same_cell-eq, place_of-injective}
 use Rattle.fleet_adg.proofs.Follow.{only_one}
 use Rattle.fleet_adg.proofs.Entry.{entry-complete}
-use Rattle.fleet_model.proofs.Visits.{goes_next, goes_enters}
+use Rattle.fleet_model.proofs.Chains.{goes_next, goes_enters}
 use Rattle.fleet_adg.proofs.Programs.{length-compiled, moves-compiled, action_in-step, path-compiled, goes-compiled}
 
 -- ---- lists

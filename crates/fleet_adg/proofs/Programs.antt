@@ -21,7 +21,7 @@ use Rattle.std.proofs.lemmas.List.Elements.{All-map}
 use Rattle.fleet_model.specs.declared.task.Task.{Task}
 use Rattle.fleet_plan.specs.Plan.{Plan, cell_of, steps, AreNeighbours, IsConflictFree}
 use Rattle.fleet_adg.specs.Compiled.{direction, changes_in, changes, moves_by, entry_awaits, action_in, agent_program, compiled}
-use Rattle.fleet_model.proofs.Visits.{NeverDwells}
+use Rattle.fleet_model.proofs.Chains.{NeverDwells}
 use Rattle.fleet_adg.proofs.Moves.{changes_in-ne, changes_in-same, changes-yes, changes-no, moves_by-yes, moves_by-mono, IsMoveAt, move_at, listed_at}
 
 -- ---- directions

@@ -23,7 +23,7 @@ use Rattle.fleet_grid.specs.Ground.{Ground, is_passable, IsGround, IsNoNumber}
 use Rattle.fleet_grid.proofs.StoredLaws.{no_cell}
 use Rattle.fleet_verify.specs.Rest.{StandOn, cell_at, natural, rest_await, rest_awaits, rest_action}
 use Rattle.fleet_verify.proofs.Done.{count_within}
-use Rattle.fleet_verify.proofs.Free.{runs_on_ground}
+use Rattle.fleet_verify.proofs.FreeRun.{runs_on_ground}
 use Rattle.fleet_adg.specs.Remaining.{IsOnWay, IsCellNumber}
 
 take_push : {X : Type 0} (xs : List X) (k : ℕ) (x : X) → slice_get xs k ≡ Some x → take (k + 1) xs ≡ take k xs ++ x ∷ []

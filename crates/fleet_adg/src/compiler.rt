@@ -86,7 +86,7 @@ fn has_few_actions(plan: &Plan, stays: u32) -> bool
 }
 
 /// Whether no agent has too many actions then.
-#[tactic(auto, using(crate::proofs::StayingPlans::each_few, crate::proofs::StayingPlans::some_too_long, crate::proofs::StayingPlans::few_steps))]
+#[tactic(auto, using(crate::proofs::Staying::each_few, crate::proofs::Staying::some_too_long, crate::proofs::Staying::few_steps))]
 fn each_has_few(plan: &Plan, stays: u32) -> bool
     ensures { result ≡ each_has_few plan.now stays }
 {
@@ -104,7 +104,7 @@ fn each_has_few(plan: &Plan, stays: u32) -> bool
 }
 
 /// Whether all agents together do not have too many then.
-#[tactic(auto, using(crate::proofs::StayingPlans::few_in_all))]
+#[tactic(auto, using(crate::proofs::Staying::few_in_all))]
 fn all_have_few(plan: &Plan, stays: u32) -> bool
     ensures { result ≡ all_have_few plan.now stays }
 {

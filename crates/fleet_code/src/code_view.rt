@@ -11,8 +11,8 @@ ghost use Rattle.fleet_code.specs.LoadFaults.{IsFirstLoadFault};
 ghost use Rattle.fleet_code.specs.Offsets.{Viewed, StandsAt, await_len, after_opcodes, begin_of, end_of, part_at};
 
 use crate::fault::LoadFault;
-use crate::fields::version_of;
 use crate::format::{AWAIT, CELL_LEN, NUMBER_LEN, Version, step_of};
+use crate::loader::version_of;
 use crate::offsets::{Part, parts_in};
 use fleet_model::{Await, Cell, Instruction, ProgramView, Step};
 use std::alloc::Global;

@@ -22,9 +22,8 @@ use Rattle.fleet_model.specs.Machine.{indices, place_at}
 use Rattle.fleet_model.specs.Chain.{IsAction, DirectlyNeeds, awaited}
 use Rattle.fleet_model.specs.Schedule.{Schedule, IsBy, IsSchedule}
 use Rattle.fleet_model.specs.Dispatch.{Dispatch, OrdersAwait, IsCarriedOut}
-use Rattle.fleet_verify.proofs.Critical.{need_action}
-use Rattle.fleet_verify.proofs.Timed.{no_two_on}
-use Rattle.fleet_verify.proofs.OrdersAhead.{ahead_schedule}
+use Rattle.fleet_model.proofs.Chains.{need_action}
+use Rattle.fleet_verify.proofs.Timed.{no_two_on, ahead_schedule}
 use Rattle.fleet_dispatch.specs.declared.report.Reported.{Reported}
 use Rattle.fleet_dispatch.specs.Report.{Words, Counts, count_of, counts_after}
 use Rattle.fleet_dispatch.specs.Ahead.{told_to, IsOrdered, is_all_done}

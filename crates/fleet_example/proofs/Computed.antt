@@ -21,7 +21,7 @@ use Rattle.fleet_model.specs.Machine.{indices, IsLeast}
 use Rattle.fleet_model.specs.Chain.{IsAction, DirectlyNeeds, ChainFrom, IsNumbering, IsLevel, IsLongestChain}
 use Rattle.fleet_model.specs.Accepted.{IsRight}
 use Rattle.fleet_model.proofs.Chains.{ends_by, ends_within, ends_action, level_is}
-use Rattle.fleet_verify.proofs.LeastAwaits.{awaiting_action}
+use Rattle.fleet_verify.proofs.SameChains.{awaiting_action}
 
 -- ---- tests of numbers below a bound
 

@@ -6,7 +6,7 @@ use Rattle.fleet_model.specs.declared.program.Visit.{Visit}
 use Rattle.fleet_model.specs.Geometry.{is_move}
 use Rattle.fleet_model.specs.Program.{Program, actions_of, moves, path}
 use Rattle.fleet_model.specs.Visit.{is_entry, stays_before, next_move, IsVisit, leaving, IsLongestRun}
-use Rattle.fleet_model.proofs.Visits.{there, action_there, stay_path, move_path, entry_moves, move_enters, next_is_move, next_within, stays_to}
+use Rattle.fleet_model.proofs.Chains.{there, action_there, stay_path, move_path, entry_moves, move_enters, next_is_move, next_within, stays_to}
 
 entry_apart : (p : Program) (i n k : ℕ) → is_entry p i n ≡ true → k + 1 ≡ n → path p i k ≢ path p i n
 entry_apart p i zero k e s same = omega arith

@@ -9,24 +9,14 @@ use Rattle.fleet_model.specs.declared.program.Await.{Await}
 use Rattle.fleet_model.specs.declared.program.ActionId.{ActionId}
 use Rattle.fleet_model.specs.Program.{Program, moves, awaits_of, AreInRange}
 use Rattle.fleet_model.specs.Chain.{IsAction, DirectlyNeeds, ChainFrom, IsCriticalCost, awaited}
-use Rattle.fleet_model.proofs.Chains.{ends_alone, ends_dearer}
+use Rattle.fleet_model.proofs.Chains.{need_action, ends_alone, ends_dearer}
 use Rattle.fleet_needs.specs.Critical.{IsNotedCost, IsGreatestNeed, IsGreatestOf, value_at}
 use Rattle.fleet_needs.specs.Order.{IsNextReady}
 use Rattle.fleet_needs.specs.Settled.{IsFinishedBy, IsFinishTick, IsDoneMid}
-use Rattle.fleet_needs.specs.declared.action_places.ActionPlaces.{ActionPlaces}
+use Rattle.fleet_needs.specs.declared.await_places.ActionPlaces.{ActionPlaces}
 use Rattle.fleet_needs.specs.declared.critical.TheConstants.{MAX_COST}
-use Rattle.fleet_needs.proofs.Finishing.{next_action}
-use Rattle.fleet_needs.proofs.Free.{count, needs_done}
+use Rattle.fleet_needs.proofs.Free.{next_action, count, needs_done}
 use Rattle.fleet_needs.proofs.Entries.{finished_here, grows_to}
-
--- what an action directly needs is an action
-pub need_action : (p : Program) → AreInRange p → (a b : ActionId) → IsAction p a → DirectlyNeeds p a b → IsAction p b
-need_action p in_range a b act (inl h) =
-    let same : moves p a.agent ≡ moves p b.agent = ap (moves p) h.0 in
-    record { agent = omega (arith, act.agent, h.0); first = h.2; last = omega (arith, act.last, h.1, same) }
-need_action p in_range a b act (inr h) =
-    let k = in_range a.agent a.number (record { agent = b.agent; count = b.number }) h in
-    record { agent = k.agent; first = k.first; last = k.last }
 
 module _ (p : Program) (cost : ActionId → ℕ) where
   -- a chain of more than one action, but for its last

@@ -10,8 +10,7 @@ use Rattle.fleet_model.specs.Machine.{run, is_finished}
 use Rattle.fleet_model.specs.Chain.{IsAction, IsLevel}
 use Rattle.fleet_needs.specs.Asked.{IsSoonerAction}
 use Rattle.fleet_needs.specs.Order.{IsNextReady, AreNoneReady, IsCounted, IsMid, AreMid, IsNextAction, AreAllCounted}
-use Rattle.fleet_needs.proofs.Free.{count, count_start, stays, grows, level_done, done_level}
-use Rattle.fleet_needs.proofs.Finishing.{all_finished, moved, next_action}
+use Rattle.fleet_needs.proofs.Free.{count, count_start, stays, grows, level_done, done_level, all_finished, moved, next_action}
 
 -- a count that is read at a place
 pub count_read : (counts : List ℕ) (x y v : ℕ) → x ≡ y → y < length counts → v ≡ get_or counts x v → v ≡ get_or counts y 0

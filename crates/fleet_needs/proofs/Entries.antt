@@ -5,12 +5,11 @@ use Rattle.fleet_model.specs.declared.program.ActionId.{ActionId}
 use Rattle.fleet_model.specs.Program.{Program, total_moves}
 use Rattle.fleet_model.specs.Chain.{IsAction}
 use Rattle.fleet_needs.specs.Places.{ArePlacesOf, action_place, place_of_action}
-use Rattle.fleet_needs.specs.declared.action_places.ActionPlaces.{ActionPlaces}
+use Rattle.fleet_needs.specs.declared.await_places.ActionPlaces.{ActionPlaces}
 use Rattle.fleet_needs.specs.Order.{IsNextReady, AreNoneReady}
 use Rattle.fleet_needs.specs.Settled.{IsFinishedBy, IsDoneMid, IsFinishTick}
-use Rattle.fleet_needs.proofs.Free.{count, grows}
+use Rattle.fleet_needs.proofs.Free.{count, grows, moved, next_action, one_more, apart, none_more, none_started}
 use Rattle.fleet_needs.proofs.Placed.{place_apart, place_within}
-use Rattle.fleet_needs.proofs.Finishing.{moved, next_action, one_more, apart, none_more, none_started}
 
 -- the entries of these actions are so
 abbrev pub AreEntries : Program → ActionPlaces → (ActionId → ℕ → Type 0) → (ActionId → Type 0) → List ℕ → Type 0

@@ -13,7 +13,7 @@ use Rattle.fleet_needs.specs.Asked.{IsSoonerAction}
 use Rattle.fleet_needs.specs.Places.{place_of_action}
 use Rattle.fleet_needs.specs.Joins.{IsRow, StandsFor, row_taken, IsJoin, AreJoins, Takes, AreLasts, row_of, IsStanding, AreSound, AreJoinsOf, CanJoin, AreTaken, HasJoined, IsAdded}
 use Rattle.fleet_needs.specs.Joins.{AreRaised}
-use Rattle.fleet_needs.specs.declared.action_places.ActionPlaces.{ActionPlaces}
+use Rattle.fleet_needs.specs.declared.await_places.ActionPlaces.{ActionPlaces}
 use Rattle.fleet_needs.specs.declared.joins.Join.{Join}
 use Rattle.fleet_needs.specs.declared.joins.Joins.{Joins}
 use Rattle.fleet_needs.proofs.Counting.{counted_back, counted_apart, counted_still, counted_here}

@@ -8,11 +8,10 @@ use Rattle.fleet_model.specs.Chain.{IsAction, awaited}
 use Rattle.fleet_needs.specs.Order.{IsNextReady, IsCounted, AreMid}
 use Rattle.fleet_needs.specs.Places.{ArePlacesOf}
 use Rattle.fleet_needs.specs.Joins.{CanJoin, AreJoinsOf, AreJoinsEnd}
-use Rattle.fleet_needs.specs.declared.action_places.ActionPlaces.{ActionPlaces}
+use Rattle.fleet_needs.specs.declared.await_places.ActionPlaces.{ActionPlaces}
 use Rattle.fleet_needs.specs.declared.joins.Joins.{Joins}
 use Rattle.fleet_needs.proofs.Counting.{counted_before, number_is, none_counted, all_counted}
-use Rattle.fleet_needs.proofs.Finishing.{next_action, all_finished}
-use Rattle.fleet_needs.proofs.Free.{count, moves_on, needs_done}
+use Rattle.fleet_needs.proofs.Free.{next_action, all_finished, count, moves_on, needs_done}
 use Rattle.fleet_needs.proofs.GatheredAll.{own_later}
 use Rattle.fleet_needs.proofs.Joining.{awaited_action}
 

@@ -2,7 +2,6 @@ mod Lanes
 pub mod Free
 pub mod Joining
 pub mod Placed
-pub mod Finishing
 pub mod Counting
 pub mod Ordering
 pub mod Answered

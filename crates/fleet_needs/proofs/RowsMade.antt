@@ -14,7 +14,7 @@ use Rattle.fleet_needs.specs.Rows.{IsColumn, IsJoined, OfFirst, OfOthers, OfOthe
 use Rattle.fleet_needs.specs.Schedule.{IsSchedule, AreColumnsOf, AreCounts, AreRowsTo, IsThere, StandsThere, AreJoinedWith, count_in_slot}
 use Rattle.fleet_needs.specs.JoinPass.{IsNextRow}
 use Rattle.fleet_needs.specs.Slots.{IsStill}
-use Rattle.fleet_needs.specs.declared.columns.Columns.{Columns}
+use Rattle.fleet_needs.specs.declared.slots.Columns.{Columns}
 use Rattle.fleet_needs.specs.declared.joins.Join.{Join}
 use Rattle.fleet_needs.specs.declared.slot_rows.SlotRows.{SlotRows}
 use Rattle.fleet_needs.specs.declared.schedule.Schedule.{Schedule}

@@ -7,12 +7,11 @@ use Rattle.fleet_model.specs.Program.{Program, total_moves}
 use Rattle.fleet_model.specs.Machine.{run, is_finished}
 use Rattle.fleet_model.specs.Chain.{IsAction, DirectlyNeeds, IsNumbering}
 use Rattle.fleet_needs.specs.Places.{ArePlacesOf, action_place, place_of_action}
-use Rattle.fleet_needs.specs.declared.action_places.ActionPlaces.{ActionPlaces}
+use Rattle.fleet_needs.specs.declared.await_places.ActionPlaces.{ActionPlaces}
 use Rattle.fleet_needs.specs.Order.{IsNextReady, AreNoneReady}
 use Rattle.fleet_needs.specs.Settled.{IsFinishedBy, IsDoneMid, IsFinishTick, AreFinishTicks}
-use Rattle.fleet_needs.proofs.Free.{count, grows, needs_done}
+use Rattle.fleet_needs.proofs.Free.{count, grows, needs_done, moved, next_action, one_more, apart, none_more, none_started, all_finished}
 use Rattle.fleet_needs.proofs.Placed.{place_apart, place_within}
-use Rattle.fleet_needs.proofs.Finishing.{moved, next_action, one_more, apart, none_more, none_started, all_finished}
 
 pub noted_none : (p : Program) (places : ActionPlaces) (ticks : List ℕ) → AreFinishTicks p places (IsFinishedBy p 0) ticks
 noted_none p places ticks a k done = absurd (none_started p a k done)

@@ -9,7 +9,7 @@ use Rattle.fleet_needs.specs.Columns.{column_of}
 use Rattle.fleet_needs.specs.JoinPass.{IsMade}
 use Rattle.fleet_needs.specs.Schedule.{HasRows}
 use Rattle.fleet_needs.specs.declared.answering.Answering.{Answering}
-use Rattle.fleet_needs.specs.declared.columns.Columns.{Columns}
+use Rattle.fleet_needs.specs.declared.slots.Columns.{Columns}
 use Rattle.fleet_needs.specs.declared.questions.Question.{Question}
 use Rattle.fleet_needs.specs.declared.schedule.Schedule.{Schedule}
 

@@ -6,7 +6,7 @@ use Rattle.fleet_model.specs.Program.{Program, awaits_of, total_moves}
 use Rattle.fleet_model.specs.Chain.{IsAction, DirectlyNeeds, IsCriticalCost, awaited}
 use Rattle.fleet_needs.specs.Places.{ArePlacesOf, place_of_action}
 use Rattle.fleet_needs.specs.Settled.{IsFinishedBy}
-use Rattle.fleet_needs.specs.declared.action_places.ActionPlaces.{ActionPlaces}
+use Rattle.fleet_needs.specs.declared.await_places.ActionPlaces.{ActionPlaces}
 use Rattle.fleet_needs.specs.declared.critical.CriticalCosts.{CriticalCosts}
 use Rattle.fleet_needs.specs.declared.critical.TheConstants.{MAX_COST}
 

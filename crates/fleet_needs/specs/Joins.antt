@@ -6,7 +6,7 @@ use Rattle.fleet_model.specs.Program.{Program, awaits_of, total_moves}
 use Rattle.fleet_model.specs.Chain.{IsAction, IsLevel, Reaches, awaited}
 use Rattle.fleet_needs.specs.Asked.{IsSoonerAction}
 use Rattle.fleet_needs.specs.Places.{ArePlacesOf, place_of_action}
-use Rattle.fleet_needs.specs.declared.action_places.ActionPlaces.{ActionPlaces}
+use Rattle.fleet_needs.specs.declared.await_places.ActionPlaces.{ActionPlaces}
 use Rattle.fleet_needs.specs.declared.joins.Join.{Join}
 use Rattle.fleet_needs.specs.declared.joins.Joins.{Joins}
 

@@ -8,7 +8,7 @@ use Rattle.fleet_needs.specs.Counts.{counts_of, CanHold}
 use Rattle.fleet_needs.specs.Joins.{AreJoins, IsRow, Takes, StandsFor, HasAllRows, AreOrdered, AreRising, AreOwn}
 use Rattle.fleet_needs.specs.Rows.{IsColumn}
 use Rattle.fleet_needs.specs.Slots.{IsStill}
-use Rattle.fleet_needs.specs.declared.columns.Columns.{Columns}
+use Rattle.fleet_needs.specs.declared.slots.Columns.{Columns}
 use Rattle.fleet_needs.specs.declared.joins.Join.{Join}
 use Rattle.fleet_needs.specs.declared.questions.Question.{Question}
 use Rattle.fleet_needs.specs.declared.schedule.Schedule.{Schedule}

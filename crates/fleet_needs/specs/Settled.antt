@@ -6,7 +6,7 @@ use Rattle.fleet_model.specs.declared.program.ActionId.{ActionId}
 use Rattle.fleet_model.specs.Program.{Program, awaits_of, total_moves}
 use Rattle.fleet_model.specs.Chain.{IsAction, IsNumbering}
 use Rattle.fleet_needs.specs.Places.{ArePlacesOf, place_of_action}
-use Rattle.fleet_needs.specs.declared.action_places.ActionPlaces.{ActionPlaces}
+use Rattle.fleet_needs.specs.declared.await_places.ActionPlaces.{ActionPlaces}
 use Rattle.fleet_model.specs.Machine.{run, count_at}
 use Rattle.fleet_needs.specs.Implied.{IsImpliedFlag, first_await}
 use Rattle.fleet_needs.specs.declared.finish_ticks.FinishTicks.{FinishTicks}

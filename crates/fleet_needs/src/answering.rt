@@ -8,11 +8,11 @@ ghost use Rattle.fleet_needs.specs.Block.{HasColumn, IsAnswer, AreAnswered};
 ghost use Rattle.fleet_needs.specs.Joins.{AreOwn};
 ghost use Rattle.fleet_needs.specs.Schedule.{AreColumnsOf, AreCounts, HasRows, IsSchedule};
 
-use crate::columns::Columns;
 use crate::join_pass::{JoinUse, others_row, use_joins, whole_row};
 use crate::questions::Question;
 use crate::schedule::Schedule;
 use crate::slot_rows::SlotRows;
+use crate::slots::Columns;
 use fleet_model::{ActionId, OutOfMemory, ProgramView};
 use std::alloc::Global;
 

@@ -1,11 +1,11 @@
-//! The places of awaits among all awaits of a program.
+//! Where the actions of a program, and their awaits, stand in rows of all.
 
 ghost use Rattle.std.specs.Prelude.{◌≡◌, ◌+◌, ◌<◌, ◌≤◌, ℕ, length, take, sum_by, slice_index, IfOk, OnOk};
 ghost use Rattle.fleet_model.specs.Program.{moves, actions_of, total_awaits, total_moves};
 ghost use Rattle.fleet_model.specs.Chain.{IsAction};
 ghost use Rattle.fleet_needs.specs.Implied.{AreAwaitPlaces, first_await};
+ghost use Rattle.fleet_needs.specs.Places.{ArePlacesOf};
 
-use crate::action_places::ActionPlaces;
 use fleet_model::{ActionId, OutOfMemory, ProgramView, total_moves};
 use std::alloc::Global;
 
@@ -69,4 +69,35 @@ fn push_agent<P: ProgramView>(
         total += u32::from(program.await_count(i, finished + 1));
     }
     Ok(total)
+}
+
+/// Where the actions of each agent begin among all, which stand agent by agent.
+#[derive(Drop)]
+pub struct ActionPlaces {
+    firsts: Vec<u32>,
+}
+
+impl ActionPlaces {
+    /// The places of the actions of a program.
+    pub fn of<P: ProgramView>(alloc: Global, program: &P) -> Result<ActionPlaces, OutOfMemory>
+        ensures { IfOk result (ArePlacesOf (P.program program.now)) }
+    {
+        let agents = program.agents();
+        let mut firsts = Vec::with_capacity(alloc, usize::from(agents))?;
+        let mut total = 0;
+        for i in 0..agents {
+            firsts.push(total)?;
+            total += program.moves(i);
+        }
+        Ok(ActionPlaces { firsts })
+    }
+
+    /// The place of an action. Places count from 0.
+    pub fn place(&self, agent: u16, number: u32) -> usize
+        requires agent { agent < length self.now.firsts.items }
+        requires number { 1 ≤ number }
+        ensures { result + 1 ≡ slice_index self.now.firsts.items agent + number }
+    {
+        self.firsts[usize::from(agent)] as usize + number as usize - 1
+    }
 }

@@ -12,7 +12,7 @@ ghost use Rattle.fleet_needs.specs.declared.finish_ticks.TheConstants.{MAX_TICKS
 ghost use Rattle.fleet_needs.specs.Settled.{IsFinishedBy};
 ghost use Rattle.fleet_needs.specs.Critical.{AreNotedCosts, IsGreatestNeed, IsGreatestOf, HasEntries, AreCriticalCosts, critical_cost, value_at};
 
-use crate::action_places::ActionPlaces;
+use crate::await_places::ActionPlaces;
 use fleet_machine::Machine;
 use fleet_model::{ActionId, MAX_AGENTS, OutOfMemory, ProgramView, total_moves};
 use std::alloc::Global;

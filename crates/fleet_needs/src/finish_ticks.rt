@@ -9,7 +9,7 @@ ghost use Rattle.fleet_needs.specs.Order.{IsOrder, AreMid};
 ghost use Rattle.fleet_needs.specs.declared.finish_ticks.TheConstants.{MAX_TICKS};
 ghost use Rattle.fleet_needs.specs.Settled.{IsFinishedBy, AreFinishTicks, AreTicks, finish_tick};
 
-use crate::action_places::ActionPlaces;
+use crate::await_places::ActionPlaces;
 use crate::finish_order::FinishOrder;
 use fleet_model::{ActionId, OutOfMemory, ProgramView, total_moves};
 use std::alloc::Global;

@@ -11,12 +11,12 @@ ghost use Rattle.fleet_needs.specs.Schedule.{IsSchedule};
 ghost use Rattle.fleet_needs.specs.Flags.{AreImplied};
 
 use crate::await_places::AwaitPlaces;
-use crate::columns::Columns;
 use crate::finish_order::FinishOrder;
 use crate::join_pass::use_joins;
 use crate::questions::is_any;
 use crate::schedule::Schedule;
 use crate::settled::settle_all;
+use crate::slots::Columns;
 use fleet_model::{ActionId, Await, OutOfMemory, ProgramView, total_awaits};
 use std::alloc::Global;
 

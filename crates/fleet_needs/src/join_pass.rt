@@ -7,10 +7,10 @@ ghost use Rattle.fleet_model.specs.Program.{AreInRange};
 ghost use Rattle.fleet_needs.specs.Schedule.{IsSchedule, AreColumnsOf, AreRowsTo};
 ghost use Rattle.fleet_needs.specs.JoinPass.{IsNextRow, AreOthers, IsRowMade, joins_in};
 
-use crate::columns::Columns;
 use crate::joins::Join;
 use crate::schedule::Schedule;
 use crate::slot_rows::SlotRows;
+use crate::slots::Columns;
 use fleet_model::{OutOfMemory, ProgramView};
 use std::alloc::Global;
 
@@ -18,7 +18,7 @@ use std::alloc::Global;
 pub trait JoinUse {
     ghost use Rattle.std.specs.Prelude.{ℕ, OnOk, ◌≡◌, ◌+◌, length};
     ghost use Rattle.fleet_model.specs.Program.{Program};
-    ghost use Rattle.fleet_needs.specs.declared.columns.Columns.{Columns};
+    ghost use Rattle.fleet_needs.specs.declared.slots.Columns.{Columns};
     ghost use Rattle.fleet_needs.specs.declared.schedule.Schedule.{Schedule};
 
     /// The state of the use once so many rows were used.

@@ -7,10 +7,9 @@ ghost use Rattle.fleet_model.specs.Machine.{IsFinish};
 ghost use Rattle.fleet_model.specs.Chain.{IsAction};
 ghost use Rattle.fleet_needs.specs.Places.{ArePlacesOf, place_of_action};
 ghost use Rattle.fleet_needs.specs.Order.{IsOrder, AreMid, IsCounted};
-ghost use Rattle.fleet_needs.specs.Joins.{StandsFor, AreJoinsOf, AreJoinsEnd, CanJoin, AreTaken, HasJoined, IsAdded};
-ghost use Rattle.fleet_needs.specs.Joins.{AreRaised};
+ghost use Rattle.fleet_needs.specs.Joins.{StandsFor, AreJoinsOf, AreJoinsEnd, CanJoin, AreTaken, HasJoined, IsAdded, AreRaised};
 
-use crate::action_places::ActionPlaces;
+use crate::await_places::ActionPlaces;
 use crate::finish_order::FinishOrder;
 use fleet_model::{ActionId, OutOfMemory, ProgramView, total_moves};
 use std::alloc::Global;

@@ -2,13 +2,10 @@
 //! joined and compared by lanes, and which awaits others imply.
 #![tactic(auto)]
 
-mod action_places;
 mod answering;
-mod await_flags;
 mod await_places;
-mod columns;
-mod critical;
 mod counts;
+mod critical;
 mod finish_order;
 mod finish_ticks;
 mod flagging;
@@ -17,7 +14,6 @@ mod implied;
 mod join_pass;
 mod joins;
 mod kernels;
-mod near;
 mod piece;
 mod questions;
 mod schedule;

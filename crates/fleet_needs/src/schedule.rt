@@ -12,7 +12,7 @@ ghost use Rattle.fleet_needs.specs.Order.{IsOrder};
 ghost use Rattle.fleet_needs.specs.Places.{ArePlacesOf, place_of_action};
 ghost use Rattle.fleet_needs.specs.Schedule.{IsSchedule, HasRows};
 
-use crate::action_places::ActionPlaces;
+use crate::await_places::ActionPlaces;
 use crate::finish_order::FinishOrder;
 use crate::joins::{Course, Join, joins_of};
 use crate::questions::Question;

@@ -5,9 +5,9 @@ ghost use Rattle.fleet_needs.specs.declared.joins.Join.{Join};
 ghost use Rattle.fleet_needs.specs.Counts.{counts_of, CanHold};
 ghost use Rattle.fleet_needs.specs.Schedule.{AreCounts, AreRowsTo, IsThere, StandsThere, AreJoinedWith, count_in_slot};
 
-use crate::columns::Columns;
 use crate::counts::Counts;
 use crate::schedule::Schedule;
+use crate::slots::Columns;
 use fleet_model::{OutOfMemory, ProgramView};
 use std::alloc::Global;
 

@@ -8,10 +8,7 @@ pub mod Rehearsed
 pub mod HoldLemmas
 pub mod HoldLaws
 pub mod HoldsWritten
-pub mod Driven
 pub mod TraceLemmas
-pub mod Finished
 pub mod Patched
 pub mod Lines
 pub mod Resized
-mod Texts

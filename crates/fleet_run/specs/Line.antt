@@ -5,7 +5,7 @@ use Rattle.fleet_model.specs.declared.geometry.Place.{Place}
 use Rattle.fleet_model.specs.Machine.{Configuration, standing_at}
 use Rattle.fleet_machine.specs.Machine.{MachineState, flag_of}
 use Rattle.fleet_model.specs.declared.limits.TheConstants.{MAX_AGENTS}
-use Rattle.fleet_run.specs.declared.text.TheConstants.{LINE}
+use Rattle.fleet_run.specs.declared.trace.TheConstants.{LINE}
 use Rattle.fleet_run.specs.Text.{place_text}
 
 -- the places of these agents, and the end of the line

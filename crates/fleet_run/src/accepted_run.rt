@@ -4,8 +4,8 @@ ghost use Rattle.fleet_text.specs.Sink.{IsWorking};
 ghost use Rattle.fleet_run.specs.Trace.{Traces};
 
 use crate::fleet::{Fleet, drive};
-use crate::hold_text::HoldText;
 use crate::run::RunFault;
+use crate::source::HoldText;
 use crate::trace::Report;
 use fleet_model::ProgramView;
 use fleet_text::TraceOut;

@@ -8,7 +8,7 @@ ghost use Rattle.fleet_text.specs.Words.{with_spaces, next_words, numbered_text}
 ghost use Rattle.fleet_run.specs.Text.{place_text};
 ghost use Rattle.fleet_run.specs.Listing.{dir_name, step_words, await_text, await_words, agent_line, action_line, actions_text, agent_text, program_text};
 
-use crate::text::{PLACE, write_place};
+use crate::trace::{PLACE, write_place};
 use fleet_model::{Cell, Dir, Place, ProgramView, Step};
 use fleet_text::{OutFault, Row, TraceOut, Word, put_line, put_next_word, put_words};
 

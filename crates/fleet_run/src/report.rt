@@ -9,7 +9,7 @@ ghost use Rattle.fleet_run.specs.Source.{HasNotFailed};
 
 use crate::run::{End, RunFault, run_lines};
 use crate::source::HoldSource;
-use crate::text::{CLOSING, write_rehearsal_closing};
+use crate::trace::{CLOSING, write_rehearsal_closing};
 use fleet_machine::Machine;
 use fleet_model::ProgramView;
 use fleet_text::{TraceOut, put_all};

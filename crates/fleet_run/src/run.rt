@@ -11,7 +11,7 @@ ghost use Rattle.fleet_run.specs.Outcome.{run_end, fault_of, AsksNext, AsksUnles
 
 use crate::line::{write_moved, write_places, write_time};
 use crate::source::{HoldSource, SourceFault, ask};
-use crate::text::LINE;
+use crate::trace::LINE;
 use fleet_machine::Machine;
 use fleet_model::{MAX_AGENTS, ProgramView};
 use fleet_text::{OutFault, Refusal, TraceOut, put_all, put_memory, put_named, put_named_at};

@@ -1,8 +1,14 @@
-//! Sources of held sets: a source stands for the ticks that it can still give, and for what comes after them.
+//! Sources of holds, and the one that reads a text.
 
-ghost use Rattle.std.specs.Prelude.{◌≡◌, ℕ, ◌<◌, not, length, true, []};
+ghost use Rattle.std.specs.Prelude.{◌≡◌, ℕ, ◌<◌, not, length, true, [], ◌∷◌, List, ◌↔◌, MatchBool, MatchOption, IfSome, None, Some, min, option_map, position};
 ghost use Rattle.fleet_run.specs.Source.{HasNotFailed, GivesTick, AsksTick, AreFlagsOf};
 ghost use Rattle.fleet_machine.specs.Machine.{flag_of};
+ghost use Rattle.std.specs.List.{slice_split};
+ghost use Rattle.fleet_text.specs.Text.{lines};
+ghost use Rattle.fleet_run.specs.HoldText.{is_space, is_dash, plain_number, agents_of, tick_of, IsTickLine};
+
+use fleet_text::{TOO_LARGE, next_line, number_of};
+use std::marker::Model;
 
 /// How a source failed: it broke off, or the line that was asked for is no tick's.
 #[derive(Clone, Copy, Debug, PartialEq, Eq)]
@@ -59,3 +65,153 @@ pub fn ask<S: HoldSource>(
     clear(flags);
     Ok(false)
 }
+
+/// A source that gives the ticks of a text of holds: one line for each tick, `-` for nobody, or the numbers of the
+/// agents that are held in strictly rising order with one space between two. If the line that is asked for is no
+/// tick's, it fails as `Text`.
+#[derive(Drop)]
+pub struct HoldText<'a> {
+    rest: &'a [u8],
+    agents: u16,
+    failed: bool,
+}
+
+impl<'a> Model for HoldText<'a> {
+    ghost use Rattle.fleet_text.specs.Text.{lines};
+    ghost use Rattle.fleet_run.specs.HoldText.{HoldLines};
+
+    ghost Value = { HoldLines };
+
+    ghost view = { λ s. record {
+      lines = lines s.rest.now;
+      agents = s.agents;
+      has_failed = s.failed;
+    } };
+}
+
+impl<'a> HoldText<'a> {
+    ghost use Rattle.std.specs.Prelude.{false};
+
+    /// A source of the ticks of this text, for so many agents.
+    pub fn new(text: &'a [u8], agents: u16) -> Self
+        ensures { result ≡ record { lines = lines text.now; agents = agents; has_failed = false } }
+    {
+        HoldText {
+            rest: text,
+            agents,
+            failed: false,
+        }
+    }
+}
+
+impl<'a> HoldSource for HoldText<'a> {
+    ghost use Rattle.fleet_run.specs.HoldText.{source_of};
+
+    ghost state = { source_of };
+
+    fn next(&mut self, held: &mut [bool]) -> Result<bool, SourceFault> {
+        let Some((line, rest)) = next_line(self.rest) else {
+            return Ok(false);
+        };
+        clear(held);
+        if !set_tick(line, self.agents, held) {
+            self.failed = true;
+            return Err(SourceFault::Text);
+        }
+        self.rest = rest;
+        Ok(true)
+    }
+
+    fn failed(&self) -> Option<SourceFault> {
+        if self.failed {
+            Some(SourceFault::Text)
+        } else {
+            None
+        }
+    }
+}
+
+/// Sets the flags of the agents that the line of a tick names; at first no flag is set. Answers whether it is the line
+/// of a tick of so many agents; if it is not, some flags may be set.
+pub fn set_tick(line: &[u8], agents: u16, flags: &mut [bool]) -> bool
+    requires { AreFlagsOf [] flags.old }
+    ensures { MatchBool result
+        ((tick : List ℕ) × (tick_of agents line.now ≡ Some tick) × AreFlagsOf tick flags.new)
+        (tick_of agents line.now ≡ None) }
+{
+    is_dash(line) || set_agents(line, agents, flags)
+}
+
+/// Whether it is the line of a tick that holds nobody.
+fn is_dash(line: &[u8]) -> bool
+    ensures { result ≡ is_dash line.now }
+{
+    matches!(line, [b'-'])
+}
+
+/// Sets the flags of the agents that the words between the line's spaces name. Answers whether they do, in strictly
+/// rising order.
+fn set_agents(line: &[u8], agents: u16, flags: &mut [bool]) -> bool
+    requires { AreFlagsOf [] flags.old }
+    ensures { MatchBool result
+        ((tick : List ℕ) × (agents_of agents 0 (slice_split is_space line.now) ≡ Some tick)
+        × AreFlagsOf tick flags.new)
+        (agents_of agents 0 (slice_split is_space line.now) ≡ None) }
+{
+    let mut rest = line;
+    let mut least = 0;
+    'words: loop {
+        let (word, after) = cut(rest);
+        let Some(agent) = plain_number_of(word) else {
+            return false;
+        };
+        if agent < least || agent >= agents as u32 {
+            return false;
+        }
+        let has_flag = (agent as usize) < flags.len();
+        if has_flag {
+            flags[agent as usize] = true;
+        }
+        let Some(after) = after else {
+            return true;
+        };
+        rest = after;
+        least = agent + 1;
+    }
+}
+
+/// The bytes of the line before its first space, and those after it, if there is a space.
+pub fn cut(line: &[u8]) -> (&[u8], Option<&[u8]>)
+    ensures words { MatchOption result.1
+        (slice_split is_space line.now ≡ result.0.now ∷ [])
+        (λ after. slice_split is_space line.now ≡ result.0.now ∷ slice_split is_space after.now) }
+    ensures shorter { IfSome result.1 (λ after. length after.now < length line.now) }
+{
+    match space_in(line) {
+        Some(end) => (&line[..end], Some(&line[end + 1..])),
+        None => (line, None),
+    }
+}
+
+/// Where the first space is.
+fn space_in(line: &[u8]) -> Option<usize>
+    ensures { result ≡ position is_space line.now }
+{
+    line.iter().position(|b| *b == b' ')
+}
+
+/// The number that a word spells without a leading zero. From `TOO_LARGE` on it is `TOO_LARGE`.
+fn plain_number_of(word: &[u8]) -> Option<u32>
+    ensures { result ≡ option_map (λ n. min n TOO_LARGE) (plain_number word.now) }
+{
+    match word {
+        [b'0', _, ..] => None,
+        _ => number_of(word),
+    }
+}
+
+/// A line is read as a tick exactly if it is the line of that tick.
+pub fn a_tick_line_is_read()
+    ensures { (n : ℕ) (line held : List ℕ) → n < 65536 → (tick_of n line ≡ Some held)
+        ↔ IsTickLine n line held }
+{}

@@ -1,4 +1,4 @@
-//! The best of the plans that several orders make.
+//! By what plans are compared, and the best of the plans of many orders.
 
 ghost use Rattle.std.specs.Prelude.{◌≡◌, ◌-◌, ◌<◌, ◌≤◌, ℕ, true, false, length, take, max, IfOk, IfErr, OnOk, IfSome, IfNone};
 ghost use Rattle.fleet_plan.specs.Plan.{IsConflictFree};
@@ -7,11 +7,11 @@ ghost use Rattle.fleet_search.specs.Orders.{agent_numbers, to_front, IsStuckInOr
 ghost use Rattle.fleet_search.specs.Attempts.{AreTables, AreReservedInOrder};
 ghost use Rattle.fleet_search.specs.Best.{IsBestInTries};
 ghost use Rattle.fleet_search.specs.Trying.{IsTurn, IsMadeBefore, IsFor, IsTried};
+ghost use Rattle.fleet_plan.specs.Numbers.{sum_of_costs};
 
 use crate::distances::Distances;
 use crate::fault::PlanStop;
 use crate::frontier::Frontier;
-use crate::measure::Measure;
 use crate::orders::{
     Attempt, Problem, Tables, checked_of, first_order, is_last_try, plan_in_order, raise,
 };
@@ -263,4 +263,29 @@ pub fn best_in_orders<'g, M: Measure>(
         kept: Vec::new(alloc),
     };
     best_from(&problem, tries, measure, &mut turn, &mut tables)
+}
+
+/// A number of a plan, by which the best of several is chosen: the less the better.
+pub trait Measure {
+    ghost use Rattle.std.specs.Prelude.{ℕ, List, IfOk};
+    ghost use Rattle.fleet_model.specs.declared.geometry.Cell.{Cell};
+
+    /// The number is the measure of the plan.
+    ghost is_measure: { Self → List (List Cell) → ℕ → Type 0 };
+
+    /// The measure of a plan.
+    fn measure(&self, checked: &Checked<'_>) -> Result<u32, OutOfMemory>
+        ensures { IfOk result (is_measure self.now checked.now.plan) };
+}
+
+/// The sum of costs of a plan (Stern et al. 2019), in steps.
+#[derive(Clone, Copy, Debug)]
+pub struct SumOfCosts;
+
+impl Measure for SumOfCosts {
+    ghost is_measure = { λ _ plan n. n ≡ sum_of_costs plan };
+
+    fn measure(&self, checked: &Checked<'_>) -> Result<u32, OutOfMemory> {
+        Ok(checked.plan().sum_of_costs())
+    }
 }

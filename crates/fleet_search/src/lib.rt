@@ -12,7 +12,6 @@ mod frontier;
 mod intervals;
 mod labels;
 mod laws;
-mod measure;
 mod orders;
 mod planner;
 mod reservation_table;
@@ -21,14 +20,13 @@ mod rows;
 mod state;
 
 pub use alone::bound;
-pub use best::{Measured, best_in_orders};
+pub use best::{Measure, Measured, SumOfCosts, best_in_orders};
 pub use earliest_path::earliest;
 pub use fault::{PlanStop, SearchFault};
 pub use laws::{
     fits_by_steps, one_try_takes_the_first_order, paths_that_fit_are_conflict_free,
     prioritised_plans_are_conflict_free,
 };
-pub use measure::{Measure, SumOfCosts};
 pub use orders::{Found, first_in_orders, plan_in_orders};
 pub use planner::plan;
 pub use reservations::Reservations;

@@ -17,7 +17,7 @@ use Rattle.fleet_verify.proofs.Done.{count_within}
 use Rattle.fleet_verify.proofs.Finish.{done_after, done_first}
 use Rattle.fleet_verify.proofs.FreeRun.{order_all}
 use Rattle.fleet_verify.proofs.Ranges.{one_in_range}
-use Rattle.fleet_verify.proofs.Readiness.{step}
+use Rattle.fleet_verify.proofs.Waiting.{step}
 
 -- an action that some tick finishes awaits nothing that is not there
 met_in_run : (p : Program) (i n s : ℕ) → i < length p → IsLeast (λ t. nat_le (suc n) (count_at (run p [] t) i)) s → (w : Await) → Contains (awaits_of p i (suc n)) w → w.count ≤ moves p w.agent

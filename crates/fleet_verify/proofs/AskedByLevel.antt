@@ -18,7 +18,7 @@ use Rattle.fleet_verify.specs.OpenPairs.{AreVisits, question_of}
 use Rattle.fleet_verify.specs.declared.chained.LevelQuestion.{LevelQuestion}
 use Rattle.fleet_verify.specs.declared.visit_order.OpenPair.{OpenPair}
 use Rattle.fleet_verify.proofs.Decide.{Reaches-dec}
-use Rattle.fleet_verify.proofs.Ranked.{counted_numbering, counted_levels}
+use Rattle.fleet_verify.proofs.Ordered.{counted_numbering, counted_levels}
 
 -- the question for a pair
 pub asked_of : (p : Program) (rows : List (List ℕ)) (o : OpenPair) (level : ℕ) (first : ActionId) → AreVisits p o → first ≡ leaving p o.first → 1 ≤ first.number → 1 ≤ o.second.position → level ≡ level_in rows (entering o.second)

@@ -18,16 +18,13 @@ use Rattle.fleet_verify.specs.Breaking.{IsHeldBy, AreAdvanced}
 use Rattle.fleet_model.specs.Breaking.{IsNeededFor, IsHeldBack, IsPrepared, AreBreakingHolds}
 use Rattle.fleet_verify.specs.Needed.{AreNeeded}
 use Rattle.fleet_model.specs.Chain.{IsAction, IsNumbering}
-use Rattle.fleet_verify.proofs.Readiness.{step}
-use Rattle.fleet_verify.proofs.ReadyBy.{ready_by, by_ready}
+use Rattle.fleet_verify.proofs.Waiting.{step, ready_by, by_ready}
 use Rattle.fleet_verify.proofs.Counts.{count_past, count_opening}
-use Rattle.fleet_verify.proofs.Arrive.{longest_exists, finish_exists, unheld_is_longest}
-use Rattle.fleet_verify.proofs.RunEnds.{longest_small}
+use Rattle.fleet_verify.proofs.RunEnds.{longest_exists, finish_exists, unheld_is_longest, longest_small}
 use Rattle.fleet_verify.proofs.Finish.{finished_says, done_after, done_first}
-use Rattle.fleet_verify.proofs.Needs.{needed_action}
+use Rattle.fleet_verify.proofs.Looking.{needed_action}
 use Rattle.fleet_verify.proofs.Finishing.{run_numbers}
-use Rattle.fleet_verify.proofs.BreakingMeets.{any_Contains, Contains-any}
-use Rattle.fleet_verify.proofs.BreakingExists.{IsBegun, grown, run_same, prepared_at, prepared_by_counts}
+use Rattle.fleet_verify.proofs.BreakingExists.{any_Contains, Contains-any, IsBegun, grown, run_same, prepared_at, prepared_by_counts}
 
 -- the numbers below i that are so, in rising order
 pub record IsRowBelow (P : ℕ → Type 0) (row : List ℕ) (i : ℕ) : Type 0 where

@@ -16,7 +16,7 @@ use Rattle.fleet_verify.proofs.Counts.{tick_free, tick_stays, run_place, count_o
 use Rattle.fleet_model.proofs.Tick.{tick_agree}
 use Rattle.fleet_verify.proofs.Reached.{reached_tick, agents_held}
 use Rattle.fleet_verify.proofs.Done.{count_grows, count_grows_to}
-use Rattle.fleet_verify.proofs.Readiness.{ready_says, ready_from}
+use Rattle.fleet_verify.proofs.Waiting.{ready_says, ready_from}
 
 -- ---- an order is the step of the next action of a ready agent
 

@@ -8,7 +8,7 @@ use Rattle.fleet_model.specs.Machine.{Configuration, count_at, Holds, is_held, r
 use Rattle.fleet_model.specs.Chain.{DirectlyNeeds}
 use Rattle.fleet_verify.proofs.Counts.{counts, readies, run_counts}
 use Rattle.fleet_verify.proofs.Finished.{grows, grows_once, within_moves}
-use Rattle.fleet_verify.proofs.Readiness.{IsReadyTo}
+use Rattle.fleet_verify.proofs.Waiting.{IsReadyTo}
 
 pub count_grows : (p : Program) (holds : Holds) (t i : ℕ) → count_at (run p holds t) i ≤ count_at (run p holds (suc t)) i
 count_grows p holds t i = grows_once p (is_held holds) (readies p holds) (counts p holds) (run_counts p holds) t i

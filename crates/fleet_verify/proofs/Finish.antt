@@ -8,10 +8,9 @@ use Rattle.fleet_model.specs.Program.{Program, moves}
 use Rattle.fleet_model.specs.Machine.{Configuration, count_at, Holds, run, is_finished, IsLeast, IsDone}
 use Rattle.fleet_model.specs.Chain.{IsAction, DirectlyNeeds, IsNumbering}
 use Rattle.fleet_verify.specs.Ring.{IsRing}
-use Rattle.fleet_verify.proofs.Readiness.{step}
-use Rattle.fleet_verify.proofs.Counts.{count_past, count_opening}
+use Rattle.fleet_verify.proofs.Waiting.{step}
+use Rattle.fleet_verify.proofs.Counts.{count_past, count_opening, finished_all, unfinished_one}
 use Rattle.fleet_verify.proofs.Done.{needs_of_ready}
-use Rattle.fleet_verify.proofs.Held.{finished_all, unfinished_one}
 use Rattle.fleet_verify.proofs.Least.{first_passing, first_is}
 
 pub finished_says : (p : Program) (c : Configuration) → is_finished p c ≡ true → (a : ActionId) → IsAction p a → IsDone c a

@@ -1,7 +1,7 @@
--- The ticks of a run without holds are the levels of the actions that they finish.
-use Rattle.std.proofs.Common.{◌≡◌, ℕ, zero, suc, ◌+◌, ◌-◌, ◌<◌, ◌≤◌, Bool, true, false, List, [], ◌∷◌, ◌++◌, length, map, get_or, nat_le, refl, ap, sym, ◌∙◌, subst, arith, inl, inr, leb-true, le-leb, add-one}
+-- The run without holds.
+use Rattle.std.proofs.Common.{◌≡◌, ℕ, zero, suc, ◌+◌, ◌-◌, ◌<◌, ◌≤◌, Bool, true, false, List, [], ◌∷◌, ◌++◌, length, map, get_or, nat_le, refl, ap, sym, ◌∙◌, subst, arith, inl, inr, leb-true, le-leb, add-one, ◌≢◌, IsTrue, All, slice_get, Some, ◌==◌, ◌⊎◌, leb-false, false-eqb}
 use Rattle.std.specs.Prelude.{Contains, ◌⊎◌}
-use Rattle.std.specs.List.{AllPairs}
+use Rattle.std.specs.List.{AllPairs, IsDistinct}
 use Rattle.std.proofs.lemmas.Bool.{cases_eq, cases_lt}
 use Rattle.std.proofs.lemmas.List.{get_or_default, append_assoc, append-nil}
 use Rattle.std.proofs.lemmas.List.Elements.{Contains-push, Contains-push_cases, Contains-append_left}
@@ -9,23 +9,25 @@ use Rattle.std.proofs.lemmas.List.Quantifiers.{all_pairs_push}
 use Rattle.std.proofs.lemmas.List.FromFn.{get_or-map-range_with_len, length-map-range_with_len}
 use Rattle.fleet_model.specs.declared.program.ActionId.{ActionId}
 use Rattle.fleet_model.specs.declared.program.Visit.{Visit}
-use Rattle.fleet_model.specs.Machine.{Configuration, count_at, indices, run, is_held, is_ready, is_finished, IsFinish, IsLeast}
-use Rattle.fleet_model.specs.Program.{Program, moves}
+use Rattle.fleet_model.specs.Machine.{Configuration, count_at, indices, run, is_held, is_ready, is_finished, IsFinish, IsLeast, Holds}
+use Rattle.fleet_model.specs.Program.{Program, moves, AreInRange, path}
 use Rattle.fleet_model.specs.Chain.{IsAction, IsLevel, EndsChain}
-use Rattle.fleet_verify.proofs.Counts.{counts, readies, run_counts}
-use Rattle.fleet_verify.proofs.Held.{run_held, held_at_most, finished_all}
-use Rattle.fleet_model.specs.Program.{AreInRange}
-use Rattle.fleet_verify.proofs.Arrive.{unfinished_ends, ends_in_time}
-use Rattle.fleet_model.specs.Visit.{entering}
+use Rattle.fleet_verify.proofs.Counts.{counts, readies, run_counts, count_opening, run_place, run_held, held_at_most, finished_all}
+use Rattle.fleet_verify.proofs.RunEnds.{unfinished_ends, ends_in_time}
+use Rattle.fleet_model.specs.Visit.{entering, is_entry, ListsVisits, Adjacent, ComesAfterByChain, IsOrderly}
 use Rattle.fleet_verify.specs.Listing.{AreLevels, entry_level, IsBefore}
-use Rattle.fleet_verify.proofs.Counts.{count_opening}
-use Rattle.fleet_verify.proofs.Readiness.{step, ready_says, ready_from}
-use Rattle.fleet_verify.proofs.Done.{count_grows, count_grows_to}
+use Rattle.fleet_verify.proofs.Waiting.{step, ready_says, ready_from}
+use Rattle.fleet_verify.proofs.Done.{count_grows, count_grows_to, count_within}
 use Rattle.fleet_verify.proofs.Finish.{done_after, done_first}
-use Rattle.fleet_verify.proofs.Done.{count_within}
 use Rattle.fleet_verify.proofs.Listing.{entry_start, entry_later}
 use Rattle.fleet_verify.specs.Walk.{begun_by, begun_in}
-use Rattle.fleet_verify.proofs.Begun.{begun_yes, begun_no}
+use Rattle.fleet_verify.proofs.UnderWay.{begun_yes, begun_no}
+use Rattle.std.proofs.lemmas.Option.{slice_get-get_or, slice_get_within, same_Some}
+use Rattle.fleet_model.specs.declared.geometry.Place.{Place}
+use Rattle.fleet_model.specs.Conflict.{Motion, HasVertexConflict, HasFollowingConflict, HasCycleConflict}
+use Rattle.fleet_model.specs.Run.{motion, IsFree, HasBegun, HasLeft, IsOwnedInTurn}
+use Rattle.fleet_verify.proofs.Finished.{within_moves}
+use Rattle.fleet_verify.proofs.Owned.{all_left_before, no_vertex, no_following}
 
 -- what a tick without holds finishes ends a chain of as many actions as there were ticks, and no longer one
 pub tick_level : (p : Program) → AreInRange p → (t : ℕ) (b : ActionId) → IsAction p b → count_at (run p [] t) b.agent < b.number → b.number ≤ count_at (run p [] (suc t)) b.agent → IsLevel p b (suc t)
@@ -237,3 +239,95 @@ module _ (p : Program) (f : ℕ) (fin : is_finished p (run p [] f) ≡ true) whe
     only = λ v k. let r = h.only v k in (r.0, omega (arith, r.1, count_within p [] f v.agent));
     sorted = h.sorted;
   }
+
+-- ---- conflicts
+
+all_entered : (p : Program) (q : Place) (vs : List Visit) → ListsVisits p q vs → All (λ v. IsTrue (is_entry p v.agent v.position)) vs
+all_entered p q vs lists k d lt = (lists.only k d lt).entered
+
+vertex_free : (p : Program) (holds : Holds) → IsOrderly ComesAfterByChain p → (x i j : ℕ) → i < length p → j < length p → HasVertexConflict (motion p holds) x i j → ⊥
+vertex_free p holds orderly x i j hi hj h =
+    let q = path p i (counts p holds x i) in
+    let l = orderly q in
+    let same : path p j (counts p holds x j) ≡ q = sym (run_place p holds x j hj) ∙ (sym h.same ∙ run_place p holds x i hi) in
+    no_vertex p (is_held holds) (readies p holds) (counts p holds) (run_counts p holds) l.0 (all_entered p q l.0 l.1) l.2 q l.1 x i j hi hj h.apart refl same
+
+following_free : (p : Program) (holds : Holds) → IsOrderly ComesAfterByChain p → (x i j : ℕ) → i < length p → j < length p → HasFollowingConflict (motion p holds) x i j → ⊥
+following_free p holds orderly x i j hi hj h =
+    let q = path p j (counts p holds x j) in
+    let l = orderly q in
+    let next : x + 1 ≡ suc x = omega arith in
+    let same : motion p holds (suc x) i ≡ motion p holds x j = subst (λ (y : ℕ). motion p holds y i ≡ motion p holds x j) next h.same in
+    let here : path p i (counts p holds (suc x) i) ≡ q = sym (run_place p holds (suc x) i hi) ∙ (same ∙ run_place p holds x j hj) in
+    no_following p (is_held holds) (readies p holds) (counts p holds) (run_counts p holds) l.0 (all_entered p q l.0 l.1) l.2 q l.1 x i j hi hj h.apart here refl
+
+-- the first two of a ring are apart, and the first follows the second
+ring_apart : (ring : List ℕ) → 3 ≤ length ring → IsDistinct ◌==◌ ring → get_or ring 0 0 ≢ get_or ring 1 (get_or ring 0 0)
+unfolding IsDistinct
+ring_apart [] three distinct e = omega arith
+ring_apart (a ∷ []) three distinct e = omega arith
+ring_apart (a ∷ b ∷ ring) three distinct e = false-eqb a b (sym distinct.0.0) e
+
+cycle_follows : (at : Motion) (x : ℕ) (ring : List ℕ) → HasCycleConflict at x ring → HasFollowingConflict at x (get_or ring 0 0) (get_or ring 1 (get_or ring 0 0))
+cycle_follows at x ring h = record { apart = ring_apart ring h.three h.distinct; same = h.next 0 (omega (arith, h.three)) }
+
+pub runs_free : (p : Program) (holds : Holds) → IsOrderly ComesAfterByChain p → IsFree (length p) (motion p holds)
+runs_free p holds orderly = record {
+  vertex = vertex_free p holds orderly;
+  following = following_free p holds orderly;
+  swapping = λ x i j hi hj h. following_free p holds orderly x i j hi hj (record { apart = λ e. h.changed (ap (motion p holds x) e); same = h.there });
+  cycle = λ x ring all h. following_free p holds orderly x (get_or ring 0 0) (get_or ring 1 (get_or ring 0 0)) (all 0 0 (omega (arith, h.three))) (all 1 (get_or ring 0 0) (omega (arith, h.three))) (cycle_follows (motion p holds) x ring h);
+}
+
+-- ---- passable places
+
+pub runs_on_ground : (passable : Place → Bool) (p : Program) (holds : Holds) → ((i n : ℕ) → i < length p → n ≤ moves p i → IsTrue (passable (path p i n)))
+    → (x i : ℕ) → i < length p → IsTrue (passable (motion p holds x i))
+runs_on_ground passable p holds on x i h =
+    subst (λ (q : Place). IsTrue (passable q)) (sym (run_place p holds x i h)) (on i (counts p holds x i) h (within_moves p (is_held holds) (readies p holds) (counts p holds) (run_counts p holds) x i))
+
+-- ---- ownership
+
+-- how far a test holds of the front of a list
+front : (f : Visit → Bool) (vs : List Visit) → (b : ℕ) × (b ≤ length vs) × ((k : ℕ) (v : Visit) → k < b → slice_get vs k ≡ Some v → f v ≡ true) × ((v : Visit) → slice_get vs b ≡ Some v → f v ≡ false)
+front f [] = (0, omega arith, λ k v h e. absurd (omega arith), λ v e. absurd cc)
+front f (x ∷ xs) = go (f x) refl (front f xs)
+  where
+    go : (b : Bool) → f x ≡ b
+        → ((b : ℕ) × (b ≤ length xs) × ((k : ℕ) (v : Visit) → k < b → slice_get xs k ≡ Some v → f v ≡ true) × ((v : Visit) → slice_get xs b ≡ Some v → f v ≡ false))
+        → (b : ℕ) × (b ≤ length (x ∷ xs)) × ((k : ℕ) (v : Visit) → k < b → slice_get (x ∷ xs) k ≡ Some v → f v ≡ true) × ((v : Visit) → slice_get (x ∷ xs) b ≡ Some v → f v ≡ false)
+    go false is r = (0, omega arith, λ k v h e. absurd (omega arith), λ v e. subst (λ (y : Visit). f y ≡ false) (same_Some x v e) is)
+    go true is r = (suc r.0, omega (arith, r.1), pass, r.3)
+      where
+        pass : (k : ℕ) (v : Visit) → k < suc r.0 → slice_get (x ∷ xs) k ≡ Some v → f v ≡ true
+        pass zero v h e = subst (λ (y : Visit). f y ≡ true) (same_Some x v e) is
+        pass (suc k) v h e = r.2 k v (omega arith) e
+
+pub runs_owned : (p : Program) (holds : Holds) (x : ℕ) (q : Place) (vs : List Visit) → ListsVisits p q vs → Adjacent (ComesAfterByChain p) vs → IsOwnedInTurn p vs (run p holds x)
+runs_owned p holds x q vs lists adj = record {
+  begun = b.0;
+  within = b.1;
+  first = λ k v e. (λ h. before k v e h (split k b.0), λ h. leb-true _ _ (b.2 k v h e));
+  left = λ k v e h.
+      let w : (w : Visit) × (slice_get vs (k + 1) ≡ Some w) = (get_or vs (k + 1) v, slice_get-get_or vs (k + 1) v (omega (arith, b.1))) in
+      earlier k (k + 1) v w.0 e w.1 (omega arith) (leb-true _ _ (b.2 (k + 1) w.0 h w.1));
+}
+  where
+    f : Visit → Bool
+    f = λ v. nat_le v.position (count_at (run p holds x) v.agent)
+
+    b : (b : ℕ) × (b ≤ length vs) × ((k : ℕ) (v : Visit) → k < b → slice_get vs k ≡ Some v → f v ≡ true) × ((v : Visit) → slice_get vs b ≡ Some v → f v ≡ false)
+    b = front f vs
+
+    earlier : (j k : ℕ) (v w : Visit) → slice_get vs j ≡ Some v → slice_get vs k ≡ Some w → j < k → HasBegun (run p holds x) w → HasLeft p (run p holds x) v
+    earlier = all_left_before p (is_held holds) (readies p holds) (counts p holds) (run_counts p holds) vs (all_entered p q vs lists) adj x
+
+    split : (k b : ℕ) → (k < b) ⊎ ((b < k) ⊎ (b ≡ k))
+    split k b = grind arith
+
+    before : (k : ℕ) (v : Visit) → slice_get vs k ≡ Some v → HasBegun (run p holds x) v → (k < b.0) ⊎ ((b.0 < k) ⊎ (b.0 ≡ k)) → k < b.0
+    before k v e h (inl lt) = lt
+    before k v e h (inr (inl lt)) =
+        let u : (u : Visit) × (slice_get vs b.0 ≡ Some u) = (get_or vs b.0 v, slice_get-get_or vs b.0 v (omega (arith, slice_get_within vs k v e))) in
+        absurd (omega (arith, earlier b.0 k u.0 v u.1 e lt h, leb-false _ _ (b.3 u.0 u.1)))
+    before k v e h (inr (inr s)) = absurd (omega (arith, h, leb-false _ _ (b.3 v (ap (λ m. slice_get vs m) s ∙ e))))

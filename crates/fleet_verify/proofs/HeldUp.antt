@@ -9,13 +9,11 @@ use Rattle.fleet_model.specs.Machine.{Holds, is_held, run, count_at, is_ready, I
 use Rattle.fleet_model.specs.Chain.{IsAction, DirectlyNeeds, IsCriticalCost, IsNumbering}
 use Rattle.fleet_model.specs.Schedule.{Schedule, HasEndedBy, EndInTime, TakeAtLeast}
 use Rattle.fleet_model.specs.RunSchedule.{IsFinishedIn, IsScheduleOf, BeginsWhenDue, is_held_up, held_up_ticks, ticks_taken}
-use Rattle.fleet_verify.proofs.Counts.{counts, readies, run_counts, tick_stays}
-use Rattle.fleet_verify.proofs.Held.{held_past}
-use Rattle.fleet_verify.proofs.Arrive.{ready_or_needs}
+use Rattle.fleet_verify.proofs.Counts.{counts, readies, run_counts, tick_stays, held_past}
+use Rattle.fleet_verify.proofs.RunEnds.{ready_or_needs}
 use Rattle.fleet_verify.proofs.Levels.{due_done}
-use Rattle.fleet_verify.proofs.Timed.{no_sooner}
-use Rattle.fleet_needs.proofs.Costing.{need_action}
-use Rattle.fleet_verify.proofs.Critical.{critical, ends_in_time}
+use Rattle.fleet_verify.proofs.Timed.{no_sooner, critical, ends_in_time}
+use Rattle.fleet_model.proofs.Chains.{need_action}
 use Rattle.fleet_verify.proofs.Ticked.{done_later, longest, ended_done, done_ended, is_schedule}
 
 module _ (p : Program) (holds : Holds) where

@@ -14,10 +14,10 @@ use Rattle.fleet_verify.proofs.Listing.{levels_number}
 use Rattle.fleet_verify.specs.declared.visit_order.PlacedVisit.{PlacedVisit}
 use Rattle.fleet_verify.specs.declared.fault.VerifyFault.{VerifyFault}
 use Rattle.fleet_verify.specs.declared.fault.VerifyFault.TheVariants.{Unordered}
-use Rattle.fleet_verify.specs.declared.open_pairs.OrderViolation.{OrderViolation}
+use Rattle.fleet_verify.specs.declared.order.OrderViolation.{OrderViolation}
 use Rattle.fleet_verify.specs.Order.{visits_of, IsListJudged, IsVisitPlaced, IsPathOrderly, AreAllPlaced, AreViolations}
 use Rattle.fleet_model.proofs.Cells.{is_same_place-true}
-use Rattle.fleet_model.proofs.Visits.{IsIn, is_in}
+use Rattle.fleet_model.proofs.Chains.{IsIn, is_in}
 use Rattle.fleet_verify.specs.Faults.{IsFirstBreak, HasRanges, IsFault, IsSooner, IsOrderlyAt}
 
 -- the visits of the place come one after another

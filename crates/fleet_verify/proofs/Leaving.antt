@@ -10,7 +10,7 @@ use Rattle.fleet_model.specs.declared.program.Action.{Action}
 use Rattle.fleet_model.specs.declared.program.Visit.{Visit}
 use Rattle.fleet_model.specs.Program.{Program, actions_of, awaits_of, step_of, AreMoves, NeverStays}
 use Rattle.fleet_model.specs.Visit.{is_entry, stays_before, next_move, leaving, IsLaterVisit, ComesAfterByAwait}
-use Rattle.fleet_model.proofs.Visits.{next_upto, stay_on}
+use Rattle.fleet_model.proofs.Chains.{next_upto, stay_on}
 use Rattle.fleet_verify.proofs.Paths.{action_with}
 
 -- a position begins a visit if its action is a move

@@ -24,9 +24,8 @@ use Rattle.fleet_verify.specs.declared.visit_order.PlacedVisit.{PlacedVisit}
 use Rattle.fleet_verify.proofs.Begin.{begun_more}
 use Rattle.fleet_verify.proofs.Leaving.{entry_by}
 use Rattle.fleet_verify.proofs.Members.{same_action}
-use Rattle.fleet_verify.proofs.Ordered.{no_entries}
+use Rattle.fleet_verify.proofs.Ordered.{no_entries, count_own, count_other, ranked_more}
 use Rattle.fleet_verify.proofs.Paths.{path_step}
-use Rattle.fleet_verify.proofs.Ranked.{count_own, count_other, ranked_more}
 
 -- l is the greatest of the levels of agent i's last finished action and of the first k actions that action n awaits
 pub record IsLeastTo (p : Program) (rows : List (List ℕ)) (i n k l : ℕ) : Type 0 where

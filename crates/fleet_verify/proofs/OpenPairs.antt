@@ -19,7 +19,7 @@ use Rattle.fleet_model.proofs.Cells.{place_of-injective}
 use Rattle.fleet_scen.specs.Instance.{IsInstance}
 use Rattle.fleet_needs.specs.declared.questions.Question.{Question}
 use Rattle.fleet_needs.specs.Asked.{IsQuestion, IsSoonerAction, AreQuestions, AreAnswers}
-use Rattle.fleet_verify.specs.declared.open_pairs.OrderViolation.{OrderViolation}
+use Rattle.fleet_verify.specs.declared.order.OrderViolation.{OrderViolation}
 use Rattle.fleet_verify.specs.declared.visit_order.OpenPair.{OpenPair}
 use Rattle.fleet_verify.specs.declared.visit_order.PlacedVisit.{PlacedVisit}
 use Rattle.fleet_verify.specs.declared.visit_order.VisitOrder.{VisitOrder}

@@ -15,12 +15,11 @@ use Rattle.fleet_verify.specs.declared.fault.VerifyFault.{VerifyFault}
 use Rattle.fleet_verify.specs.declared.fault.VerifyFault.TheVariants.{OutOfMemory}
 use Rattle.fleet_verify.specs.Faults.{IsFault}
 use Rattle.fleet_verify.specs.Promises.{KeepsSchedule, Promises, IsRefusedRightly}
-use Rattle.fleet_verify.proofs.Held.{any_below}
+use Rattle.fleet_verify.proofs.Counts.{any_below}
 use Rattle.fleet_verify.proofs.Levels.{level_exists, least_due, due_done, chain_done}
-use Rattle.fleet_verify.proofs.Critical.{critical, ends_in_time}
+use Rattle.fleet_verify.proofs.Timed.{critical, ends_in_time, no_two_on, at_end, no_sooner, needs_unended}
 use Rattle.fleet_verify.proofs.HeldUp.{finished_on_critical_path}
-use Rattle.fleet_verify.proofs.NeverStuck.{never_stuck}
-use Rattle.fleet_verify.proofs.Timed.{no_two_on, at_end, no_sooner, needs_unended}
+use Rattle.fleet_verify.proofs.CriticalPaths.{never_stuck}
 use Rattle.fleet_verify.proofs.RunsRight.{runs_right, right_accepted, some_tick, tick_in_time}
 use Rattle.fleet_verify.proofs.Exact.{runs_accepted}
 use Rattle.fleet_verify.proofs.Broken.{broken_by}

@@ -1,4 +1,4 @@
--- The rest of a program: its runs, and that it is accepted.
+-- The rest of a program.
 use Rattle.std.proofs.Common.{◌≡◌, ℕ, zero, suc, ◌+◌, ◌-◌, ◌<◌, ◌≤◌, Bool, true, false, not, List, [], ◌∷◌, ◌++◌, length, map, get_or, drop, take, Option, Some, None, slice_get, Contains, IsTrue, refl, ap, sym, ◌∙◌, subst, arith, inl, inr, leb-true, leb-false, get_or-append-add, ◌==◌}
 use Rattle.std.specs.Prelude.{option_map, filter, ◌⊎◌}
 use Rattle.std.specs.Option.{option_map_or}
@@ -14,22 +14,22 @@ use Rattle.fleet_model.specs.declared.program.Action.{Action}
 use Rattle.fleet_model.specs.declared.program.AgentProgram.{AgentProgram}
 use Rattle.fleet_model.specs.declared.task.Task.{Task}
 use Rattle.fleet_model.specs.Geometry.{place_of, stepped}
-use Rattle.fleet_model.specs.Program.{Program, origin, start_of, goal_of, actions_of, moves, awaits_of, path, walked, IsInRange, AreInRange}
-use Rattle.fleet_model.specs.Machine.{Configuration, Holds, is_held, is_met, run, tick, place_at, count_at, is_finished, indices, IsReached, IsFinish}
+use Rattle.fleet_model.specs.Program.{Program, origin, start_of, goal_of, actions_of, moves, awaits_of, path, walked, IsInRange, AreInRange, total_moves, IsCell, AreAwaits, IsWellFormed}
+use Rattle.fleet_model.specs.Machine.{Configuration, Holds, is_held, is_met, run, tick, place_at, count_at, is_finished, indices, IsReached, IsFinish, opening}
 use Rattle.fleet_model.specs.Visit.{ComesAfterByChain}
 use Rattle.fleet_model.specs.Accepted.{IsRight, IsAcceptedBy}
-use Rattle.fleet_model.specs.Run.{RunsWell}
+use Rattle.fleet_model.specs.Run.{RunsWell, motion}
 use Rattle.fleet_model.proofs.Tick.{tick_agree}
 use Rattle.fleet_verify.specs.Rest.{StandOn, rest_await, rest_awaits, rest_action, rest_agent, rest, rest_tasks}
 use Rattle.fleet_verify.proofs.Members.{contains_head, contains_later, contains_cases, contains_none, filter_has, filter_from}
 use Rattle.fleet_model.specs.Conflict.{HasVertexConflict}
-use Rattle.fleet_model.specs.Run.{motion}
 use Rattle.fleet_verify.proofs.UnderWay.{within_moves}
-use Rattle.fleet_verify.proofs.Held.{finished_all, unfinished_one}
+use Rattle.fleet_verify.proofs.Counts.{finished_all, unfinished_one, run_counts, run_place, count_opening, count_past}
 use Rattle.fleet_verify.proofs.Least.{least_of}
 use Rattle.fleet_verify.proofs.Exact.{accepted_runs, runs_accepted}
-use Rattle.fleet_verify.proofs.Counts.{run_counts, run_place, count_opening, count_past}
-use Rattle.fleet_verify.proofs.Readiness.{IsReadyTo, Moves, StaysBehind, step}
+use Rattle.fleet_verify.proofs.Waiting.{IsReadyTo, Moves, StaysBehind, step}
+use Rattle.fleet_model.proofs.OnePass.{AwaitsFrom, any_begins, awaits_are, awaits_from, no_awaits}
+use Rattle.fleet_model.proofs.Totals.{moves_more}
 
 -- ---- the parts of the rest
 
@@ -332,3 +332,132 @@ rest_accepted passable tasks p ok c r cells at =
     go at = runs_accepted passable (rest_tasks cells p) (rest cells p (run p r.holds r.ticks))
         (rest_right passable tasks p ok.right (run p r.holds r.ticks) (within_moves p (run p r.holds r.ticks) (record { holds = r.holds; ticks = r.ticks; same = refl })) cells (stand cells p r.holds r.ticks at))
         (rest_well p (accepted_runs passable tasks p ok) r.holds r.ticks cells at)
+
+-- ---- the awaits of one action
+
+sooner : (n i least more : ℕ) (ws : List Await) → least ≤ more → AwaitsFrom n i more ws → AwaitsFrom n i least ws
+sooner n i least more [] le h = tt
+sooner n i least more (w ∷ ws) le h = (record { above = omega (arith, h.0.above, le); agent = h.0.agent; other = h.0.other; count = h.0.count; few = h.0.few }, h.1)
+
+left : (c : Configuration) (n i least : ℕ) (ws : List Await) → AwaitsFrom n i least ws → AwaitsFrom n i least (rest_awaits c ws)
+left c n i least [] h = tt
+left c n i least (w ∷ ws) h = go (not (is_met c w)) refl (left c n i (w.agent + 1) ws h.1)
+  where
+    go : (b : Bool) → not (is_met c w) ≡ b → AwaitsFrom n i (w.agent + 1) (rest_awaits c ws) → AwaitsFrom n i least (rest_awaits c (w ∷ ws))
+    go true e more =
+        let l = unmet c w e in
+        rw e (record { above = h.0.above; agent = h.0.agent; other = h.0.other; count = omega (arith, l); few = omega (arith, h.0.few) }, more)
+    go false e more = rw e (sooner n i least (w.agent + 1) (rest_awaits c ws) (omega (arith, h.0.above)) more)
+
+awaits_left : (c : Configuration) (n i : ℕ) (ws : List Await) → AreAwaits n i ws → AreAwaits n i (rest_awaits c ws)
+awaits_left c n i ws h = awaits_are n i 0 (rest_awaits c ws) (left c n i 0 ws (awaits_from n i 0 ws (any_begins ws) h))
+
+-- ---- what is not there
+
+past : (cells : ℕ → Cell) (p : Program) (c : Configuration) (i : ℕ) → length p ≤ i → slice_get (rest cells p c) i ≡ None
+past cells p c i l = slice_get_past (rest cells p c) i (omega (arith, rest_long cells p c, l))
+
+fewer : (cells : ℕ → Cell) (p : Program) (c : Configuration) (i : ℕ) → moves (rest cells p c) i ≤ moves p i
+fewer cells p c i = elim (cases_lt i (length p)) [
+  | inl h ↦ omega (arith, rest_moves cells p c i h)
+  | inr h ↦ (let e : moves (rest cells p c) i ≡ 0 = ap (λ (o : Option AgentProgram). length (option_map_or (λ a. a.actions) o [])) (past cells p c i h) in omega (arith, e))
+]
+
+all_taken : {X : Type 0} (xs : List X) → take (length xs) xs ≡ xs
+all_taken [] = refl
+all_taken (x ∷ xs) = ap (λ ys. x ∷ ys) (all_taken xs)
+
+no_more : (p r : Program) → ((i : ℕ) → moves r i ≤ moves p i) → (n : ℕ) → total_moves (take n r) ≤ total_moves (take n p)
+no_more p r h zero = omega arith
+no_more p r h (suc n) =
+    let e : n + 1 ≡ suc n = omega arith in
+    subst (λ m. total_moves (take m r) ≤ total_moves (take m p)) e (omega (arith, moves_more p n, moves_more r n, no_more p r h n, h n))
+
+total_fewer : (cells : ℕ → Cell) (p : Program) (c : Configuration) → total_moves (rest cells p c) ≤ total_moves p
+total_fewer cells p c =
+    let a : take (length p) (rest cells p c) ≡ rest cells p c = subst (λ m. take m (rest cells p c) ≡ rest cells p c) (rest_long cells p c) (all_taken (rest cells p c)) in
+    let b = no_more p (rest cells p c) (fewer cells p c) (length p) in
+    let b' = subst (λ r. total_moves r ≤ total_moves (take (length p) p)) a b in
+    subst (λ q. total_moves (rest cells p c) ≤ total_moves q) (all_taken p) b'
+
+origin_is_cell : IsCell origin
+origin_is_cell = record { x = omega arith; y = omega arith }
+
+pub rest_formed : (p : Program) → IsWellFormed p → (c : Configuration) (cells : ℕ → Cell) → ((i : ℕ) → i < length p → IsCell (cells i)) → IsWellFormed (rest cells p c)
+rest_formed p wf c cells are = record {
+  some_agents = omega (arith, wf.some_agents, rest_long cells p c);
+  few_agents = omega (arith, wf.few_agents, rest_long cells p c);
+  starts = λ i. elim (cases_lt i (length p)) [
+    | inl h ↦ subst IsCell (sym (rest_start cells p c i h)) (are i h)
+    | inr h ↦ subst IsCell (sym (ap (λ (o : Option AgentProgram). option_map_or (λ a. a.start) o origin) (past cells p c i h))) origin_is_cell
+  ];
+  goals = λ i. elim (cases_lt i (length p)) [
+    | inl h ↦ subst IsCell (sym (rest_goal cells p c i h)) (wf.goals i)
+    | inr h ↦ subst IsCell (sym (ap (λ (o : Option AgentProgram). option_map_or (λ a. a.goal) o origin) (past cells p c i h))) origin_is_cell
+  ];
+  moves_each = λ i. omega (arith, fewer cells p c i, wf.moves_each i);
+  moves_in_all = omega (arith, total_fewer cells p c, wf.moves_in_all);
+  awaits = λ i n. subst (λ m. AreAwaits m i (awaits_of (rest cells p c) i n)) (sym (rest_long cells p c)) (awaits i n);
+}
+  where
+    awaits : (i n : ℕ) → AreAwaits (length p) i (awaits_of (rest cells p c) i n)
+    awaits i zero = no_awaits (length p) i
+    awaits i (suc n) = elim (cases_lt i (length p)) [
+      | inl h ↦ subst (AreAwaits (length p) i) (sym (rest_awaits_of cells p c i n h)) (awaits_left c (length p) i (awaits_of p i (suc (count_at c i + n))) (wf.awaits i (suc (count_at c i + n))))
+      | inr h ↦ subst (AreAwaits (length p) i) (sym (ap (λ (o : Option AgentProgram). option_map_or (λ a. a.awaits) (slice_get (option_map_or (λ a. a.actions) o []) n) []) (past cells p c i h))) (no_awaits (length p) i)
+    ]
+
+rebuilt : {X : Type 0} (f : ℕ → X) (a : ℕ) (xs : List X) → ((i : ℕ) (x : X) → slice_get xs i ≡ Some x → f (a + i) ≡ x) → map f (range_with_len a (length xs)) ≡ xs
+rebuilt f a [] h = refl
+rebuilt f a (x ∷ xs) h =
+    let e : a ≡ a + 0 = omega arith in
+    cc (ap f e ∙ h 0 x refl, rebuilt f (a + 1) xs (λ i y s. (let g : a + 1 + i ≡ a + suc i = omega arith in ap f g ∙ h (suc i) y s)))
+
+awaits_whole : (c : Configuration) → ((i : ℕ) → count_at c i ≡ 0) → (ws : List Await) → ((w : Await) → Contains ws w → 1 ≤ w.count) → rest_awaits c ws ≡ ws
+awaits_whole c none [] h = refl
+awaits_whole c none (w ∷ ws) h = go (is_met c w) refl (awaits_whole c none ws (λ v k. h v (contains_later w ws v k)))
+  where
+    count : w.count - count_at c w.agent ≡ w.count
+    count = omega (arith, none w.agent)
+
+    same : rest_await c w ≡ w
+    same = λ k. record { agent = w.agent; count = count k }
+
+    go : (b : Bool) → is_met c w ≡ b → rest_awaits c ws ≡ ws → rest_awaits c (w ∷ ws) ≡ w ∷ ws
+    go true e more = absurd (omega (arith, leb-true _ _ e, none w.agent, h w (contains_head w ws)))
+    go false e more = rw e (cc (same, more))
+
+actions_whole : (c : Configuration) (acts : List Action) → ((n : ℕ) → rest_awaits c (option_map_or (λ a. a.awaits) (slice_get acts n) []) ≡ option_map_or (λ a. a.awaits) (slice_get acts n) []) → map (rest_action c) acts ≡ acts
+actions_whole c [] h = refl
+actions_whole c (a ∷ acts) h = cc (same, actions_whole c acts (λ n. h (suc n)))
+  where
+    same : rest_action c a ≡ a
+    same = λ k. record { step = a.step; awaits = h 0 k }
+
+pub rest_whole : (p : Program) → AreInRange p → rest (start_of p) p (opening p) ≡ p
+rest_whole p ok = rebuilt (rest_agent (start_of p) p (opening p)) 0 p agent
+  where
+    none : (i : ℕ) → count_at (opening p) i ≡ 0
+    none i = count_opening p [] i
+
+    acts : (i : ℕ) → map (rest_action (opening p)) (drop (count_at (opening p) i) (actions_of p i)) ≡ actions_of p i
+    acts i =
+        ap (λ n. map (rest_action (opening p)) (drop n (actions_of p i))) (none i)
+        ∙ actions_whole (opening p) (actions_of p i) (λ n. awaits_whole (opening p) none (awaits_of p i (suc n)) (λ w k. (ok i (suc n) w k).first))
+
+    agent : (i : ℕ) (a : AgentProgram) → slice_get p i ≡ Some a → rest_agent (start_of p) p (opening p) (0 + i) ≡ a
+    agent i a e =
+        let z : 0 + i ≡ i = omega arith in
+        ap (rest_agent (start_of p) p (opening p)) z ∙ at
+      where
+        start : start_of p i ≡ a.start
+        start = ap (λ (o : Option AgentProgram). option_map_or (λ a. a.start) o origin) e
+
+        goal : goal_of p i ≡ a.goal
+        goal = ap (λ (o : Option AgentProgram). option_map_or (λ a. a.goal) o origin) e
+
+        actions : map (rest_action (opening p)) (drop (count_at (opening p) i) (actions_of p i)) ≡ a.actions
+        actions = acts i ∙ ap (λ (o : Option AgentProgram). option_map_or (λ a. a.actions) o []) e
+
+        at : rest_agent (start_of p) p (opening p) i ≡ a
+        at = λ k. record { start = start k; goal = goal k; actions = actions k }

@@ -1,25 +1,156 @@
--- Programs with the same chains are accepted alike and run equally.
-use Rattle.std.proofs.Common.{◌≡◌, ℕ, zero, suc, ◌+◌, ◌<◌, ◌≤◌, Bool, true, false, cond, not, ◌&&◌, List, [], ◌∷◌, ◌++◌, length, map, refl, sym, ap, ap₂, ◌∙◌, subst, arith, inl, inr}
-use Rattle.std.specs.Prelude.{Contains, ◌⊎◌}
-use Rattle.std.proofs.lemmas.List.{length-append}
+-- Programs with the same chains, and those of them with the fewest awaits.
+use Rattle.std.proofs.Common.{◌≡◌, ℕ, zero, suc, ◌+◌, ◌<◌, ◌≤◌, List, [], ◌∷◌, length, map, take, drop, get_or, Option, Some, None, refl, sym, ap, ap₂, ◌∙◌, arith, Bool, true, false, cond, not, ◌&&◌, ◌++◌, subst, inl, inr, ◌≢◌}
+use Rattle.std.specs.Prelude.{slice_get, option_map, false, if◌then◌else◌, Contains, ◌⊎◌, Option}
+use Rattle.std.specs.Option.{option_map_or}
+use Rattle.std.proofs.lemmas.List.{length-map, ext_get_or, take-map, drop-map, length-append}
+use Rattle.std.proofs.lemmas.Option.{slice_get-map, slice_get_past}
 use Rattle.fleet_model.specs.declared.geometry.Place.{Place}
-use Rattle.fleet_model.specs.declared.task.Task.{Task}
-use Rattle.fleet_model.specs.declared.program.Await.{Await}
+use Rattle.fleet_model.specs.declared.geometry.Step.{Step}
+use Rattle.fleet_model.specs.declared.program.Action.{Action}
 use Rattle.fleet_model.specs.declared.program.ActionId.{ActionId}
 use Rattle.fleet_model.specs.declared.program.Visit.{Visit}
-use Rattle.fleet_model.specs.Geometry.{place_of}
-use Rattle.fleet_model.specs.Program.{Program, moves, awaits_of, path, AreInRange}
-use Rattle.fleet_model.specs.Machine.{Configuration, standing_at, count_at, is_ready, standing_after, indices, tick, Holds, is_held, run}
+use Rattle.fleet_model.specs.declared.standing.Standing.{Standing}
+use Rattle.fleet_model.specs.Geometry.{place_of, stepped, is_move}
+use Rattle.fleet_model.specs.Program.{Program, origin, start_of, actions_of, moves, path, walked, awaits_of, AreInRange, IsInRange}
+use Rattle.fleet_model.specs.Machine.{Configuration, standing_at, count_at, next_action, finished_one, opening, is_ready, standing_after, indices, tick, Holds, is_held, run}
 use Rattle.fleet_model.specs.Chain.{IsAction, DirectlyNeeds, ChainFrom, Reaches, EndsChain, IsLevel, IsLongestChain, IsNumbering, awaited}
-use Rattle.fleet_model.specs.Visit.{Adjacent, ComesAfterByChain, entering, leaving}
+use Rattle.fleet_model.specs.Visit.{is_entry, stays_before, next_move, IsVisitOf, ListsVisits, leaving, Adjacent, ComesAfterByChain, entering}
+use Rattle.fleet_model.proofs.Tick.{length_opening, standing_at_opening}
+use Rattle.fleet_verify.specs.Reduced.{DiffersInAwaits, HaveSameChains, IsThinned, IsReduced, HasLeastAwaits}
+use Rattle.fleet_model.specs.declared.task.Task.{Task}
+use Rattle.fleet_model.specs.declared.program.Await.{Await}
 use Rattle.fleet_model.specs.Accepted.{IsAcceptedBy}
-use Rattle.fleet_model.proofs.Chains.{chain_first, chain_rises, ends_by, ends_long, Reaches-need, chain_join}
+use Rattle.fleet_model.proofs.Chains.{chain_first, chain_rises, ends_by, ends_long, Reaches-need, chain_join, chain_last, Reaches-first, Reaches-last, Reaches-trans, Reaches-refl}
 use Rattle.fleet_verify.proofs.Counts.{counts, readies, run_counts}
 use Rattle.fleet_verify.proofs.Finished.{chain_due}
-use Rattle.fleet_verify.proofs.Readiness.{ready_says, ready_from}
-use Rattle.fleet_verify.specs.Reduced.{HaveSameChains}
+use Rattle.fleet_verify.proofs.Waiting.{ready_says, ready_from}
 use Rattle.fleet_verify.proofs.BreakingExists.{moves_within}
-use Rattle.fleet_verify.proofs.Alike.{same_moves, action_there, action_back, next_same, opening_same, path_there, leaving_there, lists_there}
+use Rattle.fleet_verify.proofs.Members.{same_action, contains_none}
+use Rattle.fleet_needs.specs.Implied.{IsImplied}
+use Rattle.fleet_verify.proofs.Decide.{some-dec, action-dec, before_in, needs_before, Reaches-dec}
+use Rattle.std.proofs.lemmas.Bool.{cases_lt}
+use Rattle.fleet_model.specs.declared.program.AgentProgram.{AgentProgram}
+
+pub same_moves : (p q : Program) → DiffersInAwaits p q → (i : ℕ) → moves q i ≡ moves p i
+same_moves p q h i = sym (length-map (actions_of q i) (λ a. a.step)) ∙ ap length (h.steps i) ∙ length-map (actions_of p i) (λ a. a.step)
+
+pub action_there : (p q : Program) → DiffersInAwaits p q → (a : ActionId) → IsAction p a → IsAction q a
+action_there p q h a k =
+    let n : length q ≡ length p = h.agents in
+    let m : moves q a.agent ≡ moves p a.agent = same_moves p q h a.agent in
+    let l : a.agent < length p = k.agent in
+    let g : a.number ≤ moves p a.agent = k.last in
+    record { agent = omega arith; first = k.first; last = omega arith }
+
+pub action_back : (p q : Program) → DiffersInAwaits p q → (a : ActionId) → IsAction q a → IsAction p a
+action_back p q h a k =
+    let n : length q ≡ length p = h.agents in
+    let m : moves q a.agent ≡ moves p a.agent = same_moves p q h a.agent in
+    let l : a.agent < length q = k.agent in
+    let g : a.number ≤ moves q a.agent = k.last in
+    record { agent = omega arith; first = k.first; last = omega arith }
+
+-- an action moves its agent by its step alone
+finished_same : (s : Standing) (o u : Option Action) → option_map (λ a. a.step) o ≡ option_map (λ a. a.step) u → finished_one s o ≡ finished_one s u
+finished_same s None None e = refl
+finished_same s None (Some b) e = absurd (let f : ⊥ = cc in f)
+finished_same s (Some a) None e = absurd (let f : ⊥ = cc in f)
+finished_same s (Some a) (Some b) e =
+    let same : a.step ≡ b.step = cc in
+    λ i. record { place = stepped s.place (same i); count = s.count + 1 }
+
+pub next_same : (p q : Program) → DiffersInAwaits p q → (c : Configuration) (i : ℕ) → finished_one (standing_at c i) (next_action q c i) ≡ finished_one (standing_at c i) (next_action p c i)
+next_same p q h c i =
+    finished_same (standing_at c i) (next_action q c i) (next_action p c i)
+    (sym (slice_get-map (λ a. a.step) (actions_of q i) (count_at c i)) ∙ ap (λ l. slice_get l (count_at c i)) (h.steps i) ∙ slice_get-map (λ a. a.step) (actions_of p i) (count_at c i))
+
+pub opening_same : (p q : Program) → DiffersInAwaits p q → opening q ≡ opening p
+opening_same p q h =
+    ext_get_or (record { place = place_of origin; count = 0 }) (opening q) (opening p)
+    (length_opening q ∙ h.agents ∙ sym (length_opening p))
+    (λ i l. standing_at_opening q i ∙ start i ∙ sym (standing_at_opening p i))
+  where
+    start : (i : ℕ) → ◌≡◌ {A = Standing} (record { place = place_of (start_of q i); count = 0 }) (record { place = place_of (start_of p i); count = 0 })
+    start i = λ j. record { place = place_of (h.starts i j); count = 0 }
+
+-- if steps agree, so do paths
+abbrev walk : Place → List Step → Place
+walk x [] = x
+walk x (s ∷ ss) = walk (stepped x s) ss
+
+walked_walk : (x : Place) (actions : List Action) → walked x actions ≡ walk x (map (λ a. a.step) actions)
+walked_walk x [] = refl
+walked_walk x (a ∷ actions) = walked_walk (stepped x a.step) actions
+
+path_walk : (p : Program) (i n : ℕ) → path p i n ≡ walk (place_of (start_of p i)) (take n (map (λ a. a.step) (actions_of p i)))
+path_walk p i n = walked_walk (place_of (start_of p i)) (take n (actions_of p i)) ∙ ap (walk (place_of (start_of p i))) (sym (take-map (λ a. a.step) n (actions_of p i)))
+
+pub path_there : (p q : Program) → DiffersInAwaits p q → (i n : ℕ) → path q i n ≡ path p i n
+path_there p q h i n =
+    path_walk q i n
+    ∙ ap₂ (λ s ds. walk (place_of s) (take n ds)) (h.starts i) (h.steps i)
+    ∙ sym (path_walk p i n)
+
+-- so their visits begin and end alike
+entry_step : (o : Option Action) → option_map_or (λ a. is_move a.step) o false ≡ option_map_or is_move (option_map (λ a. a.step) o) false
+entry_step None = refl
+entry_step (Some a) = refl
+
+entry_by_step : (p : Program) (i n : ℕ) → is_entry p i (suc n) ≡ option_map_or is_move (slice_get (map (λ a. a.step) (actions_of p i)) n) false
+entry_by_step p i n =
+    entry_step (slice_get (actions_of p i) n)
+    ∙ ap (λ o. option_map_or is_move o false) (sym (slice_get-map (λ a. a.step) (actions_of p i) n))
+
+pub entry_there : (p q : Program) → DiffersInAwaits p q → (i n : ℕ) → is_entry q i n ≡ is_entry p i n
+entry_there p q h i zero = refl
+entry_there p q h i (suc n) =
+    entry_by_step q i n
+    ∙ ap (λ ss. option_map_or is_move (slice_get ss n) false) (h.steps i)
+    ∙ sym (entry_by_step p i n)
+
+abbrev stays : List Step → ℕ
+stays [] = 0
+stays (s ∷ ss) = if is_move s then 0 else stays ss + 1
+
+stays_by_step : (actions : List Action) → stays_before actions ≡ stays (map (λ a. a.step) actions)
+stays_by_step [] = refl
+stays_by_step (a ∷ actions) = ap (λ n. if is_move a.step then 0 else n + 1) (stays_by_step actions)
+
+next_by_step : (p : Program) (i n : ℕ) → next_move p i n ≡ n + 1 + stays (drop n (map (λ a. a.step) (actions_of p i)))
+next_by_step p i n =
+    ap (λ m. n + 1 + m) (stays_by_step (drop n (actions_of p i)) ∙ ap stays (sym (drop-map (λ a. a.step) n (actions_of p i))))
+
+pub next_there : (p q : Program) → DiffersInAwaits p q → (i n : ℕ) → next_move q i n ≡ next_move p i n
+next_there p q h i n =
+    next_by_step q i n
+    ∙ ap (λ ss. n + 1 + stays (drop n ss)) (h.steps i)
+    ∙ sym (next_by_step p i n)
+
+pub leaving_there : (p q : Program) → DiffersInAwaits p q → (v : Visit) → leaving q v ≡ leaving p v
+leaving_there p q h v = λ i. record { agent = v.agent; number = next_there p q h v.agent v.position i }
+
+pub visit_there : (p q : Program) → DiffersInAwaits p q → (x : Place) (v : Visit) → IsVisitOf p x v → IsVisitOf q x v
+visit_there p q h x v k =
+    let n : length q ≡ length p = h.agents in
+    let m : moves q v.agent ≡ moves p v.agent = same_moves p q h v.agent in
+    let l : v.agent < length p = k.agent in
+    let g : v.position ≤ moves p v.agent = k.position in
+    record { agent = omega arith; position = omega arith; entered = entry_there p q h v.agent v.position ∙ k.entered; place = path_there p q h v.agent v.position ∙ k.place }
+
+pub visit_back : (p q : Program) → DiffersInAwaits p q → (x : Place) (v : Visit) → IsVisitOf q x v → IsVisitOf p x v
+visit_back p q h x v k =
+    let n : length q ≡ length p = h.agents in
+    let m : moves q v.agent ≡ moves p v.agent = same_moves p q h v.agent in
+    let l : v.agent < length q = k.agent in
+    let g : v.position ≤ moves q v.agent = k.position in
+    record { agent = omega arith; position = omega arith; entered = sym (entry_there p q h v.agent v.position) ∙ k.entered; place = sym (path_there p q h v.agent v.position) ∙ k.place }
+
+pub lists_there : (p q : Program) → DiffersInAwaits p q → (x : Place) (l : List Visit) → ListsVisits p x l → ListsVisits q x l
+lists_there p q h x l k = record {
+  all = λ v m. k.all v (visit_back p q h x v m);
+  only = λ j d m. visit_there p q h x (get_or l j d) (k.only j d m);
+  once = k.once;
+}
 
 pub turned : (p q : Program) → HaveSameChains p q → HaveSameChains q p
 turned p q h = record {
@@ -161,3 +292,222 @@ tick_over p q range range' h holds t before =
 pub run_over : (p q : Program) → AreInRange p → AreInRange q → HaveSameChains p q → (holds : Holds) (t : ℕ) → run p holds t ≡ run q holds t
 run_over p q range range' h holds zero = sym (opening_same p q h.rest)
 run_over p q range range' h holds (suc t) = tick_over p q range range' h holds t (run_over p q range range' h holds t)
+
+need_back : (p q : Program) → IsReduced p q → (a b : ActionId) → DirectlyNeeds q a b → DirectlyNeeds p a b
+need_back p q h a b (inl e) = inl e
+need_back p q h a b (inr c) = inr (h.fewer a.agent a.number (record { agent = b.agent; count = b.number }) c)
+
+chain_back : (p q : Program) → IsReduced p q → (a : ActionId) (cs : List ActionId) (b : ActionId) → ChainFrom q a cs b → ChainFrom p a cs b
+chain_back p q h a [] b (k, e) = (action_back p q h.rest a k, e)
+chain_back p q h a (c ∷ cs) b (k, n, r) = (action_back p q h.rest a k, need_back p q h c a n, chain_back p q h c cs b r)
+
+-- q needs what p needs, and nothing else
+pub need_there : (p q : Program) → IsReduced p q → (a b : ActionId) → IsAction p a → IsAction p b → DirectlyNeeds p b a → Reaches q a b
+need_there p q h a b k m (inl e) = Reaches-need q a b (action_there p q h.rest a k) (action_there p q h.rest b m) (inl e)
+need_there p q h a b k m (inr c) =
+    elim (h.needed b.agent b.number (record { agent = a.agent; count = a.number }) m c) [
+      | inl d ↦ Reaches-need q a b (action_there p q h.rest a k) (action_there p q h.rest b m) (inr d)
+      | inr r ↦ r
+    ]
+
+chain_reaches : (p q : Program) → IsReduced p q → (a : ActionId) (cs : List ActionId) (b : ActionId) → ChainFrom p a cs b → Reaches q a b
+chain_reaches p q h a [] b (k, e) = ([], (action_there p q h.rest a k, e))
+chain_reaches p q h a (c ∷ cs) b (k, n, r) = Reaches-trans q a c b (need_there p q h a c k (chain_first p c cs b r) n) (chain_reaches p q h c cs b r)
+
+pub reach_there : (p q : Program) → IsReduced p q → (a b : ActionId) → Reaches p a b → Reaches q a b
+reach_there p q h a b (cs, r) = chain_reaches p q h a cs b r
+
+pub reach_back : (p q : Program) → IsReduced p q → (a b : ActionId) → Reaches q a b → Reaches p a b
+reach_back p q h a b (cs, r) = (cs, chain_back p q h a cs b r)
+
+pub reduced_chains : (p q : Program) → IsReduced p q → HaveSameChains p q
+reduced_chains p q h = record { rest = h.rest; chains = λ a b. (reach_there p q h a b, reach_back p q h a b) }
+
+-- every await can be met as before
+range_of : (p q : Program) → DiffersInAwaits p q → ((i n : ℕ) (w : Await) → Contains (awaits_of q i n) w → Contains (awaits_of p i n) w) → AreInRange p → AreInRange q
+range_of p q h fewer range i n w c =
+    let agents : length q ≡ length p = h.agents in
+    let same : moves q w.agent ≡ moves p w.agent = same_moves p q h w.agent in
+    let r = range i n w (fewer i n w c) in
+    record { agent = omega (arith, r.agent); other = r.other; first = r.first; last = omega (arith, r.last) }
+
+pub range_there : (p q : Program) → IsReduced p q → AreInRange p → AreInRange q
+range_there p q h range = range_of p q h.rest h.fewer range
+
+pub thinned_range : (p q : Program) → IsThinned p q → AreInRange p → AreInRange q
+thinned_range p q h range = range_of p q h.rest (λ i n w c. ((h.awaits i n w).0 c).0) range
+
+-- whether an await is implied can be computed
+implied-dec : (p : Program) (number : ActionId → ℕ) → IsNumbering p number → (a : ActionId) → IsAction p a → (w : Await) → Dec (IsImplied p a w)
+implied-dec p number s a h w =
+    elim (Both before) [
+      | yes g ↦ yes (before, g.0, needs_before p a (Reaches-last p (awaited w) before g.1), g.1)
+      | no n ↦ (elim (some-dec (λ v. Either (awaited v)) (awaits_of p a.agent a.number) (λ v c. Both (awaited v))) [
+        | yes g ↦ yes (awaited g.0, g.2.0, inr g.1, g.2.1)
+        | no m ↦ no (λ (b, apart, d, r). none n m b apart d r)
+      ])
+    ]
+  where
+    before : ActionId
+    before = before_in a
+
+    Either : ActionId → Type 0
+    Either b = (b ≢ awaited w) × Reaches p (awaited w) b
+
+    Both : (b : ActionId) → Dec ((b ≢ awaited w) × Reaches p (awaited w) b)
+    Both b =
+        elim (action-dec b (awaited w)) [
+          | yes e ↦ no (λ g. g.0 e)
+          | no n ↦ (elim (Reaches-dec p number s (awaited w) b) [ yes r ↦ yes (n, r) | no m ↦ no (λ g. m g.1) ])
+        ]
+
+    none : (Either before → ⊥) → ((v : Await) × Contains (awaits_of p a.agent a.number) v × Either (awaited v) → ⊥) → (b : ActionId) → b ≢ awaited w → DirectlyNeeds p a b → Reaches p (awaited w) b → ⊥
+    none n m b apart (inl (e, g, f)) r =
+        let same : b ≡ before = same_action b before (sym e) (omega arith) in
+        n (subst Either same (apart, r))
+    none n m b apart (inr c) r = m (record { agent = b.agent; count = b.number }, c, (apart, r))
+
+-- a chain of steps that each have a chain in q
+chain_in : (p q : Program) → IsThinned p q → (number : ActionId → ℕ) → IsNumbering p number → (f : ℕ) → ((a b : ActionId) → IsAction p a → IsAction p b → DirectlyNeeds p b a → number b ≤ number a + f → Reaches q a b) → (a : ActionId) (cs : List ActionId) (b : ActionId) → ChainFrom p a cs b → number b ≤ number a + f → Reaches q a b
+chain_in p q h number s f short a [] b (k, e) l = ([], (action_there p q h.rest a k, e))
+chain_in p q h number s f short a (c ∷ cs) b (k, n, r) l =
+    let first : IsAction p c = chain_first p c cs b r in
+    let up : number a < number c = s.rising c a first k n in
+    let rest : number c + length cs ≤ number b = chain_rises p number s c cs b r in
+    Reaches-trans q a c b (short a c k first n (omega arith)) (chain_in p q h number s f short c cs b r (omega arith))
+
+-- two actions with a chain between them have different numbers, or are the same
+pub chain_apart : (p : Program) (number : ActionId → ℕ) → IsNumbering p number → (a : ActionId) (cs : List ActionId) (b : ActionId) → ChainFrom p a cs b → (b ≢ a) → number a < number b
+chain_apart p number s a [] b (k, e) apart = absurd (apart (sym e))
+chain_apart p number s a (c ∷ cs) b h apart = let up : number a + suc (length cs) ≤ number b = chain_rises p number s a (c ∷ cs) b h in omega arith
+
+-- an implied need, by way of the other action
+longer_in : (p q : Program) → IsThinned p q → (number : ActionId → ℕ) → IsNumbering p number → (f : ℕ) → ((a b : ActionId) → IsAction p a → IsAction p b → DirectlyNeeds p b a → number b ≤ number a + f → Reaches q a b) → (a b : ActionId) → IsAction p b → number b ≤ number a + suc f → (x : ActionId) → x ≢ a → DirectlyNeeds p b x → (cs : List ActionId) → ChainFrom p a cs x → Reaches q a b
+longer_in p q h number s f short a b m l x apart n cs r =
+    let up : number a < number x = chain_apart p number s a cs x r apart in
+    let is : IsAction p x = chain_last p a cs x r in
+    let on : number x < number b = s.rising b x m is n in
+    Reaches-trans q a x b (chain_in p q h number s f short a cs x r (omega arith)) (short x b is m n (omega arith))
+
+-- what is needed in p begins a chain in q, by the distance of the numbers
+step_in : (p q : Program) → IsThinned p q → (number : ActionId → ℕ) → IsNumbering p number → (f : ℕ) (a b : ActionId) → IsAction p a → IsAction p b → DirectlyNeeds p b a → number b ≤ number a + f → Reaches q a b
+step_in p q h number s f a b k m (inl e) l = Reaches-need q a b (action_there p q h.rest a k) (action_there p q h.rest b m) (inl e)
+step_in p q h number s zero a b k m (inr c) l = absurd (let up : number a < number b = s.rising b a m k (inr c) in omega arith)
+step_in p q h number s (suc f) a b k m (inr c) l =
+    elim (implied-dec p number s b m w) [
+      | no n ↦ Reaches-need q a b (action_there p q h.rest a k) (action_there p q h.rest b m) (inr ((h.awaits b.agent b.number w).1 (c, n)))
+      | yes g ↦ longer_in p q h number s f (step_in p q h number s f) a b m l g.0 g.1 g.2 g.3.0 g.3.1
+    ]
+  where
+    w : Await
+    w = record { agent = a.agent; count = a.number }
+
+-- dropping the implied awaits is such a reduction
+pub thinned_reduced : (p q : Program) (number : ActionId → ℕ) → IsNumbering p number → IsThinned p q → IsReduced p q
+thinned_reduced p q number s h = record {
+  rest = h.rest;
+  fewer = λ i n w c. ((h.awaits i n w).0 c).0;
+  needed = λ i n w k c. needed i n w k c (implied-dec p number s (record { agent = i; number = n }) k w);
+}
+  where
+    needed : (i n : ℕ) (w : Await) → IsAction p (record { agent = i; number = n }) → Contains (awaits_of p i n) w → Dec (IsImplied p (record { agent = i; number = n }) w) → Contains (awaits_of q i n) w ⊎ Reaches q (awaited w) (record { agent = i; number = n })
+    needed i n w k c (no m) = inl ((h.awaits i n w).1 (c, m))
+    needed i n w k c (yes (x, apart, d, r)) =
+        let b : ActionId = record { agent = i; number = n } in
+        inr (step_in p q h number s (number b) (awaited w) b (Reaches-first p (awaited w) x r) k (inr c) (omega arith))
+
+-- what is left is not implied
+pub thinned_again : (p q : Program) (number : ActionId → ℕ) → IsNumbering p number → IsThinned p q → IsThinned q q
+thinned_again p q number s h = record {
+  rest = record { agents = refl; starts = λ i. refl; goals = λ i. refl; steps = λ i. refl };
+  awaits = λ i n w. ((λ c. (c, none i n w c)), (λ t. t.0));
+}
+  where
+    less : IsReduced p q
+    less = thinned_reduced p q number s h
+
+    none : (i n : ℕ) (w : Await) → Contains (awaits_of q i n) w → IsImplied q (record { agent = i; number = n }) w → ⊥
+    none i n w c (b, apart, d, r) =
+        ((h.awaits i n w).0 c).1 (b, apart, need_back p q less (record { agent = i; number = n }) b d, reach_back p q less (awaited w) b r)
+
+-- an action with an await is one of the program
+pub awaiting_action : (p : Program) (i n : ℕ) (w : Await) → Contains (awaits_of p i n) w → IsAction p (record { agent = i; number = n })
+awaiting_action p i zero w h = absurd (contains_none w h)
+awaiting_action p i (suc n) w h =
+    elim (cases_lt i (length p)) [
+      | inl lt ↦ record { agent = lt; first = omega arith; last = within }
+      | inr past ↦ absurd (contains_none w (subst (λ (o : Option AgentProgram). Contains (option_map_or (λ (s : Action). s.awaits) (slice_get (option_map_or (λ (a : AgentProgram). a.actions) o []) n) []) w) (slice_get_past p i past) h))
+    ]
+  where
+    within : suc n ≤ moves p i
+    within = elim (cases_lt n (moves p i)) [
+      | inl lt ↦ omega arith
+      | inr past ↦ absurd (contains_none w (subst (λ (o : Option Action). Contains (option_map_or (λ (s : Action). s.awaits) o []) w) (slice_get_past (actions_of p i) n past) h))
+    ]
+
+-- a chain to b ends with a step from another action
+record LastOther (p : Program) (a b : ActionId) : Type 0 where
+  before : ActionId
+  other : before ≢ b
+  reaches : Reaches p a before
+  needs : DirectlyNeeds p b before
+
+last_other : (p : Program) (a : ActionId) (cs : List ActionId) (b : ActionId) → ChainFrom p a cs b → (a ≡ b) ⊎ LastOther p a b
+last_other p a [] b (k, e) = inl e
+last_other p a (c ∷ cs) b (k, n, r) =
+    elim (last_other p c cs b r) [
+      | inl e ↦ (elim (action-dec a b) [
+        | yes s ↦ inl s
+        | no m ↦ inr (record { before = a; other = m; reaches = Reaches-refl p a k; needs = subst (λ x. DirectlyNeeds p x a) e n })
+      ])
+      | inr l ↦ inr (record { before = l.before; other = l.other; reaches = Reaches-trans p a c l.before (Reaches-need p a c k (chain_first p c cs b r) n) l.reaches; needs = l.needs })
+    ]
+
+-- no two actions reach each other
+one_way : (p : Program) (number : ActionId → ℕ) → IsNumbering p number → (a b : ActionId) → a ≢ b → Reaches p a b → Reaches p b a → ⊥
+one_way p number s a b apart (cs, there) (ds, back) =
+    let up = chain_apart p number s a cs b there (λ e. apart (sym e)) in
+    let down = chain_apart p number s b ds a back apart in
+    omega (arith, up, down)
+
+-- an action between the awaited one and the one that awaits it implies the await
+between : (p : Program) (number : ActionId → ℕ) → IsNumbering p number → (a x : ActionId) (w : Await) → x ≢ awaited w → x ≢ a → Reaches p (awaited w) x → Reaches p x a → IsImplied p a w
+between p number s a x w apart other there (cs, on) =
+    elim (last_other p x cs a on) [
+      | inl e ↦ absurd (other e)
+      | inr l ↦ (
+        l.before,
+        (λ e. one_way p number s x (awaited w) apart (subst (Reaches p x) e l.reaches) there),
+        l.needs,
+        Reaches-trans p (awaited w) x l.before there l.reaches,
+      )
+    ]
+
+pub thinned_least : (p q : Program) (number : ActionId → ℕ) → IsNumbering p number → AreInRange p → IsThinned p q → HasLeastAwaits p q
+thinned_least p q number s range h r same i n w c =
+    elim (last_other r (awaited w) there.0 a there.1) [
+      | inl e ↦ absurd (is.other (ap (λ (x : ActionId). x.agent) e))
+      | inr l ↦ (elim (action-dec l.before (awaited w)) [
+        | yes e ↦ direct (subst (λ x. DirectlyNeeds r a x) e l.needs)
+        | no apart ↦ absurd (own.1 (between p number s a l.before w apart l.other ((same.chains (awaited w) l.before).1 l.reaches) ((same.chains l.before a).1 (step l.before l.reaches l.needs))))
+      ])
+    ]
+  where
+    a : ActionId
+    a = record { agent = i; number = n }
+
+    own : Contains (awaits_of p i n) w × (IsImplied p a w → ⊥)
+    own = (h.awaits i n w).0 c
+
+    is : IsInRange p i w
+    is = range i n w own.0
+
+    there : Reaches r (awaited w) a
+    there = (same.chains (awaited w) a).0 (Reaches-need p (awaited w) a (record { agent = is.agent; first = is.first; last = is.last }) (awaiting_action p i n w own.0) (inr own.0))
+
+    step : (x : ActionId) → Reaches r (awaited w) x → DirectlyNeeds r a x → Reaches r x a
+    step x reaches needs = Reaches-need r x a (Reaches-last r (awaited w) x reaches) (Reaches-last r (awaited w) a there) needs
+
+    direct : DirectlyNeeds r a (awaited w) → Contains (awaits_of r i n) w
+    direct (inl (e, g, f)) = absurd (is.other (sym e))
+    direct (inr k) = k

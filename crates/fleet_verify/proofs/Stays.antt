@@ -18,7 +18,7 @@ use Rattle.fleet_model.specs.Chain.{IsLongestChain, IsNumbering}
 use Rattle.fleet_model.specs.Visit.{is_entry, IsVisitOf, ListsVisits, ComesAfter, IsOrderly}
 use Rattle.fleet_model.specs.Accepted.{IsAccepted}
 use Rattle.fleet_model.specs.Program.{AreInRange}
-use Rattle.fleet_verify.proofs.Arrive.{unheld_is_longest}
+use Rattle.fleet_verify.proofs.RunEnds.{unheld_is_longest}
 use Rattle.fleet_model.specs.Visit.{IsVisit}
 use Rattle.fleet_verify.specs.Listing.{IsBefore, IsSortedListing}
 use Rattle.fleet_verify.proofs.Members.{contains_head, contains_later, contains_cases, contains_none, filter_has, filter_from}

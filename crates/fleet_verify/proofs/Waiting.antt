@@ -1,19 +1,119 @@
--- If nobody is ready, the waiting of the agents for one another leads round.
-use Rattle.std.proofs.Common.{◌≡◌, ◌≢◌, ℕ, zero, suc, ◌+◌, ◌-◌, ◌<◌, ◌≤◌, Bool, true, false, cond, List, [], ◌∷◌, ◌++◌, length, map, get_or, slice_index, Some, refl, ap, sym, ◌∙◌, subst, arith, inl, inr, IsTrue, reverse}
+-- When an agent is ready, who waits, and for whom.
+use Rattle.std.proofs.Common.{◌≡◌, ℕ, suc, ◌<◌, ◌≤◌, Bool, true, false, length, refl, ap, arith, inl, inr, ◌+◌, List, [], ◌∷◌, ◌++◌, take, get_or, slice_index, Some, sym, ◌∙◌, subst, ◌≢◌, zero, ◌-◌, cond, map, IsTrue, reverse, ◌||◌, not}
 use Rattle.std.specs.Prelude.{Contains, ◌⊎◌, slice_get}
-use Rattle.std.proofs.lemmas.Bool.{cases_eq, cases_lt, lt-ltb, le-ltb}
+use Rattle.fleet_model.specs.declared.standing.Standing.{Standing}
 use Rattle.fleet_model.specs.declared.program.Await.{Await}
+use Rattle.fleet_model.specs.Program.{Program, moves, awaits_of, IsWellFormed, AreInRange}
+use Rattle.fleet_model.specs.Machine.{Configuration, count_at, is_ready, Holds, is_held, run, indices, is_finished, is_stuck, is_over}
+use Rattle.fleet_model.proofs.Tick.{ready_left, ready_met, unready_waits}
+use Rattle.fleet_verify.proofs.Counts.{tick_free, tick_stays, unfinished_one}
+use Rattle.std.proofs.lemmas.List.{take_more, map-append, get_or_append_left, get_or-append_right, length-append, get_or-reverse, length-reverse, get_or_default}
+use Rattle.std.proofs.lemmas.Option.{slice_get-get_or, slice_get_within, get_or_from_slice_get, same_Some}
+use Rattle.std.proofs.lemmas.Bool.{cases_lt, cases_eq, lt-ltb, le-ltb, and_parts, not-true}
+use Rattle.fleet_verify.specs.Walk.{AreCounts, counts_of, IsReadyBy}
 use Rattle.fleet_model.specs.declared.program.ActionId.{ActionId}
-use Rattle.fleet_model.specs.Program.{Program, moves, awaits_of}
 use Rattle.fleet_model.specs.Chain.{IsAction, DirectlyNeeds}
-use Rattle.fleet_model.specs.Program.{AreInRange}
 use Rattle.fleet_verify.proofs.Members.{same_action}
 use Rattle.fleet_verify.specs.Ring.{IsToldRing, IsActionUpTo}
 use Rattle.fleet_verify.specs.Blocked.{nth, IsBlocked, want_at, AreWants, next_of, need_of, WaitsBack, IsLeastBack, down_from}
-use Rattle.std.proofs.lemmas.List.{get_or_append_left, get_or-append_right, length-append, get_or-reverse, length-reverse, get_or_default}
 use Rattle.std.proofs.lemmas.List.FromFn.{get_or-map-range_with_len, length-map-range_with_len}
-use Rattle.std.proofs.lemmas.Option.{slice_get_within, get_or_from_slice_get}
 use Rattle.fleet_model.proofs.Pigeon.{IsRepeat, repeated}
+use Rattle.std.specs.List.{list_any}
+use Rattle.fleet_machine.proofs.Indices.{any_at}
+
+-- an action is left, and each of its awaits is met
+pub record IsReadyTo (p : Program) (c : Configuration) (i : ℕ) : Type 0 where
+  pub left : count_at c i < moves p i
+  pub met : (w : Await) → Contains (awaits_of p i (suc (count_at c i))) w → w.count ≤ count_at c w.agent
+
+pub ready_says : (p : Program) (c : Configuration) (i : ℕ) → is_ready p c i ≡ true → IsReadyTo p c i
+ready_says p c i r = record { left = ready_left p c i r; met = λ w h. ready_met p c i w r h }
+
+pub ready_from : (p : Program) (c : Configuration) (i : ℕ) → IsReadyTo p c i → is_ready p c i ≡ true
+ready_from p c i r = go (is_ready p c i) refl
+  where
+    go : (b : Bool) → is_ready p c i ≡ b → is_ready p c i ≡ true
+    go true e = e
+    go false e = let w = unready_waits p c i e r.left in absurd (omega (arith, r.met w.0 w.1, w.2))
+
+pub record Moves (p : Program) (held : ℕ → Bool) (c d : Configuration) (i : ℕ) : Type 0 where
+  pub ready : IsReadyTo p c i
+  pub free : held i ≡ false
+  pub count : count_at d i ≡ suc (count_at c i)
+
+pub record StaysBehind (p : Program) (held : ℕ → Bool) (c d : Configuration) (i : ℕ) : Type 0 where
+  pub why : IsReadyTo p c i → held i ≡ true
+  pub count : count_at d i ≡ count_at c i
+
+pub step : (p : Program) (holds : Holds) (t i : ℕ) → i < length p → Moves p (is_held holds t) (run p holds t) (run p holds (suc t)) i ⊎ StaysBehind p (is_held holds t) (run p holds t) (run p holds (suc t)) i
+step p holds t i l = go (is_ready p (run p holds t) i) (is_held holds t i) refl refl
+  where
+    go : (r h : Bool) → is_ready p (run p holds t) i ≡ r → is_held holds t i ≡ h → Moves p (is_held holds t) (run p holds t) (run p holds (suc t)) i ⊎ StaysBehind p (is_held holds t) (run p holds t) (run p holds (suc t)) i
+    go true false r h =
+        let e = tick_free p (is_held holds t) (run p holds t) i l r h in
+        inl (record { ready = ready_says p (run p holds t) i r; free = h; count = omega arith })
+    go true true r h = inr (record { why = λ y. h; count = ap (λ (s : Standing). s.count) (tick_stays p (is_held holds t) (run p holds t) i l (rw (r, h))) })
+    go false b r h = inr (record {
+      why = λ y. absurd (let e : is_ready p (run p holds t) i ≡ true = ready_from p (run p holds t) i y in cc);
+      count = ap (λ (s : Standing). s.count) (tick_stays p (is_held holds t) (run p holds t) i l (rw r));
+    })
+
+pub await_agent : (p : Program) → IsWellFormed p → (i n k : ℕ) (w : Await) → slice_get (awaits_of p i n) k ≡ Some w → w.agent < length p
+await_agent p h i n k w e =
+    subst (λ x. x.agent < length p) (get_or_from_slice_get (awaits_of p i n) k w w e) ((h.awaits i n).agents k w (slice_get_within (awaits_of p i n) k w e))
+
+pub await_there : (p : Program) → IsWellFormed p → (i n : ℕ) (w : Await) → Contains (awaits_of p i n) w → w.agent < length p
+await_there p h i n w (k, l, e) = subst (λ (x : Await). x.agent < length p) e ((h.awaits i n).agents k w l)
+
+-- one await more that is met
+pub met_more : (awaits : List Await) (counts : List ℕ) (k : ℕ) (x : Await) → slice_get awaits k ≡ Some x → x.count ≤ slice_index counts x.agent
+    → ((m : ℕ) (w : Await) → m < k → slice_get awaits m ≡ Some w → w.count ≤ slice_index counts w.agent)
+    → (m : ℕ) (w : Await) → m < k + 1 → slice_get awaits m ≡ Some w → w.count ≤ slice_index counts w.agent
+met_more awaits counts k x here met sooner m w below at =
+    elim (cases_lt m k) [
+      | inl lt ↦ sooner m w lt at
+      | inr ge ↦
+          let last : m ≡ k = omega arith in
+          let one : x ≡ w = same_Some _ _ (sym here ∙ (ap (slice_get awaits) (sym last) ∙ at)) in
+          subst (λ (y : Await). y.count ≤ slice_index counts y.agent) one met
+    ]
+
+pub ready_yes : (p : Program) (counts : List ℕ) (i : ℕ) → slice_index counts i < moves p i → (k : ℕ) → length (awaits_of p i (slice_index counts i + 1)) ≤ k → ((m : ℕ) (w : Await) → m < k → slice_get (awaits_of p i (slice_index counts i + 1)) m ≡ Some w → w.count ≤ slice_index counts w.agent) → IsReadyBy p counts i
+ready_yes p counts i l k n h = record {
+  left = l;
+  met = λ w (m, g, e). h m w (omega arith) (slice_get-get_or (awaits_of p i (slice_index counts i + 1)) m w g ∙ ap Some e);
+}
+
+pub ready_no : (p : Program) (counts : List ℕ) (i k : ℕ) (w : Await) → slice_get (awaits_of p i (slice_index counts i + 1)) k ≡ Some w → slice_index counts w.agent < w.count → IsReadyBy p counts i → ⊥
+ready_no p counts i k w e l r =
+    let h : w.count ≤ slice_index counts w.agent = r.met w (k, slice_get_within (awaits_of p i (slice_index counts i + 1)) k w e, get_or_from_slice_get (awaits_of p i (slice_index counts i + 1)) k w w e) in
+    omega arith
+
+-- readiness by counts is that of the configuration
+pub ready_by : (p : Program) (c : Configuration) (counts : List ℕ) → AreCounts c counts → (i : ℕ) → IsReadyTo p c i → IsReadyBy p counts i
+ready_by p c counts a i r = record {
+  left = (let e : slice_index counts i ≡ count_at c i = a i in let l : count_at c i < moves p i = r.left in omega arith);
+  met = λ w k.
+      let e : slice_index counts i + 1 ≡ suc (count_at c i) = (let g : slice_index counts i ≡ count_at c i = a i in omega arith) in
+      let l : w.count ≤ count_at c w.agent = r.met w (subst (λ n. Contains (awaits_of p i n) w) e k) in
+      let f : slice_index counts w.agent ≡ count_at c w.agent = a w.agent in
+      omega arith;
+}
+
+pub by_ready : (p : Program) (c : Configuration) (counts : List ℕ) → AreCounts c counts → (i : ℕ) → IsReadyBy p counts i → IsReadyTo p c i
+by_ready p c counts a i r = record {
+  left = (let e : slice_index counts i ≡ count_at c i = a i in let l : slice_index counts i < moves p i = r.left in omega arith);
+  met = λ w k.
+      let e : suc (count_at c i) ≡ slice_index counts i + 1 = (let g : slice_index counts i ≡ count_at c i = a i in omega arith) in
+      let l : w.count ≤ slice_index counts w.agent = r.met w (subst (λ n. Contains (awaits_of p i n) w) e k) in
+      let f : slice_index counts w.agent ≡ count_at c w.agent = a w.agent in
+      omega arith;
+}
+
+-- the counts of one agent more
+pub counts_more : (c : Configuration) (k : ℕ) (d : Standing) (counts : List ℕ) → k < length c → counts ≡ counts_of (take k c) → counts ++ (get_or c k d).count ∷ [] ≡ counts_of (take (k + 1) c)
+counts_more c k d counts inside so_far =
+    rw (take_more c k d inside, map-append (λ (s : Standing). s.count) (take k c) (get_or c k d ∷ []), so_far) refl
 
 pub nth_add : {X : Type 0} (f : X → X) (m n : ℕ) (x : X) → nth f (m + n) x ≡ nth f m (nth f n x)
 nth_add f zero n x = ap (λ k. nth f k x) (omega arith)
@@ -312,3 +412,27 @@ nth_more f n i j e = ap f e ∙ ap (λ k. nth f k i) (sym (Rattle.std.proofs.Com
 
 pub steps_more : (f : ℕ → ℕ) (n i : ℕ) → ((k : ℕ) → 1 ≤ k → k ≤ n → nth f k i ≢ i) → nth f (n + 1) i ≢ i → (k : ℕ) → 1 ≤ k → k ≤ n + 1 → nth f k i ≢ i
 steps_more f n i before here k a b e = elim (cases_eq k (n + 1)) [ inl g ↦ here (ap (λ m. nth f m i) (sym g) ∙ e) | inr ne ↦ before k a (omega arith) e ]
+
+pub counts_are : (c : Configuration) → AreCounts c (counts_of c)
+counts_are [] i = refl
+counts_are (s ∷ c) zero = refl
+counts_are (s ∷ c) (suc i) = counts_are c i
+
+module _ (p : Program) (c : Configuration) (stuck : IsTrue (is_stuck p c)) where
+  parts : (not (is_finished p c) ≡ true) × (not (list_any (is_ready p c) (indices (length p))) ≡ true)
+  parts = and_parts (not (is_finished p c)) (not (list_any (is_ready p c) (indices (length p)))) stuck
+
+  -- nobody is ready
+  pub none_ready : (i : ℕ) → i < length p → IsReadyBy p (counts_of c) i → ⊥
+  none_ready i l r =
+      let ready = ready_from p c i (by_ready p c (counts_of c) (counts_are c) i r) in
+      let some = any_at (is_ready p c) (length p) i l ready in
+      let none = not-true (list_any (is_ready p c) (indices (length p))) parts.1 in
+      cc
+
+  -- somebody has an action left
+  pub some_blocked : (i : ℕ) × IsBlocked p (counts_of c) i
+  some_blocked =
+      let one = unfinished_one p c (not-true (is_finished p c) parts.0) in
+      let same : slice_index (counts_of c) one.0 ≡ count_at c one.0 = counts_are c one.0 in
+      (one.0, record { agent = one.1; left = omega (arith, one.2) })

@@ -11,7 +11,7 @@ use Rattle.fleet_model.specs.Program.{Program, moves, path, IsCell}
 use Rattle.fleet_model.specs.Visit.{is_entry, IsVisit, Adjacent, ComesAfterByAwait, ComesAfter}
 use Rattle.fleet_verify.specs.Faults.{IsOrderlyAt, IsFirstBreak}
 use Rattle.fleet_verify.specs.Listing.{AreLevels, IsBefore, IsSortedListing}
-use Rattle.fleet_verify.specs.declared.open_pairs.OrderViolation.{OrderViolation}
+use Rattle.fleet_verify.specs.declared.order.OrderViolation.{OrderViolation}
 use Rattle.fleet_verify.specs.declared.visit_order.OpenPair.{OpenPair}
 use Rattle.fleet_verify.specs.declared.visit_order.PlacedVisit.{PlacedVisit}
 use Rattle.fleet_verify.specs.declared.visit_order.VisitOrder.{VisitOrder}

@@ -18,7 +18,6 @@ mod fault;
 mod last_visits;
 mod level_row;
 mod needed;
-mod open_pairs;
 mod order;
 mod orders;
 mod path;

@@ -1,5 +1,5 @@
 use Rattle.fleet_grid.specs.Ground.{is_passable}
-use Rattle.fleet_adg.proofs.StayingPlans.{due-plain, moves-plain, short-plain, runs-plain}
+use Rattle.fleet_adg.proofs.Staying.{due-plain, moves-plain, short-plain, runs-plain}
 use Rattle.fleet_adg.proofs.compiler.compile.Goals as goal
 
 pub returns-clause-program : goal.returns-clause-program

@@ -7,7 +7,7 @@ use Rattle.fleet_plan.specs.Plan.{steps}
 use Rattle.fleet_verify.specs.Reduced.{RunEqually}
 use Rattle.fleet_adg.specs.Compiled.{compiled_staying, has_few_actions}
 use Rattle.fleet_adg.proofs.SweepSteps.{length-all_actions_by, program_is, few_compile}
-use Rattle.fleet_adg.proofs.StayingPlans.{staying-well_formed, staying-accepted, short-accepted, stay_alike}
+use Rattle.fleet_adg.proofs.Staying.{staying-well_formed, staying-accepted, short-accepted, stay_alike}
 use Rattle.fleet_adg.proofs.compiler.compile_dwell.Goals as goal
 
 pub agent_programs-requires : goal.agent_programs-requires

@@ -4,10 +4,8 @@ use Rattle.fleet_model.specs.Machine.{IsFinish}
 use Rattle.fleet_grid.specs.Ground.{is_passable}
 use Rattle.fleet_verify.specs.Parts.{IsAcceptedFor}
 use Rattle.fleet_verify.specs.Reduced.{IsThinned}
-use Rattle.fleet_verify.proofs.Reductions.{thinned_reduced, thinned_again, reduced_chains, thinned_range}
-use Rattle.fleet_verify.proofs.SameChains.{longest_over, accepted_over, run_over}
-use Rattle.fleet_verify.proofs.LeastAwaits.{thinned_least}
-use Rattle.fleet_verify.proofs.ReachLaws.{longest_finishes}
+use Rattle.fleet_verify.proofs.SameChains.{thinned_reduced, thinned_again, reduced_chains, thinned_range, thinned_least, longest_over, accepted_over, run_over}
+use Rattle.fleet_verify.proofs.Reached.{longest_finishes}
 use Rattle.fleet_adg.proofs.Thinning.{thinned_of, thinned_formed, moves_of, thinned_short}
 use Rattle.fleet_adg.proofs.thinner.thin.Goals as goal
 

@@ -1,7 +1,6 @@
 use Rattle.std.proofs.Common.{refl}
 use Rattle.fleet_grid.specs.Ground.{is_passable}
-use Rattle.fleet_verify.proofs.Reductions.{thinned_reduced, reduced_chains, thinned_range}
-use Rattle.fleet_verify.proofs.SameChains.{accepted_over}
+use Rattle.fleet_verify.proofs.SameChains.{thinned_reduced, reduced_chains, thinned_range, accepted_over}
 use Rattle.fleet_cli.proofs.thin_command.thinned_program.Goals as goal
 
 pub returns-in-Ok-clause-thinned : goal.returns-in-Ok-clause-thinned

@@ -5,7 +5,7 @@ use Rattle.fleet_model.specs.Program.{Program}
 use Rattle.fleet_needs.specs.Answering.{IsAnswering, AreOthersLeft}
 use Rattle.fleet_needs.specs.Block.{AreAnswered}
 use Rattle.fleet_needs.specs.declared.answering.Answering.{Answering}
-use Rattle.fleet_needs.specs.declared.columns.Columns.{Columns}
+use Rattle.fleet_needs.specs.declared.slots.Columns.{Columns}
 use Rattle.fleet_needs.specs.declared.schedule.Schedule.{Schedule}
 use Rattle.fleet_needs.proofs.Answered.{answering_none}
 use Rattle.fleet_needs.proofs.answering.answer.Goals as goal

@@ -5,8 +5,8 @@ use Rattle.fleet_run.specs.Fleet.{IsShown, AreOnGoals}
 use Rattle.fleet_run.specs.Drive.{Drives}
 use Rattle.fleet_model.specs.Run.{Arrives}
 use Rattle.fleet_model.specs.Machine.{opening, standing_at, IsFinish}
-use Rattle.fleet_run.proofs.Driven.{at_opening, told_in_time, told_unless_failed}
-use Rattle.fleet_run.proofs.Finished.{arrived_if_told, longest_if_told}
+use Rattle.fleet_run.proofs.UnderWay.{at_opening, told_in_time, told_unless_failed}
+use Rattle.fleet_run.proofs.Progress.{arrived_if_told, longest_if_told}
 use Rattle.fleet_run.proofs.fleet.drive.Goals as goal
 
 pub run_trace-requires-clause-opening : goal.run_trace-requires-clause-opening

@@ -3,7 +3,7 @@ use Rattle.fleet_model.specs.Program.{moves}
 use Rattle.fleet_text.proofs.SinkLemmas.{takes_err}
 use Rattle.fleet_verify.proofs.Paths.{in_reach, step_from}
 use Rattle.fleet_run.specs.Listing.{action_line}
-use Rattle.fleet_run.proofs.Texts.{one_text_more, stops_in_text}
+use Rattle.fleet_run.proofs.Rehearsed.{one_text_more, stops_in_text}
 use Rattle.fleet_run.proofs.listing.put_actions.Goals as goal
 
 pub after-place-requires : goal.after-place-requires

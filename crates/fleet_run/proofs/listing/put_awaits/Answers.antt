@@ -4,7 +4,7 @@ use Rattle.fleet_model.specs.Program.{awaits_of}
 use Rattle.fleet_text.specs.Words.{next_words}
 use Rattle.fleet_text.proofs.SinkLemmas.{gathers_err, gathers_then, stops_before}
 use Rattle.fleet_run.specs.Listing.{await_text}
-use Rattle.fleet_run.proofs.Texts.{some_awaits}
+use Rattle.fleet_run.proofs.Rehearsed.{some_awaits}
 use Rattle.fleet_run.proofs.listing.put_awaits.Goals as goal
 
 pub returns-in_err-put_next_word : goal.returns-in_err-put_next_word

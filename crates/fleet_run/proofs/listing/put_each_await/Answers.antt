@@ -1,7 +1,7 @@
 use Rattle.std.proofs.Common.{rules, ◌<◌, length, arith}
 use Rattle.fleet_model.specs.Program.{awaits_of}
 use Rattle.fleet_text.proofs.SinkLemmas.{gathers_err}
-use Rattle.fleet_run.proofs.Texts.{one_await_more, stops_in_await}
+use Rattle.fleet_run.proofs.Rehearsed.{one_await_more, stops_in_await}
 use Rattle.fleet_run.proofs.listing.put_each_await.Goals as goal
 
 pub returns-in_err-put_next_word : goal.returns-in_err-put_next_word

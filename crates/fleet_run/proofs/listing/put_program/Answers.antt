@@ -1,7 +1,7 @@
 use Rattle.std.proofs.Common.{rules, length, arith}
 use Rattle.fleet_text.proofs.SinkLemmas.{takes_err}
 use Rattle.fleet_run.specs.Listing.{agent_text}
-use Rattle.fleet_run.proofs.Texts.{one_text_more, stops_in_text}
+use Rattle.fleet_run.proofs.Rehearsed.{one_text_more, stops_in_text}
 use Rattle.fleet_run.proofs.listing.put_program.Goals as goal
 
 pub returns-in_err-put_agent : goal.returns-in_err-put_agent

@@ -1,7 +1,7 @@
 use Rattle.std.proofs.Common.{rules, length, slice_index, arith}
 use Rattle.fleet_text.proofs.SinkLemmas.{takes_err}
 use Rattle.fleet_run.specs.TimesText.{agent_line}
-use Rattle.fleet_run.proofs.Texts.{one_text_more, stops_in_text}
+use Rattle.fleet_run.proofs.Rehearsed.{one_text_more, stops_in_text}
 use Rattle.fleet_run.proofs.times_text.put_arrivals.Goals as goal
 
 pub returns-in_err-put_line : goal.returns-in_err-put_line

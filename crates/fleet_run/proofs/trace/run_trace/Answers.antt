@@ -1,11 +1,10 @@
 use Rattle.std.proofs.Common.{◌≡◌, length, arith, sym, subst, ◌∙◌, ap, drop}
 use Rattle.fleet_text.specs.Sink.{Takes}
-use Rattle.fleet_run.proofs.UnderWay.{took_all}
+use Rattle.fleet_run.proofs.UnderWay.{took_all, driven, drives_so, finished_at_end, stops_in_trace_closing, needed_to_finish}
 use Rattle.fleet_run.specs.Text.{trace_closing}
 use Rattle.fleet_model.specs.Machine.{run, held_ticks}
 use Rattle.std.proofs.lemmas.Result.{err_from_is_err_and}
 use Rattle.fleet_run.proofs.Rehearsed.{rest_of_row}
-use Rattle.fleet_run.proofs.Driven.{driven, drives_so, finished_at_end, stops_in_trace_closing, needed_to_finish}
 use Rattle.fleet_run.proofs.trace.run_trace.Goals as goal
 
 pub returns-in_err-ran-clause-outcome : goal.returns-in_err-ran-clause-outcome

@@ -1,4 +1,4 @@
-use Rattle.fleet_verify.proofs.ReadyBy.{await_there}
+use Rattle.fleet_verify.proofs.Waiting.{await_there}
 use Rattle.fleet_verify.proofs.ahead.follows.Goals as goal
 
 pub is_left_if_met-requires : goal.is_left_if_met-requires

@@ -4,7 +4,7 @@ use Rattle.fleet_model.specs.Chain.{awaited}
 use Rattle.fleet_model.specs.Program.{awaits_of}
 use Rattle.fleet_model.proofs.Totals.{few_awaits_of}
 use Rattle.fleet_verify.specs.Ahead.{level_in}
-use Rattle.fleet_verify.proofs.ReadyBy.{await_agent}
+use Rattle.fleet_verify.proofs.Waiting.{await_agent}
 use Rattle.fleet_verify.proofs.NextLevel.{least_begins, least_max, least_ends}
 use Rattle.fleet_verify.proofs.ahead.needs_of.Goals as goal
 

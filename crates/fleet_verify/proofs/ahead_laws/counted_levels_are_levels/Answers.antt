@@ -1,4 +1,4 @@
-use Rattle.fleet_verify.proofs.Ranked.{counted_numbering, counted_levels, top_longest}
+use Rattle.fleet_verify.proofs.Ordered.{counted_numbering, counted_levels, top_longest}
 use Rattle.fleet_verify.proofs.ahead_laws.counted_levels_are_levels.Goals as goal
 
 pub returns-clause-numbering : goal.returns-clause-numbering

@@ -1,6 +1,6 @@
 use Rattle.std.proofs.Common.{arith, slice_index, ◌+◌, refl}
 use Rattle.fleet_model.specs.Program.{awaits_of}
-use Rattle.fleet_verify.proofs.ReadyBy.{await_agent, met_more, ready_yes, ready_no}
+use Rattle.fleet_verify.proofs.Waiting.{await_agent, met_more, ready_yes, ready_no}
 use Rattle.fleet_verify.proofs.breaking.is_ready.Goals as goal
 
 pub prove-unreachable-requires : goal.prove-unreachable-requires

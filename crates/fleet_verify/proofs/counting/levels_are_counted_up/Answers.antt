@@ -1,4 +1,4 @@
-use Rattle.fleet_verify.proofs.CountedUp.{counted_levels}
+use Rattle.fleet_verify.proofs.Levels.{counted_levels}
 use Rattle.fleet_verify.proofs.counting.levels_are_counted_up.Goals as goal
 
 pub returns : goal.returns

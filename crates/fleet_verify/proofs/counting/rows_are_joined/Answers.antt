@@ -1,4 +1,4 @@
-use Rattle.fleet_verify.proofs.CountedUp.{joined_row}
+use Rattle.fleet_verify.proofs.Levels.{joined_row}
 use Rattle.fleet_verify.proofs.counting.rows_are_joined.Goals as goal
 
 pub returns : goal.returns

@@ -1,5 +1,5 @@
 use Rattle.std.proofs.Common.{◌<◌, length, arith}
-use Rattle.fleet_verify.proofs.ReadyBy.{await_agent}
+use Rattle.fleet_verify.proofs.Waiting.{await_agent}
 use Rattle.fleet_verify.proofs.Looking.{raised_low, raised_more, raised_all}
 use Rattle.fleet_verify.proofs.needed.raise.Goals as goal
 use Rattle.fleet_verify.proofs.needed.raise.Goals.{then-is_short, else-is_short}

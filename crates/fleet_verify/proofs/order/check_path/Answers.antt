@@ -6,7 +6,7 @@ use Rattle.fleet_verify.specs.Order.{number_of}
 use Rattle.fleet_model.specs.Program.{path}
 use Rattle.fleet_grid.specs.Ground.{is_passable}
 use Rattle.indexmap.specs.IndexMap.{get}
-use Rattle.fleet_verify.proofs.Begun.{next_cell, next_there}
+use Rattle.fleet_verify.proofs.UnderWay.{next_cell, next_there}
 use Rattle.fleet_verify.proofs.Judged.{broken_fault, unbroken, starts_on, judged_begins, judged_first, judged_more, judged_path}
 use Rattle.fleet_verify.proofs.order.check_path.Goals as goal
 

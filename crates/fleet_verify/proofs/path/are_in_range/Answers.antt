@@ -1,5 +1,5 @@
 use Rattle.std.proofs.Common.{◌≡◌, ◌≤◌, ◌<◌, arith, length}
-use Rattle.fleet_verify.proofs.ReadyBy.{await_agent}
+use Rattle.fleet_verify.proofs.Waiting.{await_agent}
 use Rattle.fleet_verify.proofs.Ranges.{in_range_more, in_range_all, out_of_range}
 use Rattle.fleet_verify.proofs.path.are_in_range.Goals as goal
 

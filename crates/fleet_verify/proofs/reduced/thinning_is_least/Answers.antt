@@ -1,4 +1,4 @@
-use Rattle.fleet_verify.proofs.LeastAwaits.{thinned_least}
+use Rattle.fleet_verify.proofs.SameChains.{thinned_least}
 use Rattle.fleet_verify.proofs.reduced.thinning_is_least.Goals as goal
 
 pub returns : goal.returns

@@ -1,4 +1,4 @@
-use Rattle.fleet_verify.proofs.Reductions.{thinned_reduced, thinned_again, reduced_chains, range_there, thinned_range}
+use Rattle.fleet_verify.proofs.SameChains.{thinned_reduced, thinned_again, reduced_chains, range_there, thinned_range}
 use Rattle.fleet_verify.proofs.reduced.thinning_keeps_chains.Goals as goal
 
 pub returns : goal.returns

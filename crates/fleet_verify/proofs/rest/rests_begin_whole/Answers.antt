@@ -1,4 +1,4 @@
-use Rattle.fleet_verify.proofs.RemainsWhole.{rest_whole}
+use Rattle.fleet_verify.proofs.Remains.{rest_whole}
 use Rattle.fleet_verify.proofs.rest.rests_begin_whole.Goals as goal
 
 pub returns : goal.returns

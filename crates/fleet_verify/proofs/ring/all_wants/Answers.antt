@@ -1,5 +1,5 @@
 use Rattle.std.proofs.Common.{◌<◌, length, arith}
-use Rattle.fleet_verify.proofs.Wanted.{wants_none, wants_more, wants_all}
+use Rattle.fleet_verify.proofs.Looking.{wants_none, wants_more, wants_all}
 use Rattle.fleet_verify.proofs.ring.all_wants.Goals as goal
 use Rattle.fleet_verify.proofs.ring.all_wants.Goals.{then-counts-i, else-counts-i}
 

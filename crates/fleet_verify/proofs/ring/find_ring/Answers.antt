@@ -2,7 +2,7 @@ use Rattle.std.proofs.Common.{◌≡◌, ◌<◌, ℕ, List, length, refl, ap, s
 use Rattle.std.proofs.lemmas.List.{length-map}
 use Rattle.fleet_verify.specs.Walk.{IsReadyBy, counts_of}
 use Rattle.fleet_verify.specs.Blocked.{IsBlocked}
-use Rattle.fleet_verify.proofs.Blocked.{none_ready, some_blocked}
+use Rattle.fleet_verify.proofs.Waiting.{none_ready, some_blocked}
 use Rattle.fleet_verify.proofs.ring.find_ring.Goals as goal
 
 pub ring_by_counts-requires-clause-stuck : goal.ring_by_counts-requires-clause-stuck

@@ -1,4 +1,4 @@
-use Rattle.fleet_verify.proofs.OrdersAhead.{ahead_schedule, ahead_in_time}
+use Rattle.fleet_verify.proofs.Timed.{ahead_schedule, ahead_in_time}
 use Rattle.fleet_verify.proofs.schedules.orders_may_be_given_ahead.Goals as goal
 
 pub returns-clause-schedule : goal.returns-clause-schedule

@@ -1,4 +1,4 @@
-use Rattle.fleet_verify.proofs.NeverStuck.{never_stuck}
+use Rattle.fleet_verify.proofs.CriticalPaths.{never_stuck}
 use Rattle.fleet_verify.proofs.schedules.schedules_are_never_stuck.Goals as goal
 
 pub returns : goal.returns

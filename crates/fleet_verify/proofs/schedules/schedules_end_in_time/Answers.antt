@@ -1,7 +1,6 @@
 use Rattle.std.proofs.Common.{sym, ◌∙◌, subst}
 use Rattle.std.specs.Prelude.{◌≤◌}
-use Rattle.fleet_verify.proofs.Timed.{at_end, no_sooner, needs_unended}
-use Rattle.fleet_verify.proofs.Critical.{critical, ends_in_time, soonest_is}
+use Rattle.fleet_verify.proofs.Timed.{at_end, no_sooner, needs_unended, critical, ends_in_time, soonest_is}
 use Rattle.fleet_verify.proofs.schedules.schedules_end_in_time.Goals as goal
 
 pub returns-clause-no_sooner : goal.returns-clause-no_sooner

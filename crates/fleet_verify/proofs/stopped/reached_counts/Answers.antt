@@ -4,7 +4,7 @@ use Rattle.fleet_model.specs.Program.{Program}
 use Rattle.fleet_verify.specs.Parts.{IsAcceptedFor}
 use Rattle.fleet_verify.specs.Times.{IsFreeTo, AreReached, broken_cost}
 use Rattle.fleet_verify.specs.declared.stopped.Breaks.{Breaks}
-use Rattle.fleet_verify.proofs.Critical.{critical}
+use Rattle.fleet_verify.proofs.Timed.{critical}
 use Rattle.fleet_verify.proofs.CriticalPaths.{each_more, reached_of, stops_of}
 use Rattle.fleet_verify.proofs.stopped.reached_counts.Goals as goal
 

@@ -9,7 +9,7 @@ use Rattle.fleet_machine.specs.AgentSet.{IsNextFrom, AreNoneFrom}
 use Rattle.fleet_verify.specs.Faults.{StandsRight}
 use Rattle.fleet_verify.specs.Order.{AreAdded}
 use Rattle.fleet_verify.specs.Walk.{moved_to, position_in, AreOnGround}
-use Rattle.fleet_verify.proofs.Begun.{positions_passed, positions_yes, one_moved}
+use Rattle.fleet_verify.proofs.UnderWay.{positions_passed, positions_yes, one_moved}
 use Rattle.fleet_verify.proofs.unheld_run.add_moved.Goals as goal
 
 pub loop-agent-preserved : goal.loop-agent-preserved

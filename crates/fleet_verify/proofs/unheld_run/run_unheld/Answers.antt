@@ -1,7 +1,7 @@
 use Rattle.std.proofs.Common.{arith}
 use Rattle.std.proofs.lemmas.Result.{err_from_is_err_and}
 use Rattle.fleet_model.specs.declared.limits.TheConstants.{MAX_AGENTS}
-use Rattle.fleet_needs.proofs.Finishing.{none_flagged}
+use Rattle.fleet_needs.proofs.Free.{none_flagged}
 use Rattle.fleet_verify.proofs.unheld_run.run_unheld.Goals as goal
 
 pub run_on-requires-clause-nobody : goal.run_on-requires-clause-nobody

@@ -1,5 +1,5 @@
 use Rattle.std.proofs.Common.{refl, subst, ◌<◌, length, arith}
-use Rattle.fleet_verify.proofs.ReadyBy.{await_agent}
+use Rattle.fleet_verify.proofs.Waiting.{await_agent}
 use Rattle.fleet_verify.proofs.Leaving.{after_found, after_more, after_none}
 use Rattle.fleet_verify.proofs.visit_order.comes_after.Goals as goal
 use Rattle.fleet_verify.proofs.visit_order.comes_after.Goals.{else-awaited-first-via-then-awaited-first+else-is_left_by, else-awaited-first-via-else-awaited-first}

@@ -1,6 +1,6 @@
 use Rattle.std.proofs.Common.{ap, refl, arith}
 use Rattle.fleet_model.specs.Geometry.{is_move}
-use Rattle.fleet_model.proofs.Visits.{past_moves}
+use Rattle.fleet_model.proofs.Chains.{past_moves}
 use Rattle.fleet_verify.proofs.Leaving.{left_by, in_still}
 use Rattle.fleet_verify.proofs.visit_order.is_seen_leaving.Goals as goal
 

@@ -1,7 +1,7 @@
 use Rattle.std.proofs.Common.{◌+◌, ◌-◌, ◌++◌, ◌∷◌, [], ℕ, List, length, refl, sym, subst, ap, ◌∙◌, arith}
 use Rattle.std.proofs.lemmas.List.{length_push}
 use Rattle.fleet_needs.specs.declared.finish_order.FinishOrder.{FinishOrder}
-use Rattle.fleet_needs.proofs.Finishing.{next_ready, none_ready}
+use Rattle.fleet_needs.proofs.Free.{next_ready, none_ready}
 use Rattle.fleet_needs.proofs.Ordering.{AreBegun, begun_none, begun_on, order_on}
 use Rattle.fleet_needs.proofs.finish_order.FinishOrder.add_tick.Goals as goal
 

@@ -1,7 +1,7 @@
 use Rattle.std.proofs.Common.{◌≡◌, ap, sym, ◌∙◌}
 use Rattle.fleet_grid.specs.Ground.{is_passable}
 use Rattle.fleet_model.specs.Machine.{is_finished}
-use Rattle.fleet_run.proofs.Finished.{on_goals}
+use Rattle.fleet_run.proofs.Progress.{on_goals}
 use Rattle.fleet_run.proofs.fleet.Fleet.finished.Goals as goal
 
 pub returns-clause-arrived : goal.returns-clause-arrived

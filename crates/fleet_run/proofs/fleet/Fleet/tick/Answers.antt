@@ -5,7 +5,7 @@ use Rattle.fleet_model.specs.Machine.{Configuration, tick, moved_in, is_ready_he
 use Rattle.fleet_run.specs.Fleet.{FleetState}
 use Rattle.fleet_machine.specs.Looked.{ready_in, awaiting_in, LooksAt}
 use Rattle.fleet_machine.specs.Machine.{flag_of}
-use Rattle.fleet_run.proofs.Finished.{rests, looks_at_none}
+use Rattle.fleet_run.proofs.Progress.{rests, looks_at_none}
 use Rattle.fleet_run.proofs.fleet.Fleet.tick.Goals as goal
 
 pub returns-clause-safe : goal.returns-clause-safe

@@ -1,6 +1,0 @@
-use Rattle.std.proofs.Common.{◌-◌, length}
-use Rattle.fleet_code.specs.Offsets.{IsEvenFrom}
-use Rattle.fleet_code.proofs.action_offsets.first_even.Given as goal
-
-abbrev pub invariant-loop-back : goal.invariant-loop-back
-invariant-loop-back l = IsEvenFrom l.offsets (length l.offsets - 1 - l.back) l.stride

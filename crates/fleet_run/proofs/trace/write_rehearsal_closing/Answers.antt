@@ -1,0 +1,10 @@
+use Rattle.std.proofs.Common.{◌≡◌, ◌++◌, [], drop, arith, ap, ◌∙◌}
+use Rattle.std.proofs.lemmas.List.{drop_all}
+use Rattle.fleet_run.proofs.Closing.{closing_joined}
+use Rattle.fleet_run.proofs.trace.write_rehearsal_closing.Goals as goal
+
+pub returns-clause-written : goal.returns-clause-written
+returns-clause-written c =
+    let none : drop 100 c.args.row.now ≡ [] = drop_all 100 c.args.row.now (omega arith) in
+    closing_joined c.args.agents c.args.ticks c.args.held c.args.end _ _ _ _ _ none
+    (c.write_bytes-at.ensures.written ∙ ap (λ x. x ++ drop 100 c.args.row.now) c.last_line.ensures) c.write_number_line-at.ensures.written c.write_number_line-at-2.ensures.written c.write_number_line.ensures.written

@@ -1,8 +1,0 @@
-use Rattle.std.proofs.Common.{map, ap, ◌∙◌}
-use Rattle.std.proofs.lemmas.List.{take_all}
-use Rattle.fleet_verify.specs.OpenPairs.{question_of}
-use Rattle.fleet_verify.proofs.open_pairs.questions_of.Goals as goal
-
-pub returns : goal.returns
-returns g c =
-    c.loop-pair.invariant ∙ ap (map (question_of (g.P.ProgramView.program c.args.program.now))) (take_all c.loop-pair.pair-index c.args.pairs.now c.loop-pair-test.false)

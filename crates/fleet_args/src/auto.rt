@@ -5,9 +5,8 @@ ghost use Rattle.fleet_args.specs.Values.{values_in};
 ghost use Rattle.fleet_args.specs.Requests.{AsksAuto};
 ghost use Rattle.fleet_args.specs.Request.{has_values};
 
-use crate::arguments::{Argument, CommandText};
+use crate::arguments::{Argument, CommandText, given_deps, given_number, text, used, used_number};
 use crate::tries::{Tries, tries_in};
-use crate::values::{given_deps, given_number, text, used, used_number};
 use clap::ArgMatches;
 use fleet_model::Deps;
 

@@ -5,8 +5,7 @@ ghost use Rattle.fleet_args.specs.Values.{values_in};
 ghost use Rattle.fleet_args.specs.Requests.{AsksCheck};
 ghost use Rattle.fleet_args.specs.Request.{has_values};
 
-use crate::arguments::{Argument, CommandText};
-use crate::values::{text, used, used_number};
+use crate::arguments::{Argument, CommandText, text, used, used_number};
 use clap::ArgMatches;
 
 /// `fleet check MAP SCEN PLAN [--agents K] [--numbers]`

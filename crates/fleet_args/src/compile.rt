@@ -5,8 +5,7 @@ ghost use Rattle.fleet_args.specs.Values.{values_in};
 ghost use Rattle.fleet_args.specs.Requests.{AsksCompile};
 ghost use Rattle.fleet_args.specs.Request.{has_values};
 
-use crate::arguments::{Argument, CommandText};
-use crate::values::{given_count, given_deps, text, used_number};
+use crate::arguments::{Argument, CommandText, given_count, given_deps, text, used_number};
 use clap::ArgMatches;
 use fleet_model::Deps;
 

@@ -5,8 +5,7 @@ ghost use Rattle.fleet_args.specs.Values.{values_in};
 ghost use Rattle.fleet_args.specs.Requests.{AsksDispatch};
 ghost use Rattle.fleet_args.specs.Request.{has_values};
 
-use crate::arguments::{Argument, CommandText};
-use crate::values::{given_number, text, used, used_number};
+use crate::arguments::{Argument, CommandText, given_number, text, used, used_number};
 use clap::ArgMatches;
 
 /// `fleet dispatch MAP SCEN PROGRAM [--agents K] [--ahead K] [--unnumbered] [--resume FILE]`

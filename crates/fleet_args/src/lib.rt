@@ -1,10 +1,15 @@
 //! The command line: the words after the program's name, read as a request.
+//!
+//! `fleet_args` has a module for each command: its request, its `clap` command and how the matches are read.
+//! `arguments` has the words and options as data, makes a command of a list of them, and has what the matches have for
+//! them; `tries` has how many orders are tried and what makes a plan the best, and `request` joins the commands and
+//! reads a command line. That words without a fault make a request is a law for any list of such arguments, so the
+//! functions that read the matches ask for the values, and have no way out.
 #![tactic(auto)]
 
 mod arguments;
 mod auto;
 mod check;
-mod command_line;
 mod compile;
 mod dispatch;
 mod instance;
@@ -16,7 +21,6 @@ mod request;
 mod run;
 mod thin;
 mod tries;
-mod values;
 mod verify;
 
 pub use auto::AutoRequest;

@@ -5,8 +5,7 @@ ghost use Rattle.fleet_args.specs.Values.{values_in};
 ghost use Rattle.fleet_args.specs.Requests.{AsksMigrate};
 ghost use Rattle.fleet_args.specs.Request.{has_values};
 
-use crate::arguments::{Argument, CommandText};
-use crate::values::text;
+use crate::arguments::{Argument, CommandText, text};
 use clap::ArgMatches;
 
 /// `fleet migrate PROGRAM OUT`

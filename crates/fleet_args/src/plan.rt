@@ -5,9 +5,8 @@ ghost use Rattle.fleet_args.specs.Values.{values_in};
 ghost use Rattle.fleet_args.specs.Requests.{AsksPlan};
 ghost use Rattle.fleet_args.specs.Request.{has_values};
 
-use crate::arguments::{Argument, CommandText};
+use crate::arguments::{Argument, CommandText, given_number, text, used_number};
 use crate::tries::{Tries, tries_in};
-use crate::values::{given_number, text, used_number};
 use clap::ArgMatches;
 
 /// `fleet plan MAP SCEN [--agents K] [--horizon H] [--tries N] [--best BEST]`

@@ -5,8 +5,7 @@ ghost use Rattle.fleet_args.specs.Values.{values_in};
 ghost use Rattle.fleet_args.specs.Requests.{AsksThin};
 ghost use Rattle.fleet_args.specs.Request.{has_values};
 
-use crate::arguments::{Argument, CommandText};
-use crate::values::{text, used_number};
+use crate::arguments::{Argument, CommandText, text, used_number};
 use clap::ArgMatches;
 
 /// `fleet thin MAP SCEN PROGRAM OUT [--agents K]`

@@ -4,7 +4,7 @@ ghost use Rattle.std.specs.Prelude.{◌≡◌, codes, true};
 ghost use Rattle.fleet_args.specs.Values.{has_count, reads_best, values_in};
 ghost use Rattle.fleet_args.specs.Requests.{AsksTries};
 
-use crate::values::{given_count, used_best};
+use crate::arguments::{given_count, used_best};
 use clap::ArgMatches;
 
 /// What makes a plan the best of several.

@@ -4,6 +4,12 @@
 //! A slice is a pointer and a length to the caller, and a `Global` is nothing. What a call answers stands in what the
 //! caller lends it: numbers, or bytes at the front of a buffer with their length, or a refusal. A buffer that is too
 //! small is as before, and the length says what is needed. After a refusal all but the refusal is as before.
+//!
+//! The exports are the root, each a `match` over one function on slices: `check`, `compile`, `verify`, `thin`, `plan`
+//! and `rehearse` have these, and what each promises in the file of `specs/` of the same name. `problem` reads a map
+//! and a scenario. `fault` has the refusal of a call as an enum, and `plain` as the struct that a caller reads, with
+//! the numbers of the refusal's line. `answer` has what all exports do: `hand_over` puts bytes into a buffer that has
+//! room for them, `refuse` reports. `tools/lib.sh` makes the archive and the shared object.
 #![tactic(auto)]
 
 ghost use Rattle.std.specs.Prelude.{◌≡◌};

@@ -1,10 +1,11 @@
-//! Files by name.
+//! Stores of files, and the disk.
 
 ghost use Rattle.std.specs.Prelude.{◌≡◌, ◌≤◌, Err, IfOk, IfErr, OnOk, length};
 ghost use Rattle.fleet_cli.specs.Files.{Store, HoldsBytes, IsUnreadable, AreUnchanged, ChangesOnly, Replaces};
 
-use crate::input::{FileFault, MAX_BYTES};
+use crate::input::{FileFault, MAX_BYTES, read_whole};
 use std::alloc::Global;
+use std::{fs, rt};
 
 /// A store of files, each with its bytes under its name.
 pub trait Files {
@@ -36,4 +37,37 @@ pub trait Files {
             (Replaces (contents self.old) (contents self.new) name.now bytes.now) }
         ensures refused { IfErr result (refuses_write self.old name.now) }
         ensures others { ChangesOnly (contents self.old) (contents self.new) name.now };
+}
+
+/// The files of the disk, by their paths.
+#[derive(Drop)]
+pub struct Disk<'r, R: rt::Files> {
+    runtime: &'r R,
+}
+
+impl<'r, R: rt::Files> Disk<'r, R> {
+    /// The files that the runtime gives.
+    pub fn new(runtime: &'r R) -> Disk<'r, R> {
+        Disk { runtime }
+    }
+}
+
+impl<'r, R: rt::Files> Files for Disk<'r, R> {
+    ghost use Rattle.std.specs.Prelude.{None};
+
+    ghost contents = { λ _. None };
+
+    fn read(&mut self, alloc: Global, name: &str) -> Result<Vec<u8>, FileFault> {
+        let Ok(mut file) = fs::open(self.runtime, name) else {
+            return Err(FileFault::Failed);
+        };
+        read_whole(alloc, &mut file)
+    }
+
+    fn write(&mut self, name: &str, bytes: &[u8]) -> Result<(), FileFault> {
+        match fs::write(self.runtime, name, bytes) {
+            Ok(()) => Ok(()),
+            Err(_) => Err(FileFault::Failed),
+        }
+    }
 }

@@ -9,8 +9,8 @@ ghost use Rattle.fleet_cli.specs.Inputs.{IsProblemRefusal, IsLoadRefusal, IsAcce
 use crate::accepting;
 use crate::auto_fault::AcceptFault;
 use crate::fault::Fault;
+use crate::making::{self, Problem};
 use crate::named::FileTexts;
-use crate::problem::{self, Problem};
 use fleet_code::{CodeView, view};
 use fleet_verify::Accepted;
 use std::alloc::Global;

@@ -3,10 +3,8 @@
 ghost use Rattle.fleet_text.specs.Sink.{IsWorking};
 ghost use Rattle.fleet_cli.specs.Auto.{AutoRuns, AutoRunsIn};
 
-use crate::accepting::accept_made;
 use crate::auto_fault::AutoFault;
-use crate::making::{PlanNumbers, made_bytes};
-use crate::problem::read_problem;
+use crate::making::{PlanNumbers, accept_made, made_bytes, read_problem};
 use fleet_adg::Deps;
 use fleet_args::Tries;
 use fleet_code::each_spelling_has_one_program;

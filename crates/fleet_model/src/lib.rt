@@ -1,4 +1,11 @@
 //! Programs of a fleet of agents on a grid, and what they mean.
+//!
+//! `program` has the types of a program, with its invariant, `view` the trait by which every other crate reads one
+//! (`ProgramView`), action by action, or from front to back by its `instruction`s, `geometry` cells, places and steps,
+//! also as a row keeps these, `task` and `standing` what an agent is to do and where it stands, `agents` the numbers of
+//! agents, `deps` the two kinds of awaits of a compiled program, `limits` the limits and `well_formed`, which tests
+//! them, `memory` the one refusal of calls that fail by lack of memory alone. All that a run, a conflict or acceptance
+//! *is* stands in `specs/`, and no code there runs.
 #![tactic(auto)]
 
 mod agents;

@@ -1,6 +1,10 @@
 //! Scenarios: where the agents of a fleet begin, and where they are to end.
 //!
 //! A scenario is read from the `.scen` format of the MovingAI benchmark (Sturtevant 2012).
+//!
+//! `reading` goes over the lines of a text once, in the order in which faults are judged, and over the nine words of an
+//! agent's line; `laws` says that a text stands for one instance or has one first fault, and `instance` has what was
+//! read.
 #![tactic(auto)]
 
 mod fault;

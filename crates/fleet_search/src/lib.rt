@@ -1,6 +1,21 @@
 //! Paths for one agent after another, each the earliest past those before it.
 //!
 //! The planner is prioritised (Silver 2005): each agent searches over cells and times, past the reserved paths.
+//!
+//! `reservation_table` has for each cell the occupancies of the reserved agents in the order of time, in lists by the
+//! cell's key; `reservations` are the paths with their table, without maps and tasks. `intervals` has occupancies, and
+//! finds the safe intervals between them.
+//!
+//! `distances` are the heuristic: they label cells backward from a goal, as far as the delay of the last search lets
+//! expect that they are asked for. `labels` has the earliest time of a search in each safe interval: that of a cell's
+//! first one in a table, those of the later ones in lists. `frontier` expands nodes over states (`state`: a cell at a
+//! time; with each node the one from which it was reached, in 4 bytes that align it to 2), and `earliest_path` is one
+//! search from its query to its path, which reads the reservation table and changes nothing in it. `orders` goes from
+//! one agent to the next, in one order of the agents after another with the same tables, keeps the paths that are still
+//! the earliest, and puts the paths by the agents' numbers at the end. `planner` is that with one order, and `best`
+//! tries all orders, and keeps the first of the plans with the least `Measure`: a trait, so that a crate above can
+//! compare plans by what it makes of them. `bound` searches for each agent alone. `rows` has rows of numbers by their
+//! keys: the buckets of the open list.
 #![tactic(auto)]
 
 mod alone;

@@ -23,7 +23,7 @@ pub returns : goal.returns
 returns g c = (
   record { ground = c.in_ok-problem.problem.grid; tasks = c.in_ok-problem.problem.instance; texts = c.in_ok-problem.ensures.read; program = c.in_ok-accepted.accepted.program.program; chain = c.in_ok-accepted.accepted.chain; accepts = c.in_ok-accepted.ensures.accepted },
   subst (λ (log : List ℕ). DispatchesAfter (first_course c.in_ok-accepted.accepted.program.program (pace_of c.args.request.now)) log (IsSaid g.R.ReportsTo.talks c.args.input.now c.args.out.now c.dispatch_over.new.input c.dispatch_over.new.orders (pace_of c.args.request.now).form) (Err c.in-Err.fault)) c.deref.ensures.value
-        (subst (λ (pace : Pace). DispatchesAfter (first_course c.in_ok-accepted.accepted.program.program pace) c.deref.result.now (IsSaid g.R.ReportsTo.talks c.args.input.now c.args.out.now c.dispatch_over.new.input c.dispatch_over.new.orders pace.form) (Err c.in-Err.fault)) c.pace_of.ensures c.in-Err.ensures),
+      (subst (λ (pace : Pace). DispatchesAfter (first_course c.in_ok-accepted.accepted.program.program pace) c.deref.result.now (IsSaid g.R.ReportsTo.talks c.args.input.now c.args.out.now c.dispatch_over.new.input c.dispatch_over.new.orders pace.form) (Err c.in-Err.fault)) c.pace_of.ensures c.in-Err.ensures),
 )
 
 pub returns-in_err-problem : goal.returns-in_err-problem

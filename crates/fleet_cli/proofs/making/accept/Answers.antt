@@ -4,7 +4,7 @@ use Rattle.fleet_model.specs.Accepted.{IsAccepted}
 use Rattle.fleet_grid.specs.Ground.{is_passable}
 use Rattle.fleet_cli.specs.Faults.{load_fault, verify_fault}
 use Rattle.fleet_cli.proofs.AutoLemmas.{ok_program}
-use Rattle.fleet_cli.proofs.accepting.accept.Goals as goal
+use Rattle.fleet_cli.proofs.making.accept.Goals as goal
 
 pub returns-in_err-program-clause-refused : goal.returns-in_err-program-clause-refused
 returns-in_err-program-clause-refused c =

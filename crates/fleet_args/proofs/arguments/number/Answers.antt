@@ -2,7 +2,7 @@ use Rattle.std.proofs.Common.{◌∙◌}
 use Rattle.std.specs.Str.Parse.{ParsesUnsigned, ExplainsUnsignedError, HasUnsignedDigitsIfOk}
 use Rattle.clap.specs.Words.{found_of}
 use Rattle.fleet_args.proofs.RequestLemmas.{number_gives}
-use Rattle.fleet_args.proofs.values.number.Goals as goal
+use Rattle.fleet_args.proofs.arguments.number.Goals as goal
 
 pub returns : goal.returns
 returns c =

@@ -2,7 +2,7 @@ use Rattle.std.proofs.Common.{◌≡◌, IfOk, subst}
 use Rattle.clap.specs.Words.{app_of, with_subcommand}
 use Rattle.fleet_args.specs.Arguments.{shape_for}
 use Rattle.fleet_args.proofs.CommandLemmas.{steps_on}
-use Rattle.fleet_args.proofs.command_line.+with_commands.Goals as goal
+use Rattle.fleet_args.proofs.request.+with_commands.Goals as goal
 
 pub returns-in_ok-with_command-in-len1-up : goal.returns-in_ok-with_command-in-len1-up
 returns-in_ok-with_command-in-len1-up t c =

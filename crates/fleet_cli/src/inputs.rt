@@ -6,7 +6,6 @@ ghost use Rattle.fleet_cli.specs.Texts.{AreTextsOf};
 ghost use Rattle.fleet_cli.specs.Accepting.{Accepts};
 ghost use Rattle.fleet_cli.specs.Inputs.{IsProblemRefusal, IsLoadRefusal, IsAcceptRefusal};
 
-use crate::accepting;
 use crate::auto_fault::AcceptFault;
 use crate::fault::Fault;
 use crate::making::{self, Problem};
@@ -25,7 +24,7 @@ fn problem_of<'a>(
     ensures read { IfOk result (λ p. AreTextsOf map.now scen.now asked p.grid p.instance) }
     ensures fault { IfErr result (IsProblemRefusal map.now scen.now asked) }
 {
-    Ok(problem::read_problem(alloc, map, scen, asked)?)
+    Ok(making::read_problem(alloc, map, scen, asked)?)
 }
 
 /// The same, of the files of a command.
@@ -79,5 +78,5 @@ pub(crate) fn accept<'g, 'a>(
     ensures fault { IfErr result (IsAcceptRefusal texts.now.subject.items
         problem.now.grid problem.now.instance) }
 {
-    Ok(accepting::accept(alloc, &texts.subject, &problem.grid, &problem.instance)?)
+    Ok(making::accept(alloc, &texts.subject, &problem.grid, &problem.instance)?)
 }

@@ -177,7 +177,7 @@ module _ (grid : Ground) (tasks : List Task) (p : Program) (a : Ahead) (n chain 
   top = record {
     some = elim done.some [
       | inl z ↦ inl z
-      | inr (b, k, o, m, g) ↦ inr (b, Rattle.fleet_verify.proofs.Ranked.is_action p rows h.ranked.within b (record { first = o; last = m }), g)
+      | inr (b, k, o, m, g) ↦ inr (b, Rattle.fleet_verify.proofs.Ordered.is_action p rows h.ranked.within b (record { first = o; last = m }), g)
     ];
     most = λ b act.
         let last : ActionId = record { agent = b.agent; number = moves p b.agent } in

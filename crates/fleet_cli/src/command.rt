@@ -12,7 +12,6 @@ use crate::dispatch_command::do_dispatch;
 use crate::drive_command::do_run;
 use crate::fault::{Fault, finish, refuse};
 use crate::files::Files;
-use crate::flush::deliver;
 use crate::hex_run::run_hex;
 use crate::instance_command::do_instance;
 use crate::list_command::do_list;
@@ -25,6 +24,7 @@ use crate::verify_command::do_verify;
 use fleet_args::{Request, WordStop, read_words};
 use fleet_dispatch::ReportsTo;
 use fleet_run::{Flush, OutFault, TraceOut, put_all};
+use fleet_text::deliver;
 use std::alloc::Global;
 
 /// The names of files, in the order in which they are read; no log is among them.

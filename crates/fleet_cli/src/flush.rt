@@ -1,25 +1,14 @@
 //! Outputs that are flushed once all is written, before anything is reported of them.
 
-ghost use Rattle.fleet_text.specs.Sink.{IsWorking, Delivers};
+ghost use Rattle.fleet_text.specs.Sink.{IsWorking};
 ghost use Rattle.fleet_run.specs.Source.{HasNotFailed};
 ghost use Rattle.fleet_cli.specs.Flushed.{FlushesRun, RehearsesFlushed};
 ghost use Rattle.fleet_cli.specs.Traced.{TracesFlushed};
 
 use fleet_model::ProgramView;
-use fleet_run::{
-    Flush, HoldSource, OutFault, Rehearsal, Report, RunFault, put_all, rehearse, run_accepted,
-};
+use fleet_run::{Flush, HoldSource, OutFault, Rehearsal, Report, RunFault, rehearse, run_accepted};
 use fleet_verify::Accepted;
 use std::alloc::Global;
-
-/// Puts all of the bytes and has the sink hand them on, or stops at its failure.
-pub fn deliver<O: Flush>(out: &mut O, bytes: &[u8]) -> Result<(), OutFault>
-    requires { IsWorking (O.state out.old) }
-    ensures { Delivers (O.state out.old) (O.state out.new) result bytes.now }
-{
-    put_all(out, bytes)?;
-    out.flush()
-}
 
 /// Has the sink of a run hand on all that was written, unless it has failed. A flush that fails is a failed write.
 pub fn flush_run<T: Drop, O: Flush>(out: &mut O, ran: Result<T, RunFault>) -> Result<T, RunFault>

@@ -4,7 +4,6 @@ ghost use Rattle.fleet_text.specs.Sink.{IsWorking};
 ghost use Rattle.fleet_cli.specs.PlanCommand.{AnswersPlan};
 
 use crate::fault::Fault;
-use crate::flush::deliver;
 use crate::inputs::read_problem;
 use crate::named::FileTexts;
 use crate::output::status_after_print;
@@ -13,6 +12,7 @@ use fleet_args::PlanRequest;
 use fleet_model::OutOfMemory;
 use fleet_plan::write_plan;
 use fleet_run::Flush;
+use fleet_text::deliver;
 use std::alloc::Global;
 
 /// The command `plan`: prints to `out` a plan in which each agent's path is the earliest against those of the agents

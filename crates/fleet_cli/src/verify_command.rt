@@ -8,13 +8,13 @@ ghost use Rattle.fleet_cli.specs.VerifyCommand.{accepted_text, SpellsBreakingHol
 
 use crate::auto_fault::AcceptFault;
 use crate::fault::Fault;
-use crate::flush::deliver;
 use crate::inputs::{read_problem, view_subject};
 use crate::named::FileTexts;
 use crate::output::{print_report, status_after_print};
 use fleet_args::VerifyRequest;
 use fleet_model::{OutOfMemory, ProgramView, Visit, total_awaits, total_moves};
 use fleet_run::{Flush, OutFault, write_holds};
+use fleet_text::deliver;
 use fleet_verify::{Accepted, Refused, VerifyFault, breaking_holds, verify};
 use std::alloc::Global;
 

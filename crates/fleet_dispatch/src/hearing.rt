@@ -1,7 +1,6 @@
 //! How the next line of an input is found, and heard as a report.
 
 ghost use Rattle.std.specs.Prelude.{◌≡◌, ◌≤◌, ◌<◌, ◌+◌, length, drop, take, position, Some, None};
-ghost use Rattle.std.specs.Str.Lines.{strip_carriage_return};
 ghost use Rattle.std.specs.Io.KnownBytes.{prepend_known};
 ghost use Rattle.fleet_text.specs.Text.{is_lf};
 ghost use Rattle.fleet_dispatch.specs.Window.{window_rest};
@@ -12,6 +11,7 @@ use crate::form::ReportForm;
 use crate::report::Report;
 use crate::report_text::read_report;
 use crate::window::{LINE_ROOM, Window};
+use fleet_text::without_cr;
 use std::io::Read;
 
 /// Where the first line of the bytes ends, if it ends within them.
@@ -19,16 +19,6 @@ pub fn end_in(bytes: &[u8]) -> Option<usize>
     ensures { result ≡ position is_lf bytes.now }
 {
     bytes.iter().position(|b| *b == b'\n')
-}
-
-/// The line without one CR at its end.
-pub fn without_cr(line: &[u8]) -> &[u8]
-    ensures { result.now ≡ strip_carriage_return line.now }
-{
-    match line {
-        [front @ .., b'\r'] => front,
-        _ => line,
-    }
 }
 
 /// Reads until a line ends in the window, and answers where; nowhere at the end of the input, where what was read ends

@@ -8,13 +8,13 @@ ghost use Rattle.fleet_dispatch.specs.Replay.{Replays, LeadsOn, replay_end};
 use crate::fault::DispatchFault;
 use crate::floor::{Floor, HearFault};
 use crate::form::ReportForm;
-use crate::hearing::{end_in, without_cr};
+use crate::hearing::end_in;
 use crate::pace::Pace;
 use crate::report::Report;
 use crate::report_text::read_report;
 use crate::run::{DispatchReport, Session, run_session, start_session};
 use fleet_model::ProgramView;
-use fleet_text::OutFault;
+use fleet_text::{OutFault, without_cr};
 use std::alloc::{AllocError, Global};
 
 /// A floor whose reports are the lines of a text, each ended by an LF, and to which nothing that is told matters.

@@ -1,13 +1,14 @@
 //! Inputs by which robots report to who tells them their orders over an output.
 
-ghost use Rattle.fleet_text.specs.Sink.{IsWorking, Delivers};
+ghost use Rattle.fleet_text.specs.Sink.{IsWorking};
 
 use crate::floor::HearFault;
 use crate::form::ReportForm;
 use crate::hearing::hear_line;
 use crate::report::Report;
 use crate::window::Window;
-use fleet_run::{Flush, OutFault, put_all};
+use fleet_run::{Flush, OutFault};
+use fleet_text::deliver;
 use std::io::Read;
 
 /// An input by which robots report, beside the output over which they are told. What is told over the one and heard
@@ -61,15 +62,6 @@ pub trait ReportsTo<O: Flush>: Read {
         (r'' : Self) (ahead'' : List ℕ) (o'' : O) (before after : Talk)
         → talks form r ahead o r' ahead' o' before → talks form r' ahead' o' r'' ahead'' o'' after
         → talks form r ahead o r'' ahead'' o'' (before ++ after) };
-}
-
-/// Puts all of the bytes and has the sink hand them on, or stops at its failure.
-fn deliver<O: Flush>(out: &mut O, bytes: &[u8]) -> Result<(), OutFault>
-    requires { IsWorking (O.state out.old) }
-    ensures { Delivers (O.state out.old) (O.state out.new) result bytes.now }
-{
-    put_all(out, bytes)?;
-    out.flush()
 }
 
 /// Turn after turn, what was told was handed on by the output, and what was heard is the next line of the input.

@@ -3,7 +3,7 @@
 PREFIX ?= /usr/local
 BUILT = crates/fleet/out/fleet
 LOG = crates/fleet/out/build.log
-# How many crates are proved side by side: one for each processor, if each has 3 GB.
+# How many crates are proved side by side: one for each processor, if each has 3 GB. With JOBS= one after another.
 JOBS ?= $(shell awk -v n="$$(getconf _NPROCESSORS_ONLN)" '/^MemAvailable/ { m = int($$2 / 3e6) } END { if (m > n) m = n; print m < 1 ? 1 : m }' /proc/meminfo)
 # Another program to try: make examples FLEET=PATH
 FLEET = $(BUILT)
@@ -42,14 +42,14 @@ look:
 
 test:
 	rt ci
-	@$(MAKE) --no-print-directory examples
+	@$(MAKE) --no-print-directory examples JOBS=
 
 # Proves the crates, as many side by side as there are processors and memory for, and then builds the program and has it
 # print its help. What the prover says goes to a file.
 $(BUILT): $(SOURCES)
 	@mkdir -p $(@D)
 	@echo 'Proving the crates and building fleet: a quarter of an hour the first time. The lines of the prover go to $(LOG).'
-	@(rt all check --jobs $(JOBS) && cd crates/fleet && rt run -- --help) > $(LOG) 2>&1 || { tail -n 20 $(LOG); exit 1; }
+	@($(if $(JOBS),rt all check --jobs $(JOBS) && )cd crates/fleet && rt run -- --help) > $(LOG) 2>&1 || { tail -n 20 $(LOG); exit 1; }
 	@touch $@
 
 lib: $(ARCHIVE)

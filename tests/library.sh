@@ -42,6 +42,7 @@ else
     if has c++; then
         check 'embed.cpp checks a plan' 0 'conflict-free\nagents 3\nsteps 2\n' '' \
             "c++ -Wall -Wextra -Werror -I$library -o checked examples/embed.cpp $library/libfleet.a && ./checked $M $S $P"
+        ! has valgrind || check '.. under valgrind' 0 'conflict-free\nagents 3\nsteps 2\n' '' "valgrind -q --leak-check=full --error-exitcode=99 ./checked $M $S $P"
     else
         skip 'libfleet from C++'
     fi
@@ -49,6 +50,7 @@ else
         try "fleet rehearse $B" && cp "$work/out" "$work/want.out" && : > "$work/want.err"
         try "rustc -D warnings -L $library -l static=fleet -o rehearsed examples/embed.rs && ./rehearsed $B"
         judge 'embed.rs rehearses a program' 'examples/embed.rs' 0
+        ! has valgrind || check '.. under valgrind' 0 '' '' "valgrind -q --leak-check=full --error-exitcode=99 ./rehearsed $B > told && fleet rehearse $B | cmp - told"
     else
         skip 'libfleet from Rust'
     fi

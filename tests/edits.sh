@@ -14,7 +14,7 @@ rm -rf "$room"/crates/*/must-fail
 for crate do
     cp -R "$root/tests/edits/$crate" "$room/crates/$crate/must-fail" || exit 2
 done
-cd "$room" && rt ci "$@" > log 2>&1
+cd "$room" && rt must-fail "$@" > log 2>&1
 status=$?
 grep 'must-fail\|BAD EDIT\|NOT PROVED\|passed, ' log
 [ "$status" = 0 ] && ! grep -q 'BAD EDIT' log

@@ -141,7 +141,7 @@ EOF
     bytes=$(wc -c < "$room/examples/pair.hex" | tr -d ' ')
     for way in 4 5; do
         check "standard input is cut ($way): no words" 0 "$bytes:\n" '' "input=examples/pair.hex input_cut $way fleet"
-        check "standard input is cut ($way): dispatch" 0 '16: 8\n' '' "input=lines input_cut $way fleet dispatch $pair"
+        check "standard input is cut ($way): dispatch" 0 '16: 16\n' '' "input=lines input_cut $way fleet dispatch $pair"
     done
 
     # The map has 38 bytes, the scenario 78 and the program 40, and each is read to its end; 28 is a full disk.

@@ -7,3 +7,4 @@ pub mod FaultLaws
 pub mod HeaderLaws
 pub mod Pages
 pub mod ListLaws
+pub mod MapWritten

@@ -5,3 +5,4 @@ pub mod Stored
 pub mod RefusalWords
 pub mod Table
 pub mod Lists
+pub mod MapWriting

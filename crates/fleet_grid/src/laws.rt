@@ -1,11 +1,14 @@
 //! What it means that a text stands for a ground, or that a fault is its first.
 
-ghost use Rattle.std.specs.Prelude.{◌≡◌, ℕ, ◌+◌, ◌<◌, ◌≤◌, ◌⊎◌, List, get_or, false};
+ghost use Rattle.std.specs.Prelude.{◌≡◌, ℕ, ◌+◌, ◌<◌, ◌≤◌, ◌⊎◌, ◌&&◌, not, List, get_or, false};
+ghost use Rattle.std.specs.List.{list_any};
 ghost use Rattle.fleet_model.specs.declared.geometry.Cell.{Cell};
+ghost use Rattle.fleet_model.specs.Geometry.{is_same_cell, place_of};
 ghost use Rattle.fleet_text.specs.Text.{lines};
 ghost use Rattle.fleet_text.specs.Verdict.{HasOneVerdict};
-ghost use Rattle.fleet_grid.specs.Ground.{Ground, IsGround, is_ground_at, cell_index};
+ghost use Rattle.fleet_grid.specs.Ground.{Ground, IsGround, is_ground_at, is_passable, cell_index};
 ghost use Rattle.fleet_grid.specs.MapText.{line_at, is_ground_glyph, IsMapText, IsFirstMapFault};
+ghost use Rattle.fleet_grid.specs.MapWriting.{ground_without, map_text};
 
 /// A text stands for one ground at most. Its passable cells are the columns and rows of the passable glyphs, and
 /// nothing else is.
@@ -28,4 +31,14 @@ pub fn a_text_is_a_map_or_has_a_first_fault()
 pub fn cells_have_places_of_their_own()
     ensures { (g : Ground) (c d : Cell) → c.x < g.width → d.x < g.width
         → cell_index g c ≡ cell_index g d → c ≡ d }
+{}
+
+/// The written form of a map stands for its ground. Without some cells a ground is one of the same sizes, whose
+/// passable cells are the others that were.
+pub fn a_written_map_is_read()
+    ensures read { (g : Ground) → IsGround g → IsMapText (map_text g) g }
+    ensures sizes { (g : Ground) (cells : List Cell) → IsGround g → IsGround (ground_without g cells) }
+    ensures cells { (g : Ground) (cells : List Cell) (c : Cell) → IsGround g
+        → is_passable (ground_without g cells) (place_of c)
+        ≡ (is_passable g (place_of c) && not (list_any (is_same_cell c) cells)) }
 {}

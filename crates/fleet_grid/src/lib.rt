@@ -5,7 +5,7 @@
 //! `reading` goes over the lines of a text once, in the order in which faults are judged, and over 64 bytes of a row at
 //! a time; `laws` says that a text stands for one map or has one first fault. `grid` keeps a bit for each cell. `table`
 //! has a value for each number, as for that of each cell: it takes memory for the pages alone in which one was set;
-//! `lists` has a list for each key.
+//! `lists` has a list for each key. `writing` writes a map, without cells that are to be blocked.
 #![tactic(auto)]
 
 mod fault;
@@ -14,12 +14,15 @@ mod laws;
 mod lists;
 mod reading;
 mod table;
+mod writing;
 
 pub use fault::MapFault;
 pub use grid::{Grid, MAX_SIDE};
 pub use laws::{
-    a_map_text_is_one_ground, a_text_is_a_map_or_has_a_first_fault, cells_have_places_of_their_own,
+    a_map_text_is_one_ground, a_text_is_a_map_or_has_a_first_fault, a_written_map_is_read,
+    cells_have_places_of_their_own,
 };
 pub use lists::{Key, Lists};
 pub use reading::read_map;
 pub use table::{Table, extend_to};
+pub use writing::write_map;

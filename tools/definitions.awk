@@ -1,6 +1,6 @@
 # The definitions of the crates, in plain words: the comment above each definition of a file of specs/, beside its name. A definition
-# without a comment stands with the one above it. tools/definitions.sh gives the files in their order, and the file that says which
-# definitions are wanted, a line `CRATE.FILE NAME` for each (tools/reached.awk).
+# without a comment stands with the one above it, and one whose comment goes on from the one above brings that too. tools/definitions.sh
+# gives the files in their order, and the file that says which definitions are wanted, a line `CRATE.FILE NAME` for each (tools/reached.awk).
 #     awk -v reached=FILE -f tools/definitions.awk crates/NAME/specs/FILE.antt ..
 
 BEGIN {
@@ -19,6 +19,7 @@ FNR == 1 {
     said = ""
     front = 1
     is_first = 1
+    left = 0
 }
 
 # The comment on the whole file stands above its imports.
@@ -48,7 +49,8 @@ front {
         said = ""
     }
     is_first = 0
-    if ((module " " name) in wanted) names = names (names == "" ? "**`" name "`**" : ", `" name "`")
+    every = every (every == "" ? "" : ", ") "**`" name "`**"
+    if ((module " " name) in wanted) names = names (names == "" ? "" : ", ") "**`" name "`**"
     next
 }
 
@@ -56,13 +58,28 @@ front {
 
 END { entry() }
 
-# Writes the last definition with what is said of it.
-function entry() {
-    if (names != "") top()
-    if (names != "") fold("- " names (text == "" ? "" : ": " text (text ~ /\.$/ ? "" : ".")), "  ")
+# Writes the last definition with what is said of it, if it is wanted, and before it those that it goes on from.
+function entry(    from, i) {
+    if (names != "") {
+        top()
+        from = left + 1
+        if (goes_on(text)) while (from > 1 && goes_on(left_text[from - 1])) from--
+        if (goes_on(text) && from > 1) from--
+        for (i = from; i <= left; i++) put(left_names[i], left_text[i])
+        put(names, text)
+        left = 0
+    } else if (every != "") {
+        left_names[++left] = every
+        left_text[left] = text
+    }
     names = ""
+    every = ""
     text = ""
 }
+
+function goes_on(text) { return text ~ /^(\.\.|[Tt]he same|and |one of these)/ }
+
+function put(names, text) { fold("- " names (text == "" ? "" : ": " text (text ~ /\.$/ ? "" : ".")), "  ") }
 
 # Writes the heading of the file before its first definition.
 function top() {

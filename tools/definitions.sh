@@ -1,7 +1,7 @@
 #!/bin/sh
 # Writes docs/DEFINITIONS.md to standard output: its front, tools/definitions.md, and then the comment on each definition of the crates
-# that public clauses reach, in the order of crates.txt and of each crate's specs/Lib.antt. `make definitions` keeps it, and `make examples`
-# looks whether it is current.
+# that tools/reached.awk finds, in the order of crates.txt and of each crate's specs/Lib.antt. `make definitions` keeps it, and
+# `make examples` looks whether it is current.
 
 cd "$(dirname "$0")/.." || exit 2
 LC_ALL=C
@@ -18,6 +18,6 @@ done < "$work/crates" > "$work/sources"
 while read -r crate; do
     [ ! -f "crates/$crate/specs/Lib.antt" ] || sed -n "s|^pub mod \(.*\)|crates/$crate/specs/\1.antt|p" "crates/$crate/specs/Lib.antt"
 done < "$work/crates" > "$work/specs"
-cat "$work/sources" "$work/specs" | xargs awk -f tools/reached.awk tests/names.txt > "$work/reached"
+cat "$work/sources" "$work/specs" | xargs awk -f tools/reached.awk tests/names.txt docs/PROVED.md > "$work/reached"
 cat tools/definitions.md
 xargs awk -v reached="$work/reached" -f tools/definitions.awk < "$work/specs"

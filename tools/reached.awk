@@ -1,15 +1,23 @@
-# Which definitions of specs/ the public clauses reach: those that a contract of a function, or what is said of a type, names that users are
-# handed, with all that these cite. A crate of which tests/names.txt has names hands out all that its root does; of the others count what
-# that list has by way of another crate. tools/definitions.sh gives the files: each crate's src/lib.rt before its other sources, then specs/.
-#     awk -f tools/reached.awk tests/names.txt crates/NAME/src/lib.rt crates/NAME/src/FILE.rt .. crates/NAME/specs/FILE.antt ..
+# Which definitions of specs/ docs/DEFINITIONS.md has: those that the contracts of the calls of tests/names.txt and of the exports for
+# callers in C name, or docs/PROVED.md; and of those that these reach the ones that two others cite, and all of fleet_model. One that a
+# single other definition cites stands beside that one in its file. tools/definitions.sh gives the files: tests/names.txt,
+# docs/PROVED.md, each crate's src/lib.rt before its other sources, then specs/.
+#     awk -f tools/reached.awk tests/names.txt docs/PROVED.md crates/NAME/src/lib.rt .. crates/NAME/specs/FILE.antt ..
 # Writes a line CRATE.FILE NAME for each.
 
-BEGIN { is_found_in["fleet_dispatch"] = is_found_in["fleet_c"] = 1 }
-
 FILENAME ~ /names\.txt$/ {
-    split($0, part, "::")
-    is_found_in[part[1]] = 1
-    is_listed[part[2]] = 1
+    n = split($0, part, "::")
+    if (n == 3) is_listed[part[2], part[3]] = 1
+    else is_listed[part[2]] = 1
+    next
+}
+
+FILENAME ~ /PROVED\.md$/ {
+    n = split($0, part, "`")
+    for (i = 2; i <= n; i += 2) {
+        k = split(part[i], one, /[^A-Za-z0-9_]+/)
+        for (; k; k--) if (one[k] ~ /^[A-Z]/) is_told_of[one[k]] = 1
+    }
     next
 }
 
@@ -33,7 +41,7 @@ is_root && (/^pub use / || used != "") {
     sub(/^.*::/, "", used)
     gsub(/[^A-Za-z0-9_]+/, " ", used)
     n = split(used, one, " ")
-    for (i = 1; i <= n; i++) if (crate in is_found_in || one[i] in is_listed) handed[crate, one[i]] = 1
+    for (i = 1; i <= n; i++) if (one[i] in is_listed) handed[crate, one[i]] = 1
     used = ""
     next
 }
@@ -64,7 +72,8 @@ FILENAME ~ /\.rt$/ && /^(pub )?(unsafe )?(impl|trait)[ <]/ {
     sub(/^(pub )?(unsafe )?(impl|trait)(<[^>]*>)? /, "", words)
     sub(/[^A-Za-z0-9_].*/, "", words)
     within = (crate, words) in handed
-    shown = within
+    type = words
+    shown = 0
     next
 }
 
@@ -78,7 +87,7 @@ FILENAME ~ /\.rt$/ && /^ *(pub )?(const )?(unsafe )?fn [a-z_0-9]+/ {
     name = $0
     sub(/^ *(pub )?(const )?(unsafe )?fn /, "", name)
     sub(/[^a-z_0-9].*/, "", name)
-    shown = /^ / ? within && (is_trait || /^ *pub /) : (crate, name) in handed
+    shown = /^ / ? within && (type, name) in is_listed : (crate, name) in handed
     next
 }
 
@@ -112,31 +121,39 @@ FILENAME ~ /\.rt$/ {
 open != "" { text[open] = text[open] " " $0 }
 
 END {
-    for (it in said) want(it, said[it])
+    for (it in said) want(it, said[it], "")
+    for (i = 1; i <= count; i++) {
+        split(order[i], at, SUBSEP)
+        if (at[2] in is_told_of) wanted[order[i]] = 1
+    }
+    for (key in wanted) is_named[key] = 1
     do {
         found = 0
         for (i = 1; i <= count; i++)
             if (wanted[order[i]] == 1) {
                 split(order[i], at, SUBSEP)
-                want(at[1], text[order[i]])
                 wanted[order[i]] = 2
+                want(at[1], text[order[i]], order[i])
                 found = 1
             }
     } while (found)
-    for (i = 1; i <= count; i++)
-        if (wanted[order[i]]) {
-            split(order[i], at, SUBSEP)
-            print at[1], at[2]
-        }
+    for (i = 1; i <= count; i++) {
+        key = order[i]
+        split(key, at, SUBSEP)
+        if (wanted[key] && (key in is_named || users[key] > 1 || at[1] ~ /^fleet_model\./)) print at[1], at[2]
+    }
 }
 
-# Wants the definitions that the words of a file name.
-function want(where, words,    n, word, i, key) {
+# Wants the definitions that the words of a clause, or of the definition `by`, name, and counts the definitions that name them.
+function want(where, words, by,    n, word, i, key, is_told) {
     gsub(/[^A-Za-z0-9_-]+/, " ", words)
     n = split(words, word, " ")
     for (i = 1; i <= n; i++) {
         key = where SUBSEP word[i]
         if (!(key in text) && ((where, word[i]) in from)) key = from[where, word[i]] SUBSEP word[i]
-        if ((key in text) && !wanted[key]) wanted[key] = 1
+        if (!(key in text) || key == by || key in is_told) continue
+        is_told[key] = 1
+        users[key]++
+        if (!wanted[key]) wanted[key] = 1
     }
 }

@@ -193,7 +193,8 @@ fn agent_head(
     let (start, rest) = cell_of(bytes)?;
     let (goal, rest) = cell_of(rest)?;
     let (count, rest) = count_of(version, rest)?;
-    if count > version.most_moves() || total + count > MAX_MOVES_IN_ALL {
+    let is_long = count > version.most_moves();
+    if is_long || total + count > MAX_MOVES_IN_ALL {
         return Err(LoadFault::Total);
     }
     Ok((count, start, goal, rest))

@@ -1,8 +1,9 @@
 -- Marks of the words that have a bit, and the next flag by them.
 use Rattle.std.proofs.Common.{zero, suc, not, ◌==◌, ◌≡◌, ◌≢◌, ◌<◌, ◌≤◌, ◌+◌, ◌-◌, ◌*◌, ◌/◌, ◌%◌, ◌^◌, ◌↔◌, ℕ, false, List, length, set, slice_index, refl, ap, sym, ◌∙◌, inl, inr, arith, get_or-set_same, get_or-set_other}
+use Rattle.std.specs.Prelude.{◌⊎◌}
 use Rattle.std.specs.Int.{bit_at}
 use Rattle.std.proofs.lemmas.Nat.Bits.{bit_at-zero, bit_at_above}
-use Rattle.std.proofs.Math.Dec.{eqb-suc-zero}
+use Rattle.std.proofs.Math.Dec.{eqb-suc-zero, eqb-zero-suc}
 use Rattle.std.proofs.lemmas.Bool.{cases_eq, cases_lt}
 use Rattle.std.proofs.lemmas.List.{get_or_past}
 use Rattle.fleet_machine.specs.AgentSet.{is_bit, bit_if, flags_in, AreBits, AreMarks, IsLowest, IsNextFrom, AreNoneFrom}
@@ -12,11 +13,12 @@ use Rattle.fleet_machine.proofs.Bits.{bit_shifted, none_is, later_found}
 pub no_marks : (words : List ℕ) → ((k : ℕ) → slice_index words k ≡ 0) → AreMarks words 0
 no_marks words none k lt = (λ h. none k, λ h. bit_at-zero k)
 
--- a mark that is set exactly where the word is not zero
-pub marked_by : (word marks at : ℕ) → bit_at marks at ≡ bit_if (not (word == 0)) → (bit_at marks at ≡ 0) ↔ (word ≡ 0)
-marked_by zero marks at h = (λ _. refl, λ _. h)
-marked_by (suc n) marks at h =
-    let marked : bit_at marks at ≡ 1 = rw (eqb-suc-zero n) at h in
+-- a mark that is set exactly where the word is not zero, whichever stood first when they were compared
+pub marked_by : (word marks at : ℕ) → (bit_at marks at ≡ bit_if (not (word == 0))) ⊎ (bit_at marks at ≡ bit_if (not (0 == word)))
+    → (bit_at marks at ≡ 0) ↔ (word ≡ 0)
+marked_by zero marks at o = (λ _. refl, λ _. elim o [ inl h ↦ h | inr h ↦ h ])
+marked_by (suc n) marks at o =
+    let marked : bit_at marks at ≡ 1 = elim o [ inl h ↦ rw (eqb-suc-zero n) at h | inr h ↦ rw (eqb-zero-suc n) at h ] in
     (λ none. absurd (omega (arith, marked, none)), λ none. absurd (omega (arith, none)))
 
 -- a word written, and its mark

@@ -1,4 +1,4 @@
-use Rattle.std.proofs.Common.{◌/◌, set, sym, ◌∙◌, ap, arith}
+use Rattle.std.proofs.Common.{◌/◌, set, sym, ◌∙◌, ap, arith, rules}
 use Rattle.fleet_machine.proofs.Bits.{word_within, bits_with, flags_with, long_flags}
 use Rattle.fleet_machine.proofs.Marked.{mark_written, marked_by}
 use Rattle.fleet_machine.proofs.agent_set.AgentSet.set.Goals as goal
@@ -30,7 +30,7 @@ invariant_of-self c =
     record {
       bits = bits_with words n c.args.i c.self.invariant.bits agent c.with_bit-word.result c.args.is_member c.with_bit-word.ensures.here c.with_bit-word.ensures.others;
       marked = mark_written words c.self.inside.filled (c.args.i / 64) c.with_bit-word.result c.with_bit-self-inside.result c.self.invariant.marked within
-          (marked_by c.with_bit-word.result c.with_bit-self-inside.result (c.args.i / 64) c.with_bit-self-inside.ensures.here) c.with_bit-self-inside.ensures.others;
+          (marked_by c.with_bit-word.result c.with_bit-self-inside.result (c.args.i / 64) (search rules)) c.with_bit-self-inside.ensures.others;
     }
 
 pub returns : goal.returns

@@ -1,4 +1,4 @@
-use Rattle.std.proofs.Common.{◌≡◌, ◌<◌, ◌+◌, ◌/◌, ◌==◌, ◌&&◌, ℕ, not, slice_index, subst, arith}
+use Rattle.std.proofs.Common.{◌≡◌, ◌<◌, ◌+◌, ◌/◌, ◌==◌, ◌&&◌, ℕ, not, slice_index, subst, arith, rules}
 use Rattle.std.specs.Int.{bit_at}
 use Rattle.fleet_machine.specs.AgentSet.{bit_if}
 use Rattle.fleet_model.specs.declared.limits.TheConstants.{MAX_AGENTS}
@@ -27,7 +27,7 @@ loop-at-preserved c =
     let same = c.loop-at.invariant.rest at (omega arith) in
     let bits : (j : ℕ) → j < 64 → bit_at word j ≡ bit_if (bit_at (slice_index c.loop-at.words at) j == 1 && not (bit_at (slice_index taken at) j == 1)) = rw same c.without_bits-word.ensures in
     one_without all taken c.loop-at.words c.loop-at.filled at c.loop-at.invariant word c.with_bit-filled.result c.loop-at-test.true bits
-    (marked_by word c.with_bit-filled.result at c.with_bit-filled.ensures.here) c.with_bit-filled.ensures.others
+    (marked_by word c.with_bit-filled.result at (search rules)) c.with_bit-filled.ensures.others
 
 pub invariant_of-result : goal.invariant_of-result
 invariant_of-result c =

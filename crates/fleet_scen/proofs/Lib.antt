@@ -4,3 +4,4 @@ pub mod LineLaws
 pub mod ScenLoop
 pub mod ScenLaws
 pub mod ScenFaults
+pub mod Written

@@ -2,7 +2,7 @@
 use Rattle.std.proofs.Common.{◌≡◌, ℕ, zero, suc, ◌-◌, ◌+◌, ◌*◌, ◌≤◌, ◌<◌, List, [], ◌∷◌, ◌++◌, length, take, drop, slice_get, slice_index_or, Option, Some, Result, Ok, refl, sym, ap, subst, ◌∙◌, append_assoc, arith, inl, inr, All, ◌⊎◌}
 use Rattle.std.specs.List.{flat_map}
 use Rattle.std.proofs.lemmas.List.{append-nil, length-append, drop-drop, length-drop, length-take-le, drop_at, get_or-drop}
-use Rattle.std.proofs.lemmas.Option.{slice_get_cases, slice_get_within, get_or_from_slice_get, same_Some, none-some}
+use Rattle.std.proofs.lemmas.Option.{slice_get_cases, slice_get_past, slice_get_within, get_or_from_slice_get, same_Some, none-some}
 use Rattle.std.proofs.lemmas.List.Elements.{All-get_or}
 use Rattle.std.specs.Option.{option_map_or}
 use Rattle.std.specs.Prelude.{sum_by, option_map}
@@ -322,6 +322,40 @@ instruction_within version p i n before k left e le =
     let fewer : before + k ≤ awaits_before p i (n + 1) = omega (arith, more, e, le, before_one) in
     let times : await_len version * (before + k) ≤ await_len version * awaits_before p i (n + 1) = mul-le-mul_left (await_len version) fewer in
     omega (arith, last, times)
+
+-- after the last action there is no await
+none_after : (p : Program) (i n : ℕ) → moves p i ≤ n → length (awaits_of p i (n + 1)) ≡ 0
+none_after p i n over =
+    let none = slice_get_past (actions_of p i) n over in
+    let one : suc n ≡ n + 1 = omega arith in
+    let own : length (awaits_of p i (suc n)) ≡ 0 = ap (λ (o : Option Action). length (option_map_or (λ a. a.awaits) o [])) none in
+    subst (λ (m : ℕ). length (awaits_of p i m) ≡ 0) one own
+
+-- an instruction begins within the agent's actions, or where they end
+pub offset_within : (version : Version) (p : Program) (i n k awaits : ℕ) → awaits ≡ awaits_before p i n + k → n ≤ moves p i → k ≤ length (awaits_of p i (n + 1)) → (m : ℕ) × (after_opcodes version p i n awaits ≤ end_of version p i m)
+offset_within version p i n k awaits e le few =
+    let same = ap (after_opcodes version p i n) e in
+    elim (cases_order n (moves p i)) [
+      | inl last ↦ (
+          let none = none_after p i n (omega (arith, last)) in
+          let all : awaits ≡ awaits_before p i n = omega (arith, e, none, few) in
+          let end = after_end version p i n awaits all le in
+          (n, omega (arith, end)))
+      | inr (inl left) ↦ (
+          let within = instruction_within version p i n (awaits_before p i n) k left refl few in
+          (n + 1, omega (arith, within, same)))
+      | inr (inr over) ↦ absurd (omega (arith, over, le))
+    ]
+
+-- after an action's step the next action begins
+pub step_after : (version : Version) (p : Program) (i n k : ℕ) → k ≡ length (awaits_of p i (n + 1)) → after_opcodes version p i n (awaits_before p i n + k) + 1 ≡ after_opcodes version p i (n + 1) (awaits_before p i (n + 1) + 0)
+step_after version p i n k last =
+    let more = own_awaits p i (n + 1) (omega arith) in
+    let one : n + 1 - 1 ≡ n = omega arith in
+    let before_one = ap (awaits_before p i) one in
+    let all : awaits_before p i n + k ≡ awaits_before p i (n + 1) + 0 = omega (arith, more, last, before_one) in
+    let times = ap (λ (m : ℕ). await_len version * m) all in
+    omega (arith, times)
 
 -- what is read of an await
 pub record AwaitRead (version : Version) (bytes : List ℕ) (p : Program) (i n k at : ℕ) : Type 0 where

@@ -14,7 +14,7 @@ use crate::fault::LoadFault;
 use crate::format::{AWAIT, CELL_LEN, NUMBER_LEN, Version, step_of};
 use crate::loader::version_of;
 use crate::offsets::{Part, parts_in};
-use fleet_model::{Await, Cell, Instruction, ProgramView, Step};
+use fleet_model::{Await, Cell, Instruction, ProgramView, Reading, Step};
 use std::alloc::Global;
 use std::marker::Model;
 
@@ -168,6 +168,10 @@ impl<'a> CodeView<'a> {
 impl<'a> ProgramView for CodeView<'a> {
     ghost program = { λ v. v.program };
 
+    // The offset in the bytes.
+    ghost offset = { λ v i finished k. after_opcodes v.version v.program i finished
+        (awaits_before v.program i finished + k) };
+
     fn agents(&self) -> u16 {
         self.parts.len() as u16
     }
@@ -214,12 +218,29 @@ impl<'a> ProgramView for CodeView<'a> {
 
     fn instruction(&self, i: u16, finished: u32, before: u32, k: u16) -> Instruction {
         let at = self.after(i, finished, before as usize + usize::from(k));
+        self.read(i, finished, k, at).instruction
+    }
+
+    fn offset(&self, i: u16, finished: u32, k: u16) -> usize {
+        let awaits = self.awaits_up_to(i, finished) as usize + usize::from(k);
+        self.after(i, finished, awaits)
+    }
+
+    fn read(&self, i: u16, finished: u32, k: u16, at: usize) -> Reading {
+        // The bytes say all.
+        let _ = (i, finished, k);
         let opcode = self.bytes[at];
         if opcode == AWAIT {
-            return Instruction::Await(await_in(self.version, self.bytes, at));
+            return Reading {
+                instruction: Instruction::Await(await_in(self.version, self.bytes, at)),
+                after: at + self.version.await_len(),
+            };
         }
         match step_of(self.version, opcode) {
-            Some(step) => Instruction::Step(step),
+            Some(step) => Reading {
+                instruction: Instruction::Step(step),
+                after: at + 1,
+            },
             None => unreachable!(),
         }
     }

@@ -1,7 +1,7 @@
 -- A program: for each agent a start, a goal and a list of actions. An action is a step and awaits, which are pairs of an agent
 -- and a count. Agents count from 0, the actions of each from 1. What is asked of an agent or an action that is not there is answered
 -- by the origin, nothing or an empty list.
-use Rattle.std.specs.Prelude.{◌≡◌, ◌≢◌, ℕ, zero, suc, ◌<◌, ◌≤◌, List, [], ◌∷◌, length, map, take, Option, Some, None, slice_get, option_map, sum_by, All, Contains, IsTrue}
+use Rattle.std.specs.Prelude.{◌≡◌, ◌≢◌, ℕ, zero, suc, ◌+◌, ◌<◌, ◌≤◌, List, [], ◌∷◌, length, map, take, Option, Some, None, slice_get, option_map, sum_by, All, Contains, IsTrue}
 use Rattle.std.specs.Option.{option_map_or}
 use Rattle.std.specs.List.Sorted.{IsStrictlyIncreasing}
 use Rattle.fleet_model.specs.declared.geometry.Cell.{Cell}
@@ -71,6 +71,12 @@ awaits_before p i n = sum_by (λ s. length s.awaits) (take n (actions_of p i))
 abbrev pub IsInstruction : Program → (i n k : ℕ) → Instruction → Type 0
 IsInstruction p i n k (v.Await w) = slice_get (awaits_of p i n) k ≡ Some w
 IsInstruction p i n k (v.Step s) = (k ≡ length (awaits_of p i n)) × (step_of p i n ≡ Some s)
+
+-- where the instruction stands with which an agent goes on after that one: the next one of its action, or after a step the first
+-- one of the action after it
+abbrev pub offset_after : ((finished k : ℕ) → ℕ) → (finished k : ℕ) → Instruction → ℕ
+offset_after offset finished k (v.Await w) = offset finished (k + 1)
+offset_after offset finished k (v.Step s) = offset (finished + 1) 0
 
 -- every action is a move
 abbrev pub AreMoves : List Action → Type 0

@@ -27,7 +27,7 @@ pub use limits::{
 };
 pub use memory::OutOfMemory;
 pub use program::{
-    Action, ActionId, Actions, AgentProgram, Await, Awaits, Instruction, Program, Visit,
+    Action, ActionId, Actions, AgentProgram, Await, Awaits, Instruction, Program, Reading, Visit,
 };
 pub use standing::Standing;
 pub use task::Task;

@@ -38,7 +38,7 @@ onward P n (suc i) le step h =
       | Rattle.std.proofs.Common.inr ge ↦ subst P (add-one i) (step i ge (omega arith) (onward P n i ge (λ k from below. step k from (omega arith)) h))
     ]
 
--- the agents below n have moved, or stay for this tick
+-- the agents below n have moved, or stay for this tick, and of the others those that are ready are to move
 pub record IsAdvanced (p : Program) (held : ℕ → Bool) (old rows : Configuration) (moving : List Bool) (n count : ℕ) (ready_held : Bool) : Type 0 where
   pub done : (k : ℕ) → k < n → standing_at rows k ≡ standing_after p held old k
   pub rest : (k : ℕ) → n ≤ k → standing_at rows k ≡ standing_at old k
@@ -47,18 +47,17 @@ pub record IsAdvanced (p : Program) (held : ℕ → Bool) (old rows : Configurat
   pub long : length rows ≡ length p
   pub flags : length moving ≡ length p
   pub flagged : (k : ℕ) → k < n → flag_of moving k ≡ is_moving p held old k
-  pub unflagged : (k : ℕ) → n ≤ k → flag_of moving k ≡ false
+  pub to_move : (k : ℕ) → n ≤ k → k < length p → flag_of moving k ≡ is_ready p old k
   pub held_is : ready_held ≡ list_any (λ k. is_ready p old k && held k) (indices n)
 
-module _ (p : Program) (held : ℕ → Bool) (old rows : Configuration) (moving : List Bool) (i count : ℕ) (ready_held : Bool) (before : IsAdvanced p held old rows moving i count ready_held) where
-  pub one_moves : is_ready p old i ≡ true → held i ≡ false → i < length p
-      → IsAdvanced p held old (set rows i (finished_one (standing_at rows i) (next_action p rows i))) (set moving i true) (i + 1) (count + 1) ready_held
-  one_moves ready free agent =
+module _ (p : Program) (held : ℕ → Bool) (old rows : Configuration) (moving : List Bool) (i count : ℕ) (ready_held : Bool) (before : IsAdvanced p held old rows moving i count ready_held) (agent : i < length p) where
+  pub one_moves : is_ready p old i ≡ true → held i ≡ false
+      → IsAdvanced p held old (set rows i (finished_one (standing_at rows i) (next_action p rows i))) moving (i + 1) (count + 1) ready_held
+  one_moves ready free =
       let flag : is_moving p held old i ≡ true = rw (ready, free) refl in
       let s = finished_one (standing_at rows i) (next_action p rows i) in
       let e = after_move p held old rows i flag (before.rest i (omega arith)) in
       let inside : i < length rows = omega (arith, before.long) in
-      let there : i < length moving = omega (arith, before.flags) in
       record {
         done = below_more (λ k. standing_at (set rows i s) k ≡ standing_after p held old k) i
             (λ k h. let ne : k ≢ i = omega arith in rw (get_or-set_other rows i k s) (before.done k h))
@@ -67,41 +66,42 @@ module _ (p : Program) (held : ℕ → Bool) (old rows : Configuration) (moving 
         counted = rw (filter_more (is_moving p held old) i, flag) (ap (λ n. n + 1) before.counted);
         few = let few = before.few in omega arith;
         long = length-set rows i s ∙ before.long;
-        flags = length-set moving i true ∙ before.flags;
-        flagged = below_more (λ k. flag_of (set moving i true) k ≡ is_moving p held old k) i
-            (λ k h. let ne : k ≢ i = omega arith in get_or-set_other moving i k true false ne ∙ before.flagged k h)
-            (get_or-set_same moving i true false there ∙ sym flag);
-        unflagged = λ k h. let ne : k ≢ i = omega arith in get_or-set_other moving i k true false ne ∙ before.unflagged k (omega arith);
+        flags = before.flags;
+        flagged = below_more (λ k. flag_of moving k ≡ is_moving p held old k) i before.flagged (before.to_move i (omega arith) agent ∙ (ready ∙ sym flag));
+        to_move = λ k h within. before.to_move k (omega arith) within;
         held_is = rw (any_more (λ k. is_ready p old k && held k) i, ready, free) (before.held_is ∙ sym (or-false _));
       }
 
   -- an agent that stays
-  one_stays : (now_held : Bool) → is_moving p held old i ≡ false → now_held ≡ (ready_held || (is_ready p old i && held i))
-      → IsAdvanced p held old rows moving (i + 1) count now_held
-  one_stays now_held flag held_is = record {
+  one_stays : (flags : List Bool) (now_held : Bool) → length flags ≡ length moving → ((k : ℕ) → k ≢ i → flag_of flags k ≡ flag_of moving k) → flag_of flags i ≡ false
+      → is_moving p held old i ≡ false → now_held ≡ (ready_held || (is_ready p old i && held i)) → IsAdvanced p held old rows flags (i + 1) count now_held
+  one_stays flags now_held long others here flag held_is = record {
     done = below_more (λ k. standing_at rows k ≡ standing_after p held old k) i before.done
         (before.rest i (omega arith) ∙ stays p held old i flag);
     rest = λ k h. before.rest k (omega arith);
     counted = rw (filter_more (is_moving p held old) i, flag) (let e = before.counted in omega arith);
     few = let few = before.few in omega arith;
     long = before.long;
-    flags = before.flags;
-    flagged = below_more (λ k. flag_of moving k ≡ is_moving p held old k) i before.flagged (before.unflagged i (omega arith) ∙ sym flag);
-    unflagged = λ k h. before.unflagged k (omega arith);
+    flags = long ∙ before.flags;
+    flagged = below_more (λ k. flag_of flags k ≡ is_moving p held old k) i (λ k h. let ne : k ≢ i = omega arith in others k ne ∙ before.flagged k h) (here ∙ sym flag);
+    to_move = λ k h within. let ne : k ≢ i = omega arith in others k ne ∙ before.to_move k (omega arith) within;
     held_is = held_is ∙ (ap (λ b. b || (is_ready p old i && held i)) before.held_is ∙ sym (any_more (λ k. is_ready p old k && held k) i));
   }
 
-  pub one_held : is_ready p old i ≡ true → held i ≡ true → IsAdvanced p held old rows moving (i + 1) count true
-  one_held ready is = one_stays true (rw (ready, is) refl) (rw (ready, is) (sym (or-true ready_held)))
+  pub one_held : is_ready p old i ≡ true → held i ≡ true → IsAdvanced p held old rows (set moving i false) (i + 1) count true
+  one_held ready is =
+      let inside : i < length moving = omega (arith, before.flags) in
+      one_stays (set moving i false) true (length-set moving i false) (λ k ne. get_or-set_other moving i k false false ne) (get_or-set_same moving i false false inside)
+      (rw (ready, is) refl) (rw (ready, is) (sym (or-true ready_held)))
 
   pub one_waits : is_ready p old i ≡ false → IsAdvanced p held old rows moving (i + 1) count ready_held
-  one_waits waits = one_stays ready_held (rw waits refl) (rw waits (sym (or-false ready_held)))
+  one_waits waits = one_stays moving ready_held refl (λ k ne. refl) (before.to_move i (omega arith) agent ∙ waits) (rw waits refl) (rw waits (sym (or-false ready_held)))
 
 -- who is not ready is passed over
-pub all_wait : (p : Program) (held : ℕ → Bool) (old rows : Configuration) (moving : List Bool) (n i count : ℕ) (ready_held : Bool) → n ≤ i
+pub all_wait : (p : Program) (held : ℕ → Bool) (old rows : Configuration) (moving : List Bool) (n i count : ℕ) (ready_held : Bool) → n ≤ i → i ≤ length p
     → ((k : ℕ) → n ≤ k → k < i → is_ready p old k ≡ false) → IsAdvanced p held old rows moving n count ready_held → IsAdvanced p held old rows moving i count ready_held
-all_wait p held old rows moving n i count ready_held le waits before =
-    onward (λ k. IsAdvanced p held old rows moving k count ready_held) n i le (λ k from below h. one_waits p held old rows moving k count ready_held h (waits k from below)) before
+all_wait p held old rows moving n i count ready_held le within waits before =
+    onward (λ k. IsAdvanced p held old rows moving k count ready_held) n i le (λ k from below h. one_waits p held old rows moving k count ready_held h (omega arith) (waits k from below)) before
 
 module _ (p : Program) (held : ℕ → Bool) (old rows : Configuration) (moving : List Bool) (count : ℕ) (ready_held : Bool) (all : IsAdvanced p held old rows moving (length p) count ready_held) where
   pub all_advanced : rows ≡ tick p held old

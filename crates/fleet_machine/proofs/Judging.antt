@@ -7,7 +7,7 @@ use Rattle.fleet_model.specs.Program.{Program, moves}
 use Rattle.fleet_model.specs.Machine.{count_at, is_ready, is_finished, indices}
 use Rattle.fleet_machine.specs.AgentSet.{AreNoneFrom, IsNextFrom}
 use Rattle.fleet_machine.specs.WaitLists.{home_of}
-use Rattle.fleet_machine.specs.Machine.{MachineState, Runs, HasRows, IsJudged, IsRead, HasReadAll, flag_of, list_of, mark_of, is_left}
+use Rattle.fleet_machine.specs.Machine.{MachineState, Runs, HasRows, IsJudged, IsRead, HasReadAll, flag_of, list_of, unread, mark_of, is_left}
 use Rattle.fleet_machine.specs.Waking.{IsPlaced, IsAsBefore}
 use Rattle.fleet_machine.proofs.Advanced.{onward, filter_more}
 use Rattle.fleet_machine.proofs.Waiting.{lowered_le, long_lowered, home_if_lacked, home_if_lower}
@@ -21,7 +21,7 @@ module _ (p : Program) (before after : MachineState) (i : ℕ) (rows : HasRows (
       let ready : i < length before.ready = omega (arith, rows.ready) in
       let left : i < length before.left = omega (arith, rows.left) in
       let home : i < length before.waiting.homes = omega (arith, rows.homes) in
-      let mark : mark_of (set before.marks i placed.mark) i ≡ placed.mark = get_or-set_same before.marks i placed.mark (record { before = 0; met = 0 }) (omega (arith, rows.marks)) in
+      let mark : mark_of (set before.marks i placed.mark) i ≡ placed.mark = get_or-set_same before.marks i placed.mark unread (omega (arith, rows.marks)) in
       subst (λ m. IsJudged p m i) (sym placed.same) record {
         read = rw mark placed.read;
         all = rw mark placed.all;
@@ -35,7 +35,7 @@ module _ (p : Program) (before after : MachineState) (i : ℕ) (rows : HasRows (
   others_if_placed k other =
       let c = before.configuration in
       subst (λ m. IsAsBefore before m k) (sym placed.same) record {
-        mark = get_or-set_other before.marks i k placed.mark (record { before = 0; met = 0 }) other;
+        mark = get_or-set_other before.marks i k placed.mark unread other;
         ready = get_or-set_other before.ready i k (is_ready p c i) false other;
         left = get_or-set_other before.left i k (is_left p c i) false other;
         home = get_or-set_other before.waiting.homes i k (option_map list_of placed.lacked) None other;

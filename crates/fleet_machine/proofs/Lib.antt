@@ -16,6 +16,7 @@ mod Lasting
 pub mod Marks
 mod Carried
 pub mod Ticking
+mod Woken
 pub mod Opened
 pub mod Kept
 pub mod Resting

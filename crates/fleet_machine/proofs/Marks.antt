@@ -10,28 +10,24 @@ use Rattle.fleet_model.specs.Machine.{Configuration, standing_at, count_at, is_m
 use Rattle.fleet_model.proofs.Tick.{standing_at_tick, other_stays, ready_left}
 use Rattle.fleet_model.proofs.Totals.{actions_more, actions_fit}
 use Rattle.fleet_machine.specs.declared.mark.Mark.{Mark}
-use Rattle.fleet_machine.specs.Machine.{MachineState, Runs, IsRead, IsReadToStep, mark_of, flag_of, is_left, passed, mark_after, marks_after}
+use Rattle.fleet_machine.specs.Machine.{MachineState, Runs, IsRead, IsReadToStep, unread, mark_of, flag_of, is_left, passed, mark_after, marks_after}
 use Rattle.fleet_machine.proofs.Advanced.{onward}
 use Rattle.fleet_machine.proofs.Ready.{has_next}
 use Rattle.fleet_machine.proofs.Lasting.{all_still, met_lasts, count_lasts}
 
--- who has read nothing
-abbrev pub nothing : Mark
-nothing = record { before = 0; met = 0 }
-
 -- who is ready has read up to its step
 pub read_to_step : (p : Program) (m : MachineState) (i : ℕ) → Runs p m → i < length p → is_ready p m.configuration i ≡ true → IsReadToStep p m.configuration i (mark_of m.marks i)
-read_to_step p m i runs agent ready = let here = runs.judged i agent in record { before = here.read.before; all = here.all ready }
+read_to_step p m i runs agent ready = let here = runs.judged i agent in record { before = here.read.before; through = here.all ready }
 
 -- the number of awaits before an action fits
 pub passed_fits : (p : Program) (c : Configuration) (i : ℕ) (mark : Mark) → IsWellFormed p → IsReadToStep p c i mark → mark.before + mark.met < 4294967296
 passed_fits p c i mark ok read =
     let fit = actions_fit p i (count_at c i) ok in
-    omega (arith, fit, read.before, read.all)
+    omega (arith, fit, read.before, read.through.all)
 
 -- ---- the start
 
-pub mark_of_nobody : (n i : ℕ) → mark_of (replicate n nothing) i ≡ nothing
+pub mark_of_nobody : (n i : ℕ) → mark_of (replicate n unread) i ≡ unread
 mark_of_nobody zero i = refl
 mark_of_nobody (suc n) zero = refl
 mark_of_nobody (suc n) (suc i) = mark_of_nobody n i
@@ -42,7 +38,7 @@ all_flags (suc n) zero lt = refl
 all_flags (suc n) (suc i) lt = all_flags n i (omega arith)
 
 -- who has finished nothing has read nothing
-pub read_nothing : (p : Program) (c : Configuration) (i : ℕ) (mark : Mark) → mark ≡ nothing → count_at c i ≡ 0 → IsRead p c i mark
+pub read_nothing : (p : Program) (c : Configuration) (i : ℕ) (mark : Mark) → mark ≡ unread → count_at c i ≡ 0 → IsRead p c i mark
 read_nothing p c i mark e none =
     let before : 0 ≡ awaits_before p i (count_at c i) = ap (λ (n : ℕ). awaits_before p i n) (sym none) in
     subst (λ (m : Mark). IsRead p c i m) (sym e) (record { before = before; few = omega arith; met = refl })
@@ -78,9 +74,9 @@ module _ (p : Program) (held : ℕ → Bool) (old : MachineState) where
       let new = passed (mark_of marks i) in
       record {
         done = below_more (λ k. mark_of (set marks i new) k ≡ mark_after p held old k) i
-            (λ k h. let other : k ≢ i = omega arith in get_or-set_other marks i k new nothing other ∙ before.done k h)
-            (get_or-set_same marks i new nothing inside ∙ (ap passed (before.rest i (omega arith)) ∙ mark_moves i flag));
-        rest = λ k h. let other : k ≢ i = omega arith in get_or-set_other marks i k new nothing other ∙ before.rest k (omega arith);
+            (λ k h. let other : k ≢ i = omega arith in get_or-set_other marks i k new unread other ∙ before.done k h)
+            (get_or-set_same marks i new unread inside ∙ (ap passed (before.rest i (omega arith)) ∙ mark_moves i flag));
+        rest = λ k h. let other : k ≢ i = omega arith in get_or-set_other marks i k new unread other ∙ before.rest k (omega arith);
         long = length-set marks i new ∙ before.long;
       }
 
@@ -88,13 +84,13 @@ module _ (p : Program) (held : ℕ → Bool) (old : MachineState) where
   all_stay marks n i le still before = onward (λ k. ArePassedTo p held old marks k) n i le (λ k from below h. one_stays marks k (still k from below) h) before
 
   pub all_passed : (marks : List Mark) → ArePassedTo p held old marks (length p) → marks ≡ marks_after p held old
-  all_passed marks all = fill_by_all (mark_after p held old) marks (length p) nothing all.long (λ k h. all.done k h)
+  all_passed marks all = fill_by_all (mark_after p held old) marks (length p) unread all.long (λ k h. all.done k h)
 
   pub long_after : length (marks_after p held old) ≡ length p
   long_after = length-map-range_with_len (mark_after p held old) 0 (length p)
 
   pub mark_is : (k : ℕ) → k < length p → mark_of (marks_after p held old) k ≡ mark_after p held old k
-  mark_is k agent = get_or-map-range_with_len (mark_after p held old) 0 (length p) k k nothing agent (omega arith)
+  mark_is k agent = get_or-map-range_with_len (mark_after p held old) 0 (length p) k k unread agent (omega arith)
 
   pub mark_unmoved : (k : ℕ) → k < length p → is_moving p held old.configuration k ≡ false → mark_of (marks_after p held old) k ≡ mark_of old.marks k
   mark_unmoved k agent still = mark_is k agent ∙ sym (mark_stays k still)
@@ -118,7 +114,7 @@ module _ (p : Program) (held : ℕ → Bool) (m : MachineState) (runs : Runs p m
       let here = runs.judged k agent in
       let next = has_next p c k (ready_left p c k ready) in
       let more = actions_more p k (count_at c k) in
-      let all = here.all ready in
+      let all = (here.all ready).all in
       let same : count_at (tick p held c) k ≡ count_at c k + 1 = ap (λ (s : Standing). s.count) (standing_at_tick p held c k agent) ∙ rw (moves, next.1.next) refl in
       record {
         before = rw same (omega (arith, more, all, here.read.before));

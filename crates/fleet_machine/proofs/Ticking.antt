@@ -17,25 +17,48 @@ use Rattle.fleet_machine.specs.Looked.{ready_in, awaits_moving, awaiting_in, Loo
 use Rattle.fleet_machine.specs.WaitLists.{home_of}
 use Rattle.fleet_machine.specs.declared.mark.Mark.{Mark}
 use Rattle.fleet_machine.specs.Machine.{MachineState, Runs, HasRows, IsHome, IsJudged, IsRead, Lacks, flag_of, list_of, agent_of, mark_of, is_left, is_reached, least_of, passed, after_next, marks_after, moving_flags}
-use Rattle.fleet_machine.specs.Waking.{is_on, if_not_on, is_woken_by, advanced_one, IsWoken, IsCarriedOut, IsAsBefore}
+use Rattle.fleet_machine.specs.Waking.{is_on, if_not_on, is_woken_by, advanced_one, held_back, after_moves, IsWoken, IsCarriedOut, IsAsBefore}
 use Rattle.fleet_machine.proofs.Advanced.{onward, filter_more, IsAdvanced, one_moves, one_held, all_wait, all_advanced, all_flagged}
 use Rattle.fleet_machine.proofs.Lasting.{ready_lasts, count_rises}
 use Rattle.fleet_machine.proofs.Waiting.{agent_of_list}
 use Rattle.fleet_machine.proofs.Waking.{eqb-refl}
-use Rattle.fleet_machine.proofs.Marks.{ArePassedTo, all_stay, all_passed, long_after, mark_unmoved, read_after, flagged_after}
+use Rattle.fleet_machine.proofs.Marks.{ArePassedTo, none_passed, all_stay, all_passed, long_after, mark_unmoved, read_after, flagged_after}
 use Rattle.fleet_machine.proofs.Marks.{one_moves as mark_moves, one_stays as mark_stays}
 use Rattle.fleet_machine.proofs.Judging.{none_more_counted, one_more_counted, counted_le}
 use Rattle.fleet_machine.proofs.Ready.{no_action_left, has_next, not_ready_if_unmet, awaited_agent}
 
 -- ---- who is ready moves, or is held
 
+-- the machine as if nobody had been taken off a list in this tick
+abbrev pub unwoken : (old now : MachineState) → MachineState
+unwoken old now = record now { due = now.moving; waiting = old.waiting; least = old.least }
+
 -- the agents below n have moved, or stay for this tick, and so many of them were ready
 pub record IsAdvancedTo (p : Program) (held : ℕ → Bool) (old now : MachineState) (n moved : ℕ) (ready_held : Bool) (ready : ℕ) : Type 0 where
-  pub same : now ≡ record old { configuration = now.configuration; marks = now.marks; moving = now.moving }
+  pub same : now ≡ record old { configuration = now.configuration; marks = now.marks; moving = now.moving; due = now.moving }
   pub passes : ArePassedTo p held old now.marks n
   pub done : IsAdvanced p held old.configuration now.configuration now.moving n moved ready_held
   pub counted : ready ≡ length (filter (is_ready p old.configuration) (indices n))
   pub within : n ≤ length p
+
+pub none_advanced : (p : Program) (held : ℕ → Bool) (old : MachineState) → Runs p old → IsAdvancedTo p held old (record old { moving = old.ready; due = old.ready }) 0 0 false 0
+none_advanced p held old runs = record {
+  same = refl;
+  passes = none_passed p held old runs.rows.marks;
+  done = record {
+    done = λ k lt. absurd (omega arith);
+    rest = λ k ge. refl;
+    counted = refl;
+    few = omega arith;
+    long = runs.agents;
+    flags = runs.rows.ready;
+    flagged = λ k lt. absurd (omega arith);
+    to_move = λ k ge agent. (runs.judged k agent).ready;
+    held_is = refl;
+  };
+  counted = refl;
+  within = omega arith;
+}
 
 module _ (p : Program) (held : ℕ → Bool) (old : MachineState) (runs : Runs p old)
     (now : MachineState) (from moved : ℕ) (ready_held : Bool) (ready : ℕ) (before : IsAdvancedTo p held old now from moved ready_held ready) where
@@ -49,7 +72,7 @@ module _ (p : Program) (held : ℕ → Bool) (old : MachineState) (runs : Runs p
   module _ (none : AreNoneFrom now.ready from) where
     all_done : IsAdvanced p held old.configuration now.configuration now.moving (length p) moved ready_held
     all_done =
-        all_wait p held old.configuration now.configuration now.moving from (length p) moved ready_held before.within (λ k later below. ready_is k below ∙ none k later) before.done
+        all_wait p held old.configuration now.configuration now.moving from (length p) moved ready_held before.within (omega arith) (λ k later below. ready_is k below ∙ none k later) before.done
 
     pub all_counted : moved ≡ moved_in p held old.configuration
     all_counted = all_done.counted
@@ -57,14 +80,12 @@ module _ (p : Program) (held : ℕ → Bool) (old : MachineState) (runs : Runs p
     pub any_held : ready_held ≡ is_ready_held p held old.configuration
     any_held = all_done.held_is
 
-    pub all_moved : (after : MachineState) → after ≡ record now { due = now.moving }
-        → after ≡ record old { configuration = tick p held old.configuration; marks = marks_after p held old; moving = moving_flags p held old.configuration; due = moving_flags p held old.configuration }
-    all_moved after flagged =
-        flagged
-        ∙ (ap (λ (m : MachineState). record m { due = now.moving }) before.same
+    pub all_moved : now ≡ after_moves p held old
+    all_moved =
+        before.same
         ∙ (ap (λ (rows : Configuration). record old { configuration = rows; marks = now.marks; moving = now.moving; due = now.moving }) (all_advanced p held old.configuration now.configuration now.moving moved ready_held all_done)
         ∙ (ap (λ (marks : List Mark). record old { configuration = tick p held old.configuration; marks = marks; moving = now.moving; due = now.moving }) all_read
-        ∙ ap (λ (flags : List Bool). record old { configuration = tick p held old.configuration; marks = marks_after p held old; moving = flags; due = flags }) (all_flagged p held old.configuration now.configuration now.moving moved ready_held all_done))))
+        ∙ ap (λ (flags : List Bool). record old { configuration = tick p held old.configuration; marks = marks_after p held old; moving = flags; due = flags }) (all_flagged p held old.configuration now.configuration now.moving moved ready_held all_done)))
       where
         all_read : now.marks ≡ marks_after p held old
         all_read = all_passed p held old now.marks (all_stay p held old now.marks from (length p) before.within (λ k later below. still k (ready_is k below ∙ none k later)) before.passes)
@@ -72,23 +93,40 @@ module _ (p : Program) (held : ℕ → Bool) (old : MachineState) (runs : Runs p
             still : (k : ℕ) → is_ready p old.configuration k ≡ false → is_moving p held old.configuration k ≡ false
             still k unready = rw unready refl
 
+    -- nobody is to move any more
+    pub none_to_move : AreNoneFrom now.moving from
+    none_to_move k later =
+        elim (cases_lt k (length p)) [
+          | inl agent ↦ before.done.to_move k later agent ∙ (ready_is k agent ∙ none k later)
+          | inr past ↦ get_or_past now.moving k false (omega (arith, before.done.flags))
+        ]
+
     pub all_ready : ready ≡ ready_in p old.configuration
     all_ready =
         none_more_counted (is_ready p old.configuration) from (length p) ready before.within (λ k later below. ready_is k below ∙ none k later) before.counted
 
   -- the next one that is ready
   module _ (i : ℕ) (next : IsNextFrom now.ready from i) where
-    ready_agent : i < length p
+    pub ready_agent : i < length p
     ready_agent = omega (arith, next.agent, ap (λ (m : MachineState). length m.ready) before.same, runs.rows.ready)
 
-    next_is_ready : is_ready p old.configuration i ≡ true
+    pub next_is_ready : is_ready p old.configuration i ≡ true
     next_is_ready = ready_is i ready_agent ∙ next.member
 
     waits : (k : ℕ) → from ≤ k → k < i → is_ready p old.configuration k ≡ false
     waits k later below = let agent = ready_agent in ready_is k (omega arith) ∙ next.between k later below
 
+    -- it is the next that is to move
+    pub next_to_move : IsNextFrom now.moving from i
+    next_to_move = record {
+      agent = omega (arith, ready_agent, before.done.flags);
+      later = next.later;
+      member = before.done.to_move i next.later ready_agent ∙ next_is_ready;
+      between = λ k later below. let agent = ready_agent in before.done.to_move k later (omega arith) ∙ waits k later below;
+    }
+
     here : IsAdvanced p held old.configuration now.configuration now.moving i moved ready_held
-    here = all_wait p held old.configuration now.configuration now.moving from i moved ready_held next.later waits before.done
+    here = let agent = ready_agent in all_wait p held old.configuration now.configuration now.moving from i moved ready_held next.later (omega arith) waits before.done
 
     reads : ArePassedTo p held old now.marks i
     reads = all_stay p held old now.marks from i next.later (λ k later below. still k (waits k later below)) before.passes
@@ -96,32 +134,36 @@ module _ (p : Program) (held : ℕ → Bool) (old : MachineState) (runs : Runs p
         still : (k : ℕ) → is_ready p old.configuration k ≡ false → is_moving p held old.configuration k ≡ false
         still k unready = rw unready refl
 
-    pub one_passed : (is_held : Bool) → is_held ≡ held i → (after : MachineState) → after ≡ advanced_one p now i is_held
-        → (n : ℕ) (h : Bool) → n ≡ moved + cond is_held 0 1 → h ≡ (ready_held || is_held) → IsAdvancedTo p held old after (i + 1) n h (ready + 1)
-    one_passed is_held is after at n h count any = rw (at, count, any) (go is_held is)
-      where
-        more : ready + 1 ≡ length (filter (is_ready p old.configuration) (indices (i + 1)))
-        more = one_more_counted (is_ready p old.configuration) i ready next_is_ready (none_more_counted (is_ready p old.configuration) from i ready next.later waits before.counted)
+    more : ready + 1 ≡ length (filter (is_ready p old.configuration) (indices (i + 1)))
+    more = one_more_counted (is_ready p old.configuration) i ready next_is_ready (none_more_counted (is_ready p old.configuration) from i ready next.later waits before.counted)
 
-        go : (b : Bool) → b ≡ held i → IsAdvancedTo p held old (advanced_one p now i b) (i + 1) (moved + cond b 0 1) (ready_held || b) (ready + 1)
-        go true e = record {
-          same = before.same;
-          passes = mark_stays p held old now.marks i (rw (next_is_ready, sym e) refl) reads;
-          done = rw (add-zero, or-true ready_held) (one_held p held old.configuration now.configuration now.moving i moved ready_held here next_is_ready (sym e));
-          counted = more;
-          within = omega (arith, ready_agent);
-        }
-        go false e = record {
-          same = ap (λ (m : MachineState). record m {
-            configuration = set now.configuration i (after_next p now.configuration i);
-            marks = set now.marks i (passed (mark_of now.marks i));
-            moving = set now.moving i true;
-          }) before.same;
-          passes = mark_moves p held old now.marks i ready_agent (rw (next_is_ready, sym e) refl) reads;
-          done = rw (or-false ready_held) (one_moves p held old.configuration now.configuration now.moving i moved ready_held here next_is_ready (sym e) ready_agent);
-          counted = more;
-          within = omega (arith, ready_agent);
-        }
+    pub one_advanced : held i ≡ false → IsAdvancedTo p held old (advanced_one p now i) (i + 1) (moved + 1) ready_held (ready + 1)
+    one_advanced free = record {
+      same = ap (λ (m : MachineState). record m {
+        configuration = set now.configuration i (after_next p now.configuration i);
+        marks = set now.marks i (passed (mark_of now.marks i));
+      }) before.same;
+      passes = mark_moves p held old now.marks i ready_agent (rw (next_is_ready, free) refl) reads;
+      done = one_moves p held old.configuration now.configuration now.moving i moved ready_held here ready_agent next_is_ready free;
+      counted = more;
+      within = omega (arith, ready_agent);
+    }
+
+    pub one_held_back : held i ≡ true → IsAdvancedTo p held old (held_back now i) (i + 1) moved true (ready + 1)
+    one_held_back is = record {
+      same = ap (λ (m : MachineState). record m { moving = set now.moving i false; due = set m.due i false }) before.same;
+      passes = mark_stays p held old now.marks i (rw (next_is_ready, is) refl) reads;
+      done = one_held p held old.configuration now.configuration now.moving i moved ready_held here ready_agent next_is_ready is;
+      counted = more;
+      within = omega (arith, ready_agent);
+    }
+
+    -- what it is to do is what it was to do before the tick
+    pub as_it_was : standing_at now.configuration i ≡ standing_at old.configuration i
+    as_it_was = before.done.rest i next.later
+
+    pub read_as_it_was : mark_of now.marks i ≡ mark_of old.marks i
+    read_as_it_was = before.passes.rest i next.later
 
 -- ---- agents that lack a count
 
@@ -177,6 +219,14 @@ module _ (p : Program) (c : Configuration) (least i j : ℕ) (lacks : Lacks p c 
       rw n.1.next (list_any_at (λ w. is_moving p held c w.agent) n.0.awaits place lacks.awaited (slice_get_within n.0.awaits place lacks.awaited at)
       (rw (get_or_from_slice_get n.0.awaits place lacks.awaited lacks.awaited at, sym agent_here) moves))
 
+-- who is ready stands in no list
+pub nowhere_if_ready : (p : Program) (m : MachineState) → Runs p m → (k : ℕ) → k < length p → is_ready p m.configuration k ≡ true → home_of m.waiting.homes k ≡ None
+nowhere_if_ready p m runs k agent ready = go (home_of m.waiting.homes k) (runs.judged k agent).home
+  where
+    go : (h : Option ℕ) → IsHome p m.configuration m.least k h → h ≡ None
+    go None home = refl
+    go (Some j) home = absurd (true≢false (sym ready ∙ unready_if_lacking p m.configuration (least_of m.least j) k j home))
+
 -- ---- how many pass a test
 
 one_more : (a b : ℕ) (x y : Bool) → (x ≡ true → y ≡ true) → a ≤ b → a + cond x 1 0 ≤ b + cond y 1 0
@@ -217,7 +267,7 @@ module _ (p : Program) (held : ℕ → Bool) (m : MachineState) (runs : Runs p m
 
   -- the agents that the tick moves have moved
   abbrev moved : MachineState
-  moved = record m { configuration = after; marks = marks_after p held m; moving = moving_flags p held c; due = moving_flags p held c }
+  moved = after_moves p held m
 
   -- the lists that are woken
   abbrev woken_lists : ℕ → Bool

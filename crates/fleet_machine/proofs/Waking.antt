@@ -130,7 +130,7 @@ all_woken j most a b c d (Some i) before is none same then = absurd (cc is)
 -- ---- all lists of some
 
 -- the same lists by another test
-same_lists : (t u : ℕ → Bool) (a b : MachineState) → ((k : ℕ) → u k ≡ t k) → IsWoken t a b → IsWoken u a b
+pub same_lists : (t u : ℕ → Bool) (a b : MachineState) → ((k : ℕ) → u k ≡ t k) → IsWoken t a b → IsWoken u a b
 same_lists t u a b e woken = record {
   same = woken.same;
   long_due = woken.long_due;

@@ -1,7 +1,8 @@
 -- The state of a machine as contracts see it, and the program that it runs.
 use Rattle.std.specs.Prelude.{◌≡◌, ℕ, ◌+◌, ◌*◌, ◌/◌, ◌%◌, ◌<◌, ◌≤◌, ◌==◌, ◌&&◌, Bool, false, nat_lt, nat_le, List, length, map, set, min, get_or, take, Option, Some, None, true, slice_get, if◌then◌else◌}
 use Rattle.std.specs.List.{list_all}
-use Rattle.fleet_model.specs.Program.{Program, IsWellFormed, moves, awaits_of, awaits_before}
+use Rattle.fleet_model.specs.Program.{Program, IsWellFormed, moves, step_of, awaits_of, awaits_before}
+use Rattle.fleet_model.specs.declared.geometry.Step.TheVariants.{Dwell}
 use Rattle.fleet_model.specs.declared.program.Await.{Await}
 use Rattle.fleet_model.specs.declared.standing.Standing.{Standing}
 use Rattle.fleet_model.specs.Machine.{Configuration, standing_at, count_at, next_action, finished_one, is_met, is_ready, is_moving, indices}
@@ -13,9 +14,13 @@ use Rattle.fleet_machine.specs.WaitLists.{WaitState, home_of}
 abbrev pub flag_of : List Bool → ℕ → Bool
 flag_of flags i = get_or flags i false
 
+-- how far one has read that has read nothing
+abbrev pub unread : Mark
+unread = record { before = 0; met = 0; step = Dwell }
+
 -- how far agent i has read its program
 abbrev pub mark_of : List Mark → ℕ → Mark
-mark_of marks i = get_or marks i (record { before = 0; met = 0 })
+mark_of marks i = get_or marks i unread
 
 -- the agents on their way, how far each has read its program, and flags for each: whether the last tick, or the one
 -- under way, moves it, whether it is ready, whether an action is left to it, and whether the tick under way has to
@@ -89,14 +94,19 @@ pub record IsRead (p : Program) (c : Configuration) (i : ℕ) (mark : Mark) : Ty
   pub few : mark.met ≤ length (awaits_of p i (count_at c i + 1))
   pub met : list_all (is_met c) (take mark.met (awaits_of p i (count_at c i + 1))) ≡ true
 
--- so many awaits stand before the next action of agent i, and so many before its step
+-- all awaits of action n of agent i are read, and its step
+pub record IsReadThrough (p : Program) (i n : ℕ) (mark : Mark) : Type 0 where
+  pub all : mark.met ≡ length (awaits_of p i n)
+  pub step : step_of p i n ≡ Some mark.step
+
+-- so many awaits stand before the next action of agent i, which is read through
 pub record IsReadToStep (p : Program) (c : Configuration) (i : ℕ) (mark : Mark) : Type 0 where
   pub before : mark.before ≡ awaits_before p i (count_at c i)
-  pub all : mark.met ≡ length (awaits_of p i (count_at c i + 1))
+  pub through : IsReadThrough p i (count_at c i + 1) mark
 
--- an agent that is ready has read all awaits of its next action
+-- an agent that is ready has read its next action through
 abbrev pub HasReadAll : Program → Configuration → ℕ → Mark → Type 0
-HasReadAll p c i mark = is_ready p c i ≡ true → mark.met ≡ length (awaits_of p i (count_at c i + 1))
+HasReadAll p c i mark = is_ready p c i ≡ true → IsReadThrough p i (count_at c i + 1) mark
 
 -- agent i is flagged as it is, has read what it is to have read, and stands in the list in which it belongs
 pub record IsJudged (p : Program) (m : MachineState) (i : ℕ) : Type 0 where
@@ -130,7 +140,7 @@ after_next p c i = finished_one (standing_at c i) (next_action p c i)
 
 -- how far an agent has read that has finished the action up to whose step it had read
 abbrev pub passed : Mark → Mark
-passed mark = record { before = mark.before + mark.met; met = 0 }
+passed mark = record mark { before = mark.before + mark.met; met = 0 }
 
 -- how far agent i has read after a tick in which these are held, before it is judged anew
 abbrev pub mark_after : Program → (ℕ → Bool) → MachineState → ℕ → Mark

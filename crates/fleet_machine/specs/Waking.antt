@@ -37,25 +37,35 @@ pub record IsWoken (lists : ℕ → Bool) (before after : MachineState) : Type 0
 abbrev pub is_woken_by : MachineState → ℕ → Bool
 is_woken_by m j = flag_of m.moving (agent_of j) && is_reached m j
 
--- agent i, which is ready, has finished its next action in the tick under way, unless it is held
-abbrev pub advanced_one : Program → MachineState → ℕ → (is_held : Bool) → MachineState
-advanced_one p m i true = m
-advanced_one p m i false = record m {
+-- agent i has finished its next action
+abbrev pub advanced_one : Program → MachineState → ℕ → MachineState
+advanced_one p m i = record m {
   configuration = set m.configuration i (after_next p m.configuration i);
   marks = set m.marks i (passed (mark_of m.marks i));
-  moving = set m.moving i true;
 }
 
--- the agents that a tick moves have moved, and are due, and nothing else is done yet of the tick in which these are
--- held
+-- agent i, which is ready, is held: the tick under way does not move it
+abbrev pub held_back : MachineState → ℕ → MachineState
+held_back m i = record m { moving = set m.moving i false; due = set m.due i false }
+
+-- the agents that a tick moves have moved, and are due, and nothing else is done yet of the tick in which these are held
+abbrev pub after_moves : Program → (held : ℕ → Bool) → MachineState → MachineState
+after_moves p held m = record m {
+  configuration = tick p held m.configuration;
+  marks = marks_after p held m;
+  moving = moving_flags p held m.configuration;
+  due = moving_flags p held m.configuration;
+}
+
+-- .. of a machine that runs the program
 pub record HasMoved (p : Program) (held : ℕ → Bool) (before after : MachineState) : Type 0 where
   pub runs : Runs p before
-  pub same : after ≡ record before {
-    configuration = tick p held before.configuration;
-    marks = marks_after p held before;
-    moving = moving_flags p held before.configuration;
-    due = moving_flags p held before.configuration;
-  }
+  pub same : after ≡ after_moves p held before
+
+-- .. and all are taken off the lists of those that moved, if the lists are reached
+pub record HasWoken (p : Program) (held : ℕ → Bool) (before after : MachineState) : Type 0 where
+  pub runs : Runs p before
+  pub woken : IsWoken (is_woken_by (after_moves p held before)) (after_moves p held before) after
 
 -- after the tick in which these are held the machine runs the program, and so many agents were judged: those that it
 -- moved, and some of those that await one of them

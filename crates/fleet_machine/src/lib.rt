@@ -20,6 +20,7 @@
 mod agent_set;
 mod machine;
 mod mark;
+mod steps;
 mod wait_lists;
 
 pub use agent_set::AgentSet;

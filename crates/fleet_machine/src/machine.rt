@@ -11,15 +11,14 @@ ghost use Rattle.fleet_machine.specs.Confirmed.{all_but, AreAllReady, IsFirstUnr
 ghost use Rattle.fleet_machine.specs.Looked.{ready_in, awaiting_in, LooksAt};
 ghost use Rattle.fleet_machine.specs.Near.{IsNear, AreNear};
 ghost use Rattle.fleet_machine.specs.Machine.{MachineState, Runs, HasRows, HasReadAll, IsLacked, IsJudged, IsRead, IsReadToStep, is_left, is_reached, list_of, agent_of, least_of, lowered, passed, after_next, mark_of, marks_after, moving_flags, flag_of};
-ghost use Rattle.fleet_machine.specs.Waking.{IsWoken, is_woken_by, advanced_one, HasMoved, IsCarriedOut, IsPlaced, IsAsBefore};
+ghost use Rattle.fleet_machine.specs.Waking.{IsWoken, is_woken_by, advanced_one, held_back, HasMoved, HasWoken, IsCarriedOut, IsPlaced, IsAsBefore};
 ghost use Rattle.fleet_machine.specs.WaitLists.{home_of};
 
 use crate::agent_set::{AgentSet, next_flag};
 use crate::mark::Mark;
-use crate::wait_lists::{LISTS_EACH, WaitLists};
-use fleet_model::{
-    Await, Cell, Instruction, MAX_AGENTS, MAX_MOVES, Place, ProgramView, Standing, Step,
-};
+use crate::steps::{after_step, look_count, starts};
+use crate::wait_lists::{LISTS_EACH, WaitLists, list_of};
+use fleet_model::{Await, Instruction, MAX_AGENTS, ProgramView, Standing, Step};
 use std::alloc::{AllocError, Global};
 use std::marker::Model;
 
@@ -73,65 +72,6 @@ impl Model for Machine {
     ghost invariant = { λ m. AreNear m.agents.items };
 }
 
-/// An agent at its start.
-fn at_start(cell: Cell) -> Standing
-    ensures place { result ≡ record { place = place_of cell; count = 0 } }
-    ensures near { IsNear result }
-{
-    Standing {
-        place: Place::from(cell),
-        count: 0,
-    }
-}
-
-/// Where an agent stands after a step, and how many actions it has finished then.
-#[tactic(auto, using(crate::proofs::Kept::near_place, crate::proofs::Kept::near_moved))]
-fn after_step(standing: Standing, step: Step) -> Standing
-    requires few { standing.count < MAX_MOVES }
-    requires near { IsNear standing }
-    ensures place { result.place ≡ stepped standing.place step }
-    ensures count { result.count ≡ standing.count + 1 }
-    ensures near { IsNear result }
-{
-    let Standing { place, count } = standing;
-    Standing {
-        place: place.after(step),
-        count: count + 1,
-    }
-}
-
-/// The list of those that wait for this.
-fn list_of(awaited: Await) -> u16
-    requires { awaited.agent < MAX_AGENTS }
-    ensures { result ≡ list_of awaited }
-{
-    awaited.agent * LISTS_EACH + (awaited.count % LISTS_EACH as u32) as u16
-}
-
-/// How many agents a tick looked at: those that were ready, and of those that it judged those that did not move.
-fn look_count(ready: u16, moved: u16, judged: u16) -> u16
-    requires ready { ready ≤ MAX_AGENTS }
-    requires judged { judged ≤ MAX_AGENTS }
-    requires moved { moved ≤ judged }
-    ensures { result ≡ ready + (judged - moved) }
-{
-    let woken = judged - moved;
-    ready + woken
-}
-
-/// The agents on their starts.
-fn starts<P: ProgramView>(alloc: Global, program: &P) -> Result<Vec<Standing>, AllocError>
-    ensures opening { IfOk result (λ agents. agents.items ≡ opening (P.program program.now)) }
-    ensures near { IfOk result (λ agents. AreNear agents.items) }
-{
-    let count = program.agents();
-    let mut agents = Vec::with_capacity(alloc, count as usize)?;
-    for i in 0..count {
-        agents.push(at_start(program.start(i)))?;
-    }
-    Ok(agents)
-}
-
 impl Machine {
     /// All agents stand on their starts and have finished nothing.
     pub fn start<P: ProgramView>(alloc: Global, program: &P) -> Result<Machine, AllocError>
@@ -141,7 +81,7 @@ impl Machine {
     {
         let agents = starts(alloc, program)?;
         let count = program.agents();
-        let marks = vec![in alloc; Mark { before: 0, met: 0 }; count as usize]?;
+        let marks = vec![in alloc; Mark::unread(); count as usize]?;
         let lists = count as usize * LISTS_EACH as usize;
         let waiting = WaitLists::new(alloc, lists, count as usize)?;
         let least = vec![in alloc; u32::MAX; lists]?;
@@ -249,18 +189,17 @@ impl Machine {
         self.looked
     }
 
-    /// Reads on through the awaits of the next action of agent `i`, if it has one, and answers how many of them are met,
-    /// from the first one on, and the one after these, if there is one.
-    fn read_on<P: ProgramView>(&self, program: &P, i: u16) -> (u16, Option<Await>)
+    /// Reads on through the awaits of the next action of agent `i`, if it has one, and answers how far: up to the first
+    /// one that is not met, which it answers too, or through the step.
+    #[inline(always)]
+    fn read_on<P: ProgramView>(&self, program: &P, i: u16) -> (Mark, Option<Await>)
         requires well_formed { IsWellFormed (P.program program.now) }
         requires agents { length self.now.configuration ≡ length (P.program program.now) }
         requires marks { length self.now.marks ≡ length (P.program program.now) }
         requires agent { i < length (P.program program.now) }
         requires read { IsRead (P.program program.now) self.now.configuration i (mark_of self.now.marks i) }
-        ensures read { IsRead (P.program program.now) self.now.configuration i
-            (record (mark_of self.now.marks i) { met = result.0 }) }
-        ensures all { HasReadAll (P.program program.now) self.now.configuration i
-            (record (mark_of self.now.marks i) { met = result.0 }) }
+        ensures read { IsRead (P.program program.now) self.now.configuration i result.0 }
+        ensures all { HasReadAll (P.program program.now) self.now.configuration i result.0 }
         ensures lacked { IsLacked (P.program program.now) self.now.configuration i result.1 }
         ensures agent { IfSome result.1 (λ w. w.agent < MAX_AGENTS) }
         ensures list { IfSome result.1 (λ w. list_of w
@@ -269,19 +208,24 @@ impl Machine {
             ≡ (is_left (P.program program.now) self.now.configuration i && is_none result.1) }
     {
         let finished = self.agent(i).count;
-        let Mark { before, met: first } = self.mark(i);
+        let mark = self.mark(i);
         let has_finished = finished >= program.moves(i);
         if has_finished {
-            return (first, None);
+            return (mark, None);
         }
-        let mut met = first;
-        while let Instruction::Await(awaited) = program.instruction(i, finished, before, met) {
-            if !self.has_met(awaited) {
-                return (met, Some(awaited));
+        let before = mark.before;
+        let mut met = mark.met;
+        'awaits: loop {
+            match program.instruction(i, finished, before, met) {
+                Instruction::Step(step) => return (Mark { before, met, step }, None),
+                Instruction::Await(awaited) => {
+                    if !self.has_met(awaited) {
+                        return (Mark { met, ..mark }, Some(awaited));
+                    }
+                    met += 1;
+                }
             }
-            met += 1;
         }
-        (met, None)
     }
 
     /// How far agent `i` has read.
@@ -312,11 +256,8 @@ impl Machine {
         ensures { option_map (λ a. a.step)
             (next_action (P.program program.now) self.now.configuration i) ≡ Some result }
     {
-        let Mark { before, met } = self.mark(i);
-        match program.instruction(i, self.agent(i).count, before, met) {
-            Instruction::Step(step) => step,
-            Instruction::Await(_) => unreachable!(),
-        }
+        let _ = program;
+        self.mark(i).step
     }
 
     /// The step of the next action of agent `i`, if it is ready.
@@ -428,18 +369,17 @@ impl Machine {
         self.left.set(i, false);
     }
 
-    /// Agent `i` knows of so many awaits of its next action that they are met.
-    fn set_met(&mut self, i: u16, met: u16)
+    /// Agent `i` has read so far.
+    fn set_mark(&mut self, i: u16, mark: Mark)
         requires { i < length self.old.marks }
-        ensures { self.new ≡ record self.old {
-          marks = set self.old.marks i (record (mark_of self.old.marks i) { met = met });
-        } }
+        ensures { self.new ≡ record self.old { marks = set self.old.marks i mark } }
     {
-        self.marks[i as usize].met = met;
+        self.marks[i as usize] = mark;
     }
 
     /// Flags whether agent `i`, which stands in no list, has an action left and whether it is ready, and puts it into
     /// the list of the count that it lacks.
+    #[inline(always)]
     fn place(&mut self, i: u16, is_left: bool, lacked: Option<Await>)
         requires ready { i < length self.old.ready }
         requires left { i < length self.old.left }
@@ -479,8 +419,8 @@ impl Machine {
         ensures { IsPlaced (P.program program.now) self.old self.new i }
     {
         let is_left = self.agent(i).count < program.moves(i);
-        let (met, lacked) = self.read_on(program, i);
-        self.set_met(i, met);
+        let (mark, lacked) = self.read_on(program, i);
+        self.set_mark(i, mark);
         self.place(i, is_left, lacked);
     }
 
@@ -641,10 +581,11 @@ impl Machine {
           marks = set self.old.marks i (passed (mark_of self.old.marks i));
         } }
     {
-        let Mark { before, met } = self.mark(i);
+        let Mark { before, met, step } = self.mark(i);
         self.marks[i as usize] = Mark {
             before: before + u32::from(met),
             met: 0,
+            step,
         };
     }
 
@@ -671,11 +612,14 @@ impl Machine {
         self.set_agent(i, finished);
     }
 
-    /// Nobody moves yet.
+    /// The agents that are ready are to move and are due, and no others.
     fn begin_tick(&mut self)
-        ensures { self.new ≡ record self.old { moving = replicate (length self.old.moving) false } }
+        requires moving { length self.old.moving ≡ length self.old.ready }
+        requires due { length self.old.due ≡ length self.old.ready }
+        ensures { self.new ≡ record self.old { moving = self.old.ready; due = self.old.ready } }
     {
-        self.moving.clear();
+        self.moving.copy_from(&self.ready);
+        self.due.copy_from(&self.ready);
     }
 
     /// The agents that move are due, and no others.
@@ -686,22 +630,20 @@ impl Machine {
         self.due.copy_from(&self.moving);
     }
 
-    /// Flags agent `i` as moving.
-    fn flag_moving(&mut self, i: u16)
-        requires { i < length self.old.moving }
-        ensures { self.new ≡ record self.old { moving = set self.old.moving i true } }
+    /// Agent `i` is held: it does not move, and is not due.
+    fn hold_back(&mut self, i: u16)
+        requires moving { i < length self.old.moving }
+        requires due { i < length self.old.due }
+        ensures { self.new ≡ held_back self.old i }
     {
-        self.moving.set(i, true);
+        self.moving.set(i, false);
+        self.due.set(i, false);
     }
 
-    /// Agent `i`, which is ready, finishes its next action, unless it is held. Answers the outcome so far.
-    fn advance_one<P: ProgramView>(
-        &mut self,
-        program: &P,
-        i: u16,
-        is_held: bool,
-        before: Tick,
-    ) -> Tick
+    /// Agent `i` finishes its next action, up to whose step it has read, and all are taken off the list in which those
+    /// stand that wait for its count, if the list's least count is reached. They are due.
+    #[inline(always)]
+    fn advance_one<P: ProgramView>(&mut self, program: &P, i: u16)
         requires well_formed { IsWellFormed (P.program program.now) }
         requires agent { i < length (P.program program.now) }
         requires standing { i < length self.old.configuration }
@@ -709,38 +651,24 @@ impl Machine {
         requires left { count_at self.old.configuration i < moves (P.program program.now) i }
         requires read { IsReadToStep (P.program program.now) self.old.configuration i
             (mark_of self.old.marks i) }
-        requires flag { i < length self.old.moving }
-        requires few { before.moved < MAX_AGENTS }
-        ensures after { self.new ≡ advanced_one (P.program program.now) self.old i is_held }
-        ensures moved { result.moved ≡ before.moved + (if is_held then 0 else 1) }
-        ensures held { result.ready_held ≡ (before.ready_held || is_held) }
+        requires list { i * LISTS_EACH + LISTS_EACH ≤ self.old.waiting.lists }
+        requires least { i * LISTS_EACH + LISTS_EACH ≤ length self.old.least }
+        requires due { length self.old.due ≡ length self.old.waiting.homes }
+        ensures { IsWoken
+            (λ k. (agent_of k == i) && is_reached (advanced_one (P.program program.now) self.old i) k)
+            (advanced_one (P.program program.now) self.old i) self.new }
     {
-        let Tick { moved, ready_held } = before;
-        if is_held {
-            return Tick {
-                moved,
-                ready_held: true,
-            };
-        }
         self.finish_action(program, i);
-        self.flag_moving(i);
-        Tick {
-            moved: moved + 1,
-            ready_held,
-        }
+        self.wake_if_reached(i);
     }
 
-    /// Each agent that is ready and not held finishes an action, and is due. Answers also how many were ready.
+    /// Each agent that is ready and not held finishes an action, and is due, as are those that it wakes. Answers also how
+    /// many were ready.
     #[tactic(auto, using(crate::proofs::Ticking::all_counted, crate::proofs::Ticking::any_held, crate::proofs::Ticking::all_ready, crate::proofs::Ticking::few_ready))]
     fn advance<P: ProgramView>(&mut self, program: &P, held: &[bool]) -> (Tick, u16)
         requires runs { Runs (P.program program.now) self.old }
         requires held { length held.now ≡ length (P.program program.now) }
-        ensures after { self.new ≡ record self.old {
-          configuration = tick (P.program program.now) (flag_of held.now) self.old.configuration;
-          marks = marks_after (P.program program.now) (flag_of held.now) self.old;
-          moving = moving_flags (P.program program.now) (flag_of held.now) self.old.configuration;
-          due = moving_flags (P.program program.now) (flag_of held.now) self.old.configuration;
-        } }
+        ensures woken { HasWoken (P.program program.now) (flag_of held.now) self.old self.new }
         ensures moved { result.0.moved
             ≡ moved_in (P.program program.now) (flag_of held.now) self.old.configuration }
         ensures held { result.0.ready_held
@@ -748,19 +676,22 @@ impl Machine {
         ensures ready { result.1 ≡ ready_in (P.program program.now) self.old.configuration }
     {
         self.begin_tick();
-        let mut tick = Tick {
-            moved: 0,
-            ready_held: false,
-        };
+        let mut moved = 0;
         let mut ready = 0;
+        let mut ready_held = false;
         let mut from = 0;
         while let Some(i) = self.next_ready(from) {
-            tick = self.advance_one(program, i, held[i as usize], tick);
+            if held[i as usize] {
+                self.hold_back(i);
+                ready_held = true;
+            } else {
+                self.advance_one(program, i);
+                moved += 1;
+            }
             ready += 1;
             from = i + 1;
         }
-        self.flag_due();
-        (tick, ready)
+        (Tick { moved, ready_held }, ready)
     }
 
     /// So many agents more have been looked at.
@@ -769,6 +700,17 @@ impl Machine {
         ensures looked { LooksAt agents 0 self.old.looked self.new.looked }
     {
         self.looked = self.looked.saturating_add(u64::from(agents));
+    }
+
+    /// Judges those that a tick moved, and those that it took off the lists of these. Answers how many it judged.
+    fn judge_woken<P: ProgramView>(&mut self, program: &P) -> u16
+        requires woken { (before : MachineState) × (held : ℕ → Bool)
+            × HasWoken (P.program program.now) held before self.old }
+        ensures { (before : MachineState) → (held : ℕ → Bool)
+            → HasWoken (P.program program.now) held before self.old
+            → IsCarriedOut (P.program program.now) held before self.new result }
+    {
+        self.judge_due(program)
     }
 
     /// Takes all agents off the lists of those that a tick moved and whose least counts are reached, and judges those
@@ -781,7 +723,7 @@ impl Machine {
             → IsCarriedOut (P.program program.now) held before self.new result }
     {
         self.wake_all();
-        self.judge_due(program)
+        self.judge_woken(program)
     }
 
     /// One tick, in which the flagged agents are held. It looks at those that are ready, and at those in the list of an
@@ -805,7 +747,7 @@ impl Machine {
             self.old.looked self.new.looked }
     {
         let (tick, ready) = self.advance(program, held);
-        let judged = self.settle(program);
+        let judged = self.judge_woken(program);
         self.count_looked(look_count(ready, tick.moved, judged));
         tick
     }

@@ -1,14 +1,24 @@
 //! Lists of agents, linked by the agents' numbers in rows that are made once: each agent stands in one list at most.
 
 ghost use Rattle.std.specs.Prelude.{◌≡◌, ◌≢◌, ◌<◌, ℕ, length, set, replicate, Some, None, is_some, IfSome, IfNone, IfOk};
+ghost use Rattle.fleet_machine.specs.Machine.{list_of};
 ghost use Rattle.fleet_machine.specs.WaitLists.{home_of};
 
+use fleet_model::{Await, MAX_AGENTS};
 use std::alloc::{AllocError, Global};
 use std::marker::Model;
 
 /// How many lists each agent has for those that wait for it. Of two that wait for counts close to one another, each
 /// stands in another list, so that those who wait for later counts are not looked at whenever the agent moves.
 pub const LISTS_EACH: u16 = 8;
+
+/// The list of those that wait for this.
+pub fn list_of(awaited: Await) -> u16
+    requires { awaited.agent < MAX_AGENTS }
+    ensures { result ≡ list_of awaited }
+{
+    awaited.agent * LISTS_EACH + (awaited.count % LISTS_EACH as u32) as u16
+}
 
 /// Lists of agents. Nothing that is done with them takes memory.
 #[derive(Drop)]

@@ -13,7 +13,7 @@ use Rattle.fleet_machine.proofs.machine.Machine.read_on.Goals as goal
 pub has_met-requires : goal.has_met-requires
 has_met-requires g c =
     let p = g.P.ProgramView.program c.args.program.now in
-    let there = awaited_agent p c.args.i (c.agent-finished.result.count + 1) c.loop-awaited.met c.in-Await.awaited c.requires.well_formed c.in-Await.ensures in
+    let there = awaited_agent p c.args.i (c.agent-finished.result.count + 1) c.awaits.met c.in-Await.awaited c.requires.well_formed c.in-Await.ensures in
     omega (arith, there, c.requires.agents)
 
 pub returns-then-not-has_met-clause-all : goal.returns-then-not-has_met-clause-all
@@ -23,20 +23,20 @@ returns-then-not-has_met-clause-all g c =
     let rows = c.args.self.now.configuration in
     let standing = c.agent-finished.ensures.standing in
     let left : count_at rows c.args.i < moves p c.args.i = omega (arith, ap (λ (s : Standing). s.count) standing, c.if-has_finished.false, c.moves.ensures) in
-    let at : slice_get (awaits_of p c.args.i (count_at rows c.args.i + 1)) c.loop-awaited.met ≡ Some c.in-Await.awaited = rw standing at c.in-Await.ensures in
-    absurd (true≢false (sym ready ∙ sym (not_ready_if_unmet p rows c.args.i left c.loop-awaited.met c.in-Await.awaited at (sym c.has_met.ensures ∙ c.if-not-has_met.true))))
+    let at : slice_get (awaits_of p c.args.i (count_at rows c.args.i + 1)) c.awaits.met ≡ Some c.in-Await.awaited = rw standing at c.in-Await.ensures in
+    absurd (true≢false (sym ready ∙ sym (not_ready_if_unmet p rows c.args.i left c.awaits.met c.in-Await.awaited at (sym c.has_met.ensures ∙ c.if-not-has_met.true))))
 
 pub returns-then-not-has_met-clause-agent : goal.returns-then-not-has_met-clause-agent
 returns-then-not-has_met-clause-agent g c =
     let p = g.P.ProgramView.program c.args.program.now in
-    let there = awaited_agent p c.args.i (c.agent-finished.result.count + 1) c.loop-awaited.met c.in-Await.awaited c.requires.well_formed c.in-Await.ensures in
+    let there = awaited_agent p c.args.i (c.agent-finished.result.count + 1) c.awaits.met c.in-Await.awaited c.requires.well_formed c.in-Await.ensures in
     let few = c.requires.well_formed.few_agents in
     omega (arith, there, few)
 
 pub returns-then-not-has_met-clause-list : goal.returns-then-not-has_met-clause-list
 returns-then-not-has_met-clause-list g c =
     let p = g.P.ProgramView.program c.args.program.now in
-    list_within c.in-Await.awaited (length p) (awaited_agent p c.args.i (c.agent-finished.result.count + 1) c.loop-awaited.met c.in-Await.awaited c.requires.well_formed c.in-Await.ensures)
+    list_within c.in-Await.awaited (length p) (awaited_agent p c.args.i (c.agent-finished.result.count + 1) c.awaits.met c.in-Await.awaited c.requires.well_formed c.in-Await.ensures)
 
 pub returns-then-not-has_met-clause-ready : goal.returns-then-not-has_met-clause-ready
 returns-then-not-has_met-clause-ready g c =
@@ -44,27 +44,27 @@ returns-then-not-has_met-clause-ready g c =
     let rows = c.args.self.now.configuration in
     let standing = c.agent-finished.ensures.standing in
     let left : count_at rows c.args.i < moves p c.args.i = omega (arith, ap (λ (s : Standing). s.count) standing, c.if-has_finished.false, c.moves.ensures) in
-    let at : slice_get (awaits_of p c.args.i (count_at rows c.args.i + 1)) c.loop-awaited.met ≡ Some c.in-Await.awaited = rw standing at c.in-Await.ensures in
-    one_lacked p rows c.args.i left c.loop-awaited.met c.in-Await.awaited at (sym c.has_met.ensures ∙ c.if-not-has_met.true)
+    let at : slice_get (awaits_of p c.args.i (count_at rows c.args.i + 1)) c.awaits.met ≡ Some c.in-Await.awaited = rw standing at c.in-Await.ensures in
+    one_lacked p rows c.args.i left c.awaits.met c.in-Await.awaited at (sym c.has_met.ensures ∙ c.if-not-has_met.true)
 
 pub overflow_add-met : goal.overflow_add-met
 overflow_add-met g c =
     let p = g.P.ProgramView.program c.args.program.now in
     let few = few_awaits_of p c.args.i (c.agent-finished.result.count + 1) c.requires.agent c.requires.well_formed in
-    omega (arith, few, c.loop-awaited.invariant.few)
+    omega (arith, few, c.awaits.invariant.few)
 
-pub loop-awaited-smaller : goal.loop-awaited-smaller
-loop-awaited-smaller g c =
+pub awaits-smaller : goal.awaits-smaller
+awaits-smaller g c =
     let p = g.P.ProgramView.program c.args.program.now in
-    let within = slice_get_within (awaits_of p c.args.i (c.agent-finished.result.count + 1)) c.loop-awaited.met c.in-Await.awaited c.in-Await.ensures in
+    let within = slice_get_within (awaits_of p c.args.i (c.agent-finished.result.count + 1)) c.awaits.met c.in-Await.awaited c.in-Await.ensures in
     omega (arith, within)
 
-pub loop-awaited-preserved : goal.loop-awaited-preserved
-loop-awaited-preserved g c =
+pub awaits-preserved : goal.awaits-preserved
+awaits-preserved g c =
     let p = g.P.ProgramView.program c.args.program.now in
     let awaits = awaits_of p c.args.i (c.agent-finished.result.count + 1) in
-    let within = slice_get_within awaits c.loop-awaited.met c.in-Await.awaited c.in-Await.ensures in
+    let within = slice_get_within awaits c.awaits.met c.in-Await.awaited c.in-Await.ensures in
     record {
       few = omega (arith, within);
-      met = one_more_met c.args.self.now.configuration awaits c.loop-awaited.met c.in-Await.awaited c.in-Await.ensures (sym c.has_met.ensures ∙ c.if-not-has_met.false) c.loop-awaited.invariant.met;
+      met = one_more_met c.args.self.now.configuration awaits c.awaits.met c.in-Await.awaited c.in-Await.ensures (sym c.has_met.ensures ∙ c.if-not-has_met.false) c.awaits.invariant.met;
     }

@@ -42,53 +42,14 @@ wake_all-requires-clause-agents g c =
     let moving = length-map-range_with_len (is_moving p c.requires.moved.1 c.requires.moved.0.configuration) 0 (length p) in
     rw h.same (length-tick p c.requires.moved.1 c.requires.moved.0.configuration ∙ sym moving)
 
-pub judge_due-requires-clause-agents : goal.judge_due-requires-clause-agents
-judge_due-requires-clause-agents g c =
-    let p = g.P.ProgramView.program c.args.program.now in
-    let before = c.requires.moved.0 in
-    let held = c.requires.moved.1 in
+pub judge_woken-requires : goal.judge_woken-requires
+judge_woken-requires g c =
     let h = c.requires.moved.2 in
-    let woken = c.wake_all.new.self in
-    let wakes = subst (λ (a : MachineState). IsWoken (is_woken_by a) a woken) h.same c.wake_all.ensures in
-    ap length (configuration_woken p held before h.runs woken wakes) ∙ length-tick p held before.configuration
-
-pub judge_due-requires-clause-rows : goal.judge_due-requires-clause-rows
-judge_due-requires-clause-rows g c =
-    let p = g.P.ProgramView.program c.args.program.now in
-    let h = c.requires.moved.2 in
-    let woken = c.wake_all.new.self in
-    let wakes = subst (λ (a : MachineState). IsWoken (is_woken_by a) a woken) h.same c.wake_all.ensures in
-    rows_woken p c.requires.moved.1 c.requires.moved.0 h.runs woken wakes
-
-pub judge_due-requires-clause-read : goal.judge_due-requires-clause-read
-judge_due-requires-clause-read g c =
-    let p = g.P.ProgramView.program c.args.program.now in
-    let h = c.requires.moved.2 in
-    let woken = c.wake_all.new.self in
-    let wakes = subst (λ (a : MachineState). IsWoken (is_woken_by a) a woken) h.same c.wake_all.ensures in
-    read_woken p c.requires.moved.1 c.requires.moved.0 h.runs woken wakes
-
-pub judge_due-requires-clause-flagged : goal.judge_due-requires-clause-flagged
-judge_due-requires-clause-flagged g c =
-    let p = g.P.ProgramView.program c.args.program.now in
-    let h = c.requires.moved.2 in
-    let woken = c.wake_all.new.self in
-    let wakes = subst (λ (a : MachineState). IsWoken (is_woken_by a) a woken) h.same c.wake_all.ensures in
-    flagged_woken p c.requires.moved.1 c.requires.moved.0 h.runs woken wakes
-
-pub judge_due-requires-clause-nowhere : goal.judge_due-requires-clause-nowhere
-judge_due-requires-clause-nowhere g c =
-    let p = g.P.ProgramView.program c.args.program.now in
-    let h = c.requires.moved.2 in
-    let woken = c.wake_all.new.self in
-    let wakes = subst (λ (a : MachineState). IsWoken (is_woken_by a) a woken) h.same c.wake_all.ensures in
-    nowhere_if_due p c.requires.moved.1 c.requires.moved.0 h.runs woken wakes
+    let wakes = subst (λ (a : MachineState). IsWoken (is_woken_by a) a c.wake_all.new.self) h.same c.wake_all.ensures in
+    record { woken = (c.requires.moved.0, c.requires.moved.1, record { runs = h.runs; woken = wakes }) }
 
 pub returns : goal.returns
 returns g c =
     λ before held h.
-    let p = g.P.ProgramView.program c.args.program.now in
-    let woken = c.wake_all.new.self in
-    let wakes = subst (λ (a : MachineState). IsWoken (is_woken_by a) a woken) h.same c.wake_all.ensures in
-    let judged = c.judge_due.ensures in
-    settled p held before h.runs woken wakes c.judge_due.new.self judged.same judged.rows judged.judged judged.others c.judge_due.result judged.count
+    let wakes = subst (λ (a : MachineState). IsWoken (is_woken_by a) a c.wake_all.new.self) h.same c.wake_all.ensures in
+    c.judge_woken.ensures before held (record { runs = h.runs; woken = wakes })

@@ -58,7 +58,8 @@ judge_all-requires-clause-read g c =
     let p = g.P.ProgramView.program c.args.program.now in
     let made = c.with_agents-machine.ensures in
     let mark = ap (λ (m : MachineState). mark_of m.marks i) made
-    ∙ (ap (λ (marks : List Mark). mark_of marks i) (c.in_ok-marks.ensures.items_if_clones_equal (λ y k. search rules)) ∙ mark_of_nobody c.agents-count.result i) in
+    ∙ (ap (λ (marks : List Mark). mark_of marks i) (c.in_ok-marks.ensures.items_if_clones_equal (λ y k. search rules))
+    ∙ (ap (λ (mark : Mark). mark_of (replicate c.agents-count.result mark) i) c.unread.ensures ∙ mark_of_nobody c.agents-count.result i)) in
     let count = ap (λ (m : MachineState). count_at m.configuration i) made
     ∙ (ap (λ (rows : Configuration). count_at rows i) c.in_ok-agents.ensures.opening ∙ ap (λ (s : Standing). s.count) (standing_at_opening p i)) in
     read_nothing p c.with_agents-machine.result.configuration i (mark_of c.with_agents-machine.result.marks i) mark count

@@ -4,7 +4,7 @@ use Rattle.fleet_model.specs.Machine.{opening}
 use Rattle.fleet_model.proofs.Tick.{length_opening}
 use Rattle.fleet_machine.specs.Near.{AreNear}
 use Rattle.fleet_machine.proofs.Opened.{opening_more, near_none, near_more}
-use Rattle.fleet_machine.proofs.machine.starts.Goals as goal
+use Rattle.fleet_machine.proofs.steps.starts.Goals as goal
 
 pub loop-i-preserved : goal.loop-i-preserved
 loop-i-preserved g c =

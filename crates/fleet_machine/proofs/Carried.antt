@@ -11,9 +11,9 @@ use Rattle.fleet_machine.specs.AgentSet.{AreNoneFrom, IsNextFrom}
 use Rattle.fleet_machine.specs.Confirmed.{all_but, AreAllReady}
 use Rattle.fleet_machine.specs.declared.mark.Mark.{Mark}
 use Rattle.fleet_machine.specs.Machine.{MachineState, Runs, flag_of, mark_of, passed, after_next, marks_after, moving_flags}
-use Rattle.fleet_machine.proofs.Marks.{ArePassedTo, all_stay, all_passed}
+use Rattle.fleet_machine.proofs.Marks.{ArePassedTo, none_passed, all_stay, all_passed}
 use Rattle.fleet_machine.proofs.Marks.{one_moves as mark_moves}
-use Rattle.fleet_machine.specs.Waking.{HasMoved}
+use Rattle.fleet_machine.specs.Waking.{advanced_one, carried_all, after_moves}
 use Rattle.fleet_machine.proofs.Advanced.{after_move, stays}
 
 -- the flagged agents below n have moved, and all others stand where they stood
@@ -92,17 +92,40 @@ module _ (p : Program) (old : MachineState) (sent : AreAllReady p old.configurat
       all_passed p (all_but (flag_of old.moving)) old marks
       (all_stay p (all_but (flag_of old.moving)) old marks from (length p) within (λ k later below. stays_if p old.moving old.configuration sent k (none k later)) before)
 
+-- the flagged agents below n have moved, and have begun to read their next actions
+pub record IsCarriedTo (p : Program) (old now : MachineState) (n : ℕ) : Type 0 where
+  pub same : now ≡ record old { configuration = now.configuration; marks = now.marks }
+  pub passes : ArePassedTo p (all_but (flag_of old.moving)) old now.marks n
+  pub carried : AreCarried p old.moving old.configuration now.configuration n
+  pub within : n ≤ length p
+
+pub none_carried_yet : (p : Program) (old : MachineState) → length old.configuration ≡ length p → length old.marks ≡ length p → IsCarriedTo p old old 0
+none_carried_yet p old long marks = record {
+  same = refl;
+  passes = none_passed p (all_but (flag_of old.moving)) old marks;
+  carried = none_carried p old.moving old.configuration long;
+  within = omega arith;
+}
+
+module _ (p : Program) (old : MachineState) (sent : AreAllReady p old.configuration (flag_of old.moving)) (now : MachineState) (from : ℕ) (before : IsCarriedTo p old now from) where
+  pub one_on : (i : ℕ) → i < length p → IsNextFrom old.moving from i → IsCarriedTo p old (advanced_one p now i) (i + 1)
+  one_on i agent next = record {
+    same = ap (λ (m : MachineState). record m { configuration = set now.configuration i (after_next p now.configuration i); marks = set now.marks i (passed (mark_of now.marks i)) }) before.same;
+    passes = one_read p old sent now.marks from before.passes i agent next;
+    carried = one_carried p old.moving old.configuration sent now.configuration from before.carried i agent next;
+    within = omega (arith, agent);
+  }
+
+  pub all_on : AreNoneFrom old.moving from → now ≡ carried_all p old
+  all_on none =
+      before.same
+      ∙ (ap (λ (rows : Configuration). record old { configuration = rows; marks = now.marks }) (all_carried p old.moving old.configuration sent now.configuration from before.carried none)
+      ∙ ap (λ (marks : List Mark). record old { configuration = tick p (all_but (flag_of old.moving)) old.configuration; marks = marks }) (all_read p old sent now.marks from before.passes before.within none))
+
 -- the flagged agents were chosen, and have moved
-pub chosen_moved : (p : Program) (done : List Bool) (old chosen moved : MachineState) → Runs p old → AreAllReady p old.configuration (flag_of done) → length done ≡ length p
-    → chosen ≡ record old { moving = done; due = done }
-    → moved ≡ record chosen { configuration = tick p (all_but (flag_of chosen.moving)) chosen.configuration; marks = marks_after p (all_but (flag_of chosen.moving)) chosen }
-    → HasMoved p (all_but (flag_of done)) old moved
-chosen_moved p done old chosen moved runs sent long choice moves =
-    record {
-      runs = runs;
-      same =
-          moves
-          ∙ (ap (λ (m : MachineState). record m { configuration = tick p (all_but (flag_of m.moving)) m.configuration; marks = marks_after p (all_but (flag_of m.moving)) m }) choice
-          ∙ ap (λ (flags : List Bool). record old { configuration = tick p (all_but (flag_of done)) old.configuration; marks = marks_after p (all_but (flag_of done)) old; moving = flags; due = flags })
-          (all_moving p done old.configuration sent long));
-    }
+pub chosen_moved : (p : Program) (done : List Bool) (old chosen : MachineState) → AreAllReady p old.configuration (flag_of done) → length done ≡ length p
+    → chosen ≡ record old { moving = done; due = done } → carried_all p chosen ≡ after_moves p (all_but (flag_of done)) old
+chosen_moved p done old chosen sent long choice =
+    ap (carried_all p) choice
+    ∙ ap (λ (flags : List Bool). record old { configuration = tick p (all_but (flag_of done)) old.configuration; marks = marks_after p (all_but (flag_of done)) old; moving = flags; due = flags })
+    (all_moving p done old.configuration sent long)

@@ -1,5 +1,5 @@
 -- Agents that are taken off lists while others move.
-use Rattle.std.proofs.Common.{◌≡◌, ◌≢◌, ◌<◌, ◌≤◌, ◌+◌, ◌&&◌, ◌||◌, ℕ, Bool, true, false, List, length, set, Option, Some, None, refl, ap, sym, ◌∙◌, inl, inr, arith, get_or-set_same, get_or-set_other, length-set}
+use Rattle.std.proofs.Common.{◌≡◌, ◌≢◌, ◌<◌, ◌≤◌, ◌+◌, ◌&&◌, ◌||◌, ℕ, Bool, true, false, List, length, set, Option, Some, None, refl, ap, sym, ◌∙◌, subst, inl, inr, arith, get_or-set_same, get_or-set_other, length-set}
 use Rattle.std.specs.Prelude.{nat_lt, ◌==◌}
 use Rattle.std.proofs.lemmas.Bool.{cases_eq, cases_lt, lt-ltb, le-ltb}
 use Rattle.std.proofs.Math.Bool.{or-false}
@@ -25,8 +25,8 @@ below_law flags n i k le between =
     ]
 
 -- nobody is taken off a list yet
-pub none_woken_yet : (old : MachineState) → IsWoken (reached_below (record old { moving = old.ready; due = old.ready }) 0) (record old { moving = old.ready; due = old.ready }) (record old { moving = old.ready; due = old.ready })
-none_woken_yet old = none_woken (reached_below (record old { moving = old.ready; due = old.ready }) 0) (record old { moving = old.ready; due = old.ready }) (none_reached (record old { moving = old.ready; due = old.ready }))
+pub none_woken_at_first : (m as_if : MachineState) → as_if ≡ m → IsWoken (reached_below as_if 0) as_if m
+none_woken_at_first m as_if same = subst (λ (a : MachineState). IsWoken (reached_below a 0) a m) (sym same) (none_woken (reached_below m 0) m (none_reached m))
 
 module _ (p : Program) (old now : MachineState) (from : ℕ) (before : IsWoken (reached_below (unwoken old now) from) (unwoken old now) now) where
   -- up to the end

@@ -7,6 +7,7 @@ use Rattle.fleet_machine.specs.WaitLists.{home_of}
 use Rattle.fleet_machine.specs.declared.mark.Mark.{Mark}
 use Rattle.fleet_machine.specs.Machine.{MachineState, Runs, flag_of, mark_of, is_left, IsLacked, IsRead, HasReadAll, is_reached, least_of, list_of, agent_of, lowered, passed, after_next, marks_after, moving_flags}
 use Rattle.fleet_machine.specs.Looked.{awaiting_in}
+use Rattle.fleet_machine.specs.Confirmed.{all_but}
 
 -- the list is one of these
 abbrev pub is_on : (ℕ → Bool) → Option ℕ → Bool
@@ -48,6 +49,13 @@ advanced_one p m i = record m {
 abbrev pub held_back : MachineState → ℕ → MachineState
 held_back m i = record m { moving = set m.moving i false; due = set m.due i false }
 
+-- the agents that are flagged as moving have finished their next actions
+abbrev pub carried_all : Program → MachineState → MachineState
+carried_all p m = record m {
+  configuration = tick p (all_but (flag_of m.moving)) m.configuration;
+  marks = marks_after p (all_but (flag_of m.moving)) m;
+}
+
 -- the agents that a tick moves have moved, and are due, and nothing else is done yet of the tick in which these are held
 abbrev pub after_moves : Program → (held : ℕ → Bool) → MachineState → MachineState
 after_moves p held m = record m {
@@ -56,11 +64,6 @@ after_moves p held m = record m {
   moving = moving_flags p held m.configuration;
   due = moving_flags p held m.configuration;
 }
-
--- .. of a machine that runs the program
-pub record HasMoved (p : Program) (held : ℕ → Bool) (before after : MachineState) : Type 0 where
-  pub runs : Runs p before
-  pub same : after ≡ after_moves p held before
 
 -- .. and all are taken off the lists of those that moved, if the lists are reached
 pub record HasWoken (p : Program) (held : ℕ → Bool) (before after : MachineState) : Type 0 where

@@ -11,7 +11,7 @@ ghost use Rattle.fleet_machine.specs.Confirmed.{all_but, AreAllReady, IsFirstUnr
 ghost use Rattle.fleet_machine.specs.Looked.{ready_in, awaiting_in, LooksAt};
 ghost use Rattle.fleet_machine.specs.Near.{IsNear, AreNear};
 ghost use Rattle.fleet_machine.specs.Machine.{MachineState, Runs, HasRows, HasReadAll, IsLacked, IsJudged, IsRead, IsReadToStep, is_left, is_reached, list_of, agent_of, least_of, lowered, passed, after_next, mark_of, marks_after, moving_flags, flag_of};
-ghost use Rattle.fleet_machine.specs.Waking.{IsWoken, is_woken_by, advanced_one, held_back, HasMoved, HasWoken, IsCarriedOut, IsPlaced, IsAsBefore};
+ghost use Rattle.fleet_machine.specs.Waking.{IsWoken, is_woken_by, advanced_one, held_back, carried_all, HasWoken, IsCarriedOut, IsPlaced, IsAsBefore};
 ghost use Rattle.fleet_machine.specs.WaitLists.{home_of};
 
 use crate::agent_set::{AgentSet, next_flag};
@@ -545,22 +545,6 @@ impl Machine {
         self.wake(list);
     }
 
-    /// Takes all agents off the lists of those that the tick moves and whose least counts are reached.
-    fn wake_all(&mut self)
-        requires few { length self.old.moving ≤ MAX_AGENTS }
-        requires lists { self.old.waiting.lists ≡ length self.old.moving * LISTS_EACH }
-        requires least { length self.old.least ≡ length self.old.moving * LISTS_EACH }
-        requires agents { length self.old.configuration ≡ length self.old.moving }
-        requires due { length self.old.due ≡ length self.old.waiting.homes }
-        ensures { IsWoken (is_woken_by self.old) self.old self.new }
-    {
-        let mut from = 0;
-        while let Some(j) = self.next_moved(from) {
-            self.wake_if_reached(j);
-            from = j + 1;
-        }
-    }
-
     /// Agent `i` stands there now, with so many actions finished.
     #[tactic(auto, using(crate::proofs::Kept::near_set))]
     fn set_agent(&mut self, i: u16, standing: Standing)
@@ -713,19 +697,6 @@ impl Machine {
         self.judge_due(program)
     }
 
-    /// Takes all agents off the lists of those that a tick moved and whose least counts are reached, and judges those
-    /// that it took off and those that moved. Answers how many it judged.
-    fn settle<P: ProgramView>(&mut self, program: &P) -> u16
-        requires moved { (before : MachineState) × (held : ℕ → Bool)
-            × HasMoved (P.program program.now) held before self.old }
-        ensures { (before : MachineState) → (held : ℕ → Bool)
-            → HasMoved (P.program program.now) held before self.old
-            → IsCarriedOut (P.program program.now) held before self.new result }
-    {
-        self.wake_all();
-        self.judge_woken(program)
-    }
-
     /// One tick, in which the flagged agents are held. It looks at those that are ready, and at those in the list of an
     /// agent that it moves, if the least count of the list is reached. An agent that moves was judged before the tick,
     /// and one that is ready and held stays ready.
@@ -763,27 +734,25 @@ impl Machine {
         self.flag_due();
     }
 
-    /// The agents that move, all of which are ready, finish their next actions.
+    /// The agents that move, all of which are ready, finish their next actions, and those that they wake are due.
     fn move_all<P: ProgramView>(&mut self, program: &P)
         requires well_formed { IsWellFormed (P.program program.now) }
         requires agents { length self.old.configuration ≡ length (P.program program.now) }
-        requires marks { length self.old.marks ≡ length (P.program program.now) }
+        requires rows { HasRows (length (P.program program.now)) self.old }
         requires moving { length self.old.moving ≡ length (P.program program.now) }
+        requires due { self.old.due ≡ self.old.moving }
         requires sent { AreAllReady (P.program program.now) self.old.configuration
             (flag_of self.old.moving) }
         requires read { (i : ℕ) → i < length (P.program program.now)
             → flag_of self.old.moving i ≡ true
             → IsReadToStep (P.program program.now) self.old.configuration i
             (mark_of self.old.marks i) }
-        ensures { self.new ≡ record self.old {
-          configuration = tick (P.program program.now)
-              (all_but (flag_of self.old.moving)) self.old.configuration;
-          marks = marks_after (P.program program.now) (all_but (flag_of self.old.moving)) self.old;
-        } }
+        ensures { IsWoken (is_woken_by (carried_all (P.program program.now) self.old))
+            (carried_all (P.program program.now) self.old) self.new }
     {
         let mut from = 0;
         while let Some(i) = self.next_moved(from) {
-            self.finish_action(program, i);
+            self.advance_one(program, i);
             from = i + 1;
         }
     }
@@ -807,7 +776,7 @@ impl Machine {
     {
         self.choose(done);
         self.move_all(program);
-        let judged = self.settle(program);
+        let judged = self.judge_woken(program);
         self.count_looked(judged);
     }
 }

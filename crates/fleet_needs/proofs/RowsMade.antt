@@ -1,5 +1,5 @@
 -- The counts of rows that are made of rows in their slots.
-use Rattle.std.proofs.Common.{◌≡◌, ◌≢◌, Bool, true, false, ℕ, zero, suc, ◌+◌, ◌-◌, ◌*◌, ◌<◌, ◌≤◌, List, [], length, get_or, max, slice_index, refl, sym, ap, subst, ◌∙◌, arith, inl, inr}
+use Rattle.std.proofs.Common.{◌≡◌, ◌≢◌, ℕ, zero, suc, ◌+◌, ◌-◌, ◌*◌, ◌<◌, ◌≤◌, List, [], length, get_or, max, slice_index, refl, sym, ap, subst, ◌∙◌, arith, inl, inr}
 use Rattle.std.specs.Prelude.{slice_get, Some}
 use Rattle.std.proofs.lemmas.Bool.{cases_lt, cases_eq}
 use Rattle.std.proofs.lemmas.Option.{slice_get_within, slice_get-get_or}
@@ -8,18 +8,16 @@ use Rattle.fleet_model.specs.declared.program.Await.{Await}
 use Rattle.fleet_model.specs.Program.{Program, AreInRange, awaits_of, moves}
 use Rattle.fleet_model.specs.Chain.{IsAction, awaited}
 use Rattle.fleet_needs.specs.Block.{HasColumn}
-use Rattle.fleet_needs.specs.Counts.{counts_of, CanHold}
+use Rattle.fleet_needs.specs.Counts.{counts_of, are_narrow, CanHold, AreAlike}
 use Rattle.fleet_needs.specs.Joins.{AreQuiet, row_taken, IsJoin, AreOwn}
 use Rattle.fleet_needs.specs.Rows.{IsColumn, IsJoined, OfFirst, OfOthers, OfOthersOrFirst}
-use Rattle.fleet_needs.specs.Schedule.{IsSchedule, AreColumnsOf, AreCounts, AreRowsTo, IsThere, StandsThere, AreJoinedWith, count_in_slot}
+use Rattle.fleet_needs.specs.Schedule.{IsSchedule, AreColumnsOf, AreCounts, AreRowsTo, IsRowFor, IsThere, StandsThere, AreJoinedWith, count_in_slot}
 use Rattle.fleet_needs.specs.JoinPass.{IsNextRow}
 use Rattle.fleet_needs.specs.Slots.{IsStill}
 use Rattle.fleet_needs.specs.declared.slots.Columns.{Columns}
 use Rattle.fleet_needs.specs.declared.joins.Join.{Join}
 use Rattle.fleet_needs.specs.declared.slot_rows.SlotRows.{SlotRows}
-use Rattle.fleet_needs.specs.declared.schedule.Schedule.{Schedule}
 use Rattle.fleet_needs.specs.declared.counts.Counts.{Counts}
-use Rattle.fleet_model.proofs.Chains.{Reaches-first}
 use Rattle.fleet_needs.proofs.Placed.{row_ends}
 use Rattle.fleet_needs.proofs.Joining.{column_none, joined_none, part_all, own_column, awaited_action}
 use Rattle.fleet_needs.proofs.OthersJoined.{others_more, others_same, first_none, first_more, first_same, first_all}
@@ -181,35 +179,24 @@ module _ (p : Program) (columns : Columns) (i b : ℕ) where
 
 -- ---- what is kept
 
--- there are bytes enough for the counts
-pub counts_held : (p : Program) (columns : Columns) (i b : ℕ) (count : ℕ → ℕ) (Held : ℕ → Type 0) → i < length p → ((j n : ℕ) → j < length p → n ≤ moves p j → Held n) → AreCounts p columns i b count
-    → (j k : ℕ) → HasColumn columns j k → Held (count k)
-counts_held p columns i b count Held agent held h j k has = elim (cases_eq j i) [
-  | inl e ↦ none ((h j k has).1 e)
-  | inr ne ↦ elim (cases_lt 0 (count k)) [
-    | inr low ↦ none (omega arith)
-    | inl some ↦
-        let is = Reaches-first p (record { agent = j; number = count k }) (record { agent = i; number = b }) (((h j k has).0 ne (count k)).1 (omega arith, omega arith)) in
-        held j (count k) is.agent is.last
-  ]
-]
-  where
-    none : count k ≡ 0 → Held (count k)
-    none e = subst Held (sym e) (held i 0 agent (omega arith))
+-- a row has bytes enough for the number of each action
+pub held : (p : Program) (m : SlotRows) (n : ℕ) (row : Counts) → AreRowsTo p m n → IsRowFor m row → (i k : ℕ) → i < length p → k ≤ moves p i → CanHold row k
+held p m n row rows fits i k l few e =
+    let most : moves p i ≤ 65535 = rows.schedule.narrow (sym fits.narrow ∙ e) i l in
+    omega arith
 
--- .. for all numbers of actions
-pub held : (p : Program) (s : Schedule) (m : Counts) → (s.is_narrow ≡ true → (i : ℕ) → i < length p → moves p i ≤ 65535) → ((n : ℕ) → n ≤ 65535 → CanHold m n) → (s.is_narrow ≡ false → (n : ℕ) → CanHold m n)
-    → (i n : ℕ) → i < length p → n ≤ moves p i → CanHold m n
-held p s m narrow short wide i n l few = go s.is_narrow refl
-  where
-    go : (b : Bool) → s.is_narrow ≡ b → CanHold m n
-    go true e = short n (let most : moves p i ≤ 65535 = narrow e i l in omega arith)
-    go false e = wide e n
+-- as long as it stays alike it is one for these rows
+pub row_alike : (m : SlotRows) (old new : Counts) → AreAlike old new → IsRowFor m old → IsRowFor m new
+row_alike m old new alike fits = record { width = alike.all ∙ fits.width; narrow = alike.narrow ∙ fits.narrow }
+
+-- .. and its counts are of as many bytes as those that are kept
+pub same_bytes : (p : Program) (m : SlotRows) (n : ℕ) (row : Counts) → AreRowsTo p m n → IsRowFor m row → are_narrow m.counts ≡ are_narrow row
+same_bytes p m n row rows fits = rows.narrow ∙ sym fits.narrow
 
 -- ---- one row more in its slot
 
 module _ (p : Program) (new : SlotRows) (n : ℕ) (was : ℕ → ℕ → ℕ) (row : List ℕ) (schedule : IsSchedule p new.schedule.now) (columns : AreColumnsOf p new.columns)
-    (room : length (counts_of new.counts) ≡ new.schedule.now.slots * new.columns.width) (hold : (i n : ℕ) → i < length p → n ≤ moves p i → CanHold new.counts n)
+    (room : length (counts_of new.counts) ≡ new.schedule.now.slots * new.columns.width) (narrow : are_narrow new.counts ≡ new.schedule.now.is_narrow)
     (right : (r : ℕ) (j : Join) → 1 ≤ r → r ≤ n → slice_get new.schedule.now.joins.items (r - 1) ≡ Some j → IsStill new.schedule.now.outs.items r n
     → AreCounts p new.columns j.action.agent j.action.number (was (slice_index new.schedule.now.outs.items (r - 1))))
     (others : (t k : ℕ) → t ≢ slice_index new.schedule.now.outs.items n → k < new.columns.width → slice_index (counts_of new.counts) (t * new.columns.width + k) ≡ was t k)
@@ -230,9 +217,9 @@ module _ (p : Program) (new : SlotRows) (n : ℕ) (was : ℕ → ℕ → ℕ) (r
   ]
 
   pub rows_more : AreRowsTo p new (n + 1)
-  rows_more = record { schedule = schedule; columns = columns; room = room; hold = hold; right = still_right }
+  rows_more = record { schedule = schedule; columns = columns; room = room; narrow = narrow; right = still_right }
 
 -- before the first row
 pub rows_none : (p : Program) (m : SlotRows) → IsSchedule p m.schedule.now → AreColumnsOf p m.columns → length (counts_of m.counts) ≡ m.schedule.now.slots * m.columns.width
-    → ((i n : ℕ) → i < length p → n ≤ moves p i → CanHold m.counts n) → AreRowsTo p m 0
-rows_none p m schedule columns room hold = record { schedule = schedule; columns = columns; room = room; hold = hold; right = λ r j some upto at still. absurd (omega arith) }
+    → are_narrow m.counts ≡ m.schedule.now.is_narrow → AreRowsTo p m 0
+rows_none p m schedule columns room narrow = record { schedule = schedule; columns = columns; room = room; narrow = narrow; right = λ r j some upto at still. absurd (omega arith) }

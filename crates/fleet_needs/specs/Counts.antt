@@ -1,5 +1,5 @@
 -- The counts of rows, as they are kept.
-use Rattle.std.specs.Prelude.{ℕ, ◌≤◌, List}
+use Rattle.std.specs.Prelude.{◌≡◌, ℕ, ◌≤◌, Bool, true, false, List, length}
 use Rattle.fleet_needs.specs.declared.counts.Counts.{Counts}
 
 -- the counts, one after another
@@ -7,7 +7,16 @@ abbrev pub counts_of : Counts → List ℕ
 counts_of (Counts.Narrow v) = v.items
 counts_of (Counts.Wide v) = v.items
 
+-- they take two bytes each
+abbrev pub are_narrow : Counts → Bool
+are_narrow (Counts.Narrow v) = true
+are_narrow (Counts.Wide v) = false
+
 -- there are bytes enough for this count
 abbrev pub CanHold : Counts → ℕ → Type 0
-CanHold (Counts.Narrow v) n = n ≤ 65535
-CanHold (Counts.Wide v) n = Unit
+CanHold m n = are_narrow m ≡ true → n ≤ 65535
+
+-- as many, of as many bytes
+pub record AreAlike (m n : Counts) : Type 0 where
+  pub all : length (counts_of n) ≡ length (counts_of m)
+  pub narrow : are_narrow n ≡ are_narrow m

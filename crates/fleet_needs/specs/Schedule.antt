@@ -4,10 +4,11 @@ use Rattle.fleet_model.specs.Program.{Program, moves}
 use Rattle.fleet_model.specs.Chain.{IsAction}
 use Rattle.fleet_needs.specs.Block.{HasColumn}
 use Rattle.fleet_needs.specs.Columns.{agents_in}
-use Rattle.fleet_needs.specs.Counts.{counts_of, CanHold}
+use Rattle.fleet_needs.specs.Counts.{counts_of, are_narrow}
 use Rattle.fleet_needs.specs.Joins.{AreJoins, IsRow, Takes, StandsFor, HasAllRows, AreOrdered, AreRising, AreOwn}
 use Rattle.fleet_needs.specs.Rows.{IsColumn}
 use Rattle.fleet_needs.specs.Slots.{IsStill}
+use Rattle.fleet_needs.specs.declared.counts.Counts.{Counts}
 use Rattle.fleet_needs.specs.declared.slots.Columns.{Columns}
 use Rattle.fleet_needs.specs.declared.joins.Join.{Join}
 use Rattle.fleet_needs.specs.declared.questions.Question.{Question}
@@ -51,9 +52,14 @@ pub record AreRowsTo (p : Program) (m : SlotRows) (n : ℕ) : Type 0 where
   pub schedule : IsSchedule p m.schedule.now
   pub columns : AreColumnsOf p m.columns
   pub room : length (counts_of m.counts) ≡ m.schedule.now.slots * m.columns.width
-  pub hold : (i n : ℕ) → i < length p → n ≤ moves p i → CanHold m.counts n
+  pub narrow : are_narrow m.counts ≡ m.schedule.now.is_narrow
   pub right : (r : ℕ) (j : Join) → 1 ≤ r → r ≤ n → slice_get m.schedule.now.joins.items (r - 1) ≡ Some j → IsStill m.schedule.now.outs.items r n
       → AreCounts p m.columns j.action.agent j.action.number (count_in_slot m r)
+
+-- the row has a count for each column, of as many bytes as those that are kept
+pub record IsRowFor (m : SlotRows) (row : Counts) : Type 0 where
+  pub width : length (counts_of row) ≡ m.columns.width
+  pub narrow : are_narrow row ≡ m.schedule.now.is_narrow
 
 -- row r can be taken after n rows
 pub record IsThere (m : SlotRows) (n r : ℕ) : Type 0 where

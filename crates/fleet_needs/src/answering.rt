@@ -4,10 +4,12 @@ ghost use Rattle.std.specs.Prelude.{◌≡◌, ◌≢◌, ◌↔◌, ◌<◌, �
 ghost use Rattle.fleet_model.specs.Program.{AreInRange};
 ghost use Rattle.fleet_needs.specs.Answering.{IsAsked};
 ghost use Rattle.fleet_needs.specs.Asked.{AreQuestions, IsQuestion};
+ghost use Rattle.fleet_needs.specs.Counts.{counts_of};
 ghost use Rattle.fleet_needs.specs.Block.{HasColumn, IsAnswer, AreAnswered};
 ghost use Rattle.fleet_needs.specs.Joins.{AreOwn};
 ghost use Rattle.fleet_needs.specs.Schedule.{AreColumnsOf, AreCounts, HasRows, IsSchedule};
 
+use crate::counts::Counts;
 use crate::join_pass::{JoinUse, others_row, use_joins, whole_row};
 use crate::questions::Question;
 use crate::schedule::Schedule;
@@ -64,7 +66,7 @@ impl<'a> JoinUse for Answering<'a> {
         program: &P,
         rows: &SlotRows<'_>,
         n: usize,
-        row: &mut [u32],
+        row: &mut Counts,
     ) -> Result<(), OutOfMemory> {
         let join = rows.schedule.joins[n];
         others_row(program, rows, n, &join, row);
@@ -84,16 +86,16 @@ impl<'a> Answering<'a> {
         &mut self,
         program: &P,
         columns: &Columns,
-        row: &[u32],
+        row: &Counts,
         action: ActionId,
     )
         requires own { AreOwn (P.program program.now) }
         requires columns { AreColumnsOf (P.program program.now) columns.now }
         requires questions { All (IsQuestion (P.program program.now)) self.old.questions.now }
         requires flags { length self.old.flags.items ≡ length self.old.questions.now }
-        requires row { length row.now ≡ columns.now.width }
+        requires row { length (counts_of row.now) ≡ columns.now.width }
         requires of { AreCounts (P.program program.now) columns.now
-            action.agent action.number (slice_index row.now) }
+            action.agent action.number (slice_index (counts_of row.now)) }
         ensures questions { self.new.questions ≡ self.old.questions }
         ensures flags { length self.new.flags.items ≡ length self.old.flags.items }
         ensures asked { IsAsked
@@ -122,15 +124,15 @@ fn ends_with(questions: &[Question], k: usize, action: ActionId) -> bool
 fn answer_one<P: ProgramView>(
     program: &P,
     columns: &Columns,
-    row: &[u32],
+    row: &Counts,
     question: Question,
     flag: &mut bool,
 )
     requires own { AreOwn (P.program program.now) }
     requires columns { AreColumnsOf (P.program program.now) columns.now }
-    requires room { length row.now ≡ columns.now.width }
+    requires room { length (counts_of row.now) ≡ columns.now.width }
     requires row { AreCounts (P.program program.now) columns.now
-        question.last.agent question.last.number (slice_index row.now) }
+        question.last.agent question.last.number (slice_index (counts_of row.now)) }
     requires question { IsQuestion (P.program program.now) question }
     ensures answer { (k : ℕ) → HasColumn columns.now question.first.agent k
         → IsAnswer (P.program program.now) question flag.new }
@@ -145,13 +147,13 @@ fn answer_one<P: ProgramView>(
 }
 
 /// The count of the question's first agent: that of its column, or its own last action.
-fn count_for(row: &[u32], k: usize, question: Question) -> u32
-    requires { k < length row.now }
+fn count_for(row: &Counts, k: usize, question: Question) -> u32
+    requires { k < length (counts_of row.now) }
     ensures own { question.first.agent ≡ question.last.agent → result ≡ question.last.number }
-    ensures other { question.first.agent ≢ question.last.agent → result ≡ slice_index row.now k }
+    ensures other { question.first.agent ≢ question.last.agent → result ≡ slice_index (counts_of row.now) k }
 {
     if question.first.agent == question.last.agent {
         return question.last.number;
     }
-    row[k]
+    row.get(k)
 }

@@ -1,7 +1,7 @@
 //! The counts of rows, kept in two bytes each where all of them fit.
 
-ghost use Rattle.std.specs.Prelude.{◌≡◌, ◌+◌, ◌<◌, ◌≤◌, ℕ, false, length, max, slice_index, IfOk};
-ghost use Rattle.fleet_needs.specs.Counts.{counts_of, CanHold};
+ghost use Rattle.std.specs.Prelude.{◌≡◌, ◌≢◌, ◌+◌, ◌<◌, ◌≤◌, ℕ, length, max, slice_index, IfOk};
+ghost use Rattle.fleet_needs.specs.Counts.{counts_of, are_narrow, CanHold, AreAlike};
 
 use crate::kernels::join_rows;
 use fleet_model::OutOfMemory;
@@ -18,8 +18,7 @@ impl Counts {
     /// So many zeros.
     pub(crate) fn zeros(alloc: Global, len: usize, is_narrow: bool) -> Result<Counts, OutOfMemory>
         ensures all { IfOk result (λ m. length (counts_of m) ≡ len) }
-        ensures short { IfOk result (λ m. (n : ℕ) → n ≤ u16.MAX → CanHold m n) }
-        ensures wide { is_narrow ≡ false → IfOk result (λ m. (n : ℕ) → CanHold m n) }
+        ensures narrow { IfOk result (λ m. are_narrow m ≡ is_narrow) }
     {
         if is_narrow {
             return Ok(Counts::Narrow(vec![in alloc; 0; len]?));
@@ -27,93 +26,117 @@ impl Counts {
         Ok(Counts::Wide(vec![in alloc; 0; len]?))
     }
 
-    /// Reads the counts from this place on into `row`.
-    pub(crate) fn read(&self, from: usize, row: &mut [u32])
-        requires { from + length row.old ≤ length (counts_of self.now) }
-        ensures { (k : ℕ) → k < length row.old
-            → slice_index row.new k ≡ slice_index (counts_of self.now) (from + k) }
+    /// The count at a place.
+    pub(crate) fn get(&self, k: usize) -> u32
+        requires { k < length (counts_of self.now) }
+        ensures { result ≡ slice_index (counts_of self.now) k }
     {
         match self {
-            Counts::Narrow(counts) => widen(counts, from, row),
-            Counts::Wide(counts) => row.copy_from_slice(&counts[from..from + row.len()]),
+            Counts::Narrow(counts) => u32::from(counts[k]),
+            Counts::Wide(counts) => counts[k],
         }
     }
 
-    /// Joins the counts from this place on into `row`.
-    pub(crate) fn join_into(&self, from: usize, row: &mut [u32])
-        requires { from + length row.old ≤ length (counts_of self.now) }
-        ensures { (k : ℕ) → k < length row.old → slice_index row.new k
-            ≡ max (slice_index row.old k) (slice_index (counts_of self.now) (from + k)) }
+    /// Sets the count at a place.
+    pub(crate) fn set(&mut self, k: usize, count: u32)
+        requires within { k < length (counts_of self.old) }
+        requires hold { CanHold self.old count }
+        ensures alike { AreAlike self.old self.new }
+        ensures here { slice_index (counts_of self.new) k ≡ count }
+        ensures others { (n : ℕ) → n ≢ k
+            → slice_index (counts_of self.new) n ≡ slice_index (counts_of self.old) n }
     {
         match self {
-            Counts::Narrow(counts) => join_narrow(counts, from, row),
-            Counts::Wide(counts) => join_rows(row, &counts[from..from + row.len()]),
+            Counts::Narrow(counts) => counts[k] = count as u16,
+            Counts::Wide(counts) => counts[k] = count,
         }
     }
 
-    /// Writes `row` from this place on. Of a count that cannot be held nothing is said.
-    pub(crate) fn write(&mut self, from: usize, row: &[u32])
-        requires { from + length row.now ≤ length (counts_of self.old) }
-        ensures all { length (counts_of self.new) ≡ length (counts_of self.old) }
-        ensures hold { (n : ℕ) → CanHold self.old n → CanHold self.new n }
-        ensures row { (k : ℕ) → k < length row.now → CanHold self.old (slice_index row.now k)
-            → slice_index (counts_of self.new) (from + k) ≡ slice_index row.now k }
+    /// Zeros at all places.
+    pub(crate) fn clear(&mut self)
+        ensures alike { AreAlike self.old self.new }
+        ensures zeros { (k : ℕ) → slice_index (counts_of self.new) k ≡ 0 }
+    {
+        match self {
+            Counts::Narrow(counts) => counts.fill(0),
+            Counts::Wide(counts) => counts.fill(0),
+        }
+    }
+
+    /// Reads the counts of all places from others, from this place on.
+    pub(crate) fn read(&mut self, other: &Counts, from: usize)
+        requires within { from + length (counts_of self.old) ≤ length (counts_of other.now) }
+        requires alike { are_narrow other.now ≡ are_narrow self.old }
+        ensures alike { AreAlike self.old self.new }
+        ensures counts { (k : ℕ) → k < length (counts_of self.old)
+            → slice_index (counts_of self.new) k ≡ slice_index (counts_of other.now) (from + k) }
+    {
+        match (self, other) {
+            (Counts::Narrow(row), Counts::Narrow(counts)) => {
+                let end = from + row.len();
+                row.copy_from_slice(&counts[from..end]);
+            }
+            (Counts::Wide(row), Counts::Wide(counts)) => {
+                let end = from + row.len();
+                row.copy_from_slice(&counts[from..end]);
+            }
+            _ => unreachable!(),
+        }
+    }
+
+    /// Joins the counts of others, from this place on, into those of all places.
+    pub(crate) fn join(&mut self, other: &Counts, from: usize)
+        requires within { from + length (counts_of self.old) ≤ length (counts_of other.now) }
+        requires alike { are_narrow other.now ≡ are_narrow self.old }
+        ensures alike { AreAlike self.old self.new }
+        ensures counts { (k : ℕ) → k < length (counts_of self.old)
+            → slice_index (counts_of self.new) k ≡ max (slice_index (counts_of self.old) k)
+            (slice_index (counts_of other.now) (from + k)) }
+    {
+        match (self, other) {
+            (Counts::Narrow(row), Counts::Narrow(counts)) => {
+                let end = from + row.len();
+                join_narrow(row, &counts[from..end]);
+            }
+            (Counts::Wide(row), Counts::Wide(counts)) => {
+                let end = from + row.len();
+                join_rows(row, &counts[from..end]);
+            }
+            _ => unreachable!(),
+        }
+    }
+
+    /// Writes all counts of a row from this place on.
+    pub(crate) fn write(&mut self, from: usize, row: &Counts)
+        requires within { from + length (counts_of row.now) ≤ length (counts_of self.old) }
+        requires alike { are_narrow self.old ≡ are_narrow row.now }
+        ensures alike { AreAlike self.old self.new }
+        ensures row { (k : ℕ) → k < length (counts_of row.now)
+            → slice_index (counts_of self.new) (from + k) ≡ slice_index (counts_of row.now) k }
         ensures before { (n : ℕ) → n < from
             → slice_index (counts_of self.new) n ≡ slice_index (counts_of self.old) n }
-        ensures after { (n : ℕ) → from + length row.now ≤ n
+        ensures after { (n : ℕ) → from + length (counts_of row.now) ≤ n
             → slice_index (counts_of self.new) n ≡ slice_index (counts_of self.old) n }
     {
-        match self {
-            Counts::Narrow(counts) => narrow(counts, from, row),
-            Counts::Wide(counts) => write_row(counts, from, row),
+        match (self, row) {
+            (Counts::Narrow(counts), Counts::Narrow(row)) => {
+                counts[from..from + row.len()].copy_from_slice(row);
+            }
+            (Counts::Wide(counts), Counts::Wide(row)) => {
+                counts[from..from + row.len()].copy_from_slice(row);
+            }
+            _ => unreachable!(),
         }
     }
 }
 
-/// Reads the counts from this place on into `row`.
-fn widen(counts: &[u16], from: usize, row: &mut [u32])
-    requires { from + length row.old ≤ length counts.now }
+/// Leaves in `row`, at each place, the greater count of the two rows, which are equally long.
+fn join_narrow(row: &mut [u16], other: &[u16])
+    requires { length other.now ≡ length row.old }
     ensures { (k : ℕ) → k < length row.old
-        → slice_index row.new k ≡ slice_index counts.now (from + k) }
+        → slice_index row.new k ≡ max (slice_index row.old k) (slice_index other.now k) }
 {
     for k in 0..row.len() {
-        row[k] = u32::from(counts[from + k]);
+        row[k] = row[k].max(other[k]);
     }
-}
-
-/// Joins the counts from this place on into `row`.
-fn join_narrow(counts: &[u16], from: usize, row: &mut [u32])
-    requires { from + length row.old ≤ length counts.now }
-    ensures { (k : ℕ) → k < length row.old → slice_index row.new k
-        ≡ max (slice_index row.old k) (slice_index counts.now (from + k)) }
-{
-    for k in 0..row.len() {
-        row[k] = row[k].max(u32::from(counts[from + k]));
-    }
-}
-
-/// Writes `row` from this place on, of each count as much as two bytes hold.
-fn narrow(counts: &mut [u16], from: usize, row: &[u32])
-    requires { from + length row.now ≤ length counts.old }
-    ensures row { (k : ℕ) → k < length row.now → slice_index row.now k ≤ u16.MAX
-        → slice_index counts.new (from + k) ≡ slice_index row.now k }
-    ensures before { (n : ℕ) → n < from → slice_index counts.new n ≡ slice_index counts.old n }
-    ensures after { (n : ℕ) → from + length row.now ≤ n
-        → slice_index counts.new n ≡ slice_index counts.old n }
-{
-    for k in 0..row.len() {
-        counts[from + k] = row[k].min(u32::from(u16::MAX)) as u16;
-    }
-}
-
-/// Writes `row` from this place on.
-fn write_row(counts: &mut [u32], from: usize, row: &[u32])
-    requires { from + length row.now ≤ length counts.old }
-    ensures row { (k : ℕ) → k < length row.now
-        → slice_index counts.new (from + k) ≡ slice_index row.now k }
-    ensures before { (n : ℕ) → n < from → slice_index counts.new n ≡ slice_index counts.old n }
-    ensures after { (n : ℕ) → from + length row.now ≤ n
-        → slice_index counts.new n ≡ slice_index counts.old n }
-{
-    counts[from..from + row.len()].copy_from_slice(row);
 }

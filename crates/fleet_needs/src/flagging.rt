@@ -6,10 +6,12 @@ ghost use Rattle.fleet_model.specs.Chain.{IsAction};
 ghost use Rattle.fleet_needs.specs.Block.{HasColumn};
 ghost use Rattle.fleet_needs.specs.JoinPass.{AreOthers};
 ghost use Rattle.fleet_needs.specs.Columns.{agents_in, column_of};
+ghost use Rattle.fleet_needs.specs.Counts.{counts_of};
 ghost use Rattle.fleet_needs.specs.Implied.{AreAwaitPlaces};
 ghost use Rattle.fleet_needs.specs.Flags.{AreFlagged};
 
 use crate::await_places::AwaitPlaces;
+use crate::counts::Counts;
 use crate::implied::ImpliedAwaits;
 use crate::join_pass::{JoinUse, others_row, whole_row};
 use crate::slot_rows::SlotRows;
@@ -30,7 +32,7 @@ impl JoinUse for ImpliedAwaits {
         program: &P,
         rows: &SlotRows<'_>,
         n: usize,
-        row: &mut [u32],
+        row: &mut Counts,
     ) -> Result<(), OutOfMemory> {
         let join = rows.schedule.joins[n];
         others_row(program, rows, n, &join, row);
@@ -56,16 +58,16 @@ pub(crate) fn flag_awaits<P: ProgramView>(
     program: &P,
     columns: &Columns,
     places: &AwaitPlaces,
-    row: &[u32],
+    row: &Counts,
     action: ActionId,
     flags: &mut [bool],
 )
     requires range { AreInRange (P.program program.now) }
     requires places { AreAwaitPlaces (P.program program.now) places.now }
     requires agents { agents_in columns.now ≡ length (P.program program.now) }
-    requires within { (j k : ℕ) → HasColumn columns.now j k → k < length row.now }
+    requires within { (j k : ℕ) → HasColumn columns.now j k → k < length (counts_of row.now) }
     requires action { IsAction (P.program program.now) action }
-    requires row { AreOthers (P.program program.now) columns.now action row.now }
+    requires row { AreOthers (P.program program.now) columns.now action (counts_of row.now) }
     requires flags { length flags.old ≡ total_awaits (P.program program.now) }
     ensures { AreFlagged (P.program program.now) columns.now action flags.old flags.new }
 {
@@ -79,17 +81,18 @@ pub(crate) fn flag_awaits<P: ProgramView>(
 }
 
 /// Flags an await, if its agent has a column: whether the agent's count in the row is no less than that of the await.
-fn flag_await(columns: &Columns, row: &[u32], awaited: Await, place: usize, flags: &mut [bool])
+fn flag_await(columns: &Columns, row: &Counts, awaited: Await, place: usize, flags: &mut [bool])
     requires agent { awaited.agent < agents_in columns.now }
-    requires within { (j k : ℕ) → HasColumn columns.now j k → k < length row.now }
+    requires within { (j k : ℕ) → HasColumn columns.now j k → k < length (counts_of row.now) }
     requires place { place < length flags.old }
     ensures flagged { (k : ℕ) → HasColumn columns.now awaited.agent k
-        → get_or flags.new place false ≡ nat_le awaited.count (slice_index row.now k) }
+        → get_or flags.new place false ≡ nat_le awaited.count
+        (slice_index (counts_of row.now) k) }
     ensures none { column_of columns.now awaited.agent ≡ None
         → get_or flags.new place false ≡ get_or flags.old place false }
     ensures others { (n : ℕ) → n ≢ place → get_or flags.new n false ≡ get_or flags.old n false }
 {
     if let Some(k) = columns.of(awaited.agent) {
-        flags[place] = awaited.count <= row[usize::from(k)];
+        flags[place] = awaited.count <= row.get(usize::from(k));
     }
 }

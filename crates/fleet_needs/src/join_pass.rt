@@ -4,9 +4,11 @@
 ghost use Rattle.std.specs.Prelude.{◌≡◌, ◌≢◌, ◌+◌, ◌<◌, ℕ, length, max, slice_index, OnOk};
 ghost use Rattle.fleet_needs.specs.Block.{HasColumn};
 ghost use Rattle.fleet_model.specs.Program.{AreInRange};
-ghost use Rattle.fleet_needs.specs.Schedule.{IsSchedule, AreColumnsOf, AreRowsTo};
+ghost use Rattle.fleet_needs.specs.Counts.{counts_of, CanHold, AreAlike};
+ghost use Rattle.fleet_needs.specs.Schedule.{IsSchedule, AreColumnsOf, AreRowsTo, IsRowFor};
 ghost use Rattle.fleet_needs.specs.JoinPass.{IsNextRow, AreOthers, IsRowMade, joins_in};
 
+use crate::counts::Counts;
 use crate::joins::Join;
 use crate::schedule::Schedule;
 use crate::slot_rows::SlotRows;
@@ -33,15 +35,17 @@ pub trait JoinUse {
         program: &P,
         rows: &SlotRows<'_>,
         n: usize,
-        row: &mut [u32],
+        row: &mut Counts,
     ) -> Result<(), OutOfMemory>
         requires range { AreInRange (P.program program.now) }
         requires rows { AreRowsTo (P.program program.now) rows.now n }
         requires next { n < joins_in rows.now.schedule.now }
-        requires width { length row.old ≡ rows.now.columns.width }
+        requires row { IsRowFor rows.now row.old }
         requires used { used (P.program program.now) rows.now.schedule.now rows.now.columns
             n self.old }
-        ensures made { OnOk result (IsRowMade (P.program program.now) rows.now n row.new) }
+        ensures row { OnOk result (IsRowFor rows.now row.new) }
+        ensures made { OnOk result (IsRowMade
+            (P.program program.now) rows.now n (counts_of row.new)) }
         ensures used { OnOk result (used (P.program program.now)
             rows.now.schedule.now rows.now.columns (n + 1) self.new) }
         ensures keeps { OnOk result (keeps
@@ -71,7 +75,7 @@ pub(crate) fn use_joins<P: ProgramView, U: JoinUse>(
         schedule.now columns (joins_in schedule.now) uses.new) }
     ensures keeps { OnOk result (U.keeps (P.program program.now) columns uses.old uses.new) }
 {
-    let mut row = vec![in alloc; 0; usize::from(columns.width)]?;
+    let mut row = Counts::zeros(alloc, usize::from(columns.width), schedule.is_narrow)?;
     let mut rows = SlotRows::new(alloc, schedule, columns)?;
     use_all(program, &mut rows, &mut row, uses)
 }
@@ -80,12 +84,12 @@ pub(crate) fn use_joins<P: ProgramView, U: JoinUse>(
 fn use_all<P: ProgramView, U: JoinUse>(
     program: &P,
     rows: &mut SlotRows<'_>,
-    row: &mut [u32],
+    row: &mut Counts,
     uses: &mut U,
 ) -> Result<(), OutOfMemory>
     requires range { AreInRange (P.program program.now) }
     requires rows { AreRowsTo (P.program program.now) rows.old 0 }
-    requires width { length row.old ≡ rows.old.columns.width }
+    requires row { IsRowFor rows.old row.old }
     requires used { U.used (P.program program.now) rows.old.schedule.now rows.old.columns
         0 uses.old }
     ensures used { OnOk result (U.used (P.program program.now) rows.old.schedule.now
@@ -106,13 +110,15 @@ pub(crate) fn others_row<P: ProgramView>(
     rows: &SlotRows<'_>,
     n: usize,
     join: &Join,
-    row: &mut [u32],
+    row: &mut Counts,
 )
     requires range { AreInRange (P.program program.now) }
     requires rows { AreRowsTo (P.program program.now) rows.now n }
     requires next { IsNextRow rows.now n join.now }
-    requires width { length row.old ≡ rows.now.columns.width }
-    ensures { AreOthers (P.program program.now) rows.now.columns join.now.action row.new }
+    requires row { IsRowFor rows.now row.old }
+    ensures row { IsRowFor rows.now row.new }
+    ensures others { AreOthers
+        (P.program program.now) rows.now.columns join.now.action (counts_of row.new) }
 {
     let _ = program.agents();
     rows.begin_row(program, n, join.base, row);
@@ -128,50 +134,57 @@ pub(crate) fn whole_row<P: ProgramView>(
     rows: &SlotRows<'_>,
     n: usize,
     join: &Join,
-    row: &mut [u32],
+    row: &mut Counts,
 )
     requires range { AreInRange (P.program program.now) }
     requires rows { AreRowsTo (P.program program.now) rows.now n }
     requires next { IsNextRow rows.now n join.now }
-    requires width { length row.old ≡ rows.now.columns.width }
+    requires row { IsRowFor rows.now row.old }
     requires others { AreOthers
-        (P.program program.now) rows.now.columns join.now.action row.old }
-    ensures { IsRowMade (P.program program.now) rows.now n row.new }
+        (P.program program.now) rows.now.columns join.now.action (counts_of row.old) }
+    ensures row { IsRowFor rows.now row.new }
+    ensures made { IsRowMade (P.program program.now) rows.now n (counts_of row.new) }
 {
     let _ = program.agents();
     for k in 0..program.await_count(join.action.agent, join.action.number) {
         let awaited = program.await_at(join.action.agent, join.action.number, k);
         raise_own(&rows.columns, row, awaited.agent, awaited.count);
     }
-    set_own(&rows.columns, row, join.action.agent, 0);
+    clear_own(&rows.columns, row, join.action.agent);
 }
 
 /// Raises the count in the agent's own column, if it has one, to the number of an action.
-fn raise_own(columns: &Columns, row: &mut [u32], agent: u16, number: u32)
+fn raise_own(columns: &Columns, row: &mut Counts, agent: u16, number: u32)
     requires agent { agent < length columns.now.of_agent.items }
-    requires within { (j k : ℕ) → HasColumn columns.now j k → k < length row.old }
+    requires within { (j k : ℕ) → HasColumn columns.now j k → k < length (counts_of row.old) }
     requires apart { (i j k : ℕ) → HasColumn columns.now i k → HasColumn columns.now j k → i ≡ j }
-    ensures own { (k : ℕ) → HasColumn columns.now agent k
-        → slice_index row.new k ≡ max (slice_index row.old k) number }
+    requires hold { CanHold row.old number }
+    ensures alike { AreAlike row.old row.new }
+    ensures own { (k : ℕ) → HasColumn columns.now agent k → slice_index (counts_of row.new) k
+        ≡ max (slice_index (counts_of row.old) k) number }
     ensures others { (j k : ℕ) → j ≢ agent → HasColumn columns.now j k
-        → slice_index row.new k ≡ slice_index row.old k }
+        → slice_index (counts_of row.new) k ≡ slice_index (counts_of row.old) k }
 {
     if let Some(k) = columns.of(agent) {
         let k = usize::from(k);
-        row[k] = row[k].max(number);
+        let is_less = row.get(k) < number;
+        if is_less {
+            row.set(k, number);
+        }
     }
 }
 
-/// Sets the count in the agent's own column, if it has one.
-fn set_own(columns: &Columns, row: &mut [u32], agent: u16, count: u32)
+/// Clears the count in the agent's own column, if it has one.
+fn clear_own(columns: &Columns, row: &mut Counts, agent: u16)
     requires agent { agent < length columns.now.of_agent.items }
-    requires within { (j k : ℕ) → HasColumn columns.now j k → k < length row.old }
+    requires within { (j k : ℕ) → HasColumn columns.now j k → k < length (counts_of row.old) }
     requires apart { (i j k : ℕ) → HasColumn columns.now i k → HasColumn columns.now j k → i ≡ j }
-    ensures own { (k : ℕ) → HasColumn columns.now agent k → slice_index row.new k ≡ count }
+    ensures alike { AreAlike row.old row.new }
+    ensures own { (k : ℕ) → HasColumn columns.now agent k → slice_index (counts_of row.new) k ≡ 0 }
     ensures others { (j k : ℕ) → j ≢ agent → HasColumn columns.now j k
-        → slice_index row.new k ≡ slice_index row.old k }
+        → slice_index (counts_of row.new) k ≡ slice_index (counts_of row.old) k }
 {
     if let Some(k) = columns.of(agent) {
-        row[usize::from(k)] = count;
+        row.set(usize::from(k), 0);
     }
 }

@@ -74,7 +74,7 @@ impl Schedule {
             rows: joins.rows,
             outs: slots.outs,
             slots: count,
-            is_narrow: is_narrow(program, count),
+            is_narrow: is_narrow(program),
         })
     }
 
@@ -90,16 +90,11 @@ impl Schedule {
     }
 }
 
-/// Whether counts take two bytes each: if one block of four bytes each has no room for columns of all agents, and two
-/// hold the number of each action.
-fn is_narrow<P: ProgramView>(program: &P, slots: u32) -> bool
+/// Whether counts take two bytes each: if these hold the number of each action.
+fn is_narrow<P: ProgramView>(program: &P) -> bool
     ensures { result ≡ true → (i : ℕ) → i < length (P.program program.now)
         → moves (P.program program.now) i ≤ u16.MAX }
 {
-    let has_room = u64::from(slots) * u64::from(program.agents()) <= u64::from(COUNTS);
-    if has_room {
-        return false;
-    }
     for i in 0..program.agents() {
         if program.moves(i) > u32::from(u16::MAX) {
             return false;

@@ -1,9 +1,9 @@
 //! The counts of rows in their slots, in the columns of one block.
 
-ghost use Rattle.std.specs.Prelude.{◌≡◌, ◌+◌, ◌-◌, ◌*◌, ◌<◌, ◌≤◌, ℕ, false, length, max, slice_index, slice_get, Some, IfOk};
+ghost use Rattle.std.specs.Prelude.{◌≡◌, ◌+◌, ◌-◌, ◌*◌, ◌<◌, ◌≤◌, ℕ, length, slice_index, slice_get, Some, IfOk};
 ghost use Rattle.fleet_needs.specs.declared.joins.Join.{Join};
-ghost use Rattle.fleet_needs.specs.Counts.{counts_of, CanHold};
-ghost use Rattle.fleet_needs.specs.Schedule.{AreCounts, AreRowsTo, IsThere, StandsThere, AreJoinedWith, count_in_slot};
+ghost use Rattle.fleet_needs.specs.Counts.{counts_of, are_narrow};
+ghost use Rattle.fleet_needs.specs.Schedule.{AreCounts, AreRowsTo, IsRowFor, IsThere, StandsThere, AreJoinedWith};
 
 use crate::counts::Counts;
 use crate::schedule::Schedule;
@@ -30,9 +30,7 @@ impl<'a> SlotRows<'a> {
         ensures columns { IfOk result (λ m. m.columns ≡ columns) }
         ensures room { IfOk result (λ m. length (counts_of m.counts)
             ≡ schedule.now.slots * columns.width) }
-        ensures short { IfOk result (λ m. (n : ℕ) → n ≤ u16.MAX → CanHold m.counts n) }
-        ensures wide { schedule.now.is_narrow ≡ false
-            → IfOk result (λ m. (n : ℕ) → CanHold m.counts n) }
+        ensures narrow { IfOk result (λ m. are_narrow m.counts ≡ schedule.now.is_narrow) }
     {
         let room = schedule.slots as usize * usize::from(columns.width);
         Ok(SlotRows {
@@ -56,55 +54,53 @@ impl<'a> SlotRows<'a> {
     }
 
     /// Puts into `row` the counts of what row `r` stands for.
-    pub(crate) fn begin_row<P: ProgramView>(&self, program: &P, n: usize, r: u32, row: &mut [u32])
+    pub(crate) fn begin_row<P: ProgramView>(&self, program: &P, n: usize, r: u32, row: &mut Counts)
         requires rows { AreRowsTo (P.program program.now) self.now n }
         requires there { IsThere self.now n r }
-        requires width { length row.old ≡ self.now.columns.width }
-        ensures { (i m : ℕ) → StandsThere (P.program program.now) self.now r i m
-            → AreCounts (P.program program.now) self.now.columns i m (slice_index row.new) }
+        requires row { IsRowFor self.now row.old }
+        ensures row { IsRowFor self.now row.new }
+        ensures counts { (i m : ℕ) → StandsThere (P.program program.now) self.now r i m
+            → AreCounts (P.program program.now) self.now.columns i m
+            (slice_index (counts_of row.new)) }
     {
         if r == 0 {
-            clear_row(row);
+            row.clear();
             return;
         }
-        self.counts.read(self.begin(r), row);
+        row.read(&self.counts, self.begin(r));
     }
 
     /// Joins what row `r` stands for into `row`.
-    pub(crate) fn join_row<P: ProgramView>(&self, program: &P, n: usize, r: u32, row: &mut [u32])
+    pub(crate) fn join_row<P: ProgramView>(&self, program: &P, n: usize, r: u32, row: &mut Counts)
         requires rows { AreRowsTo (P.program program.now) self.now n }
         requires there { IsThere self.now n r }
-        requires width { length row.old ≡ self.now.columns.width }
-        ensures { (i m : ℕ) → StandsThere (P.program program.now) self.now r i m
-            → AreJoinedWith (P.program program.now) self.now.columns i m row.old row.new }
+        requires row { IsRowFor self.now row.old }
+        ensures row { IsRowFor self.now row.new }
+        ensures joined { (i m : ℕ) → StandsThere (P.program program.now) self.now r i m
+            → AreJoinedWith (P.program program.now) self.now.columns i m
+            (counts_of row.old) (counts_of row.new) }
     {
         if r == 0 {
             return;
         }
-        self.counts.join_into(self.begin(r), row);
+        row.join(&self.counts, self.begin(r));
     }
 
     /// Keeps the row that is made after n others.
-    pub(crate) fn keep_row<P: ProgramView>(&mut self, program: &P, n: usize, row: &[u32])
+    pub(crate) fn keep_row<P: ProgramView>(&mut self, program: &P, n: usize, row: &Counts)
         requires rows { AreRowsTo (P.program program.now) self.old n }
         requires next { n < length self.old.schedule.now.joins.items }
-        requires width { length row.now ≡ self.old.columns.width }
-        requires row { (j : Join) → slice_get self.old.schedule.now.joins.items n ≡ Some j
+        requires row { IsRowFor self.old row.now }
+        requires counts { (j : Join) → slice_get self.old.schedule.now.joins.items n ≡ Some j
             → AreCounts (P.program program.now) self.old.columns
-            j.action.agent j.action.number (slice_index row.now) }
+            j.action.agent j.action.number (slice_index (counts_of row.now)) }
         ensures schedule { self.new.schedule ≡ self.old.schedule }
         ensures columns { self.new.columns ≡ self.old.columns }
+        ensures row { IsRowFor self.new row.now }
         ensures rows { AreRowsTo (P.program program.now) self.new (n + 1) }
     {
         let width = usize::from(self.columns.width);
         let from = self.schedule.outs[n] as usize * width;
         self.counts.write(from, row);
     }
-}
-
-/// Zeros at all places.
-fn clear_row(row: &mut [u32])
-    ensures { (k : ℕ) → slice_index row.new k ≡ 0 }
-{
-    row.fill(0);
 }

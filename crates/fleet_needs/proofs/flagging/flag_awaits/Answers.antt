@@ -2,6 +2,7 @@ use Rattle.std.proofs.Common.{◌≡◌, ◌≢◌, ◌+◌, ℕ, false, length,
 use Rattle.std.proofs.lemmas.Option.{slice_get_within}
 use Rattle.fleet_model.specs.Program.{awaits_of}
 use Rattle.fleet_model.proofs.Totals.{total_awaits_fit}
+use Rattle.fleet_needs.specs.Counts.{counts_of}
 use Rattle.fleet_needs.specs.Implied.{IsImpliedFlag}
 use Rattle.fleet_needs.proofs.Joining.{awaited_action}
 use Rattle.fleet_needs.proofs.AwaitOrder.{flag_within}
@@ -37,7 +38,7 @@ loop-k-preserved g c =
     record {
       flagged = flagged_more p columns a first k w c.await_at-awaited.ensures c.loop-k.flags new others
           (λ n has. subst (IsImpliedFlag p a w) (sym (ap (λ (x : ℕ). get_or new x false) (sym at) ∙ c.flag_await.ensures.flagged n has))
-          (flagged_of p c.requires.range c.agents.ensures.well_formed columns a c.args.row.now c.requires.action c.requires.row k n w c.await_at-awaited.ensures has))
+          (flagged_of p c.requires.range c.agents.ensures.well_formed columns a (counts_of c.args.row.now) c.requires.action c.requires.row k n w c.await_at-awaited.ensures has))
           c.loop-k.invariant.flagged;
       none = left_more p columns a first k w c.await_at-awaited.ensures c.loop-k.flags new others c.args.flags.now
           (λ none. ap (λ (x : ℕ). get_or new x false) (sym at) ∙ c.flag_await.ensures.none none ∙ ap (λ (x : ℕ). get_or c.loop-k.flags x false) at)

@@ -1,6 +1,7 @@
 use Rattle.std.proofs.Common.{◌≡◌, ◌+◌, ◌-◌, ◌<◌, ℕ, length, sym, subst, ap, ◌∙◌, arith}
 use Rattle.std.specs.Prelude.{slice_get, Some}
 use Rattle.fleet_model.specs.Program.{awaits_of}
+use Rattle.fleet_needs.specs.Counts.{counts_of}
 use Rattle.fleet_needs.specs.Joins.{row_taken}
 use Rattle.fleet_needs.specs.Schedule.{IsThere, StandsThere}
 use Rattle.fleet_needs.proofs.Counting.{count_read}
@@ -11,8 +12,11 @@ pub loop-k-init : goal.loop-k-init
 loop-k-init g c =
     let p = g.P.ProgramView.program c.args.program.now in
     let a = c.args.join.now.action in
-    others_first p c.args.rows.now.columns a.agent (a.number - 1) c.begin_row.new.row
-    (c.begin_row.ensures a.agent (a.number - 1) (base_stands p c.requires.range c.args.rows.now c.args.n c.requires.rows c.args.join.now c.requires.next))
+    record {
+      row = c.begin_row.ensures.row;
+      others = others_first p c.args.rows.now.columns a.agent (a.number - 1) (counts_of c.begin_row.new.row)
+          (c.begin_row.ensures.counts a.agent (a.number - 1) (base_stands p c.requires.range c.args.rows.now c.args.n c.requires.rows c.args.join.now c.requires.next));
+    }
 
 pub join_row-requires-clause-there : goal.join_row-requires-clause-there
 join_row-requires-clause-there g c =
@@ -38,15 +42,18 @@ loop-k-preserved g c =
     let read : c.index-taken.result.now ≡ row_taken m.schedule.now.rows.items join c.loop-k.k =
     count_read m.schedule.now.rows.items (join.first + c.from.result) (join.first + c.loop-k.k) c.index-taken.result.now (omega (arith, c.from.ensures)) (omega (arith, l, is.within)) c.index-taken.ensures in
     let f : a.number - 1 + 1 ≡ a.number = number_on p c.requires.range m c.args.n c.requires.rows join c.requires.next in
-    others_next p m.columns a.agent (a.number - 1) c.loop-k.k w.0 (subst (λ (n : ℕ). slice_get (awaits_of p a.agent n) c.loop-k.k ≡ Some w.0) (sym f) w.1) c.loop-k.row c.join_row.new.row
-    (c.join_row.ensures w.0.agent w.0.count (subst (λ (r : ℕ). StandsThere p m r w.0.agent w.0.count) (sym read) (taken_stands p c.requires.range m c.args.n c.requires.rows join c.requires.next c.loop-k.k w.0 w.1)))
-    c.loop-k.invariant
+    record {
+      row = c.join_row.ensures.row;
+      others = others_next p m.columns a.agent (a.number - 1) c.loop-k.k w.0 (subst (λ (n : ℕ). slice_get (awaits_of p a.agent n) c.loop-k.k ≡ Some w.0) (sym f) w.1) (counts_of c.loop-k.row) (counts_of c.join_row.new.row)
+          (c.join_row.ensures.joined w.0.agent w.0.count (subst (λ (r : ℕ). StandsThere p m r w.0.agent w.0.count) (sym read) (taken_stands p c.requires.range m c.args.n c.requires.rows join c.requires.next c.loop-k.k w.0 w.1)))
+          c.loop-k.invariant.others;
+    }
 
-pub returns : goal.returns
-returns g c =
+pub returns-clause-others : goal.returns-clause-others
+returns-clause-others g c =
     let p = g.P.ProgramView.program c.args.program.now in
     let m = c.args.rows.now in
     let a = c.args.join.now.action in
     let f : a.number - 1 + 1 ≡ a.number = number_on p c.requires.range m c.args.n c.requires.rows c.args.join.now c.requires.next in
     let whole : c.loop-k.k ≡ length (awaits_of p a.agent a.number) = omega (arith, c.loop-k-test.false, c.await_count-k-end.ensures, c.loop-k.auto.k-end) in
-    subst (λ (n : ℕ). AreOthersTo p m.columns a.agent (a.number - 1) n c.loop-k.row) (whole ∙ ap (λ (n : ℕ). length (awaits_of p a.agent n)) (sym f)) c.loop-k.invariant
+    subst (λ (n : ℕ). AreOthersTo p m.columns a.agent (a.number - 1) n (counts_of c.loop-k.row)) (whole ∙ ap (λ (n : ℕ). length (awaits_of p a.agent n)) (sym f)) c.loop-k.invariant.others

@@ -1,6 +1,11 @@
 use Rattle.std.proofs.Common.{◌-◌}
+use Rattle.fleet_needs.specs.Counts.{counts_of}
+use Rattle.fleet_needs.specs.Schedule.{IsRowFor}
 use Rattle.fleet_needs.proofs.RowsMade.{AreOthersTo}
 use Rattle.fleet_needs.proofs.join_pass.others_row.Given as goal
 
 abbrev pub invariant-loop-k : goal.invariant-loop-k
-invariant-loop-k g l = AreOthersTo (g.P.ProgramView.program l.program) l.rows.columns l.join.action.agent (l.join.action.number - 1) l.k l.row
+invariant-loop-k g l = record {
+  row : IsRowFor l.rows l.row;
+  others : AreOthersTo (g.P.ProgramView.program l.program) l.rows.columns l.join.action.agent (l.join.action.number - 1) l.k (counts_of l.row);
+}

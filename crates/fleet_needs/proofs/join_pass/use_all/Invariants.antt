@@ -1,11 +1,12 @@
 use Rattle.std.proofs.Common.{◌≡◌}
-use Rattle.fleet_needs.specs.Schedule.{AreRowsTo}
+use Rattle.fleet_needs.specs.Schedule.{AreRowsTo, IsRowFor}
 use Rattle.fleet_needs.proofs.join_pass.use_all.Given as goal
 
 abbrev pub invariant-loop-n : goal.invariant-loop-n
 invariant-loop-n g l = record {
   schedule : l.rows.schedule ≡ l.fn.rows.schedule;
   columns : l.rows.columns ≡ l.fn.rows.columns;
+  row : IsRowFor l.rows l.row;
   rows : AreRowsTo (g.P.ProgramView.program l.program) l.rows l.n;
   used : g.U.JoinUse.used (g.P.ProgramView.program l.program) l.fn.rows.schedule.now l.fn.rows.columns l.n l.uses;
   keeps : g.U.JoinUse.keeps (g.P.ProgramView.program l.program) l.fn.rows.columns l.fn.uses l.uses;

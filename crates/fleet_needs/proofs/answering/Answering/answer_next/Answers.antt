@@ -1,11 +1,12 @@
 use Rattle.std.proofs.Common.{◌≡◌, ◌∙◌, true, false, refl, arith, inr}
 use Rattle.std.proofs.lemmas.List.{get_or_read}
+use Rattle.fleet_needs.specs.Counts.{counts_of}
 use Rattle.fleet_needs.proofs.Answered.{asked_row, asked_question, next_asked}
 use Rattle.fleet_needs.proofs.answering.Answering.answer_next.Goals as goal
 
 pub answer_one-requires-clause-row : goal.answer_one-requires-clause-row
 answer_one-requires-clause-row g c =
-    asked_row (g.P.ProgramView.program c.args.program.now) c.args.columns.now c.args.self.now.questions.now c.args.action c.args.self.now.next _ (c.ends_with.ensures.ends.0 c.if-ends_with.true) c.args.row.now c.requires.of
+    asked_row (g.P.ProgramView.program c.args.program.now) c.args.columns.now c.args.self.now.questions.now c.args.action c.args.self.now.next _ (c.ends_with.ensures.ends.0 c.if-ends_with.true) (counts_of c.args.row.now) c.requires.of
 
 pub answer_one-requires-clause-question : goal.answer_one-requires-clause-question
 answer_one-requires-clause-question g c =

@@ -13,7 +13,7 @@ answer_next-requires-clause-of g c =
     let s = c.args.rows.now.schedule.now in
     let join = c.index.result.now in
     let at : slice_get s.joins.items c.args.n ≡ Some join = slice_get-get_or s.joins.items c.args.n join (omega arith) ∙ ap Some (sym c.index.ensures) in
-    c.whole_row.ensures join at
+    c.whole_row.ensures.made join at
 
 pub returns-clause-used : goal.returns-clause-used
 returns-clause-used g c =

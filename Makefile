@@ -31,7 +31,7 @@ help:
 	@echo 'make examples              runs the program on every example of the documents, on transcripts and tables, and on files and streams at their limits'
 	@echo 'make examples FLEET=PATH   the same of another program'
 	@echo 'make edits                 tries more edits that must fail, those of tests/edits, which would cost the gate too much'
-	@echo 'make neutral              tries changes that mean nothing, those of tests/neutral, which the prover has to take'
+	@echo 'make neutral               tries changes that mean nothing, those of tests/neutral, which the prover has to take'
 	@echo 'make numbers               compares the numbers of 10,000 plans at random with a count of another hand'
 	@echo 'make picture               draws the film and the chart of the README anew, docs/warehouse.svg and docs/waits.svg'
 	@echo 'make definitions           writes docs/DEFINITIONS.md anew, from the comments in crates/*/specs'

@@ -124,7 +124,8 @@ END {
     for (it in said) want(it, said[it], "")
     for (i = 1; i <= count; i++) {
         split(order[i], at, SUBSEP)
-        if (at[2] in is_told_of) wanted[order[i]] = 1
+        if (is_told_of[at[2]]) wanted[order[i]] = 1
+        is_told_of[at[2]] = 0
     }
     for (key in wanted) is_named[key] = 1
     do {

@@ -51,6 +51,6 @@ IsCompileStop map scen agents text deps dwell (f.Compile fault) =
     (g : Ground) × (tasks : List Task) × AreTextsOf map scen agents g tasks × IsProgramStop g tasks text deps dwell (f.Compile fault)
 IsCompileStop map scen agents text deps dwell fault = IsCheckStop map scen agents text fault
 
--- the same, with the status of a call that answers
+-- the bytes of the program of such texts (CompilesTexts), with the status of a call that answers
 abbrev pub CompilesTo : (map scen : List ℕ) → ℕ → List ℕ → Deps → ℕ → (bytes : List ℕ) → ℕ → Type 0
 CompilesTo map scen agents text deps dwell bytes done = CompilesTexts map scen agents text deps dwell bytes × (done ≡ DONE)

@@ -29,6 +29,6 @@ IsPlannerStop map scen agents horizon tries (f.Search stop) =
     × ((agent : ℕ) → stop ≡ p.NoPath agent → IsStuckInTries (is_passable g) tasks horizon tries agent)
 IsPlannerStop map scen agents horizon tries fault = IsTextsStop map scen agents fault
 
--- the same, with the status of a call that answers
+-- the plan of such texts (PlansTexts), with the status of a call that answers
 abbrev pub PlansTo : (map scen : List ℕ) → (agents horizon tries : ℕ) → (text : List ℕ) → ℕ → Type 0
 PlansTo map scen agents horizon tries text done = PlansTexts map scen agents horizon tries text × (done ≡ DONE)

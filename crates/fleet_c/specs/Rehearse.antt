@@ -54,6 +54,6 @@ IsRehearseStop bytes held (f.Run fault) =
     × Rehearses p (hold_source p held) source empty_sink out (Err fault)
 IsRehearseStop bytes held _ = ⊥
 
--- the same, with the status that says how it ended
+-- the text of such a rehearsal (RehearsesBytes), with the status that says how it ended
 abbrev pub RehearsesTo : (bytes held : List ℕ) → (text : List ℕ) → ℕ → Type 0
 RehearsesTo bytes held text done = (end : End) × RehearsesBytes bytes held text end × (done ≡ end_status end)

@@ -28,6 +28,7 @@ use Rattle.fleet_code.proofs.Parts.{IsBytes, TakesFront, number_takes, count_tak
 use Rattle.fleet_code.proofs.RoundTrip.{with_await, magic_long, step_again, action_takes, agent_takes, agents_take, after_count, after_start, after_agents, after_agent_count}
 use Rattle.fleet_code.proofs.Awaited.{least_after, after_more, from_more, all_below, some_above}
 use Rattle.fleet_code.proofs.Reached.{each_from, to_first, total_from, total_more, parts_more, agent_reached, opcode_left, agent_left}
+use Rattle.fleet_model.specs.declared.limits.TheConstants.{MAX_AGENTS, MAX_MOVES_IN_ALL}
 
 -- ---- steps that fail
 
@@ -183,7 +184,7 @@ opcode_fails v bytes n i (suc turns) ws at_action (b ∷ rest) f r from fit part
 
 -- ---- the actions of an agent
 
-module _ (v : Version) (bytes : List ℕ) (n : ℕ) (p : Program) (at_agent : List ℕ) (count : ℕ) (at_actions : List ℕ) (reached : ReachesAgent v bytes n p at_agent) (within : length p < n) (head : HasHead v at_agent count at_actions) (few : count ≤ (most_moves v)) (total : total_moves p + count ≤ 4194304) where
+module _ (v : Version) (bytes : List ℕ) (n : ℕ) (p : Program) (at_agent : List ℕ) (count : ℕ) (at_actions : List ℕ) (reached : ReachesAgent v bytes n p at_agent) (within : length p < n) (head : HasHead v at_agent count at_actions) (few : count ≤ (most_moves v)) (total : total_moves p + count ≤ MAX_MOVES_IN_ALL) where
   actions_fail : (left : ℕ) (actions : List Action) (rest : List ℕ) (f : LoadFault) → length actions + left ≡ count → All (λ s. AreAwaits n (length p) s.awaits) actions → AreSpellable v actions → at_actions ≡ flat_map (action v) actions ++ rest
       → IsBytes rest → actions_at v left (length bytes) n (length p) rest ≡ Err f → IsFirstFaultIn v bytes f
   unfolding actions_at
@@ -241,16 +242,16 @@ agent_fails v bytes n p rest f r within fits e =
                       first.0.parts ∙ ap (λ (t : List ℕ). cell c ++ t) (second.0.parts ∙ ap (λ (t : List ℕ). cell d ++ t) third.0.parts) ∙ (simp append_assoc) in
                       let head : HasHead v rest many after = record { start = c; goal = d; start_fits = first.1; goal_fits = second.1; moves_fit = third.1; parts = parts } in
                       let made : List Action × List ℕ → Field AgentProgram = λ actions. Ok (record { start = c; goal = d; actions = actions.0 }, actions.1) in
-                      elim (test_err (ltb (most_moves v) many || ltb 4194304 (total + many)) Total (actions_at v many whole n i after >>= made) f counted.2) [
+                      elim (test_err (ltb (most_moves v) many || ltb MAX_MOVES_IN_ALL (total + many)) Total (actions_at v many whole n i after >>= made) f counted.2) [
                         | inl over ↦ (
-                            let which : ((most_moves v) < many) ⊎ (4194304 < total + many) =
-                            elim (or_cases (ltb (most_moves v) many) (ltb 4194304 (total + many)) over.0) [
+                            let which : ((most_moves v) < many) ⊎ (MAX_MOVES_IN_ALL < total + many) =
+                            elim (or_cases (ltb (most_moves v) many) (ltb MAX_MOVES_IN_ALL (total + many)) over.0) [
                               | inl own ↦ inl (ltb-true (most_moves v) many own)
-                              | inr all ↦ inr (ltb-true 4194304 (total + many) all)
+                              | inr all ↦ inr (ltb-true MAX_MOVES_IN_ALL (total + many) all)
                             ] in
                             subst (IsFirstFaultIn v bytes) over.1 (n, p, rest, many, after, r, within, head, which))
-                        | inr few ↦ (let tests = or_parts (ltb (most_moves v) many) (ltb 4194304 (total + many)) few.0 in elim (bind_err (actions_at v many whole n i after) made f few.1) [
-                          | inl h ↦ actions_fail v bytes n p rest many after r within head (ltb-false (most_moves v) many tests.0) (ltb-false 4194304 (total + many) tests.1) many [] after f (omega arith) (All-nil (λ (s : Action). AreAwaits n i s.awaits)) (All-nil (IsSpellable v)) refl third.0.rest_fits h
+                        | inr few ↦ (let tests = or_parts (ltb (most_moves v) many) (ltb MAX_MOVES_IN_ALL (total + many)) few.0 in elim (bind_err (actions_at v many whole n i after) made f few.1) [
+                          | inl h ↦ actions_fail v bytes n p rest many after r within head (ltb-false (most_moves v) many tests.0) (ltb-false MAX_MOVES_IN_ALL (total + many) tests.1) many [] after f (omega arith) (All-nil (λ (s : Action). AreAwaits n i s.awaits)) (All-nil (IsSpellable v)) refl third.0.rest_fits h
                           | inr actions ↦ absurd (no_fault (record { start = c; goal = d; actions = actions.0.0 }, actions.0.1) f actions.2)
                         ])
                       ])
@@ -338,8 +339,8 @@ without_magic v bytes h = (h.0, (let within = h.1 in omega (arith, within, (magi
 
 -- ---- all of the bytes
 
-agents_reached : (v : Version) (bytes at_number : List ℕ) (n : ℕ) (at_agents : List ℕ) (p : Program) (rest : List ℕ) → bytes ≡ (magic v) ++ at_number → at_number ≡ two_bytes n ++ at_agents → 1 ≤ n → n ≤ 1024
-    → ((i : ℕ) (a : AgentProgram) → slice_get p i ≡ Some a → IsAgent n i a) → CanSpell v p → total_moves p ≤ 4194304 → at_agents ≡ flat_map (agent v) p ++ rest → ReachesAgent v bytes n p rest
+agents_reached : (v : Version) (bytes at_number : List ℕ) (n : ℕ) (at_agents : List ℕ) (p : Program) (rest : List ℕ) → bytes ≡ (magic v) ++ at_number → at_number ≡ two_bytes n ++ at_agents → 1 ≤ n → n ≤ MAX_AGENTS
+    → ((i : ℕ) (a : AgentProgram) → slice_get p i ≡ Some a → IsAgent n i a) → CanSpell v p → total_moves p ≤ MAX_MOVES_IN_ALL → at_agents ≡ flat_map (agent v) p ++ rest → ReachesAgent v bytes n p rest
 agents_reached v bytes at_number n at_agents p rest e1 e2 some few agents moves total e3 = record {
   some = some;
   few = few;
@@ -377,19 +378,19 @@ is_first v bytes f fits e =
                 let at_agents = counted.0.1 in
                 let taken = number_takes at_number n at_agents number_fits counted.1 in
                 let all = agents_at v n whole n 0 0 at_agents in
-                elim (test_err (eqb n 0 || ltb 1024 n) AgentCount (all >>= after_agents whole) f counted.2) [
+                elim (test_err (eqb n 0 || ltb MAX_AGENTS n) AgentCount (all >>= after_agents whole) f counted.2) [
                   | inl wrong ↦ (
-                      let which : (n ≡ 0) ⊎ (1024 < n) =
-                      elim (or_cases (eqb n 0) (ltb 1024 n) wrong.0) [
+                      let which : (n ≡ 0) ⊎ (MAX_AGENTS < n) =
+                      elim (or_cases (eqb n 0) (ltb MAX_AGENTS n) wrong.0) [
                         | inl none ↦ inl (eqb-true n 0 none)
-                        | inr many ↦ inr (ltb-true 1024 n many)
+                        | inr many ↦ inr (ltb-true MAX_AGENTS n many)
                       ] in
                       subst (IsFirstFaultIn v bytes) wrong.1 (n, at_number, at_agents, m.1, number_is_read at_number n at_agents number_fits counted.1, which))
                   | inr right ↦ (
-                      let tests = or_parts (eqb n 0) (ltb 1024 n) right.0 in
+                      let tests = or_parts (eqb n 0) (ltb MAX_AGENTS n) right.0 in
                       let some_agents = eqb-false n 0 tests.0 in
                       let some : 1 ≤ n = omega (arith, some_agents) in
-                      let few = ltb-false 1024 n tests.1 in
+                      let few = ltb-false MAX_AGENTS n tests.1 in
                       let reached = agents_reached v bytes at_number n at_agents in
                       elim (bind_err all (after_agents whole) f right.1) [
                         | inl h ↦ agents_fail v bytes n n 0 0 [] at_agents f (reached [] at_agents m.1 taken.0.parts some few (λ i a none. absurd cc) (All-nil (IsSpellableAgent v)) (omega arith) refl) refl refl (omega arith) taken.0.rest_fits h

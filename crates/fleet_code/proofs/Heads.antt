@@ -13,6 +13,7 @@ use Rattle.fleet_code.specs.declared.format.Version.TheVariants.{One, Two}
 use Rattle.fleet_code.specs.Spelling.{most_moves}
 use Rattle.fleet_code.specs.Reading.{Field, magic_at, number_at, count_from, cell_from, actions_at, agent_at, agents_at, program_as}
 use Rattle.fleet_code.specs.Heads.{head_at, agent_head_at}
+use Rattle.fleet_model.specs.declared.limits.TheConstants.{MAX_AGENTS, MAX_MOVES_IN_ALL}
 
 -- ---- steps and a test, of which the value goes to the next
 
@@ -43,7 +44,7 @@ module _ (v : Version) (bytes : List ℕ) where
 
   after_its_head : program_as v bytes ≡ (head_at v bytes >>= after_head)
   unfolding program_as head_at
-  after_its_head = two_steps AgentCount after_head (magic_at v bytes) number_at (λ (n : ℕ × List ℕ). eqb n.0 0 || ltb 1024 n.0) (λ (rest : List ℕ) (n : ℕ × List ℕ). n)
+  after_its_head = two_steps AgentCount after_head (magic_at v bytes) number_at (λ (n : ℕ × List ℕ). eqb n.0 0 || ltb MAX_AGENTS n.0) (λ (rest : List ℕ) (n : ℕ × List ℕ). n)
 
   pub head_fails : (f : LoadFault) → head_at v bytes ≡ Err f → program_as v bytes ≡ Err f
   head_fails f e = after_its_head ∙ rw e refl
@@ -67,7 +68,7 @@ module _ (v : Version) (whole n i total : ℕ) (bytes : List ℕ) where
   after_the_head : agent_at v whole n i total bytes ≡ (agent_head_at v total bytes >>= after_agent_head)
   unfolding agent_at agent_head_at
   after_the_head =
-      three_steps Total after_agent_head (cell_from bytes) (λ (s : Cell × List ℕ). cell_from s.1) (λ (g : Cell × List ℕ). count_from v g.1) (λ (c : ℕ × List ℕ). ltb (most_moves v) c.0 || ltb 4194304 (total + c.0))
+      three_steps Total after_agent_head (cell_from bytes) (λ (s : Cell × List ℕ). cell_from s.1) (λ (g : Cell × List ℕ). count_from v g.1) (λ (c : ℕ × List ℕ). ltb (most_moves v) c.0 || ltb MAX_MOVES_IN_ALL (total + c.0))
       (λ (s g : Cell × List ℕ) (c : ℕ × List ℕ). ((s.0, g.0, c.0), c.1))
 
   pub agent_head_fails : (f : LoadFault) → agent_head_at v total bytes ≡ Err f → agent_at v whole n i total bytes ≡ Err f

@@ -15,6 +15,7 @@ use Rattle.fleet_model.proofs.OnePass.{AgentsFrom}
 use Rattle.fleet_code.specs.declared.format.Version.{Version}
 use Rattle.fleet_code.specs.Spelling.{magic, two_bytes, count as count_of, cell, await, action, agent, IsSpellableAgent}
 use Rattle.fleet_code.specs.LoadFaults.{ReachesAgent, ReachesAction, ReachesOpcode}
+use Rattle.fleet_model.specs.declared.limits.TheConstants.{MAX_MOVES_IN_ALL}
 
 -- ---- the agents before
 
@@ -28,7 +29,7 @@ each_from n i total (a ∷ p) h (suc j) b e =
     let same : i + suc j ≡ i + 1 + j = omega arith in
     rw same (each_from n (i + 1) (total + length a.actions) p h.2 j b e)
 
-pub from_each : (n i total : ℕ) (p : Program) → EachIs n i p → total + total_moves p ≤ 4194304 → AgentsFrom n i total p
+pub from_each : (n i total : ℕ) (p : Program) → EachIs n i p → total + total_moves p ≤ MAX_MOVES_IN_ALL → AgentsFrom n i total p
 from_each n i total [] h le = tt
 from_each n i total (a ∷ p) h le =
     let sum : total_moves (a ∷ p) ≡ length a.actions + total_moves p = sum_by-cons (λ (b : AgentProgram). length b.actions) a p in (
@@ -37,14 +38,14 @@ from_each n i total (a ∷ p) h le =
       from_each n (i + 1) (total + length a.actions) p (λ j b e. let same : i + suc j ≡ i + 1 + j = omega arith in rw same at (h (suc j) b e)) (omega (arith, sum, le)),
     )
 
-total_within : (n i total : ℕ) (p : Program) → AgentsFrom n i total p → total ≤ 4194304 → total + total_moves p ≤ 4194304
+total_within : (n i total : ℕ) (p : Program) → AgentsFrom n i total p → total ≤ MAX_MOVES_IN_ALL → total + total_moves p ≤ MAX_MOVES_IN_ALL
 total_within n i total [] h le = omega (arith, le)
 total_within n i total (a ∷ p) h le =
     let sum : total_moves (a ∷ p) ≡ length a.actions + total_moves p = sum_by-cons (λ (b : AgentProgram). length b.actions) a p in
     let rest = total_within n (i + 1) (total + length a.actions) p h.2 h.1 in
     omega (arith, sum, rest)
 
-pub total_from : (n : ℕ) (p : Program) → AgentsFrom n 0 0 p → total_moves p ≤ 4194304
+pub total_from : (n : ℕ) (p : Program) → AgentsFrom n 0 0 p → total_moves p ≤ MAX_MOVES_IN_ALL
 total_from n p h = let all = total_within n 0 0 p h (omega arith) in omega (arith, all)
 
 each_more : (n i : ℕ) (p : Program) (a : AgentProgram) → EachIs n i p → IsAgent n (i + length p) a → EachIs n i (p ++ a ∷ [])
@@ -88,7 +89,7 @@ front_more f front xs x bytes rest after e here =
     e ∙ append_assoc front (flat_map f xs) rest ∙ ap (λ (t : List ℕ). front ++ t) (parts_more f xs x (flat_map f xs ++ rest) rest after refl here) ∙ sym (append_assoc front (flat_map f (xs ++ x ∷ [])) after)
 
 pub agent_reached : (v : Version) (bytes : List ℕ) (n : ℕ) (p : Program) (a : AgentProgram) (rest after : List ℕ) → ReachesAgent v bytes n p rest → IsAgent n (length p) a → IsSpellableAgent v a
-    → total_moves p + length a.actions ≤ 4194304 → rest ≡ agent v a ++ after → ReachesAgent v bytes n (p ++ a ∷ []) after
+    → total_moves p + length a.actions ≤ MAX_MOVES_IN_ALL → rest ≡ agent v a ++ after → ReachesAgent v bytes n (p ++ a ∷ []) after
 agent_reached v bytes n p a rest after r own spellable le parts = record {
   some = r.some;
   few = r.few;

@@ -28,6 +28,7 @@ use Rattle.fleet_code.proofs.RoundTrip.{with_await, move_has, action_again, agen
 use Rattle.fleet_code.proofs.Awaited.{least_after, from_below, below_some}
 use Rattle.fleet_code.proofs.Reached.{from_first, from_each}
 use Rattle.fleet_code.proofs.FirstFaults.{magic_read, magic_ends, magic_differs}
+use Rattle.fleet_model.specs.declared.limits.TheConstants.{MAX_AGENTS, MAX_MOVES_IN_ALL}
 
 -- a step that fails fails what it begins
 pub fails_with : {A B : Type 0} (r : Result A LoadFault) (g : A → Result B LoadFault) (f : LoadFault) → r ≡ Err f → (r >>= g) ≡ Err f
@@ -109,12 +110,12 @@ agents_front v (a ∷ p) left whole n i total rest f few from moves fails =
 -- ---- all of the bytes
 
 -- the number of agents was read, and nothing refused it
-after_number : (v : Version) (bytes : List ℕ) (n : ℕ) (rest : List ℕ) → bytes ≡ (magic v) ++ two_bytes n ++ rest → 1 ≤ n → n ≤ 1024 → program_as v bytes ≡ (agents_at v n (length bytes) n 0 0 rest >>= after_agents (length bytes))
+after_number : (v : Version) (bytes : List ℕ) (n : ℕ) (rest : List ℕ) → bytes ≡ (magic v) ++ two_bytes n ++ rest → 1 ≤ n → n ≤ MAX_AGENTS → program_as v bytes ≡ (agents_at v n (length bytes) n 0 0 rest >>= after_agents (length bytes))
 unfolding program_as
 after_number v bytes n rest e some few =
     let at = length bytes in
     let all = agents_at v n at n 0 0 rest >>= after_agents at in
-    let no_fault : (eqb n 0 || ltb 1024 n) ≡ false = or_from (eqb n 0) (ltb 1024 n) (ne_eqb n 0 (λ z. omega (arith, some, z))) (le-ltb 1024 n few) in
+    let no_fault : (eqb n 0 || ltb MAX_AGENTS n) ≡ false = or_from (eqb n 0) (ltb MAX_AGENTS n) (ne_eqb n 0 (λ z. omega (arith, some, z))) (le-ltb MAX_AGENTS n few) in
     goes_on (magic_at v bytes) (λ r. number_at r >>= after_agent_count v at) (two_bytes n ++ rest) (magic_read v bytes (two_bytes n ++ rest) (e ∙ append_assoc (magic v) (two_bytes n) rest))
     ∙ goes_on (number_at (two_bytes n ++ rest)) (after_agent_count v at) (n, rest) (number_again n rest (omega (arith, few)))
     ∙ ap (λ (b : Bool). fault_if b AgentCount >> all) no_fault
@@ -160,7 +161,7 @@ told_action v bytes n i rest f r fails =
     let size : length r.actions + suc (count - suc (length r.actions)) ≡ count = omega (arith, more) in
     let actions : actions_at v count at n i r.at_actions ≡ Err f =
     ap (actions_at v count at n i) r.parts ∙ rw size at (actions_front v r.actions (count - suc (length r.actions)) at n i rest f (omega (arith, few)) r.awaits r.spellable fails) in
-    let fine : (ltb (most_moves v) count || ltb 4194304 (total_moves p + count)) ≡ false = or_from (ltb (most_moves v) count) (ltb 4194304 (total_moves p + count)) (le-ltb (most_moves v) count r.few) (le-ltb 4194304 (total_moves p + count) r.total) in
+    let fine : (ltb (most_moves v) count || ltb MAX_MOVES_IN_ALL (total_moves p + count)) ≡ false = or_from (ltb (most_moves v) count) (ltb MAX_MOVES_IN_ALL (total_moves p + count)) (le-ltb (most_moves v) count r.few) (le-ltb MAX_MOVES_IN_ALL (total_moves p + count) r.total) in
     let head : agent_at v at n i (total_moves p) r.at_agent ≡ Err f =
     head_read v at n i (total_moves p) r.at_agent count r.at_actions f r.head
     (rw fine (fails_with (actions_at v count at n i r.at_actions) (λ x. Ok (record { start = r.head.start; goal = r.head.goal; actions = x.0 }, x.1)) f actions)) in
@@ -270,10 +271,10 @@ is_told v bytes Truncated h = told_end v bytes h
 is_told v bytes AgentCount h =
     let n = h.0 in
     let at = length bytes in
-    let wrong : (eqb n 0 || ltb 1024 n) ≡ true =
+    let wrong : (eqb n 0 || ltb MAX_AGENTS n) ≡ true =
     elim h.5 [
-      | inl none ↦ or_left (eqb n 0) (ltb 1024 n) (eq-eqb n 0 none)
-      | inr many ↦ or_right (eqb n 0) (ltb 1024 n) (lt-ltb 1024 n many)
+      | inl none ↦ or_left (eqb n 0) (ltb MAX_AGENTS n) (eq-eqb n 0 none)
+      | inr many ↦ or_right (eqb n 0) (ltb MAX_AGENTS n) (lt-ltb MAX_AGENTS n many)
     ] in
     goes_on (magic_at v bytes) (λ r. number_at r >>= after_agent_count v at) h.1 (magic_read v bytes h.1 h.3)
     ∙ goes_on (number_at h.1) (after_agent_count v at) (n, h.2) (ap number_at h.4.parts ∙ number_again n h.2 h.4.fits)
@@ -282,9 +283,9 @@ is_told v bytes Total h =
     let p = h.1 in
     told_agent v bytes h.0 p h.2 Total h.5 h.6 (head_read v (length bytes) h.0 (length p) (total_moves p) h.2 h.3 h.4 Total h.7 (rw (over h.8) refl))
   where
-    over : ((most_moves v) < h.3) ⊎ (4194304 < total_moves h.1 + h.3) → (ltb (most_moves v) h.3 || ltb 4194304 (total_moves h.1 + h.3)) ≡ true
-    over (inl own) = or_left (ltb (most_moves v) h.3) (ltb 4194304 (total_moves h.1 + h.3)) (lt-ltb (most_moves v) h.3 own)
-    over (inr all) = or_right (ltb (most_moves v) h.3) (ltb 4194304 (total_moves h.1 + h.3)) (lt-ltb 4194304 (total_moves h.1 + h.3) all)
+    over : ((most_moves v) < h.3) ⊎ (MAX_MOVES_IN_ALL < total_moves h.1 + h.3) → (ltb (most_moves v) h.3 || ltb MAX_MOVES_IN_ALL (total_moves h.1 + h.3)) ≡ true
+    over (inl own) = or_left (ltb (most_moves v) h.3) (ltb MAX_MOVES_IN_ALL (total_moves h.1 + h.3)) (lt-ltb (most_moves v) h.3 own)
+    over (inr all) = or_right (ltb (most_moves v) h.3) (ltb MAX_MOVES_IN_ALL (total_moves h.1 + h.3)) (lt-ltb MAX_MOVES_IN_ALL (total_moves h.1 + h.3) all)
 is_told v bytes (Opcode at) h = told_opcode v bytes h.0 h.1 h.2 (h.3 ∷ h.4) (Opcode at) h.5 (turned (offset_is h.6))
   where
     offset_is : IsOffset bytes (h.3 ∷ h.4) at → length bytes - length (h.3 ∷ h.4) ≡ at

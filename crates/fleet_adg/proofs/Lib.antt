@@ -18,3 +18,4 @@ pub mod Staying
 pub mod Short
 pub mod Thinning
 mod RestMade
+mod TasksOf

@@ -26,6 +26,6 @@ pub use laws::{
     awaits_are_as_defined, compiled_plans_are_accepted, compiled_plans_are_well_formed,
     compiled_plans_run_equally,
 };
-pub use remaining::rest;
+pub use remaining::{accepted_tasks_are_an_instance, rest, tasks_of};
 pub use thin_fault::ThinFault;
 pub use thinner::thin;

@@ -1,20 +1,25 @@
 //! What is left of programs whose agents are on their way.
 
-ghost use Rattle.std.specs.Prelude.{◌≡◌, ◌<◌, IfOk, Some, None, true, false, length, drop, map};
+ghost use Rattle.std.specs.Prelude.{◌≡◌, ◌<◌, IfOk, Some, None, true, false, List, All, length, drop, map};
 ghost use Rattle.fleet_model.specs.declared.program.Await.{Await};
-ghost use Rattle.fleet_model.specs.Program.{actions_of, awaits_of};
+ghost use Rattle.fleet_model.specs.declared.task.Task.{Task};
+ghost use Rattle.fleet_model.specs.Program.{Program, IsWellFormed, actions_of, awaits_of};
 ghost use Rattle.fleet_model.specs.Machine.{IsReached, count_at, is_met};
 ghost use Rattle.fleet_model.specs.Chain.{IsAction};
 ghost use Rattle.fleet_model.specs.Accepted.{IsAccepted};
-ghost use Rattle.fleet_grid.specs.Ground.{is_passable};
+ghost use Rattle.fleet_grid.specs.Ground.{Ground, is_passable};
+ghost use Rattle.fleet_scen.specs.Instance.{IsInstance};
+ghost use Rattle.fleet_scen.specs.ScenText.{HasPassableEnds};
 ghost use Rattle.fleet_verify.specs.Rest.{StandOn, RunsOn, cell_at, natural, rest, rest_action, rest_agent, rest_await, rest_awaits, rest_tasks};
-ghost use Rattle.fleet_adg.specs.Remaining.{IsOnWay, IsCellNumber};
+ghost use Rattle.fleet_adg.specs.Remaining.{IsOnWay, IsCellNumber, tasks_of};
 
 use fleet_model::{
     Action, ActionId, Actions, AgentProgram, Await, Awaits, Cell, OutOfMemory, Place, Program,
-    ProgramView, Standing,
+    ProgramView, Standing, Task,
 };
-use fleet_verify::{Accepted, rests_are_accepted, rests_are_well_formed, rests_run_on};
+use fleet_verify::{
+    Accepted, rests_are_accepted, rests_are_well_formed, rests_run_on, runs_are_safe, runs_arrive,
+};
 use std::alloc::Global;
 
 /// The rest of an accepted program, some of whose actions are finished: for each agent, from the cell on which it
@@ -167,4 +172,32 @@ fn unmet(standings: &[Standing], awaited: Await) -> Option<Await>
         agent: awaited.agent,
         count: awaited.count - done,
     })
+}
+
+/// The tasks of a program: each agent's, from its start to its goal. Of an accepted program they are those that it was
+/// accepted for. It fails only if memory is refused.
+pub fn tasks_of<P: ProgramView>(alloc: Global, program: &P) -> Result<Vec<Task>, OutOfMemory>
+    ensures { IfOk result (λ v. v.items ≡ tasks_of (P.program program.now)) }
+{
+    let agents = program.agents();
+    let mut tasks = Vec::with_capacity(alloc, usize::from(agents))?;
+    for i in 0..agents {
+        let (start, goal) = (program.start(i), program.goal(i));
+        tasks.push(Task { start, goal })?;
+    }
+    Ok(tasks)
+}
+
+/// The tasks that a program is accepted for are its own, and an instance whose starts and goals are passable. This does
+/// nothing: its contract is the law.
+pub fn accepted_tasks_are_an_instance()
+    ensures tasks { (g : Ground) (tasks : List Task) (p : Program)
+        → IsAccepted (is_passable g) tasks p → tasks ≡ tasks_of p }
+    ensures ends { (g : Ground) (tasks : List Task) (p : Program)
+        → IsAccepted (is_passable g) tasks p → All (HasPassableEnds g) tasks }
+    ensures instance { (g : Ground) (tasks : List Task) (p : Program) → IsWellFormed p
+        → IsAccepted (is_passable g) tasks p → IsInstance tasks }
+{
+    runs_are_safe();
+    runs_arrive();
 }

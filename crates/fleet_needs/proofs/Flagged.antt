@@ -5,7 +5,7 @@ use Rattle.std.proofs.lemmas.Bool.{cases_lt, cases_eq, false≢true}
 use Rattle.std.proofs.lemmas.Option.{slice_get_within, get_or_from_slice_get, same_Some}
 use Rattle.fleet_model.specs.declared.program.ActionId.{ActionId}
 use Rattle.fleet_model.specs.declared.program.Await.{Await}
-use Rattle.fleet_model.specs.Program.{Program, awaits_of, AreInRange, IsWellFormed}
+use Rattle.fleet_model.specs.Program.{Program, awaits_of, total_awaits, AreInRange, IsWellFormed}
 use Rattle.fleet_model.specs.Chain.{IsAction}
 use Rattle.fleet_needs.specs.Block.{HasColumn}
 use Rattle.fleet_needs.specs.Columns.{AreColumns}
@@ -15,10 +15,13 @@ use Rattle.fleet_needs.specs.declared.slots.Columns.{Columns}
 use Rattle.fleet_needs.specs.declared.joins.Join.{Join}
 use Rattle.fleet_needs.specs.declared.schedule.Schedule.{Schedule}
 use Rattle.fleet_needs.proofs.Passing.{same_or_not}
-use Rattle.fleet_needs.specs.Implied.{IsImpliedFlag, first_await}
+use Rattle.fleet_needs.specs.Implied.{AreAwaitPlaces, IsImpliedFlag, first_await}
 use Rattle.fleet_needs.specs.Settled.{AreSettled}
 use Rattle.fleet_needs.proofs.AwaitOrder.{flag_apart}
-use Rattle.fleet_needs.specs.Flags.{AreFlagged, AreFlaggedFor, AreLeft, AreAllFlagged}
+use Rattle.fleet_needs.specs.Flags.{AreFlagged, AreFlaggedFor, AreLeft, AreAllFlagged, AreAwaitFlags, AreFlaggedTo, AreImplied}
+use Rattle.fleet_needs.specs.Schedule.{AreColumnsOf, IsSchedule}
+use Rattle.fleet_needs.specs.declared.implied.ImpliedAwaits.{ImpliedAwaits}
+use Rattle.fleet_needs.proofs.Joining.{awaited_action}
 use Rattle.fleet_needs.proofs.RowFlags.{flagged}
 
 -- an action awaits others than its own agent
@@ -143,3 +146,37 @@ flagged_to p asked from columns h old new here left settled before a is k w at l
 -- if no agent is asked for, all flags say whether their await is implied
 pub flagged_if_none : (p : Program) (asked flags : List Bool) → ((j : ℕ) → get_or asked j false ≡ false) → AreSettled p asked flags → AreAllFlagged p flags
 flagged_if_none p asked flags none settled a is k w at = elim (settled a is is k w at) [ inr was ↦ was | inl set ↦ absurd (false≢true (sym (none w.agent) ∙ set)) ]
+
+-- ---- block by block
+
+-- columns of agents of the program
+pub columns_of : (p : Program) (asked : List Bool) (from : ℕ) (columns : Columns) → length asked ≡ length p → AreColumns asked from columns → AreColumnsOf p columns
+columns_of p asked from columns all h = record { agents = h.agents ∙ all; within = h.within; apart = h.apart }
+
+-- before the first block
+pub flags_first : (p : Program) (asked : List Bool) (m : ImpliedAwaits) → AreAwaitPlaces p m.places → length m.flags.items ≡ total_awaits p → AreSettled p asked m.flags.items → AreFlaggedTo p asked 0 m
+flags_first p asked m places all settled = record { places = places; all = all; settled = settled; flagged = λ a is k w at l. absurd (omega arith) }
+
+-- .. and before the first row of each
+pub flags_begun : (p : Program) (s : Schedule) (asked : List Bool) (from : ℕ) (columns : Columns) (m : ImpliedAwaits) → AreFlaggedTo p asked from m → AreAwaitFlags p s columns 0 m
+flags_begun p s asked from columns m h = record { places = h.places; all = h.all; flagged = flagged_none p s columns m.flags.items }
+
+-- one block more
+pub flags_on : (p : Program) (s : Schedule) (asked : List Bool) (from : ℕ) (columns : Columns) (old new : ImpliedAwaits) → IsSchedule p s → AreColumns asked from columns → AreFlaggedTo p asked from old
+    → AreAwaitFlags p s columns (length s.joins.items) new → AreLeft p columns old.flags.items new.flags.items → AreFlaggedTo p asked columns.end new
+flags_on p s asked from columns old new schedule chosen was made left =
+    let all = flagged_all p s columns new.flags.items schedule.rows made.flagged in
+    record {
+      places = made.places;
+      all = made.all;
+      settled = settled_after p asked columns old.flags.items new.flags.items all left was.settled;
+      flagged = flagged_to p asked from columns chosen old.flags.items new.flags.items all left was.settled was.flagged;
+    }
+
+-- after the last block
+pub flags_end : (p : Program) → AreInRange p → (asked : List Bool) (from : ℕ) (m : ImpliedAwaits) → length p ≤ from → AreFlaggedTo p asked from m → AreImplied p m
+flags_end p range asked from m end h = record {
+  places = h.places;
+  all = h.all;
+  flagged = λ a is k w at. (let there = awaited_action p range a.agent a.number k w at in h.flagged a is k w at (omega (arith, there.agent, end)));
+}

@@ -266,7 +266,7 @@ joined_none p places a wanted m base left can within stands none = record {
 module _ (p : Program) (places : ActionPlaces) (a : ActionId) (wanted : Bool) (r : ℕ) (old mid new : Joins) (is : IsAction p a) (h : HasJoined p places a wanted r old mid)
     (joins : new.joins ≡ mid.joins) (rows : new.rows ≡ mid.rows) (lasts : new.lasts ≡ mid.lasts) (put : new.standing.items ≡ set mid.standing.items (place_of_action places a) r) where
   place_in : place_of_action places a < length mid.standing.items
-  place_in = omega (arith, place_within p places.firsts.items h.sound.right a is, h.sound.room)
+  place_in = omega (arith, place_within p places h.sound.right a is, h.sound.room)
 
   at_own : row_of places new a ≡ r
   at_own = ap (λ (xs : List ℕ). slice_index xs (place_of_action places a)) put ∙ get_or-set_same mid.standing.items (place_of_action places a) r 0 place_in
@@ -274,7 +274,7 @@ module _ (p : Program) (places : ActionPlaces) (a : ActionId) (wanted : Bool) (r
   at_other : (x : ActionId) → IsAction p x → x ≢ a → row_of places new x ≡ row_of places old x
   at_other x k ne =
       ap (λ (xs : List ℕ). slice_index xs (place_of_action places x)) put
-      ∙ get_or-set_other mid.standing.items (place_of_action places a) (place_of_action places x) r 0 (place_apart p places.firsts.items h.sound.right x a k is ne)
+      ∙ get_or-set_other mid.standing.items (place_of_action places a) (place_of_action places x) r 0 (place_apart p places h.sound.right x a k is ne)
       ∙ ap (λ xs. slice_index xs.items (place_of_action places x)) h.standing
 
   same_joins : new.joins.items ≡ mid.joins.items

@@ -3,8 +3,7 @@ use Rattle.std.proofs.Common.{◌≡◌, ℕ, ◌+◌, ◌-◌, ◌<◌, ◌≤�
 use Rattle.std.proofs.lemmas.Bool.{cases_lt, lt-ltb, le-ltb}
 use Rattle.std.proofs.lemmas.List.{get_or_append_left, get_or_push, length_push}
 use Rattle.fleet_model.specs.Program.{Program}
-use Rattle.fleet_needs.specs.Order.{IsNextReady, AreNoneReady, after_place, AreReadyAgents, IsOrder}
-use Rattle.fleet_needs.specs.declared.finish_order.FinishOrder.{FinishOrder}
+use Rattle.fleet_needs.specs.Order.{Finishes, IsNextReady, AreNoneReady, after_place, AreReadyAgents, IsOrder}
 
 -- ---- the agent before a place
 
@@ -80,53 +79,53 @@ ready_same p s old new begin end more kept h = record {
   none = subst (AreNoneReady p s) (sym (after_same old new begin end h.within kept)) h.none;
 }
 
-pub order_on : (p : Program) (o n : FinishOrder) (from end : ℕ) → IsOrder p o → AreBegun p (length o.ends.items - 1) o.agents.items n.agents.items from → AreNoneReady p (length o.ends.items - 1) from
-    → n.ends.items ≡ o.ends.items ++ end ∷ [] → end ≡ length n.agents.items → IsOrder p n
+pub order_on : (p : Program) (o n : Finishes) (from end : ℕ) → IsOrder p o → AreBegun p (length o.ends - 1) o.agents n.agents from → AreNoneReady p (length o.ends - 1) from
+    → n.ends ≡ o.ends ++ end ∷ [] → end ≡ length n.agents → IsOrder p n
 order_on p o n from end h begun none ends all = record {
   some = omega (arith, long);
-  last = ap (slice_index n.ends.items) (let e : length n.ends.items - 1 ≡ length o.ends.items = omega (arith, long) in e) ∙ newest ∙ all;
-  each = λ t l. elim (cases_lt (t + 1) (length o.ends.items)) [
+  last = ap (slice_index n.ends) (let e : length n.ends - 1 ≡ length o.ends = omega (arith, long) in e) ∙ newest ∙ all;
+  each = λ t l. elim (cases_lt (t + 1) (length o.ends)) [
     | inl low ↦
-        subst (λ (b : ℕ). AreReadyAgents p t n.agents.items b (slice_index n.ends.items (t + 1))) (sym (before t (omega arith)))
-        (subst (AreReadyAgents p t n.agents.items (slice_index o.ends.items t)) (sym (before (t + 1) low)) (ready_same p t o.agents.items n.agents.items _ _ begun.more begun.kept (h.each t low)))
+        subst (λ (b : ℕ). AreReadyAgents p t n.agents b (slice_index n.ends (t + 1))) (sym (before t (omega arith)))
+        (subst (AreReadyAgents p t n.agents (slice_index o.ends t)) (sym (before (t + 1) low)) (ready_same p t o.agents n.agents _ _ begun.more begun.kept (h.each t low)))
     | inr high ↦
-        let some : 1 ≤ length o.ends.items = h.some in
-        let at : t ≡ length o.ends.items - 1 = omega (arith, long, l, high) in
-        let to : t + 1 ≡ length o.ends.items = omega (arith, at, some) in
-        let first : slice_index n.ends.items t ≡ length o.agents.items = before t (omega (arith, to)) ∙ ap (slice_index o.ends.items) at ∙ h.last in
-        let last : slice_index n.ends.items (t + 1) ≡ length n.agents.items = ap (slice_index n.ends.items) to ∙ newest ∙ all in
-        subst (λ (s : ℕ). AreReadyAgents p s n.agents.items (slice_index n.ends.items t) (slice_index n.ends.items (t + 1))) (sym at)
-        (subst (λ (b : ℕ). AreReadyAgents p (length o.ends.items - 1) n.agents.items b (slice_index n.ends.items (t + 1))) (sym first)
-        (subst (AreReadyAgents p (length o.ends.items - 1) n.agents.items (length o.agents.items)) (sym last) added))
+        let some : 1 ≤ length o.ends = h.some in
+        let at : t ≡ length o.ends - 1 = omega (arith, long, l, high) in
+        let to : t + 1 ≡ length o.ends = omega (arith, at, some) in
+        let first : slice_index n.ends t ≡ length o.agents = before t (omega (arith, to)) ∙ ap (slice_index o.ends) at ∙ h.last in
+        let last : slice_index n.ends (t + 1) ≡ length n.agents = ap (slice_index n.ends) to ∙ newest ∙ all in
+        subst (λ (s : ℕ). AreReadyAgents p s n.agents (slice_index n.ends t) (slice_index n.ends (t + 1))) (sym at)
+        (subst (λ (b : ℕ). AreReadyAgents p (length o.ends - 1) n.agents b (slice_index n.ends (t + 1))) (sym first)
+        (subst (AreReadyAgents p (length o.ends - 1) n.agents (length o.agents)) (sym last) added))
   ];
 }
   where
-    long : length n.ends.items ≡ length o.ends.items + 1
-    long = ap (λ (xs : List ℕ). length xs) ends ∙ length_push o.ends.items end
+    long : length n.ends ≡ length o.ends + 1
+    long = ap (λ (xs : List ℕ). length xs) ends ∙ length_push o.ends end
 
-    before : (k : ℕ) → k < length o.ends.items → slice_index n.ends.items k ≡ slice_index o.ends.items k
-    before k l = ap (λ (xs : List ℕ). slice_index xs k) ends ∙ get_or_append_left o.ends.items (end ∷ []) 0 k l
+    before : (k : ℕ) → k < length o.ends → slice_index n.ends k ≡ slice_index o.ends k
+    before k l = ap (λ (xs : List ℕ). slice_index xs k) ends ∙ get_or_append_left o.ends (end ∷ []) 0 k l
 
-    newest : slice_index n.ends.items (length o.ends.items) ≡ end
-    newest = ap (λ (xs : List ℕ). slice_index xs (length o.ends.items)) ends ∙ get_or_push o.ends.items end 0 (length o.ends.items) refl
+    newest : slice_index n.ends (length o.ends) ≡ end
+    newest = ap (λ (xs : List ℕ). slice_index xs (length o.ends)) ends ∙ get_or_push o.ends end 0 (length o.ends) refl
 
-    added : AreReadyAgents p (length o.ends.items - 1) n.agents.items (length o.agents.items) (length n.agents.items)
+    added : AreReadyAgents p (length o.ends - 1) n.agents (length o.agents) (length n.agents)
     added = record {
       rising = begun.more;
       within = omega arith;
       next = begun.next;
-      none = subst (AreNoneReady p (length o.ends.items - 1)) begun.place none;
+      none = subst (AreNoneReady p (length o.ends - 1)) begun.place none;
     }
 
 -- ---- the next agent of a tick
 
-pub tick_next : (p : Program) (o : FinishOrder) (t k b e i : ℕ) → IsOrder p o → t + 1 < length o.ends.items → b ≡ slice_index o.ends.items t → e ≡ slice_index o.ends.items (t + 1) → b ≤ k → k < e
-    → i ≡ slice_index o.agents.items k → IsNextReady p t (after_place o.agents.items (slice_index o.ends.items t) k) i
-tick_next p o t k b e i h l begin end low high at = subst (IsNextReady p t (after_place o.agents.items (slice_index o.ends.items t) k)) (sym at) ((h.each t l).next k (omega arith) (omega arith))
+pub tick_next : (p : Program) (o : Finishes) (t k b e i : ℕ) → IsOrder p o → t + 1 < length o.ends → b ≡ slice_index o.ends t → e ≡ slice_index o.ends (t + 1) → b ≤ k → k < e
+    → i ≡ slice_index o.agents k → IsNextReady p t (after_place o.agents (slice_index o.ends t) k) i
+tick_next p o t k b e i h l begin end low high at = subst (IsNextReady p t (after_place o.agents (slice_index o.ends t) k)) (sym at) ((h.each t l).next k (omega arith) (omega arith))
 
-pub tick_none : (p : Program) (o : FinishOrder) (t k b e : ℕ) → IsOrder p o → t + 1 < length o.ends.items → b ≡ slice_index o.ends.items t → e ≡ slice_index o.ends.items (t + 1) → (b ≤ e → k ≤ e) → e ≤ k
-    → AreNoneReady p t (after_place o.agents.items (slice_index o.ends.items t) k)
+pub tick_none : (p : Program) (o : Finishes) (t k b e : ℕ) → IsOrder p o → t + 1 < length o.ends → b ≡ slice_index o.ends t → e ≡ slice_index o.ends (t + 1) → (b ≤ e → k ≤ e) → e ≤ k
+    → AreNoneReady p t (after_place o.agents (slice_index o.ends t) k)
 tick_none p o t k b e h l begin end low high =
-    let up : slice_index o.ends.items t ≤ slice_index o.ends.items (t + 1) = (h.each t l).rising in
-    let at : k ≡ slice_index o.ends.items (t + 1) = (let m : k ≤ e = low (omega arith) in omega arith) in
-    subst (λ (n : ℕ). AreNoneReady p t (after_place o.agents.items (slice_index o.ends.items t) n)) (sym at) (h.each t l).none
+    let up : slice_index o.ends t ≤ slice_index o.ends (t + 1) = (h.each t l).rising in
+    let at : k ≡ slice_index o.ends (t + 1) = (let m : k ≤ e = low (omega arith) in omega arith) in
+    subst (λ (n : ℕ). AreNoneReady p t (after_place o.agents (slice_index o.ends t) n)) (sym at) (h.each t l).none

@@ -23,7 +23,7 @@ noted_mid p places t ticks h a k (inr (l, done)) = absurd (omega arith)
 
 module _ (p : Program) (places : ActionPlaces) (right : ArePlacesOf p places) (t from : ℕ) where
   abbrev firsts : List ℕ
-  firsts = places.firsts.items
+  firsts = places
 
   -- an action that the tick has finished
   pub noted_on : (i : ℕ) → IsNextReady p t from i → (n : ℕ) → n ≡ count p t i + 1 → (x : ℕ) → x + 1 ≡ slice_index firsts i + n → (old : List ℕ) → length old ≡ total_moves p

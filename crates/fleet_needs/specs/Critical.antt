@@ -7,7 +7,6 @@ use Rattle.fleet_model.specs.Chain.{IsAction, DirectlyNeeds, IsCriticalCost, awa
 use Rattle.fleet_needs.specs.Places.{ArePlacesOf, place_of_action}
 use Rattle.fleet_needs.specs.Settled.{IsFinishedBy}
 use Rattle.fleet_needs.specs.declared.await_places.ActionPlaces.{ActionPlaces}
-use Rattle.fleet_needs.specs.declared.critical.CriticalCosts.{CriticalCosts}
 use Rattle.fleet_needs.specs.declared.critical.TheConstants.{MAX_COST}
 
 -- the action's critical path costs so much; and no more than so many of the dearest actions as ticks finish it
@@ -34,16 +33,21 @@ pub record IsGreatestOf (p : Program) (value : ActionId → ℕ) (a : ActionId) 
   pub own : (b : ActionId) → a.agent ≡ b.agent → a.number ≡ b.number + 1 → 1 ≤ b.number → value b ≤ m
   pub awaits : (j : ℕ) (w : Await) → j < k → slice_get (awaits_of p a.agent a.number) j ≡ Some w → value (awaited w) ≤ m
 
+-- the places of actions, and for each action, by its place, a cost
+pub record CostsByPlace : Type 0 where
+  pub places : List ℕ
+  pub costs : List ℕ
+
 -- there is an entry for each action of the program
-pub record HasEntries (p : Program) (m : CriticalCosts) : Type 0 where
+pub record HasEntries (p : Program) (m : CostsByPlace) : Type 0 where
   pub places : ArePlacesOf p m.places
-  pub all : length m.costs.items ≡ total_moves p
+  pub all : length m.costs ≡ total_moves p
 
 -- the entry of an action
-abbrev pub critical_cost : CriticalCosts → ActionId → ℕ
-critical_cost m a = value_at m.places m.costs.items a
+abbrev pub critical_cost : CostsByPlace → ActionId → ℕ
+critical_cost m a = value_at m.places m.costs a
 
 -- it is the cost of the action's critical path
-pub record AreCriticalCosts (p : Program) (cost : ActionId → ℕ) (m : CriticalCosts) : Type 0 where
+pub record AreCriticalCosts (p : Program) (cost : ActionId → ℕ) (m : CostsByPlace) : Type 0 where
   pub entries : HasEntries p m
   pub each : (a : ActionId) → IsAction p a → IsCriticalCost p cost a (critical_cost m a)

@@ -10,6 +10,7 @@ use Rattle.fleet_needs.specs.JoinPass.{IsMade}
 use Rattle.fleet_needs.specs.declared.schedule.Schedule.{Schedule}
 use Rattle.fleet_needs.specs.declared.slots.Columns.{Columns}
 use Rattle.fleet_needs.specs.Implied.{AreAwaitPlaces, IsImpliedFlag, first_await}
+use Rattle.fleet_needs.specs.Settled.{AreSettled}
 use Rattle.fleet_needs.specs.declared.implied.ImpliedAwaits.{ImpliedAwaits}
 
 -- the flags of the action's awaits say whether they are implied, if their agents have a column, and no other flag has
@@ -37,6 +38,10 @@ abbrev pub AreAllFlagged : Program → List Bool → Type 0
 AreAllFlagged p flags =
     (a : ActionId) → IsAction p a → (k : ℕ) (w : Await) → slice_get (awaits_of p a.agent a.number) k ≡ Some w → IsImpliedFlag p a w (get_or flags (first_await p a + k) false)
 
+-- the flags of all awaits, by their places
+abbrev pub flags_of : ImpliedAwaits → List Bool
+flags_of m = m.flags.items
+
 -- of each await of the program it is known whether it is implied
 pub record AreImplied (p : Program) (m : ImpliedAwaits) : Type 0 where
   pub places : AreAwaitPlaces p m.places
@@ -46,5 +51,13 @@ pub record AreImplied (p : Program) (m : ImpliedAwaits) : Type 0 where
 -- the state of the flags once so many rows of the schedule were used
 pub record AreAwaitFlags (p : Program) (s : Schedule) (columns : Columns) (n : ℕ) (m : ImpliedAwaits) : Type 0 where
   pub places : AreAwaitPlaces p m.places
-  pub all : length m.flags.items ≡ total_awaits p
-  pub flagged : AreFlaggedFor p columns (IsMade s n) m.flags.items
+  pub all : length (flags_of m) ≡ total_awaits p
+  pub flagged : AreFlaggedFor p columns (IsMade s n) (flags_of m)
+
+-- the flags of awaits of agents below this one say whether they are implied, and so do those of awaits of agents who are
+-- not asked for
+pub record AreFlaggedTo (p : Program) (asked : List Bool) (from : ℕ) (m : ImpliedAwaits) : Type 0 where
+  pub places : AreAwaitPlaces p m.places
+  pub all : length (flags_of m) ≡ total_awaits p
+  pub settled : AreSettled p asked (flags_of m)
+  pub flagged : (a : ActionId) → IsAction p a → (k : ℕ) (w : Await) → slice_get (awaits_of p a.agent a.number) k ≡ Some w → w.agent < from → IsImpliedFlag p a w (get_or (flags_of m) (first_await p a + k) false)

@@ -4,8 +4,7 @@ use Rattle.fleet_model.specs.declared.program.Await.{Await}
 use Rattle.fleet_model.specs.declared.program.ActionId.{ActionId}
 use Rattle.fleet_model.specs.Program.{Program, actions_of, total_moves, total_awaits}
 use Rattle.fleet_model.specs.Chain.{IsAction, DirectlyNeeds, Reaches, awaited}
-use Rattle.fleet_needs.specs.Places.{ArePlacesOf, place_of_action}
-use Rattle.fleet_needs.specs.declared.await_places.AwaitPlaces.{AwaitPlaces}
+use Rattle.fleet_needs.specs.Places.{AwaitFirsts, ArePlacesOf, place_of_action}
 
 -- the awaited action begins a chain that ends with another action that a directly needs
 abbrev pub IsImplied : Program → ActionId → Await → Type 0
@@ -20,7 +19,7 @@ abbrev pub first_await : Program → ActionId → ℕ
 first_await p a = total_awaits (take a.agent p) + sum_by (λ s. length s.awaits) (take (a.number - 1) (actions_of p a.agent))
 
 -- for each action, how many awaits stand before its own
-pub record AreAwaitPlaces (p : Program) (m : AwaitPlaces) : Type 0 where
+pub record AreAwaitPlaces (p : Program) (m : AwaitFirsts) : Type 0 where
   pub places : ArePlacesOf p m.actions
-  pub all : length m.firsts.items ≡ total_moves p
-  pub each : (a : ActionId) → IsAction p a → slice_index m.firsts.items (place_of_action m.actions a) ≡ first_await p a
+  pub all : length m.awaits ≡ total_moves p
+  pub each : (a : ActionId) → IsAction p a → slice_index m.awaits (place_of_action m.actions a) ≡ first_await p a

@@ -1,23 +1,19 @@
 -- A pass over the rows of a schedule: the row that is next.
-use Rattle.std.specs.Prelude.{◌≡◌, ◌≢◌, ℕ, ◌+◌, ◌-◌, ◌≤◌, List, length, slice_index, slice_get, Some}
+use Rattle.std.specs.Prelude.{◌≢◌, ℕ, ◌+◌, ◌-◌, ◌≤◌, List, length, slice_index}
 use Rattle.fleet_model.specs.declared.program.ActionId.{ActionId}
 use Rattle.fleet_model.specs.Program.{Program, awaits_of}
 use Rattle.fleet_needs.specs.Block.{HasColumn}
 use Rattle.fleet_needs.specs.Joins.{IsRow}
 use Rattle.fleet_needs.specs.Rows.{IsJoined, OfOthers}
-use Rattle.fleet_needs.specs.Schedule.{AreCounts}
+use Rattle.fleet_needs.specs.Schedule.{IsNext, AreCounts}
 use Rattle.fleet_needs.specs.declared.slots.Columns.{Columns}
 use Rattle.fleet_needs.specs.declared.joins.Join.{Join}
 use Rattle.fleet_needs.specs.declared.schedule.Schedule.{Schedule}
 use Rattle.fleet_needs.specs.declared.slot_rows.SlotRows.{SlotRows}
 
--- how many rows the schedule has
-abbrev pub joins_in : Schedule → ℕ
-joins_in s = length s.joins.items
-
 -- the join after n others
 abbrev pub IsNextRow : SlotRows → ℕ → Join → Type 0
-IsNextRow m n j = slice_get m.schedule.now.joins.items n ≡ Some j
+IsNextRow m n j = IsNext m.schedule.now n j
 
 -- the row of all that the action directly needs, but for the count of each awaited action's own agent; nothing is said
 -- of the own agent's column

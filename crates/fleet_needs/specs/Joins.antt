@@ -79,6 +79,30 @@ IsWanted places wanted a = get_or wanted (place_of_action places a) false ≡ tr
 
 -- ---- while they are made
 
+-- how many rows there are so far
+abbrev pub rows_made : Joins → ℕ
+rows_made m = length m.joins.items
+
+-- of how many rows it is known which is the last that is joined of them
+abbrev pub lasts_known : Joins → ℕ
+lasts_known m = length m.lasts.items
+
+-- the last row that is joined of row r so far, or 0
+abbrev pub last_of : Joins → ℕ → ℕ
+last_of m r = slice_index m.lasts.items r
+
+-- how many rows are listed as taken
+abbrev pub takes_listed : Joins → ℕ
+takes_listed m = length m.rows.items
+
+-- for how many actions there is room
+abbrev pub room_for : Joins → ℕ
+room_for m = length m.standing.items
+
+-- row r of these stands for action n of agent i
+abbrev pub StandsIn : Program → Joins → ℕ → ℕ → ℕ → Type 0
+StandsIn p m r i n = StandsFor p m.joins.items r i n
+
 -- no entry has become less
 abbrev pub AreRaised : List ℕ → List ℕ → Type 0
 AreRaised old new = (length new ≡ length old) × ((k : ℕ) → slice_index old k ≤ slice_index new k)

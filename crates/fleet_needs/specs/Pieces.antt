@@ -6,7 +6,6 @@ use Rattle.fleet_model.specs.Program.{Program}
 use Rattle.fleet_model.specs.Chain.{IsAction}
 use Rattle.fleet_needs.specs.Rows.{IsColumn}
 use Rattle.fleet_needs.specs.declared.piece.Piece.{Piece}
-use Rattle.fleet_needs.specs.declared.piece.Pieces.{Pieces}
 use Rattle.fleet_needs.specs.declared.piece.TheConstants.{AGENTS, NUMBERS}
 
 -- the count of a piece at action n of its last agent: with each action one more, up to the most
@@ -45,7 +44,7 @@ abbrev pub AreTold : Program → List Piece → (ℕ → Type 0) → Type 0
 AreTold p pieces Agents = (a : ActionId) (j : ℕ) → IsAction p a → Agents j → j ≢ a.agent → IsTold p pieces a.agent j a.number
 
 -- the pieces of a program in which no action needs a later one of its agent
-pub record ArePiecesOf (p : Program) (m : Pieces) : Type 0 where
-  pub sorted : AreSorted m.pieces.items
-  pub told : AreTold p m.pieces.items (λ j. j < length p)
+pub record ArePiecesOf (p : Program) (pieces : List Piece) : Type 0 where
+  pub sorted : AreSorted pieces
+  pub told : AreTold p pieces (λ j. j < length p)
   pub own : (a : ActionId) → IsAction p a → IsColumn p a a.agent a.number

@@ -28,6 +28,22 @@ pub record IsSchedule (p : Program) (s : Schedule) : Type 0 where
   pub own : AreOwn p
   pub narrow : s.is_narrow ≡ true → (i : ℕ) → i < length p → moves p i ≤ 65535
 
+-- how many rows it has
+abbrev pub joins_in : Schedule → ℕ
+joins_in s = length s.joins.items
+
+-- the join after n others
+abbrev pub IsNext : Schedule → ℕ → Join → Type 0
+IsNext s n j = slice_get s.joins.items n ≡ Some j
+
+-- row r has a slot
+abbrev pub HasSlot : Schedule → ℕ → Type 0
+HasSlot s r = r ≤ length s.outs.items
+
+-- .. which is this one
+abbrev pub slot_of : Schedule → ℕ → ℕ
+slot_of s r = slice_index s.outs.items (r - 1)
+
 -- the last actions of the questions have rows
 abbrev pub HasRows : Schedule → List Question → Type 0
 HasRows s questions = (k : ℕ) (q : Question) → slice_get questions k ≡ Some q → (r : ℕ) × IsRow s.joins.items r q.last
@@ -45,7 +61,7 @@ AreCounts p columns i n count =
 
 -- count k of the row in the slot of row r
 abbrev pub count_in_slot : SlotRows → ℕ → ℕ → ℕ
-count_in_slot m r k = slice_index (counts_of m.counts) (slice_index m.schedule.now.outs.items (r - 1) * m.columns.width + k)
+count_in_slot m r k = slice_index (counts_of m.counts) (slot_of m.schedule.now r * m.columns.width + k)
 
 -- each of the first n rows that is still in its slot is that of its action
 pub record AreRowsTo (p : Program) (m : SlotRows) (n : ℕ) : Type 0 where

@@ -9,7 +9,6 @@ use Rattle.fleet_needs.specs.Places.{ArePlacesOf, place_of_action}
 use Rattle.fleet_needs.specs.declared.await_places.ActionPlaces.{ActionPlaces}
 use Rattle.fleet_model.specs.Machine.{run, count_at}
 use Rattle.fleet_needs.specs.Implied.{IsImpliedFlag, first_await}
-use Rattle.fleet_needs.specs.declared.finish_ticks.FinishTicks.{FinishTicks}
 
 -- ---- the ticks
 
@@ -31,14 +30,19 @@ pub record IsFinishTick (p : Program) (a : ActionId) (t : ℕ) : Type 0 where
 abbrev pub AreFinishTicks : Program → ActionPlaces → (ActionId → Type 0) → List ℕ → Type 0
 AreFinishTicks p places These ticks = (a : ActionId) → IsAction p a → These a → IsFinishTick p a (slice_index ticks (place_of_action places a))
 
+-- the places of actions, and for each action, by its place, a tick
+pub record TicksByPlace : Type 0 where
+  pub places : List ℕ
+  pub ticks : List ℕ
+
 -- the tick of an action
-abbrev pub finish_tick : FinishTicks → ActionId → ℕ
-finish_tick m a = slice_index m.ticks.items (place_of_action m.places a)
+abbrev pub finish_tick : TicksByPlace → ActionId → ℕ
+finish_tick m a = slice_index m.ticks (place_of_action m.places a)
 
 -- each action has its tick, and what an action directly needs has a lower one
-pub record AreTicks (p : Program) (m : FinishTicks) : Type 0 where
+pub record AreTicks (p : Program) (m : TicksByPlace) : Type 0 where
   pub places : ArePlacesOf p m.places
-  pub all : length m.ticks.items ≡ total_moves p
+  pub all : length m.ticks ≡ total_moves p
   pub rising : IsNumbering p (finish_tick m)
 
 -- ---- the awaits

@@ -2,6 +2,7 @@
 
 ghost use Rattle.std.specs.Prelude.{◌≡◌, ◌≢◌, ◌↔◌, ◌<◌, ℕ, length, get_or, slice_get, slice_index, Some, None, All, IsTrue, IfOk};
 ghost use Rattle.fleet_model.specs.Program.{AreInRange};
+ghost use Rattle.fleet_needs.specs.Columns.{column_of};
 ghost use Rattle.fleet_needs.specs.Answering.{IsAsked};
 ghost use Rattle.fleet_needs.specs.Asked.{AreQuestions, IsQuestion};
 ghost use Rattle.fleet_needs.specs.Counts.{counts_of};
@@ -136,7 +137,7 @@ fn answer_one<P: ProgramView>(
     requires question { IsQuestion (P.program program.now) question }
     ensures answer { (k : ℕ) → HasColumn columns.now question.first.agent k
         → IsAnswer (P.program program.now) question flag.new }
-    ensures none { get_or columns.now.of_agent.items question.first.agent None ≡ None
+    ensures none { column_of columns.now question.first.agent ≡ None
         → flag.new ≡ flag.old }
 {
     let _ = program.agents();

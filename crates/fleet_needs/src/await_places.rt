@@ -8,6 +8,7 @@ ghost use Rattle.fleet_needs.specs.Places.{ArePlacesOf};
 
 use fleet_model::{ActionId, OutOfMemory, ProgramView, total_moves};
 use std::alloc::Global;
+use std::marker::Model;
 
 /// Where the awaits of each action begin among all, which stand agent by agent, action by action.
 #[derive(Drop)]
@@ -15,6 +16,14 @@ pub struct AwaitPlaces {
     actions: ActionPlaces,
     /// For each action, by its place, how many awaits stand before its own.
     firsts: Vec<u32>,
+}
+
+impl Model for AwaitPlaces {
+    ghost use Rattle.fleet_needs.specs.Places.{AwaitFirsts};
+
+    ghost Value = { AwaitFirsts };
+
+    ghost view = { λ m. record { actions = m.actions; awaits = m.firsts.items } };
 }
 
 impl AwaitPlaces {
@@ -77,6 +86,14 @@ pub struct ActionPlaces {
     firsts: Vec<u32>,
 }
 
+impl Model for ActionPlaces {
+    ghost use Rattle.std.specs.Prelude.{List, ℕ};
+
+    ghost Value = { List ℕ };
+
+    ghost view = { λ m. m.firsts.items };
+}
+
 impl ActionPlaces {
     /// The places of the actions of a program.
     pub fn of<P: ProgramView>(alloc: Global, program: &P) -> Result<ActionPlaces, OutOfMemory>
@@ -94,9 +111,9 @@ impl ActionPlaces {
 
     /// The place of an action. Places count from 0.
     pub fn place(&self, agent: u16, number: u32) -> usize
-        requires agent { agent < length self.now.firsts.items }
+        requires agent { agent < length self.now }
         requires number { 1 ≤ number }
-        ensures { result + 1 ≡ slice_index self.now.firsts.items agent + number }
+        ensures { result + 1 ≡ slice_index self.now agent + number }
     {
         self.firsts[usize::from(agent)] as usize + number as usize - 1
     }

@@ -16,6 +16,7 @@ use crate::await_places::ActionPlaces;
 use fleet_machine::Machine;
 use fleet_model::{ActionId, MAX_AGENTS, OutOfMemory, ProgramView, total_moves};
 use std::alloc::Global;
+use std::marker::Model;
 
 /// The most that an action may cost, in any unit. Of so many actions as a program may have the sum fits 64 bits.
 pub const MAX_COST: u32 = 1_000_000_000;
@@ -36,6 +37,14 @@ pub trait ActionCosts {
 pub struct CriticalCosts {
     places: ActionPlaces,
     costs: Vec<u64>,
+}
+
+impl Model for CriticalCosts {
+    ghost use Rattle.fleet_needs.specs.Critical.{CostsByPlace};
+
+    ghost Value = { CostsByPlace };
+
+    ghost view = { λ m. record { places = m.places; costs = m.costs.items } };
 }
 
 impl CriticalCosts {

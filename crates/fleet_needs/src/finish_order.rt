@@ -7,6 +7,7 @@ ghost use Rattle.fleet_needs.specs.Order.{IsTicked, IsOrder, IsNextReady, AreMid
 use fleet_machine::Machine;
 use fleet_model::{ActionId, MAX_AGENTS, OutOfMemory, ProgramView, total_moves};
 use std::alloc::Global;
+use std::marker::Model;
 
 /// The agents whose actions finish, tick by tick, and in rising order within a tick. Which action it is follows from
 /// how often the agent stands before.
@@ -17,11 +18,19 @@ pub(crate) struct FinishOrder {
     ends: Vec<u32>,
 }
 
+impl Model for FinishOrder {
+    ghost use Rattle.fleet_needs.specs.Order.{Finishes};
+
+    ghost Value = { Finishes };
+
+    ghost view = { λ m. record { agents = m.agents.items; ends = m.ends.items } };
+}
+
 impl FinishOrder {
     /// No ticks yet, with room for so many actions and ticks.
     pub(crate) fn new(alloc: Global, actions: usize, ticks: u32) -> Result<FinishOrder, OutOfMemory>
         ensures order { IfOk result (λ order. (p : Program) → IsOrder p order) }
-        ensures ticks { IfOk result (λ order. length order.ends.items ≡ 1) }
+        ensures ticks { IfOk result (λ order. length order.ends ≡ 1) }
     {
         let agents = Vec::with_capacity(alloc, actions)?;
         let mut ends = Vec::with_capacity(alloc, ticks as usize + 1)?;
@@ -37,7 +46,7 @@ impl FinishOrder {
     ) -> Result<FinishOrder, OutOfMemory>
         requires { AreInRange (P.program program.now) }
         ensures order { IfOk result (IsOrder (P.program program.now)) }
-        ensures ends { IfOk result (λ order. length order.ends.items ≡ ticks + 1) }
+        ensures ends { IfOk result (λ order. length order.ends ≡ ticks + 1) }
     {
         let mut order = FinishOrder::new(alloc, total_moves(program) as usize, ticks)?;
         let mut machine = Machine::start(alloc, program)?;
@@ -58,9 +67,9 @@ impl FinishOrder {
     ) -> Result<(), OutOfMemory>
         requires order { IsOrder (P.program program.now) self.old }
         requires ticked { IsTicked (P.program program.now) machine.now
-            (length self.old.ends.items - 1) }
+            (length self.old.ends - 1) }
         ensures order { OnOk result (IsOrder (P.program program.now) self.new) }
-        ensures ticks { OnOk result (length self.new.ends.items ≡ length self.old.ends.items + 1) }
+        ensures ticks { OnOk result (length self.new.ends ≡ length self.old.ends + 1) }
     {
         let _ = program.agents();
         let mut from = 0;
@@ -78,16 +87,16 @@ impl FinishOrder {
 
     /// The place at which the agents of the tick after so many ticks begin.
     pub(crate) fn begin(&self, ticks: usize) -> usize
-        requires { ticks < length self.now.ends.items }
-        ensures { result ≡ slice_index self.now.ends.items ticks }
+        requires { ticks < length self.now.ends }
+        ensures { result ≡ slice_index self.now.ends ticks }
     {
         self.ends[ticks] as usize
     }
 
     /// The agent at a place.
     pub(crate) fn agent(&self, place: usize) -> u16
-        requires { place < length self.now.agents.items }
-        ensures { result ≡ slice_index self.now.agents.items place }
+        requires { place < length self.now.agents }
+        ensures { result ≡ slice_index self.now.agents place }
     {
         self.agents[place]
     }
@@ -102,15 +111,15 @@ impl FinishOrder {
         k: usize,
     ) -> ActionId
         requires order { IsOrder (P.program program.now) self.now }
-        requires tick { ticks + 1 < length self.now.ends.items }
-        requires begin { slice_index self.now.ends.items ticks ≤ k }
-        requires end { k < slice_index self.now.ends.items (ticks + 1) }
+        requires tick { ticks + 1 < length self.now.ends }
+        requires begin { slice_index self.now.ends ticks ≤ k }
+        requires end { k < slice_index self.now.ends (ticks + 1) }
         requires counts { AreMid (P.program program.now) ticks
-            (after_place self.now.agents.items (slice_index self.now.ends.items ticks) k)
+            (after_place self.now.agents (slice_index self.now.ends ticks) k)
             counts.now }
-        ensures agent { result.agent ≡ slice_index self.now.agents.items k }
+        ensures agent { result.agent ≡ slice_index self.now.agents k }
         ensures ready { IsNextReady (P.program program.now) ticks
-            (after_place self.now.agents.items (slice_index self.now.ends.items ticks) k)
+            (after_place self.now.agents (slice_index self.now.ends ticks) k)
             result.agent }
         ensures number { result.number ≡ slice_index counts.now result.agent + 1 }
     {

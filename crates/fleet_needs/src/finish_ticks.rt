@@ -13,6 +13,7 @@ use crate::await_places::ActionPlaces;
 use crate::finish_order::FinishOrder;
 use fleet_model::{ActionId, OutOfMemory, ProgramView, total_moves};
 use std::alloc::Global;
+use std::marker::Model;
 
 /// For each action, by its place, the tick that finishes it if nobody is held. Ticks count from 1, and rise along
 /// chains.
@@ -21,7 +22,15 @@ pub(crate) struct FinishTicks {
     places: ActionPlaces,
     ticks: Vec<u32>,
     /// From how many actions a step goes back for one await, at most.
-    pub(crate) steps: u8,
+    steps: u8,
+}
+
+impl Model for FinishTicks {
+    ghost use Rattle.fleet_needs.specs.Settled.{TicksByPlace};
+
+    ghost Value = { TicksByPlace };
+
+    ghost view = { λ m. record { places = m.places; ticks = m.ticks.items } };
 }
 
 /// No run without holds has more ticks.
@@ -40,7 +49,7 @@ impl FinishTicks {
     ) -> Result<FinishTicks, OutOfMemory>
         requires range { AreInRange (P.program program.now) }
         requires order { IsOrder (P.program program.now) order.now }
-        requires ends { length order.now.ends.items ≡ ticks + 1 }
+        requires ends { length order.now.ends ≡ ticks + 1 }
         requires finish { IsFinish (P.program program.now) [] ticks }
         ensures { IfOk result (AreTicks (P.program program.now)) }
     {
@@ -56,12 +65,17 @@ impl FinishTicks {
 
     /// Goes back no more once most agents are asked for, since rows answer for all these.
     pub(crate) fn stop_if_most(&mut self, asked: &[bool])
-        ensures { (p : Program) → AreTicks p self.old → AreTicks p self.new }
+        ensures { self.new ≡ self.old }
     {
         let flagged = asked.iter().filter(|flag| **flag).count();
         if flagged > asked.len() / 2 {
             self.steps = 0;
         }
+    }
+
+    /// From how many actions a step goes back for one await.
+    pub(crate) fn steps(&self) -> u8 {
+        self.steps
     }
 
     /// The tick of an action.
@@ -86,7 +100,7 @@ fn note_ticks<P: ProgramView>(
 ) -> Result<(), OutOfMemory>
     requires places { ArePlacesOf (P.program program.now) places.now }
     requires order { IsOrder (P.program program.now) order.now }
-    requires ends { length order.now.ends.items ≡ ticks + 1 }
+    requires ends { length order.now.ends ≡ ticks + 1 }
     requires all { length entries.old ≡ total_moves (P.program program.now) }
     ensures { OnOk result (AreFinishTicks (P.program program.now) places.now
         (IsFinishedBy (P.program program.now) ticks) entries.new) }
@@ -109,7 +123,7 @@ fn note_tick<P: ProgramView>(
 )
     requires places { ArePlacesOf (P.program program.now) places.now }
     requires order { IsOrder (P.program program.now) order.now }
-    requires tick { ticks + 1 < length order.now.ends.items }
+    requires tick { ticks + 1 < length order.now.ends }
     requires few { ticks < MAX_TICKS }
     requires all { length entries.old ≡ total_moves (P.program program.now) }
     requires counts { AreMid (P.program program.now) ticks 0 counts.old }

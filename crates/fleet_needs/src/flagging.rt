@@ -20,11 +20,11 @@ use fleet_model::{ActionId, Await, OutOfMemory, ProgramView};
 
 impl JoinUse for ImpliedAwaits {
     ghost use Rattle.std.proofs.Common.{refl, ◌∙◌};
-    ghost use Rattle.fleet_needs.specs.Flags.{AreLeft, AreAwaitFlags};
+    ghost use Rattle.fleet_needs.specs.Flags.{AreLeft, AreAwaitFlags, flags_of};
 
     ghost used = { AreAwaitFlags };
 
-    ghost keeps = { λ p columns old new. AreLeft p columns old.flags.items new.flags.items };
+    ghost keeps = { λ p columns old new. AreLeft p columns (flags_of old) (flags_of new) };
 
     /// Makes the row of the action, and flags its awaits on the way.
     fn use_join<P: ProgramView>(

@@ -8,7 +8,7 @@ ghost use Rattle.fleet_model.specs.Chain.{IsAction};
 ghost use Rattle.fleet_needs.specs.Implied.{IsImplied, AreAwaitPlaces};
 ghost use Rattle.fleet_needs.specs.Settled.{AreSettled};
 ghost use Rattle.fleet_needs.specs.Schedule.{IsSchedule};
-ghost use Rattle.fleet_needs.specs.Flags.{AreImplied};
+ghost use Rattle.fleet_needs.specs.Flags.{AreImplied, flags_of};
 
 use crate::await_places::AwaitPlaces;
 use crate::finish_order::FinishOrder;
@@ -31,8 +31,8 @@ pub struct ImpliedAwaits {
 impl ImpliedAwaits {
     /// Whether others imply the await of this place.
     fn is_flagged(&self, place: usize) -> bool
-        requires { place < length self.now.flags.items }
-        ensures { result ≡ get_or self.now.flags.items place false }
+        requires { place < length (flags_of self.now) }
+        ensures { result ≡ get_or (flags_of self.now) place false }
     {
         self.flags[place]
     }
@@ -93,7 +93,7 @@ fn flag_implied<P: ProgramView>(
     requires range { AreInRange (P.program program.now) }
     requires finish { IsFinish (P.program program.now) [] ticks }
     requires places { AreAwaitPlaces (P.program program.now) implied.old.places }
-    requires flags { length implied.old.flags.items ≡ total_awaits (P.program program.now) }
+    requires flags { length (flags_of implied.old) ≡ total_awaits (P.program program.now) }
     ensures { OnOk result (AreImplied (P.program program.now) implied.new) }
 {
     let order = FinishOrder::of(alloc, program, ticks)?;
@@ -113,6 +113,7 @@ fn flag_implied<P: ProgramView>(
 }
 
 /// Flags the awaits of the asked agents, block by block, each with as many columns as there is room for.
+#[tactic(auto, using(crate::proofs::Flagged::columns_of, crate::proofs::Flagged::flags_first, crate::proofs::Flagged::flags_begun))]
 fn flag_all<P: ProgramView>(
     alloc: Global,
     program: &P,
@@ -123,9 +124,9 @@ fn flag_all<P: ProgramView>(
     requires range { AreInRange (P.program program.now) }
     requires schedule { IsSchedule (P.program program.now) schedule.now }
     requires places { AreAwaitPlaces (P.program program.now) implied.old.places }
-    requires flags { length implied.old.flags.items ≡ total_awaits (P.program program.now) }
+    requires flags { length (flags_of implied.old) ≡ total_awaits (P.program program.now) }
     requires asked { length asked.now ≡ length (P.program program.now) }
-    requires settled { AreSettled (P.program program.now) asked.now implied.old.flags.items }
+    requires settled { AreSettled (P.program program.now) asked.now (flags_of implied.old) }
     ensures { OnOk result (AreImplied (P.program program.now) implied.new) }
 {
     let most = schedule.columns_at_once();

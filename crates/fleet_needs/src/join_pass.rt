@@ -2,11 +2,12 @@
 //! used, and kept in its own slot.
 
 ghost use Rattle.std.specs.Prelude.{◌≡◌, ◌≢◌, ◌+◌, ◌<◌, ℕ, length, max, slice_index, OnOk};
+ghost use Rattle.fleet_needs.specs.Columns.{agents_in};
 ghost use Rattle.fleet_needs.specs.Block.{HasColumn};
 ghost use Rattle.fleet_model.specs.Program.{AreInRange};
 ghost use Rattle.fleet_needs.specs.Counts.{counts_of, CanHold, AreAlike};
-ghost use Rattle.fleet_needs.specs.Schedule.{IsSchedule, AreColumnsOf, AreRowsTo, IsRowFor};
-ghost use Rattle.fleet_needs.specs.JoinPass.{IsNextRow, AreOthers, IsRowMade, joins_in};
+ghost use Rattle.fleet_needs.specs.Schedule.{IsSchedule, AreColumnsOf, AreRowsTo, IsRowFor, joins_in};
+ghost use Rattle.fleet_needs.specs.JoinPass.{IsNextRow, AreOthers, IsRowMade};
 
 use crate::counts::Counts;
 use crate::joins::Join;
@@ -155,7 +156,7 @@ pub(crate) fn whole_row<P: ProgramView>(
 
 /// Raises the count in the agent's own column, if it has one, to the number of an action.
 fn raise_own(columns: &Columns, row: &mut Counts, agent: u16, number: u32)
-    requires agent { agent < length columns.now.of_agent.items }
+    requires agent { agent < agents_in columns.now }
     requires within { (j k : ℕ) → HasColumn columns.now j k → k < length (counts_of row.old) }
     requires apart { (i j k : ℕ) → HasColumn columns.now i k → HasColumn columns.now j k → i ≡ j }
     requires hold { CanHold row.old number }
@@ -176,7 +177,7 @@ fn raise_own(columns: &Columns, row: &mut Counts, agent: u16, number: u32)
 
 /// Clears the count in the agent's own column, if it has one.
 fn clear_own(columns: &Columns, row: &mut Counts, agent: u16)
-    requires agent { agent < length columns.now.of_agent.items }
+    requires agent { agent < agents_in columns.now }
     requires within { (j k : ℕ) → HasColumn columns.now j k → k < length (counts_of row.old) }
     requires apart { (i j k : ℕ) → HasColumn columns.now i k → HasColumn columns.now j k → i ≡ j }
     ensures alike { AreAlike row.old row.new }

@@ -7,7 +7,7 @@ ghost use Rattle.fleet_model.specs.Machine.{IsFinish};
 ghost use Rattle.fleet_model.specs.Chain.{IsAction};
 ghost use Rattle.fleet_needs.specs.Places.{ArePlacesOf, place_of_action};
 ghost use Rattle.fleet_needs.specs.Order.{IsOrder, AreMid, IsCounted};
-ghost use Rattle.fleet_needs.specs.Joins.{StandsFor, AreJoinsOf, AreJoinsEnd, CanJoin, AreTaken, HasJoined, IsAdded, AreRaised};
+ghost use Rattle.fleet_needs.specs.Joins.{AreJoinsOf, AreJoinsEnd, CanJoin, AreTaken, HasJoined, IsAdded, AreRaised, rows_made, lasts_known, last_of, takes_listed, room_for, StandsIn};
 
 use crate::await_places::ActionPlaces;
 use crate::finish_order::FinishOrder;
@@ -55,7 +55,7 @@ pub(crate) fn joins_of<P: ProgramView>(
     requires range { AreInRange (P.program program.now) }
     requires places { ArePlacesOf (P.program program.now) course.now.places.now }
     requires order { IsOrder (P.program program.now) course.now.order.now }
-    requires ends { length course.now.order.now.ends.items ≡ ticks + 1 }
+    requires ends { length course.now.order.now.ends ≡ ticks + 1 }
     requires finish { IsFinish (P.program program.now) [] ticks }
     ensures { IfOk result (AreJoinsEnd
         (P.program program.now) course.now.places.now course.now.wanted.now) }
@@ -78,7 +78,7 @@ fn join_tick<P: ProgramView>(
 ) -> Result<(), OutOfMemory>
     requires range { AreInRange (P.program program.now) }
     requires order { IsOrder (P.program program.now) course.now.order.now }
-    requires tick { ticks + 1 < length course.now.order.now.ends.items }
+    requires tick { ticks + 1 < length course.now.order.now.ends }
     requires counts { AreMid (P.program program.now) ticks 0 counts.old }
     requires joins { AreJoinsOf (P.program program.now)
         course.now.places.now course.now.wanted.now (IsCounted counts.old) joins.old }
@@ -99,7 +99,7 @@ fn join_tick<P: ProgramView>(
 
 /// Whether the action is to have a row though it may await nothing.
 fn is_wanted(course: &Course<'_>, action: ActionId) -> bool
-    requires agent { action.agent < length course.now.places.now.firsts.items }
+    requires agent { action.agent < length course.now.places.now }
     requires number { 1 ≤ action.number }
     ensures { result ≡ get_or course.now.wanted.now
         (place_of_action course.now.places.now action) false }
@@ -112,8 +112,8 @@ impl Joins {
     /// No joins yet, of so many actions.
     fn new(alloc: Global, actions: usize) -> Result<Joins, OutOfMemory>
         ensures joins { IfOk result (λ m. m.joins.items ≡ []) }
-        ensures lasts { IfOk result (λ m. length m.lasts.items ≡ 1) }
-        ensures standing { IfOk result (λ m. length m.standing.items ≡ actions) }
+        ensures lasts { IfOk result (λ m. lasts_known m ≡ 1) }
+        ensures standing { IfOk result (λ m. room_for m ≡ actions) }
     {
         Ok(Joins {
             joins: Vec::new(alloc),
@@ -136,7 +136,7 @@ impl Joins {
 
     /// Where the rows that the join after n others takes begin, or where those of all joins end.
     fn first_taken(&self, n: usize) -> usize
-        ensures { result ≤ length self.now.rows.items }
+        ensures { result ≤ takes_listed self.now }
     {
         match self.joins.get(n) {
             Some(join) => join.first.min(self.rows.len()),
@@ -174,8 +174,8 @@ impl Joins {
     ) -> Result<u32, OutOfMemory>
         requires range { AreInRange (P.program program.now) }
         requires can { CanJoin (P.program program.now) places.now self.old action }
-        requires within { base ≤ length self.old.joins.items }
-        requires stands { StandsFor (P.program program.now) self.old.joins.items
+        requires within { base ≤ rows_made self.old }
+        requires stands { StandsIn (P.program program.now) self.old
             base action.agent (action.number - 1) }
         ensures { IfOk result (λ row. HasJoined
             (P.program program.now) places.now action wanted row self.old self.new) }
@@ -196,8 +196,8 @@ impl Joins {
         action: ActionId,
     ) -> u32
         requires can { CanJoin (P.program program.now) places.now self.now action }
-        ensures within { result ≤ length self.now.joins.items }
-        ensures stands { StandsFor (P.program program.now) self.now.joins.items
+        ensures within { result ≤ rows_made self.now }
+        ensures stands { StandsIn (P.program program.now) self.now
             result action.agent (action.number - 1) }
     {
         let _ = program.agents();
@@ -219,8 +219,8 @@ impl Joins {
     ) -> Result<u32, OutOfMemory>
         requires range { AreInRange (P.program program.now) }
         requires can { CanJoin (P.program program.now) places.now self.old action }
-        requires within { base ≤ length self.old.joins.items }
-        requires stands { StandsFor (P.program program.now) self.old.joins.items
+        requires within { base ≤ rows_made self.old }
+        requires stands { StandsIn (P.program program.now) self.old
             base action.agent (action.number - 1) }
         ensures { IfOk result (λ row. (wanted : Bool) → HasJoined
             (P.program program.now) places.now action wanted row self.old self.new) }
@@ -251,7 +251,7 @@ impl Joins {
     ) -> Result<(), OutOfMemory>
         requires range { AreInRange (P.program program.now) }
         requires can { CanJoin (P.program program.now) places.now self.old action }
-        requires row { row ≡ length self.old.joins.items + 1 }
+        requires row { row ≡ rows_made self.old + 1 }
         ensures { OnOk result (AreTaken
             (P.program program.now) places.now action self.old self.new) }
     {
@@ -267,12 +267,12 @@ impl Joins {
 
     /// Notes that this row is joined of the taken one.
     fn raise(&mut self, taken: u32, row: u32)
-        requires { taken < length self.old.lasts.items }
+        requires { taken < lasts_known self.old }
         ensures joins { self.new.joins ≡ self.old.joins }
         ensures rows { self.new.rows ≡ self.old.rows }
         ensures standing { self.new.standing ≡ self.old.standing }
         ensures raised { AreRaised self.old.lasts.items self.new.lasts.items }
-        ensures noted { row ≤ slice_index self.new.lasts.items taken }
+        ensures noted { row ≤ last_of self.new taken }
     {
         let last = self.lasts[taken as usize];
         self.lasts[taken as usize] = last.max(row);
@@ -286,7 +286,7 @@ impl Joins {
         action: ActionId,
         row: u32,
     )
-        requires room { length self.old.standing.items ≡ total_moves (P.program program.now) }
+        requires room { room_for self.old ≡ total_moves (P.program program.now) }
         requires places { ArePlacesOf (P.program program.now) places.now }
         requires action { IsAction (P.program program.now) action }
         ensures joins { self.new.joins ≡ self.old.joins }

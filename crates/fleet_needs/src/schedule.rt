@@ -26,6 +26,9 @@ const COUNTS: u32 = 1_048_576;
 /// The least number of columns of a block.
 const LEAST_COLUMNS: u32 = 8;
 
+/// So many counts of two bytes are joined at once, so a block has no more columns than a multiple of them, if it can.
+const WHOLE_COLUMNS: u32 = 16;
+
 /// The rows of a program: those of the actions that await something, in the order in which they finish if nobody is
 /// held.
 #[derive(Drop)]
@@ -53,7 +56,7 @@ impl Schedule {
     ) -> Result<Schedule, OutOfMemory>
         requires range { AreInRange (P.program program.now) }
         requires order { IsOrder (P.program program.now) order.now }
-        requires ends { length order.now.ends.items ≡ ticks + 1 }
+        requires ends { length order.now.ends ≡ ticks + 1 }
         requires finish { IsFinish (P.program program.now) [] ticks }
         requires questions { All (IsQuestion (P.program program.now)) questions.now }
         ensures schedule { IfOk result (IsSchedule (P.program program.now)) }
@@ -86,7 +89,12 @@ impl Schedule {
     {
         let counts = if self.is_narrow { 2 * COUNTS } else { COUNTS };
         let room = counts / self.slots.max(1);
-        room.clamp(LEAST_COLUMNS, MAX_AGENTS as u32) as u16
+        let most = room.clamp(LEAST_COLUMNS, MAX_AGENTS as u32);
+        let over = most % WHOLE_COLUMNS;
+        if most < WHOLE_COLUMNS {
+            return most as u16;
+        }
+        (most - over) as u16
     }
 }
 

@@ -31,7 +31,7 @@ pub fn settle_all<P: ProgramView>(
 ) -> Result<Vec<bool>, OutOfMemory>
     requires range { AreInRange (P.program program.now) }
     requires order { IsOrder (P.program program.now) order.now }
-    requires ends { length order.now.ends.items ≡ ticks + 1 }
+    requires ends { length order.now.ends ≡ ticks + 1 }
     requires finish { IsFinish (P.program program.now) [] ticks }
     requires places { AreAwaitPlaces (P.program program.now) places.now }
     requires flags { length flags.old ≡ total_awaits (P.program program.now) }
@@ -250,7 +250,7 @@ fn reaches_other<P: ProgramView>(
         (record { agent = first.agent; count = first.number }) → ⊥ }
 {
     let _ = program.agents();
-    let mut steps = ticks.steps;
+    let mut steps = ticks.steps();
     let mut known = true;
     for m in 0..program.await_count(action.agent, action.number) {
         if m != k {

@@ -3,7 +3,7 @@
 ghost use Rattle.std.specs.Prelude.{◌≡◌, ◌+◌, ◌-◌, ◌*◌, ◌<◌, ◌≤◌, ℕ, length, slice_index, slice_get, Some, IfOk};
 ghost use Rattle.fleet_needs.specs.declared.joins.Join.{Join};
 ghost use Rattle.fleet_needs.specs.Counts.{counts_of, are_narrow};
-ghost use Rattle.fleet_needs.specs.Schedule.{AreCounts, AreRowsTo, IsRowFor, IsThere, StandsThere, AreJoinedWith};
+ghost use Rattle.fleet_needs.specs.Schedule.{AreCounts, AreRowsTo, IsRowFor, IsThere, StandsThere, AreJoinedWith, joins_in, IsNext, HasSlot, slot_of};
 
 use crate::counts::Counts;
 use crate::schedule::Schedule;
@@ -43,11 +43,9 @@ impl<'a> SlotRows<'a> {
     /// Where the counts of a row that is still in its slot begin.
     fn begin(&self, r: u32) -> usize
         requires some { 1 ≤ r }
-        requires within { r ≤ length self.now.schedule.now.outs.items }
-        requires slot { slice_index self.now.schedule.now.outs.items (r - 1)
-            < self.now.schedule.now.slots }
-        ensures { result ≡ slice_index self.now.schedule.now.outs.items (r - 1)
-            * self.now.columns.width }
+        requires within { HasSlot self.now.schedule.now r }
+        requires slot { slot_of self.now.schedule.now r < self.now.schedule.now.slots }
+        ensures { result ≡ slot_of self.now.schedule.now r * self.now.columns.width }
     {
         let width = usize::from(self.columns.width);
         self.schedule.outs[r as usize - 1] as usize * width
@@ -89,9 +87,9 @@ impl<'a> SlotRows<'a> {
     /// Keeps the row that is made after n others.
     pub(crate) fn keep_row<P: ProgramView>(&mut self, program: &P, n: usize, row: &Counts)
         requires rows { AreRowsTo (P.program program.now) self.old n }
-        requires next { n < length self.old.schedule.now.joins.items }
+        requires next { n < joins_in self.old.schedule.now }
         requires row { IsRowFor self.old row.now }
-        requires counts { (j : Join) → slice_get self.old.schedule.now.joins.items n ≡ Some j
+        requires counts { (j : Join) → IsNext self.old.schedule.now n j
             → AreCounts (P.program program.now) self.old.columns
             j.action.agent j.action.number (slice_index (counts_of row.now)) }
         ensures schedule { self.new.schedule ≡ self.old.schedule }

@@ -21,8 +21,8 @@ bounds-entries-place g c =
     let p = g.P.ProgramView.program c.args.program.now in
     let a : ActionId = record { agent = c.await_at-awaited.result.agent; number = c.await_at-awaited.result.count } in
     let k = awaited_action p c.requires.range c.args.action.agent c.args.action.number c.loop-k.k c.await_at-awaited.result c.await_at-awaited.ensures in
-    let l = place_within p c.args.places.now.firsts.items c.requires.places a k in
-    omega (arith, l, place_is c.args.places.now.firsts.items a c.place.result c.place.ensures, c.requires.all)
+    let l = place_within p c.args.places.now c.requires.places a k in
+    omega (arith, l, place_is c.args.places.now a c.place.result c.place.ensures, c.requires.all)
 
 pub loop-k-preserved : goal.loop-k-preserved
 loop-k-preserved g c =
@@ -31,7 +31,7 @@ loop-k-preserved g c =
     record {
       greatest = greatest_entry p c.args.places.now c.args.entries.now c.args.action c.loop-k.k c.loop-k.greatest c.await_at-awaited.result
           c.loop-k.invariant.greatest c.await_at-awaited.ensures (slice_index c.args.entries.now c.place.result)
-          (ap (slice_index c.args.entries.now) (place_is c.args.places.now.firsts.items a c.place.result c.place.ensures))
+          (ap (slice_index c.args.entries.now) (place_is c.args.places.now a c.place.result c.place.ensures))
           c.max-greatest.result c.max-greatest.ensures;
     }
 

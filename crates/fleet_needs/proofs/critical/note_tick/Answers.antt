@@ -40,7 +40,7 @@ bounds-entries-place g c =
     let next = next_ready p m c.args.ticks c.requires.ticked c.loop-agent.from c.in-Some.agent c.in-Some.ensures in
     let number = machine_number p m c.args.ticks c.requires.ticked c.loop-agent.from c.in-Some.agent next c.agent-number.result.count (ap (λ s. s.count) c.agent-number.ensures.standing) in
     let is = next_action p c.args.ticks c.loop-agent.from c.in-Some.agent next c.agent-number.result.count number in
-    let l = place_within p c.args.places.now.firsts.items c.requires.places _ is in
+    let l = place_within p c.args.places.now c.requires.places _ is in
     omega (arith, l, c.place.ensures, c.requires.all, c.loop-agent.auto.entries)
 
 pub offset_bounds-entries-place : goal.offset_bounds-entries-place
@@ -50,7 +50,7 @@ offset_bounds-entries-place g c =
     let next = next_ready p m c.args.ticks c.requires.ticked c.loop-agent.from c.in-Some.agent c.in-Some.ensures in
     let number = machine_number p m c.args.ticks c.requires.ticked c.loop-agent.from c.in-Some.agent next c.agent-number.result.count (ap (λ s. s.count) c.agent-number.ensures.standing) in
     let is = next_action p c.args.ticks c.loop-agent.from c.in-Some.agent next c.agent-number.result.count number in
-    let l = place_within p c.args.places.now.firsts.items c.requires.places _ is in
+    let l = place_within p c.args.places.now c.requires.places _ is in
     omega (arith, l, c.place.ensures, c.agents.ensures.well_formed.moves_in_all)
 
 pub loop-agent-init : goal.loop-agent-init

@@ -14,7 +14,7 @@ loop-k-init g c =
     let p = g.P.ProgramView.program c.args.program.now in
     let order = c.args.order.now in
     let t = c.args.ticks in
-    let first : 0 ≡ after_place order.agents.items (slice_index order.ends.items t) c.begin-k.result = sym (ap (after_place order.agents.items (slice_index order.ends.items t)) c.begin-k.ensures ∙ after_first order.agents.items (slice_index order.ends.items t)) in
+    let first : 0 ≡ after_place order.agents (slice_index order.ends t) c.begin-k.result = sym (ap (after_place order.agents (slice_index order.ends t)) c.begin-k.ensures ∙ after_first order.agents (slice_index order.ends t)) in
     record {
       counts = subst (λ (f : ℕ). AreMid p t f c.args.counts.now) first c.requires.counts;
       noted = subst (λ (f : ℕ). AreFinishTicks p c.args.places.now (IsDoneMid p t f) c.args.entries.now) first (noted_mid p c.args.places.now t c.args.entries.now c.requires.noted);
@@ -28,7 +28,7 @@ bounds-entries-place g c =
     let p = g.P.ProgramView.program c.args.program.now in
     let made = c.action_at-action.ensures in
     let is = is_next p c.args.ticks _ c.loop-k.counts c.loop-k.invariant.counts c.action_at-action.result.agent made.ready c.action_at-action.result.number made.number in
-    let l = place_within p c.args.places.now.firsts.items c.requires.places _ is in
+    let l = place_within p c.args.places.now c.requires.places _ is in
     omega (arith, l, c.place-place.ensures, c.requires.all, c.loop-k.auto.entries)
 
 pub offset_bounds-entries-place : goal.offset_bounds-entries-place
@@ -36,7 +36,7 @@ offset_bounds-entries-place g c =
     let p = g.P.ProgramView.program c.args.program.now in
     let made = c.action_at-action.ensures in
     let is = is_next p c.args.ticks _ c.loop-k.counts c.loop-k.invariant.counts c.action_at-action.result.agent made.ready c.action_at-action.result.number made.number in
-    let l = place_within p c.args.places.now.firsts.items c.requires.places _ is in
+    let l = place_within p c.args.places.now c.requires.places _ is in
     omega (arith, l, c.place-place.ensures, c.agents.ensures.well_formed.moves_in_all)
 
 pub loop-k-preserved : goal.loop-k-preserved
@@ -48,9 +48,9 @@ loop-k-preserved g c =
     let counts : List ℕ = c.loop-k.counts in
     let mid = c.loop-k.invariant.counts in
     let next = c.action_at-action.ensures in
-    let begin : c.begin-k.result ≡ slice_index order.ends.items t = c.begin-k.ensures in
-    let place : after_place order.agents.items (slice_index order.ends.items t) (c.loop-k.k + 1) ≡ a.agent + 1 =
-    after_next order.agents.items (slice_index order.ends.items t) c.loop-k.k (omega (arith, begin, c.loop-k.auto.k)) ∙ ap (λ (m : ℕ). m + 1) (sym next.agent) in
+    let begin : c.begin-k.result ≡ slice_index order.ends t = c.begin-k.ensures in
+    let place : after_place order.agents (slice_index order.ends t) (c.loop-k.k + 1) ≡ a.agent + 1 =
+    after_next order.agents (slice_index order.ends t) c.loop-k.k (omega (arith, begin, c.loop-k.auto.k)) ∙ ap (λ (m : ℕ). m + 1) (sym next.agent) in
     let written : set counts a.agent a.number ≡ set counts c.from.result a.number = ap (λ (i : ℕ). set counts i a.number) (sym c.from.ensures) in
     record {
       counts = subst (λ (f : ℕ). AreMid p t f (set counts c.from.result a.number)) (sym place) (subst (AreMid p t (a.agent + 1)) written (mid_on p t _ counts mid a.agent next.ready a.number next.number));

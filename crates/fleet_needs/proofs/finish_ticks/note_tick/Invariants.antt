@@ -5,6 +5,6 @@ use Rattle.fleet_needs.proofs.finish_ticks.note_tick.Given as goal
 
 abbrev pub invariant-loop-k : goal.invariant-loop-k
 invariant-loop-k g l = record {
-  counts : AreMid (g.P.ProgramView.program l.program) l.ticks (after_place l.order.agents.items (slice_index l.order.ends.items l.ticks) l.k) l.counts;
-  noted : AreFinishTicks (g.P.ProgramView.program l.program) l.places (IsDoneMid (g.P.ProgramView.program l.program) l.ticks (after_place l.order.agents.items (slice_index l.order.ends.items l.ticks) l.k)) l.entries;
+  counts : AreMid (g.P.ProgramView.program l.program) l.ticks (after_place l.order.agents (slice_index l.order.ends l.ticks) l.k) l.counts;
+  noted : AreFinishTicks (g.P.ProgramView.program l.program) l.places (IsDoneMid (g.P.ProgramView.program l.program) l.ticks (after_place l.order.agents (slice_index l.order.ends l.ticks) l.k)) l.entries;
 }

@@ -25,9 +25,9 @@ loop-k-preserved g c =
     let wanted = c.args.course.now.wanted.now in
     let mid = c.loop-k.invariant.counts in
     let next = c.action_at-action.ensures in
-    let begin : c.begin-k.result ≡ slice_index order.ends.items t = c.begin-k.ensures in
-    let place : after_place order.agents.items (slice_index order.ends.items t) (c.loop-k.k + 1) ≡ a.agent + 1 =
-    after_next order.agents.items (slice_index order.ends.items t) c.loop-k.k (omega (arith, begin, c.loop-k.auto.k)) ∙ ap (λ (m : ℕ). m + 1) (sym next.agent) in
+    let begin : c.begin-k.result ≡ slice_index order.ends t = c.begin-k.ensures in
+    let place : after_place order.agents (slice_index order.ends t) (c.loop-k.k + 1) ≡ a.agent + 1 =
+    after_next order.agents (slice_index order.ends t) c.loop-k.k (omega (arith, begin, c.loop-k.auto.k)) ∙ ap (λ (m : ℕ). m + 1) (sym next.agent) in
     let written : set counts a.agent a.number ≡ set counts c.from.result a.number = ap (λ (i : ℕ). set counts i a.number) (sym c.from.ensures) in
     record {
       counts = subst (λ (f : ℕ). AreMid p t f (set counts c.from.result a.number)) (sym place) (subst (AreMid p t (a.agent + 1)) written (mid_on p t _ counts mid a.agent next.ready a.number next.number));

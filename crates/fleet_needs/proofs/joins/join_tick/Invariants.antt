@@ -5,6 +5,6 @@ use Rattle.fleet_needs.proofs.joins.join_tick.Given as goal
 
 abbrev pub invariant-loop-k : goal.invariant-loop-k
 invariant-loop-k g l = record {
-  counts : AreMid (g.P.ProgramView.program l.program) l.ticks (after_place l.course.order.now.agents.items (slice_index l.course.order.now.ends.items l.ticks) l.k) l.counts;
+  counts : AreMid (g.P.ProgramView.program l.program) l.ticks (after_place l.course.order.now.agents (slice_index l.course.order.now.ends l.ticks) l.k) l.counts;
   joins : AreJoinsOf (g.P.ProgramView.program l.program) l.course.places.now l.course.wanted.now (IsCounted l.counts) l.joins;
 }

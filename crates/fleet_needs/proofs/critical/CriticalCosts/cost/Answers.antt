@@ -1,4 +1,4 @@
-use Rattle.std.proofs.Common.{slice_index, ap, ◌∙◌, arith}
+use Rattle.std.proofs.Common.{slice_index, sym, ap, ◌∙◌, arith}
 use Rattle.std.proofs.lemmas.List.{get_or_read}
 use Rattle.fleet_needs.proofs.Placed.{place_within, place_is}
 use Rattle.fleet_needs.proofs.critical.CriticalCosts.cost.Goals as goal
@@ -6,14 +6,16 @@ use Rattle.fleet_needs.proofs.critical.CriticalCosts.cost.Goals as goal
 pub index-requires : goal.index-requires
 index-requires g c =
     let p = g.P.ProgramView.program c.args.program.now in
-    let firsts = c.args.self.now.places.firsts.items in
-    let l = place_within p firsts c.requires.entries.places c.args.action c.requires.action in
-    omega (arith, l, place_is firsts c.args.action c.place.result c.place.ensures, c.requires.entries.all)
+    let firsts = c.self.inside.places in
+    let entries = rw (sym c.self.view_is) at c.requires.entries in
+    let l = place_within p firsts entries.places c.args.action c.requires.action in
+    omega (arith, l, place_is firsts c.args.action c.place.result c.place.ensures, entries.all)
 
 pub returns : goal.returns
 returns g c =
     let p = g.P.ProgramView.program c.args.program.now in
-    let firsts = c.args.self.now.places.firsts.items in
-    let l = place_within p firsts c.requires.entries.places c.args.action c.requires.action in
+    let firsts = c.self.inside.places in
+    let entries = rw (sym c.self.view_is) at c.requires.entries in
+    let l = place_within p firsts entries.places c.args.action c.requires.action in
     let at = place_is firsts c.args.action c.place.result c.place.ensures in
-    get_or_read c.args.self.now.costs.items _ _ (omega (arith, l, at, c.requires.entries.all)) c.index.ensures 0 ∙ ap (slice_index c.args.self.now.costs.items) at
+    rw (← c.self.view_is) (get_or_read c.self.inside.costs.items _ _ (omega (arith, l, at, entries.all)) c.index.ensures 0 ∙ ap (slice_index c.self.inside.costs.items) at)

@@ -1,25 +1,25 @@
-use Rattle.std.proofs.Common.{◌+◌, ◌-◌, ◌++◌, ◌∷◌, [], ℕ, List, length, refl, sym, subst, ap, ◌∙◌, arith}
+use Rattle.std.proofs.Common.{◌+◌, ◌-◌, ◌++◌, ◌∷◌, [], ℕ, List, length, sym, subst, ap, ◌∙◌, arith}
 use Rattle.std.proofs.lemmas.List.{length_push}
-use Rattle.fleet_needs.specs.declared.finish_order.FinishOrder.{FinishOrder}
+use Rattle.fleet_needs.specs.Order.{Finishes}
 use Rattle.fleet_needs.proofs.Free.{next_ready, none_ready}
 use Rattle.fleet_needs.proofs.Ordering.{AreBegun, begun_none, begun_on, order_on}
 use Rattle.fleet_needs.proofs.finish_order.FinishOrder.add_tick.Goals as goal
 
 pub loop-agent-init : goal.loop-agent-init
 loop-agent-init g c = record {
-  begun = begun_none (g.P.ProgramView.program c.args.program.now) (length c.args.self.now.ends.items - 1) c.args.self.now.agents.items;
-  ends = refl;
+  begun = rw (← c.self.view_is) (begun_none (g.P.ProgramView.program c.args.program.now) (length c.self.inside.ends.items - 1) c.self.inside.agents.items);
+  ends = ap (λ (o : Finishes). o.ends) c.self.view_is;
   within = omega arith;
 }
 
 pub loop-agent-preserved : goal.loop-agent-preserved
 loop-agent-preserved g c =
     let p = g.P.ProgramView.program c.args.program.now in
-    let t = length c.args.self.now.ends.items - 1 in
+    let t = length c.args.self.now.ends - 1 in
     let next = next_ready p c.args.machine.now t c.requires.ticked c.loop-agent.from c.in-Some.agent c.in-Some.ensures in
     record {
-      begun = subst (λ (xs : List ℕ). AreBegun p t c.args.self.now.agents.items xs (c.in-Some.agent + 1)) (sym c.in_ok-push.ensures.items)
-          (begun_on p t c.args.self.now.agents.items c.loop-agent.self.agents.items c.loop-agent.from c.in-Some.agent c.loop-agent.invariant.begun next);
+      begun = subst (λ (xs : List ℕ). AreBegun p t c.args.self.now.agents xs (c.in-Some.agent + 1)) (sym c.in_ok-push.ensures.items)
+          (begun_on p t c.args.self.now.agents c.loop-agent.self-inside.agents.items c.loop-agent.from c.in-Some.agent c.loop-agent.invariant.begun next);
       ends = c.loop-agent.invariant.ends;
       within = omega (arith, next.agent);
     }
@@ -28,11 +28,11 @@ pub returns-clause-order : goal.returns-clause-order
 returns-clause-order g c =
     let p = g.P.ProgramView.program c.args.program.now in
     let o = c.args.self.now in
-    let t = length o.ends.items - 1 in
-    let new : FinishOrder = record { agents = c.loop-agent.self.agents; ends = c.push-2.new.self } in
+    let t = length o.ends - 1 in
+    let new : Finishes = record { agents = c.loop-agent.self-inside.agents.items; ends = c.push-2.new.self.items } in
     order_on p o new c.loop-agent.from c.len-end.result c.requires.order c.loop-agent.invariant.begun (none_ready p c.args.machine.now t c.requires.ticked c.loop-agent.from c.in_default.ensures)
-    (c.in_ok-push-2.ensures.items ∙ ap (λ (xs : List ℕ). xs ++ c.len-end.result ∷ []) c.loop-agent.invariant.ends) (omega (arith, c.len-end.ensures, c.loop-agent.self.agents.ok))
+    (c.in_ok-push-2.ensures.items ∙ ap (λ (xs : List ℕ). xs ++ c.len-end.result ∷ []) c.loop-agent.invariant.ends) (omega (arith, c.len-end.ensures, c.loop-agent.self-inside.agents.ok))
 
 pub returns-clause-ticks : goal.returns-clause-ticks
 returns-clause-ticks g c =
-    ap (λ (xs : List ℕ). length xs) (c.in_ok-push-2.ensures.items ∙ ap (λ (xs : List ℕ). xs ++ c.len-end.result ∷ []) c.loop-agent.invariant.ends) ∙ length_push c.args.self.now.ends.items c.len-end.result
+    ap (λ (xs : List ℕ). length xs) (c.in_ok-push-2.ensures.items ∙ ap (λ (xs : List ℕ). xs ++ c.len-end.result ∷ []) c.loop-agent.invariant.ends) ∙ length_push c.args.self.now.ends c.len-end.result

@@ -13,8 +13,8 @@ index-requires g c =
     let b : ActionId = record { agent = c.args.action.agent; number = c.args.action.number - 1 } in
     let last = c.requires.can.action.last in
     let is : IsAction p b = record { agent = c.requires.can.action.agent; first = omega (arith, c.if-is_first.false); last = omega arith } in
-    let l = place_within p c.args.places.now.firsts.items c.requires.can.sound.right b is in
-    omega (arith, l, place_is c.args.places.now.firsts.items b c.place.result c.place.ensures, c.requires.can.sound.room)
+    let l = place_within p c.args.places.now c.requires.can.sound.right b is in
+    omega (arith, l, place_is c.args.places.now b c.place.result c.place.ensures, c.requires.can.sound.room)
 
 pub returns-clause-within : goal.returns-clause-within
 returns-clause-within g c =
@@ -22,8 +22,8 @@ returns-clause-within g c =
     let b : ActionId = record { agent = c.args.action.agent; number = c.args.action.number - 1 } in
     let last = c.requires.can.action.last in
     let is : IsAction p b = record { agent = c.requires.can.action.agent; first = omega (arith, c.if-is_first.false); last = omega arith } in
-    let l = place_within p c.args.places.now.firsts.items c.requires.can.sound.right b is in
-    let at : c.place.result ≡ place_of_action c.args.places.now b = place_is c.args.places.now.firsts.items b c.place.result c.place.ensures in
+    let l = place_within p c.args.places.now c.requires.can.sound.right b is in
+    let at : c.place.result ≡ place_of_action c.args.places.now b = place_is c.args.places.now b c.place.result c.place.ensures in
     let read : c.index.result.now ≡ row_of c.args.places.now c.args.self.now b =
     count_read c.args.self.now.standing.items c.place.result (place_of_action c.args.places.now b) c.index.result.now at (omega (arith, l, c.requires.can.sound.room)) c.index.ensures in
     let st = c.requires.can.before b is refl (omega (arith, c.if-is_first.false)) in
@@ -35,8 +35,8 @@ returns-clause-stands g c =
     let b : ActionId = record { agent = c.args.action.agent; number = c.args.action.number - 1 } in
     let last = c.requires.can.action.last in
     let is : IsAction p b = record { agent = c.requires.can.action.agent; first = omega (arith, c.if-is_first.false); last = omega arith } in
-    let l = place_within p c.args.places.now.firsts.items c.requires.can.sound.right b is in
-    let at : c.place.result ≡ place_of_action c.args.places.now b = place_is c.args.places.now.firsts.items b c.place.result c.place.ensures in
+    let l = place_within p c.args.places.now c.requires.can.sound.right b is in
+    let at : c.place.result ≡ place_of_action c.args.places.now b = place_is c.args.places.now b c.place.result c.place.ensures in
     let read : c.index.result.now ≡ row_of c.args.places.now c.args.self.now b =
     count_read c.args.self.now.standing.items c.place.result (place_of_action c.args.places.now b) c.index.result.now at (omega (arith, l, c.requires.can.sound.room)) c.index.ensures in
     let st = c.requires.can.before b is refl (omega (arith, c.if-is_first.false)) in

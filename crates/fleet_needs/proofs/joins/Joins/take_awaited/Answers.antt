@@ -22,7 +22,7 @@ pub index-taken-requires : goal.index-taken-requires
 index-taken-requires g c =
     let w = c.await_at-awaited.result in
     let st = c.requires.can.awaited c.loop-k.k w c.await_at-awaited.ensures in
-    let firsts = c.args.places.now.firsts.items in
+    let firsts = c.args.places.now in
     let l = place_within (g.P.ProgramView.program c.args.program.now) firsts c.requires.can.sound.right (awaited w) st.0 in
     omega (arith, l, place_is firsts (awaited w) c.place.result c.place.ensures, c.requires.can.sound.room, ap (λ xs. length xs.items) c.loop-k.invariant.standing)
 
@@ -30,7 +30,7 @@ pub raise-requires : goal.raise-requires
 raise-requires g c =
     let w = c.await_at-awaited.result in
     let st = c.requires.can.awaited c.loop-k.k w c.await_at-awaited.ensures in
-    let firsts = c.args.places.now.firsts.items in
+    let firsts = c.args.places.now in
     let l = place_within (g.P.ProgramView.program c.args.program.now) firsts c.requires.can.sound.right (awaited w) st.0 in
     let at : c.place.result ≡ place_of_action c.args.places.now (awaited w) = place_is firsts (awaited w) c.place.result c.place.ensures in
     let within : place_of_action c.args.places.now (awaited w) < length c.loop-k.self.standing.items = omega (arith, l, c.requires.can.sound.room, ap (λ xs. length xs.items) c.loop-k.invariant.standing) in
@@ -44,7 +44,7 @@ loop-k-preserved g c =
     let p = g.P.ProgramView.program c.args.program.now in
     let w = c.await_at-awaited.result in
     let st = c.requires.can.awaited c.loop-k.k w c.await_at-awaited.ensures in
-    let firsts = c.args.places.now.firsts.items in
+    let firsts = c.args.places.now in
     let l = place_within p firsts c.requires.can.sound.right (awaited w) st.0 in
     let at : c.place.result ≡ place_of_action c.args.places.now (awaited w) = place_is firsts (awaited w) c.place.result c.place.ensures in
     let within : place_of_action c.args.places.now (awaited w) < length c.loop-k.self.standing.items = omega (arith, l, c.requires.can.sound.room, ap (λ xs. length xs.items) c.loop-k.invariant.standing) in

@@ -41,6 +41,7 @@ pub mod NextLevel
 pub mod AskedByLevel
 pub mod Beginning
 pub mod PieceLaws
+pub mod Climbing
 pub mod Rows
 pub mod Looking
 pub mod BreakingCounts

@@ -1,8 +1,8 @@
 -- The level of the next action, await by await; and the action finished.
-use Rattle.std.proofs.Common.{◌≡◌, ℕ, zero, suc, ◌+◌, ◌-◌, ◌<◌, ◌≤◌, Bool, true, List, [], ◌∷◌, ◌++◌, length, get_or, set, max, slice_index, Some, slice_get, refl, sym, ap, ◌∙◌, subst, arith, inl, inr, ◌⊎◌}
+use Rattle.std.proofs.Common.{◌≡◌, ℕ, zero, suc, ◌+◌, ◌-◌, ◌<◌, ◌≤◌, Bool, true, List, [], ◌∷◌, ◌++◌, length, get_or, set, max, slice_index, Option, Some, slice_get, refl, sym, ap, ◌∙◌, subst, arith, inl, inr, ◌⊎◌}
 use Rattle.std.specs.Prelude.{IsTrue, Contains}
 use Rattle.std.proofs.lemmas.Bool.{cases_eq, cases_lt}
-use Rattle.std.proofs.lemmas.List.{get_or-set_same, get_or-set_other, set-get_or, length-set}
+use Rattle.std.proofs.lemmas.List.{get_or-set_same, get_or-set_other, length-set}
 use Rattle.std.proofs.lemmas.Option.{slice_get-get_or, slice_get_within, get_or_from_slice_get, same_Some}
 use Rattle.fleet_model.specs.declared.geometry.Cell.{Cell}
 use Rattle.fleet_model.specs.declared.geometry.Place.{Place}
@@ -14,11 +14,10 @@ use Rattle.fleet_model.specs.Geometry.{place_of, stepped, is_move}
 use Rattle.fleet_model.specs.Visit.{is_entry, leaving, IsVisit, ComesAfterByAwait}
 use Rattle.fleet_model.specs.Program.{Program, origin, awaits_of, step_of, path, moves}
 use Rattle.fleet_model.specs.Chain.{DirectlyNeeds, awaited}
-use Rattle.fleet_verify.specs.Ahead.{IsRanked, IsNextLevel, AddsLevel, IsAhead, IsAheadBy, IsAheadAt, IsArrival, count_in, level_in}
+use Rattle.fleet_verify.specs.Ahead.{IsRanked, IsNextLevel, AddsLevel, IsAheadBy, IsArrival, count_in, level_in}
 use Rattle.fleet_verify.specs.Faults.{StandsRight}
-use Rattle.fleet_verify.specs.LastVisits.{kept_at}
 use Rattle.fleet_verify.specs.Order.{AreAddedBy}
-use Rattle.fleet_verify.specs.declared.ahead.Ahead.{Ahead}
+use Rattle.fleet_verify.specs.declared.visit_order.OpenPair.{OpenPair}
 use Rattle.fleet_verify.specs.declared.ahead.Needs.{Needs}
 use Rattle.fleet_verify.specs.declared.visit_order.PlacedVisit.{PlacedVisit}
 use Rattle.fleet_verify.proofs.Begin.{begun_more}
@@ -97,6 +96,10 @@ least_ends p rows i n k l h next all = subst (λ (a : ActionId). IsNextOf a) (ap
       ];
     }
 
+-- a level is at least 1
+pub next_level_some : {p : Program} {rows : List (List ℕ)} {i l : ℕ} → IsNextLevel p rows i l → 1 ≤ l
+next_level_some h = elim h.least [ inl one ↦ omega (arith, one) | inr q ↦ (let is = q.3 in omega (arith, is)) ]
+
 -- the action begins a visit if its step is a move
 pub enters_by : (p : Program) (s : PlacedVisit) (needs : Needs) → IsArrival p s needs → is_entry p s.visit.agent s.visit.position ≡ is_move needs.step
 enters_by p s needs h =
@@ -107,47 +110,36 @@ enters_by p s needs h =
 pub visit_by : (p : Program) (s : PlacedVisit) (needs : Needs) → s.visit.agent < length p → IsArrival p s needs → is_move needs.step ≡ true → IsVisit p s.visit
 visit_by p s needs agent h moves = record { agent = agent; position = h.last; entered = enters_by p s needs h ∙ moves }
 
--- what is put in the place of an entry takes the place of what was put there before
-set_again : (cs : List Cell) (i : ℕ) (a b : Cell) → set (set cs i a) i b ≡ set cs i b
-set_again [] i a b = refl
-set_again (c ∷ cs) zero a b = refl
-set_again (c ∷ cs) (suc i) a b = ap (λ (rest : List Cell). c ∷ rest) (set_again cs i a b)
-
--- the agent is on its cell
-pub at_own_cell : (passable : Place → Bool) (p : Program) (a : Ahead) (i : ℕ) (cell : Cell) → IsAhead passable p a → cell ≡ get_or a.cells.items i cell → IsAheadAt passable p a i cell
-at_own_cell passable p a i cell h is = subst (λ (cs : List Cell). IsAheadBy passable p a.rows.items cs (kept_at a.last) a.pairs.items)
-    (sym (ap (set a.cells.items i) is ∙ set-get_or a.cells.items i cell)) h
-
 -- the next action of the agent, which is on this cell, finished
-pub ahead_more : (passable : Place → Bool) (p : Program) (old new : Ahead) (i n l : ℕ) (from cell : Cell) → IsAheadAt passable p old i from → i < length p → n ≡ count_in old.rows.items i + 1 → n ≤ moves p i → IsNextLevel p old.rows.items i l
-    → length new.rows.items ≡ length p → new.cells.items ≡ old.cells.items → AddsLevel old.rows.items new.rows.items i l
-    → ((visits : List Visit) → AreAddedBy p visits (kept_at old.last) old.pairs.items → AreAddedBy p (visits ++ record { agent = i; position = n } ∷ []) (kept_at new.last) new.pairs.items)
-    → place_of cell ≡ path p i n → IsTrue (passable (place_of cell)) → IsAheadAt passable p new i cell
-ahead_more passable p old new i n l from cell h agent number left level rows cells adds added on ground = record {
-  rows = rows;
-  cells = length-set new.cells.items i cell ∙ many;
-  ranked = ranked_more old.rows.items new.rows.items i l adds p h.ranked (omega (arith, number, left)) level;
+pub ahead_more : (passable : Place → Bool) (p : Program) (rows new : List (List ℕ)) (cells : List Cell) (last later : Cell → Option Visit) (pairs more : List OpenPair) (i n l : ℕ) (from cell : Cell)
+    → IsAheadBy passable p rows (set cells i from) last pairs → i < length p → n ≡ count_in rows i + 1 → n ≤ moves p i → IsNextLevel p rows i l → length new ≡ length p → AddsLevel rows new i l
+    → ((visits : List Visit) → AreAddedBy p visits last pairs → AreAddedBy p (visits ++ record { agent = i; position = n } ∷ []) later more)
+    → place_of cell ≡ path p i n → IsTrue (passable (place_of cell)) → IsAheadBy passable p new (set cells i cell) later more
+ahead_more passable p rows new cells last later pairs more i n l from cell h agent number left level long adds added on ground = record {
+  rows = long;
+  cells = length-set cells i cell ∙ many;
+  ranked = ranked_more rows new i l adds p h.ranked (omega (arith, number, left)) level;
   here = here;
-  begun = begun_more passable p (λ j. count_in old.rows.items j + 1) (λ j. count_in new.rows.items j + 1) i (kept_at old.last) (kept_at new.last) old.pairs.items new.pairs.items h.begun agent
-      (omega (arith, own)) (λ j ne. omega (arith, count_other old.rows.items new.rows.items i l adds j ne))
+  begun = begun_more passable p (λ j. count_in rows j + 1) (λ j. count_in new j + 1) i last later pairs more h.begun agent
+      (omega (arith, own)) (λ j ne. omega (arith, count_other rows new i l adds j ne))
       (subst (λ (m : ℕ). StandsRight passable p i m) number (subst (λ (q : Place). IsTrue (passable q)) on ground))
-      (subst (λ (m : ℕ). (visits : List Visit) → AreAddedBy p visits (kept_at old.last) old.pairs.items → AreAddedBy p (visits ++ record { agent = i; position = m } ∷ []) (kept_at new.last) new.pairs.items) number added);
+      (subst (λ (m : ℕ). (visits : List Visit) → AreAddedBy p visits last pairs → AreAddedBy p (visits ++ record { agent = i; position = m } ∷ []) later more) number added);
 }
   where
-    own : count_in new.rows.items i ≡ count_in old.rows.items i + 1
-    own = count_own old.rows.items new.rows.items i l adds
+    own : count_in new i ≡ count_in rows i + 1
+    own = count_own rows new i l adds
 
-    many : length new.cells.items ≡ length p
-    many = ap (λ (cs : List Cell). length cs) cells ∙ (sym (length-set old.cells.items i from) ∙ h.cells)
+    many : length cells ≡ length p
+    many = sym (length-set cells i from) ∙ h.cells
 
-    here : (j : ℕ) → j < length p → place_of (get_or (set new.cells.items i cell) j origin) ≡ path p j (count_in new.rows.items j)
+    here : (j : ℕ) → j < length p → place_of (get_or (set cells i cell) j origin) ≡ path p j (count_in new j)
     here j there = elim (cases_eq j i) [
-      | inl e ↦ subst (λ (k : ℕ). place_of (get_or (set new.cells.items i cell) k origin) ≡ path p k (count_in new.rows.items k)) (sym e)
-          (ap place_of (get_or-set_same new.cells.items i cell origin (omega (arith, agent, many)))
+      | inl e ↦ subst (λ (k : ℕ). place_of (get_or (set cells i cell) k origin) ≡ path p k (count_in new k)) (sym e)
+          (ap place_of (get_or-set_same cells i cell origin (omega (arith, agent, many)))
           ∙ (on ∙ ap (path p i) (omega (arith, number, own))))
       | inr ne ↦
-          ap place_of (get_or-set_other new.cells.items i j cell origin ne ∙ (ap (λ (cs : List Cell). get_or cs j origin) cells ∙ sym (get_or-set_other old.cells.items i j from origin ne)))
-          ∙ (h.here j there ∙ ap (path p j) (sym (count_other old.rows.items new.rows.items i l adds j ne)))
+          ap place_of (get_or-set_other cells i j cell origin ne ∙ sym (get_or-set_other cells i j from origin ne))
+          ∙ (h.here j there ∙ ap (path p j) (sym (count_other rows new i l adds j ne)))
     ]
 
 -- the step of the next action leads from the agent's cell to the next place of its path
@@ -155,10 +147,11 @@ pub leads_on : (p : Program) (i c : ℕ) (d : Step) (q : Place) → step_of p i 
 leads_on p i c d q step here = ap (λ (r : Place). stepped r d) here ∙ sym (path_step p i c d step)
 
 -- the cell of the agent that is on it
-pub place_at : (passable : Place → Bool) (p : Program) (a : Ahead) (i n : ℕ) (cell : Cell) → IsAheadAt passable p a i cell → i < length p → n ≡ count_in a.rows.items i → place_of cell ≡ path p i n
-place_at passable p a i n cell h agent number =
-    let many : length a.cells.items ≡ length p = sym (length-set a.cells.items i cell) ∙ h.cells in
-    ap place_of (sym (get_or-set_same a.cells.items i cell origin (omega (arith, agent, many)))) ∙ (h.here i agent ∙ ap (path p i) (sym number))
+pub place_at : (passable : Place → Bool) (p : Program) (rows : List (List ℕ)) (cells : List Cell) (last : Cell → Option Visit) (pairs : List OpenPair) (i n : ℕ) (cell : Cell)
+    → IsAheadBy passable p rows (set cells i cell) last pairs → i < length p → n ≡ count_in rows i → place_of cell ≡ path p i n
+place_at passable p rows cells last pairs i n cell h agent number =
+    let many : length cells ≡ length p = sym (length-set cells i cell) ∙ h.cells in
+    ap place_of (sym (get_or-set_same cells i cell origin (omega (arith, agent, many)))) ∙ (h.here i agent ∙ ap (path p i) (sym number))
 
 -- what an await says of a visit orders the two
 pub latest_orders : (p : Program) (v w : Visit) (a : Await) → Contains (awaits_of p w.agent w.position) a → (a.agent ≡ v.agent) × ((leaving p v).number ≤ a.count) → ComesAfterByAwait p v w

@@ -62,6 +62,11 @@ pub await_agent : (p : Program) → IsWellFormed p → (i n k : ℕ) (w : Await)
 await_agent p h i n k w e =
     subst (λ x. x.agent < length p) (get_or_from_slice_get (awaits_of p i n) k w w e) ((h.awaits i n).agents k w (slice_get_within (awaits_of p i n) k w e))
 
+-- nobody awaits itself
+pub await_other : (p : Program) → IsWellFormed p → (i n k : ℕ) (w : Await) → slice_get (awaits_of p i n) k ≡ Some w → w.agent ≢ i
+await_other p h i n k w e =
+    subst (λ x. x.agent ≢ i) (get_or_from_slice_get (awaits_of p i n) k w w e) ((h.awaits i n).others k w (slice_get_within (awaits_of p i n) k w e))
+
 pub await_there : (p : Program) → IsWellFormed p → (i n : ℕ) (w : Await) → Contains (awaits_of p i n) w → w.agent < length p
 await_there p h i n w (k, l, e) = subst (λ (x : Await). x.agent < length p) e ((h.awaits i n).agents k w l)
 

@@ -6,9 +6,10 @@ use Rattle.fleet_model.specs.declared.geometry.Place.{Place}
 use Rattle.fleet_model.specs.declared.program.ActionId.{ActionId}
 use Rattle.fleet_model.specs.declared.program.Visit.{Visit}
 use Rattle.fleet_model.specs.Geometry.{place_of}
-use Rattle.fleet_model.specs.Program.{Program, origin, moves, path, awaits_of, awaits_before, step_of}
+use Rattle.fleet_model.specs.Program.{Program, origin, moves, path, awaits_of, step_of}
 use Rattle.fleet_verify.specs.declared.ahead.Needs.{Needs}
-use Rattle.fleet_verify.specs.declared.ahead.Next.{Next}
+use Rattle.fleet_verify.specs.declared.ahead.Runner.{Runner}
+use Rattle.fleet_verify.specs.Rising.{last_level, climbed}
 use Rattle.fleet_model.specs.Chain.{IsAction, DirectlyNeeds}
 use Rattle.fleet_model.specs.declared.task.Task.{Task}
 use Rattle.fleet_verify.specs.Faults.{StandsRight, EndsRight}
@@ -88,23 +89,32 @@ pub record IsAheadBy (passable : Place → Bool) (p : Program) (levels : List (L
 abbrev pub IsAhead : (Place → Bool) → Program → Ahead → Type 0
 IsAhead passable p a = IsAheadBy passable p a.rows.items a.cells.items (kept_at a.last) a.pairs.items
 
--- so it is if agent i is on this cell
-abbrev pub IsAheadAt : (Place → Bool) → Program → Ahead → ℕ → Cell → Type 0
-IsAheadAt passable p a i cell = IsAheadBy passable p a.rows.items (set a.cells.items i cell) (kept_at a.last) a.pairs.items
+-- the rows, of which that of agent i has climbed to so many levels
+abbrev pub climbed_in : List (List ℕ) → ℕ → ℕ → List (List ℕ)
+climbed_in rows i count = set rows i (climbed (get_or rows i []) count)
 
--- an agent of the program that has finished so many actions, which have so many awaits, and has one left
-pub record IsNext (p : Program) (rows : List (List ℕ)) (n : Next) : Type 0 where
-  pub agent : n.agent < length p
-  pub number : n.finished ≡ count_in rows n.agent
-  pub left : n.finished < moves p n.agent
-  pub before : n.before ≡ awaits_before p n.agent n.finished
+-- agent i, whose row climbs with it, has come so far and has an action left, which the view keeps there
+pub record IsNext (p : Program) (offset : (i finished k : ℕ) → ℕ) (rows : List (List ℕ)) (i : ℕ) (r : Runner) : Type 0 where
+  pub agent : i < length p
+  pub begun : count_in rows i ≤ r.finished
+  pub left : r.finished < moves p i
+  pub level : r.level ≡ last_level (climbed (get_or rows i []) r.finished)
+  pub at : r.at ≡ offset i r.finished 0
 
--- what the agent's next action says, all of whose awaits are met
-pub record AreNeeds (p : Program) (rows : List (List ℕ)) (n : Next) (needs : Needs) : Type 0 where
-  pub level : IsNextLevel p rows n.agent needs.level
-  pub awaits : needs.awaits ≡ length (awaits_of p n.agent (n.finished + 1))
-  pub latest : IfSome needs.latest (Contains (awaits_of p n.agent (n.finished + 1)))
-  pub step : step_of p n.agent (n.finished + 1) ≡ Some needs.step
+-- agent i, whose row climbs with it, has run on so far
+pub record IsRunner (passable : Place → Bool) (p : Program) (offset : (i finished k : ℕ) → ℕ) (a : Ahead) (i : ℕ) (r : Runner) : Type 0 where
+  pub agent : i < length p
+  pub begun : count_in a.rows.items i ≤ r.finished
+  pub level : r.level ≡ last_level (climbed (get_or a.rows.items i []) r.finished)
+  pub at : r.at ≡ offset i r.finished 0
+  pub ahead : IsAheadBy passable p (climbed_in a.rows.items i r.finished) (set a.cells.items i r.cell) (kept_at a.last) a.pairs.items
+
+-- what the action of agent i after so many says, all of whose awaits are met, and where the next action stands
+pub record AreNeeds (p : Program) (offset : (i finished k : ℕ) → ℕ) (rows : List (List ℕ)) (i finished : ℕ) (needs : Needs) : Type 0 where
+  pub level : IsNextLevel p rows i needs.level
+  pub latest : IfSome needs.latest (Contains (awaits_of p i (finished + 1)))
+  pub step : step_of p i (finished + 1) ≡ Some needs.step
+  pub after : needs.after ≡ offset i (finished + 1) 0
 
 -- an agent comes to a cell by an action whose step and last await are these
 pub record IsArrival (p : Program) (s : PlacedVisit) (needs : Needs) : Type 0 where

@@ -7,6 +7,7 @@ pub mod OpenPairs
 pub mod Faults
 pub mod Path
 pub mod Parts
+pub mod Rising
 pub mod Rows
 pub mod Broken
 pub mod RefusalWords

@@ -1,15 +1,16 @@
 //! A verifier without ticks: each agent runs on as far as its awaits allow. It only says yes.
 
-ghost use Rattle.std.specs.Prelude.{◌≡◌, ◌≢◌, ◌<◌, ◌≤◌, ◌+◌, ℕ, Some, true, IsTrue, length, max, IfOk, IfErr, IfSome, OnOk, List, [], ◌∷◌, ◌++◌, Contains};
+ghost use Rattle.std.specs.Prelude.{◌≡◌, ◌≢◌, ◌<◌, ◌≤◌, ◌+◌, ◌-◌, ◌↔◌, get_or, set, ℕ, Some, true, IsTrue, length, max, IfOk, IfErr, IfSome, OnOk, List, [], ◌∷◌, ◌++◌, Contains};
 ghost use Rattle.fleet_model.specs.declared.geometry.Cell.{Cell};
 ghost use Rattle.fleet_model.specs.declared.program.Visit.{Visit};
 ghost use Rattle.fleet_model.specs.Geometry.{place_of};
 ghost use Rattle.fleet_verify.specs.Order.{AreAddedBy, IsOpenNext};
-ghost use Rattle.fleet_model.specs.Program.{Program, start_of, moves, path, awaits_of, IsCell};
+ghost use Rattle.fleet_model.specs.Program.{Program, start_of, moves, path, awaits_of, step_of, IsCell};
 ghost use Rattle.fleet_model.specs.Visit.{IsVisit, ComesAfterByAwait, leaving};
 ghost use Rattle.fleet_grid.specs.Ground.{is_passable};
 ghost use Rattle.fleet_model.specs.Chain.{awaited};
-ghost use Rattle.fleet_verify.specs.Ahead.{IsRanked, IsAhead, IsAheadAt, IsNext, AreNeeds, AddsLevel, AreDone, IsArrival, count_in, level_in};
+ghost use Rattle.fleet_verify.specs.Ahead.{IsRanked, IsAhead, IsNext, IsRunner, AreNeeds, AddsLevel, AreDone, IsArrival, count_in, level_in, climbed_in};
+ghost use Rattle.fleet_verify.specs.Rising.{climbed, last_level};
 ghost use Rattle.fleet_verify.specs.Faults.{HasStarts};
 ghost use Rattle.fleet_verify.specs.LastVisits.{kept_at};
 ghost use Rattle.fleet_verify.specs.Parts.{IsAcceptedFor};
@@ -50,12 +51,17 @@ fn greater_level(rows: &Vec<LevelRow>, least: u32, w: Await) -> Option<u32>
     Some(least.max(level))
 }
 
-/// The next action of an agent: how many it has finished, and how many awaits these have together.
+/// How far an agent that runs on has come.
 #[derive(Clone, Copy)]
-pub struct Next {
-    pub agent: u16,
+pub struct Runner {
+    /// How many actions it has finished.
     pub finished: u32,
-    pub before: u32,
+    /// Where its next instruction stands.
+    pub at: usize,
+    /// The level of its last action, or 0.
+    pub level: u32,
+    /// The cell that it is on.
+    pub cell: Cell,
 }
 
 /// What an action says whose awaits are all met.
@@ -63,10 +69,11 @@ pub struct Next {
 pub struct Needs {
     /// The level of the action.
     pub level: u32,
-    /// How many awaits it has, and the last of them.
-    pub awaits: u16,
+    /// The last of its awaits.
     pub latest: Option<Await>,
     pub step: Step,
+    /// Where the first instruction of the next action stands.
+    pub after: usize,
 }
 
 /// An action has an instruction for each await, of which there are fewer than agents, and one for its step.
@@ -74,26 +81,37 @@ const MOST_INSTRUCTIONS: u16 = MAX_AGENTS as u16;
 
 /// What the agent's next action says, or an await of it that is not met.
 #[inline(always)]
-fn needs_of<P: ProgramView>(program: &P, rows: &Vec<LevelRow>, next: Next) -> Result<Needs, Await>
+fn needs_of<P: ProgramView>(
+    program: &P,
+    rows: &Vec<LevelRow>,
+    agent: u16,
+    runner: Runner,
+) -> Result<Needs, Await>
     requires rows { length rows.now.items ≡ length (P.program program.now) }
-    requires next { IsNext (P.program program.now) rows.now.items next }
-    ensures needs { IfOk result (AreNeeds (P.program program.now) rows.now.items next) }
+    requires next { IsNext (P.program program.now) (P.offset program.now) rows.now.items agent
+        runner }
+    ensures needs { IfOk result (AreNeeds (P.program program.now) (P.offset program.now)
+        (climbed_in rows.now.items agent runner.finished) agent runner.finished) }
     ensures waits { IfErr result (λ w. w.agent < length (P.program program.now)) }
 {
     let _agents = program.agents();
-    let Next {
-        agent,
+    let Runner {
         finished,
-        before,
-    } = next;
-    let mut least = row_of(rows, agent).last();
+        at,
+        level,
+        ..
+    } = runner;
+    let mut least = level;
     let mut latest = None;
+    let mut at = at;
     for k in 0..MOST_INSTRUCTIONS {
-        match program.instruction(agent, finished, before, k) {
+        let reading = program.read(agent, finished, k, at);
+        match reading.instruction {
             Instruction::Await(awaited) => match greater_level(rows, least, awaited) {
                 Some(level) => {
                     least = level;
                     latest = Some(awaited);
+                    at = reading.after;
                 }
                 None => return Err(awaited),
             },
@@ -106,9 +124,9 @@ fn needs_of<P: ProgramView>(program: &P, rows: &Vec<LevelRow>, next: Next) -> Re
                 }
                 return Ok(Needs {
                     level: least + 1,
-                    awaits: k,
                     latest,
                     step,
+                    after: reading.after,
                 });
             }
         }
@@ -116,68 +134,85 @@ fn needs_of<P: ProgramView>(program: &P, rows: &Vec<LevelRow>, next: Next) -> Re
     unreachable!()
 }
 
-/// Finishes the agent's next action, whose awaits are met, if it leads to passable ground, and answers the cell that the
-/// agent has come to.
+/// Finishes the agent's next action, whose awaits are met, if it leads to passable ground, and answers how far the agent
+/// has come then.
 #[inline(always)]
 fn finish_next<P: ProgramView>(
     program: &P,
     grid: &Grid,
     ahead: &mut Ahead,
-    next: Next,
+    agent: u16,
+    runner: Runner,
     needs: Needs,
-    from: Cell,
-) -> Result<Cell, Stop>
-    requires ahead { IsAheadAt (is_passable grid.now) (P.program program.now) ahead.old
-        next.agent from }
-    requires next { IsNext (P.program program.now) ahead.old.rows.items next }
-    requires needs { AreNeeds (P.program program.now) ahead.old.rows.items next needs }
-    ensures ahead { IfOk result (IsAheadAt (is_passable grid.now) (P.program program.now) ahead.new
-        next.agent) }
-    ensures count { OnOk result (count_in ahead.new.rows.items next.agent ≡ next.finished + 1) }
+) -> Result<Runner, Stop>
+    requires runner { IsRunner (is_passable grid.now) (P.program program.now) (P.offset program.now)
+        ahead.old agent runner }
+    requires left { runner.finished < moves (P.program program.now) agent }
+    requires needs { AreNeeds (P.program program.now) (P.offset program.now)
+        (climbed_in ahead.old.rows.items agent runner.finished) agent runner.finished needs }
+    ensures runner { IfOk result (IsRunner (is_passable grid.now) (P.program program.now)
+        (P.offset program.now) ahead.new agent) }
+    ensures finished { IfOk result (λ r. r.finished ≡ runner.finished + 1) }
 {
     let _agents = program.agents();
-    let Next {
-        agent,
-        finished,
-        ..
-    } = next;
-    let Some(cell) = cell_after(grid, from, needs.step) else {
+    let Some(cell) = cell_after(grid, runner.cell, needs.step) else {
         return Err(Stop::OffGround);
     };
+    let finished = runner.finished + 1;
     let visit = Visit {
         agent,
-        position: finished + 1,
+        position: finished,
     };
-    note(program, ahead, PlacedVisit { visit, cell }, needs)?;
-    Ok(cell)
+    let placed = PlacedVisit { visit, cell };
+    add_arrival(program, &mut ahead.last, &mut ahead.pairs, placed, needs)?;
+    raise(&mut ahead.rows, agent, runner, needs.level)?;
+    Ok(Runner {
+        finished,
+        at: needs.after,
+        level: needs.level,
+        cell,
+    })
 }
 
-/// Notes that the agent has come there by its next action.
+/// The agent's next action has this level. It is noted in its row only if it is not the one above the level before: a row
+/// climbs by itself.
 #[inline(always)]
-fn note<P: ProgramView>(
-    program: &P,
-    ahead: &mut Ahead,
-    placed: PlacedVisit,
-    needs: Needs,
+fn raise(
+    rows: &mut Vec<LevelRow>,
+    agent: u16,
+    runner: Runner,
+    level: u32,
 ) -> Result<(), OutOfMemory>
-    requires rows { length ahead.old.rows.items ≡ length (P.program program.now) }
-    requires agent { placed.visit.agent < length (P.program program.now) }
-    requires number { placed.visit.position
-        ≡ count_in ahead.old.rows.items placed.visit.agent + 1 }
-    requires arrival { IsArrival (P.program program.now) placed needs }
-    ensures rows { OnOk result (length ahead.new.rows.items ≡ length (P.program program.now)) }
-    ensures cells { OnOk result (ahead.new.cells.items ≡ ahead.old.cells.items) }
-    ensures level { OnOk result (AddsLevel ahead.old.rows.items ahead.new.rows.items
-        placed.visit.agent needs.level) }
-    ensures added { OnOk result ((visits : List Visit)
-        → AreAddedBy (P.program program.now) visits (kept_at ahead.old.last)
-        ahead.old.pairs.items
-        → AreAddedBy (P.program program.now) (visits ++ placed.visit ∷ [])
-        (kept_at ahead.new.last) ahead.new.pairs.items) }
+    requires agent { agent < length rows.old.items }
+    requires begun { count_in rows.old.items agent ≤ runner.finished }
+    requires level { runner.level
+        ≡ last_level (climbed (get_or rows.old.items agent []) runner.finished) }
+    requires few { runner.finished < 4294967295 }
+    requires some { 1 ≤ level }
+    ensures rows { OnOk result (length rows.new.items ≡ length rows.old.items) }
+    ensures begun { OnOk result (count_in rows.new.items agent ≤ runner.finished + 1) }
+    ensures raised { OnOk result (AddsLevel (climbed_in rows.old.items agent runner.finished)
+        (climbed_in rows.new.items agent (runner.finished + 1)) agent level) }
 {
-    let _agents = program.agents();
-    add_arrival(program, &mut ahead.last, &mut ahead.pairs, placed, needs)?;
-    ahead.rows[usize::from(placed.visit.agent)].push(needs.level)?;
+    let climbs = level - 1 == runner.level;
+    if climbs {
+        return Ok(());
+    }
+    let row = &mut rows[usize::from(agent)];
+    jump(row, runner.finished, runner.level, level)?;
+    Ok(())
+}
+
+/// The row climbs to so many levels, with this one as the last, and then has another one.
+#[inline(never)]
+fn jump(row: &mut LevelRow, finished: u32, last: u32, level: u32) -> Result<(), OutOfMemory>
+    requires begun { length row.old ≤ finished }
+    requires last { last ≡ last_level (climbed row.old finished) }
+    requires few { finished < 4294967295 }
+    ensures { OnOk result (row.new ≡ climbed row.old finished ++ level ∷ []) }
+{
+    row.climb(finished, last);
+    row.push(level)?;
     Ok(())
 }
 
@@ -377,28 +412,57 @@ fn run_agent<P: ProgramView>(
         (λ a. a.agent < length (P.program program.now))) }
 {
     let _agents = program.agents();
-    let begun = row_of(&ahead.rows, agent).count();
-    let mut before = program.awaits_before(agent, begun);
-    let mut cell = ahead.cells[usize::from(agent)];
-    for finished in begun..program.moves(agent) {
-        let next = Next {
-            agent,
-            finished,
-            before,
-        };
-        match needs_of(program, &ahead.rows, next) {
-            Ok(needs) => {
-                cell = finish_next(program, grid, ahead, next, needs, cell)?;
-                before += u32::from(needs.awaits);
-            }
+    let moves = program.moves(agent);
+    let mut runner = runner_of(program, ahead, agent);
+    while runner.finished < moves {
+        match needs_of(program, &ahead.rows, agent, runner) {
+            Ok(needs) => runner = finish_next(program, grid, ahead, agent, runner, needs)?,
             Err(awaited) => {
-                ahead.cells[usize::from(agent)] = cell;
+                stop_at(ahead, agent, runner);
                 return Ok(Some(awaited));
             }
         }
     }
-    ahead.cells[usize::from(agent)] = cell;
+    stop_at(ahead, agent, runner);
     Ok(None)
+}
+
+/// How far the agent has come.
+fn runner_of<P: ProgramView>(program: &P, ahead: &Ahead, agent: u16) -> Runner
+    requires rows { length ahead.now.rows.items ≡ length (P.program program.now) }
+    requires cells { length ahead.now.cells.items ≡ length (P.program program.now) }
+    requires agent { agent < length (P.program program.now) }
+    requires within { count_in ahead.now.rows.items agent
+        ≤ moves (P.program program.now) agent }
+    ensures finished { result.finished ≡ count_in ahead.now.rows.items agent }
+    ensures at { result.at ≡ P.offset program.now agent result.finished 0 }
+    ensures level { result.level ≡ last_level (get_or ahead.now.rows.items agent []) }
+    ensures cell { result.cell ≡ get_or ahead.now.cells.items agent result.cell }
+{
+    let row = row_of(&ahead.rows, agent);
+    let finished = row.count();
+    Runner {
+        finished,
+        at: program.offset(agent, finished, 0),
+        level: row.last(),
+        cell: ahead.cells[usize::from(agent)],
+    }
+}
+
+/// The agent stops there.
+fn stop_at(ahead: &mut Ahead, agent: u16, runner: Runner)
+    requires rows { agent < length ahead.old.rows.items }
+    requires cells { agent < length ahead.old.cells.items }
+    requires begun { count_in ahead.old.rows.items agent ≤ runner.finished }
+    requires level { runner.level
+        ≡ last_level (climbed (get_or ahead.old.rows.items agent []) runner.finished) }
+    ensures rows { ahead.new.rows.items ≡ climbed_in ahead.old.rows.items agent runner.finished }
+    ensures cells { ahead.new.cells.items ≡ set ahead.old.cells.items agent runner.cell }
+    ensures last { kept_at ahead.new.last ≡ kept_at ahead.old.last }
+    ensures pairs { ahead.new.pairs.items ≡ ahead.old.pairs.items }
+{
+    ahead.cells[usize::from(agent)] = runner.cell;
+    ahead.rows[usize::from(agent)].climb(runner.finished, runner.level);
 }
 
 /// Agents that may go on, and agents that wait for others. It only says who is looked at next.

@@ -1,12 +1,10 @@
-use Rattle.std.proofs.Common.{◌≡◌}
-use Rattle.fleet_model.specs.Program.{awaits_before}
+use Rattle.std.proofs.Common.{◌-◌}
 use Rattle.fleet_grid.specs.Ground.{is_passable}
-use Rattle.fleet_verify.specs.Ahead.{IsAheadAt, count_in}
+use Rattle.fleet_verify.specs.Ahead.{IsRunner}
 use Rattle.fleet_verify.proofs.ahead.run_agent.Given as goal
 
-abbrev pub invariant-loop-finished : goal.invariant-loop-finished
-invariant-loop-finished g l = record {
-  ahead : IsAheadAt (is_passable l.grid) (g.P.ProgramView.program l.program) l.ahead l.agent l.cell;
-  count : count_in l.ahead.rows.items l.agent ≡ l.finished;
-  before : l.before ≡ awaits_before (g.P.ProgramView.program l.program) l.agent l.finished;
-}
+abbrev pub invariant-loop-runner : goal.invariant-loop-runner
+invariant-loop-runner g l = IsRunner (is_passable l.grid) (g.P.ProgramView.program l.program) (g.P.ProgramView.offset l.program) l.ahead l.agent l.runner
+
+abbrev pub decreases-loop-runner : goal.decreases-loop-runner
+decreases-loop-runner g l = l.moves - l.runner.finished

@@ -1,6 +1,6 @@
 -- Visits that begin in any order.
 use Rattle.std.proofs.Common.{◌≡◌, ◌≢◌, ℕ, suc, ◌+◌, ◌<◌, ◌≤◌, Bool, List, [], ◌∷◌, ◌++◌, length, get_or, Option, Some, slice_get, refl, ap, sym, ◌∙◌, subst, arith, inl, inr, ◌⊎◌}
-use Rattle.std.specs.Prelude.{All, Contains}
+use Rattle.std.specs.Prelude.{All, Contains, IsTrue}
 use Rattle.std.specs.List.{filter, AllPairs}
 use Rattle.std.proofs.lemmas.Bool.{cases_order, cases_eq, cases_lt}
 use Rattle.std.proofs.lemmas.List.{get_or_default}
@@ -15,11 +15,11 @@ use Rattle.fleet_model.specs.Geometry.{place_of, is_same_place}
 use Rattle.fleet_model.specs.Program.{Program, moves, path, AreInRange, IsCell}
 use Rattle.fleet_model.specs.Visit.{is_entry, IsVisit, IsVisitOf, ListsVisits, Adjacent, ComesAfter, IsOrderly}
 use Rattle.fleet_model.proofs.Cells.{is_same_place-true, is_same_place-eq}
-use Rattle.fleet_verify.specs.Ahead.{AreBegun}
+use Rattle.fleet_verify.specs.Ahead.{AreBegun, AreOnGround}
 use Rattle.fleet_verify.specs.Faults.{StandsRight, EachAction}
 use Rattle.fleet_verify.specs.Chained.{IsChained}
 use Rattle.fleet_verify.specs.OpenPairs.{AreVisits}
-use Rattle.fleet_verify.specs.Order.{visits_of, entries, AreAddedBy, AreConsecutive, IsOpenPair}
+use Rattle.fleet_verify.specs.Order.{visits_of, entries, IsLastVisit, AreAddedBy, AreConsecutive, IsOpenPair}
 use Rattle.fleet_verify.specs.declared.visit_order.OpenPair.{OpenPair}
 use Rattle.fleet_verify.proofs.Judged.{some_cell}
 use Rattle.fleet_verify.proofs.Listing.{await_chain}
@@ -113,6 +113,18 @@ module _ (passable : Place → Bool) (p : Program) where
               subst (λ (m : ℕ). StandsRight passable p m n) (sym e) (subst (λ (m : ℕ). StandsRight passable p i m) same ground)
         ])
       ]
+
+  -- a cell that keeps a visit is passable ground
+  pub begun_kept : (begun : ℕ → ℕ) (last : Cell → Option Visit) (pairs : List OpenPair) → AreBegun passable p begun last pairs → AreOnGround passable last
+  begun_kept begun last pairs h c cell v is =
+      let q : Place = place_of c in
+      let final : IsLastVisit (visits_of q h.added.placed) (Some v) = subst (IsLastVisit (visits_of q h.added.placed)) is (h.added.grouped.cells c cell).last in
+      let same : visits_of q h.added.placed ≡ filter (is_at p q) (entries p h.positions) = visits_are p q h.added.placed h.added.each ∙ ap (filter (is_at p q)) h.added.same in
+      let has : Contains (filter (is_at p q) (entries p h.positions)) v = subst (λ (l : List Visit). Contains l v) (sym final.1 ∙ same) (Contains-push final.0 v) in
+      let f = filter_from (is_at p q) (entries p h.positions) v has in
+      let e = filter_from (λ (w : Visit). is_entry p w.agent w.position) h.positions v f.0 in
+      let r = h.only v e.0 in
+      subst (λ (place : Place). IsTrue (passable place)) (is_same_place-true (path p v.agent v.position) q f.1) (h.on_ground v.agent v.position r.0 r.1)
 
   -- all have begun
   module _ (begun : ℕ → ℕ) (last : Cell → Option Visit) (pairs : List OpenPair) (h : AreBegun passable p begun last pairs) (whole : (i : ℕ) → i < length p → begun i ≡ moves p i + 1) where

@@ -7,16 +7,17 @@ use Rattle.std.proofs.Math.Nat.{add-zero}
 use Rattle.fleet_verify.specs.declared.level_row.Piece.{Piece}
 use Rattle.fleet_verify.specs.Pieces.{level_at, levels_to}
 use Rattle.fleet_verify.specs.Rising.{last_level, climbed_by, climbed}
-use Rattle.std.specs.Prelude.{Bool}
+use Rattle.std.specs.Prelude.{Bool, IsTrue}
 use Rattle.fleet_model.specs.declared.geometry.Cell.{Cell}
 use Rattle.fleet_model.specs.declared.geometry.Place.{Place}
-use Rattle.fleet_model.specs.Geometry.{place_of}
+use Rattle.fleet_model.specs.Geometry.{place_of, stepped}
 use Rattle.fleet_model.specs.Program.{Program, moves, path}
 use Rattle.fleet_verify.specs.declared.ahead.Ahead.{Ahead}
+use Rattle.fleet_verify.specs.declared.ahead.Needs.{Needs}
 use Rattle.fleet_verify.specs.declared.ahead.Runner.{Runner}
 use Rattle.fleet_verify.specs.LastVisits.{kept_at}
-use Rattle.fleet_verify.specs.Ahead.{AddsLevel, IsAhead, IsAheadBy, IsNext, IsRunner, climbed_in, count_in}
-use Rattle.fleet_verify.proofs.NextLevel.{place_at}
+use Rattle.fleet_verify.specs.Ahead.{AddsLevel, IsAhead, IsAheadBy, IsArrival, IsNext, IsRunner, AreNeeds, climbed_in, count_in}
+use Rattle.fleet_verify.proofs.NextLevel.{place_at, leads_on}
 use Rattle.fleet_verify.proofs.PieceLaws.{row_last, push_same, begun_more}
 
 -- ---- rows
@@ -196,3 +197,20 @@ runner_begins passable p offset a i r h agent finished at level cell = record {
       subst (λ (rs : List (List ℕ)). IsAheadBy passable p rs (set a.cells.items i r.cell) (kept_at a.last) a.pairs.items) (sym rows)
       (subst (λ (cs : List Cell). IsAheadBy passable p a.rows.items cs (kept_at a.last) a.pairs.items) (sym cells) h);
 }
+
+-- where an agent that runs on comes to by its next action
+module _ {passable : Place → Bool} {p : Program} {offset : (i finished k : ℕ) → ℕ} {a : Ahead} {i : ℕ} {r : Runner} (h : IsRunner passable p offset a i r) where
+  pub runner_ground : IsTrue (passable (place_of r.cell))
+  runner_ground =
+      let count = runner_count h in
+      subst (λ (q : Place). IsTrue (passable q)) (sym (runner_place h)) (h.ahead.begun.on_ground i r.finished h.agent (omega (arith, count)))
+
+  pub arrival_by : {needs : Needs} → r.finished < moves p i → AreNeeds p offset (climbed_in a.rows.items i r.finished) i r.finished needs → (cell : Cell) → place_of cell ≡ stepped (place_of r.cell) needs.step
+      → IsArrival p (record { visit = record { agent = i; position = r.finished + 1 }; cell = cell }) needs
+  arrival_by {needs = needs} left n cell to = record {
+    first = omega arith;
+    last = omega (arith, left);
+    here = to ∙ leads_on p i r.finished needs.step (place_of r.cell) n.step (runner_place h);
+    step = n.step;
+    latest = n.latest;
+  }

@@ -1,12 +1,12 @@
 -- Actions finished in any order that respects needs: their levels, and the visits that have begun.
-use Rattle.std.specs.Prelude.{◌≡◌, ◌≢◌, ℕ, ◌+◌, ◌-◌, ◌<◌, ◌≤◌, ◌⊎◌, Bool, Some, List, [], ◌∷◌, ◌++◌, length, get_or, set, slice_index, Option, Contains, IfSome}
+use Rattle.std.specs.Prelude.{◌≡◌, ◌≢◌, ℕ, ◌+◌, ◌-◌, ◌<◌, ◌≤◌, ◌⊎◌, Bool, Some, List, [], ◌∷◌, ◌++◌, length, get_or, set, slice_index, Option, Contains, IfSome, IsTrue}
 use Rattle.std.specs.List.{AllPairs}
 use Rattle.fleet_model.specs.declared.geometry.Cell.{Cell}
 use Rattle.fleet_model.specs.declared.geometry.Place.{Place}
 use Rattle.fleet_model.specs.declared.program.ActionId.{ActionId}
 use Rattle.fleet_model.specs.declared.program.Visit.{Visit}
 use Rattle.fleet_model.specs.Geometry.{place_of}
-use Rattle.fleet_model.specs.Program.{Program, origin, moves, path, awaits_of, step_of}
+use Rattle.fleet_model.specs.Program.{Program, origin, moves, path, awaits_of, step_of, IsCell}
 use Rattle.fleet_verify.specs.declared.ahead.Needs.{Needs}
 use Rattle.fleet_verify.specs.declared.ahead.Runner.{Runner}
 use Rattle.fleet_verify.specs.Rising.{last_level, climbed}
@@ -75,6 +75,10 @@ pub record AreBegun (passable : Place → Bool) (p : Program) (begun : ℕ → �
   pub distinct : AllPairs (λ v w. v ≢ w) positions
   pub on_ground : (i n : ℕ) → i < length p → n < begun i → StandsRight passable p i n
   pub added : AreAddedBy p positions last pairs
+
+-- each cell that keeps a visit is passable ground
+abbrev pub AreOnGround : (Place → Bool) → (Cell → Option Visit) → Type 0
+AreOnGround passable last = (c : Cell) → IsCell c → (v : Visit) → last c ≡ Some v → IsTrue (passable (place_of c))
 
 -- the rows have the levels of the actions that are finished, the cells are those that the agents have come to by them,
 -- and the visits that have begun so are added

@@ -9,7 +9,7 @@ ghost use Rattle.fleet_model.specs.Program.{Program, start_of, moves, path, awai
 ghost use Rattle.fleet_model.specs.Visit.{IsVisit, ComesAfterByAwait, leaving};
 ghost use Rattle.fleet_grid.specs.Ground.{is_passable};
 ghost use Rattle.fleet_model.specs.Chain.{awaited};
-ghost use Rattle.fleet_verify.specs.Ahead.{IsRanked, IsAhead, IsNext, IsRunner, AreNeeds, AddsLevel, AreDone, IsArrival, count_in, level_in, climbed_in};
+ghost use Rattle.fleet_verify.specs.Ahead.{IsRanked, IsAhead, IsNext, IsRunner, AreNeeds, AddsLevel, AreDone, AreOnGround, IsArrival, count_in, level_in, climbed_in};
 ghost use Rattle.fleet_verify.specs.Rising.{climbed, last_level};
 ghost use Rattle.fleet_verify.specs.Faults.{HasStarts};
 ghost use Rattle.fleet_verify.specs.LastVisits.{kept_at};
@@ -19,7 +19,7 @@ use crate::agents::ends_right;
 use crate::chained::are_chained;
 use crate::last_visits::LastVisits;
 use crate::level_row::{LevelRow, row_of};
-use crate::path::cell_after;
+use crate::path::map_cell_after;
 use crate::unheld_run::Stop;
 use crate::visit_order::{OpenPair, PlacedVisit, begins_visit, is_left_by, open_unless_after};
 use fleet_grid::Grid;
@@ -155,16 +155,8 @@ fn finish_next<P: ProgramView>(
     ensures finished { IfOk result (λ r. r.finished ≡ runner.finished + 1) }
 {
     let _agents = program.agents();
-    let Some(cell) = cell_after(grid, runner.cell, needs.step) else {
-        return Err(Stop::OffGround);
-    };
+    let cell = arrive(program, grid, ahead, agent, runner, needs)?;
     let finished = runner.finished + 1;
-    let visit = Visit {
-        agent,
-        position: finished,
-    };
-    let placed = PlacedVisit { visit, cell };
-    add_arrival(program, &mut ahead.last, &mut ahead.pairs, placed, needs)?;
     raise(&mut ahead.rows, agent, runner, needs.level)?;
     Ok(Runner {
         finished,
@@ -216,28 +208,94 @@ fn jump(row: &mut LevelRow, finished: u32, last: u32, level: u32) -> Result<(), 
     Ok(())
 }
 
-/// Adds the position to which the agent has come, if it has moved there.
+/// The cell to which the agent comes by its next action, if that is passable ground. If it moves, the visit is kept.
 #[inline(always)]
-fn add_arrival<P: ProgramView>(
+fn arrive<P: ProgramView>(
     program: &P,
+    grid: &Grid,
+    ahead: &mut Ahead,
+    agent: u16,
+    runner: Runner,
+    needs: Needs,
+) -> Result<Cell, Stop>
+    requires runner { IsRunner (is_passable grid.now) (P.program program.now) (P.offset program.now)
+        ahead.old agent runner }
+    requires left { runner.finished < moves (P.program program.now) agent }
+    requires needs { AreNeeds (P.program program.now) (P.offset program.now)
+        (climbed_in ahead.old.rows.items agent runner.finished) agent runner.finished needs }
+    ensures rows { OnOk result (ahead.new.rows.items ≡ ahead.old.rows.items) }
+    ensures cells { OnOk result (ahead.new.cells.items ≡ ahead.old.cells.items) }
+    ensures here { IfOk result (λ cell. place_of cell
+        ≡ path (P.program program.now) agent (runner.finished + 1)) }
+    ensures ground { IfOk result (λ cell. IsTrue (is_passable grid.now (place_of cell))) }
+    ensures added { OnOk result ((visits : List Visit)
+        → AreAddedBy (P.program program.now) visits (kept_at ahead.old.last)
+        ahead.old.pairs.items
+        → AreAddedBy (P.program program.now)
+        (visits ++ record { agent = agent; position = runner.finished + 1 } ∷ [])
+        (kept_at ahead.new.last) ahead.new.pairs.items) }
+{
+    let _agents = program.agents();
+    match needs.step {
+        Step::Go(_) => {
+            let Some(cell) = map_cell_after(grid, runner.cell, needs.step) else {
+                return Err(Stop::OffGround);
+            };
+            let visit = Visit {
+                agent,
+                position: runner.finished + 1,
+            };
+            let placed = PlacedVisit { visit, cell };
+            enter(
+                program,
+                grid,
+                &mut ahead.last,
+                &mut ahead.pairs,
+                placed,
+                needs.latest,
+            )?;
+            Ok(cell)
+        }
+        Step::Dwell => Ok(runner.cell),
+    }
+}
+
+/// Keeps the visit as the last one of its cell, if that is passable ground: where there was a visit before, it is.
+#[inline(always)]
+fn enter<P: ProgramView>(
+    program: &P,
+    grid: &Grid,
     last: &mut LastVisits,
     pairs: &mut Vec<OpenPair>,
     placed: PlacedVisit,
-    needs: Needs,
-) -> Result<(), OutOfMemory>
-    requires agent { placed.visit.agent < length (P.program program.now) }
-    requires arrival { IsArrival (P.program program.now) placed needs }
-    ensures { OnOk result ((visits : List Visit)
-        → AreAddedBy (P.program program.now) visits (kept_at last.old) pairs.old.items
-        → AreAddedBy (P.program program.now) (visits ++ placed.visit ∷ [])
-        (kept_at last.new) pairs.new.items) }
+    latest: Option<Await>,
+) -> Result<(), Stop>
+    requires visit { IsVisit (P.program program.now) placed.visit }
+    requires latest { IfSome latest (Contains
+        (awaits_of (P.program program.now) placed.visit.agent placed.visit.position)) }
+    requires ground { AreOnGround (is_passable grid.now) (kept_at last.old) }
+    ensures ground { OnOk result (IsTrue (is_passable grid.now (place_of placed.cell))) }
+    ensures here { OnOk result (kept_at last.new placed.cell ≡ Some placed.visit) }
+    ensures others { OnOk result ((c : Cell) → IsCell c → c ≢ placed.cell
+        → kept_at last.new c ≡ kept_at last.old c) }
+    ensures pairs { OnOk result (IsOpenNext (ComesAfterByAwait (P.program program.now))
+        (kept_at last.old placed.cell) placed pairs.old.items pairs.new.items) }
+    ensures cell { IsCell placed.cell }
 {
-    match needs.step {
-        Step::Go(_) => {
-            keep_visit(program, last, pairs, placed, needs.latest)?;
+    let _agents = program.agents();
+    match last.replace(placed.cell, placed.visit)? {
+        Some(first) => {
+            open_unless_follows(program, first, placed, latest, pairs)?;
             Ok(())
         }
-        Step::Dwell => Ok(()),
+        None => {
+            let is_ground = grid.passable(placed.cell);
+            if is_ground {
+                Ok(())
+            } else {
+                Err(Stop::OffGround)
+            }
+        }
     }
 }
 
@@ -335,7 +393,23 @@ fn open_unless_follows<P: ProgramView>(
     if follows(program, first, placed.visit, latest) {
         return Ok(());
     }
-    open_unless_after(program, first, placed, pairs)
+    open_at(program, first, placed.visit, placed.cell, pairs)
+}
+
+/// The same of a visit of the cell, where it is not known that it comes after the one before.
+#[inline(never)]
+fn open_at<P: ProgramView>(
+    program: &P,
+    first: Visit,
+    visit: Visit,
+    cell: Cell,
+    pairs: &mut Vec<OpenPair>,
+) -> Result<(), OutOfMemory>
+    requires { IsVisit (P.program program.now) visit }
+    ensures { OnOk result (IsOpenNext (ComesAfterByAwait (P.program program.now)) (Some first)
+        (record { visit = visit; cell = cell }) pairs.old.items pairs.new.items) }
+{
+    open_unless_after(program, first, PlacedVisit { visit, cell }, pairs)
 }
 
 /// All agents on their starts, if these are passable.

@@ -107,6 +107,22 @@ pub fn cell_after(grid: &Grid, cell: Cell, step: Step) -> Option<Cell>
         × IsTrue (is_passable grid.now (place_of next))) }
     ensures none { IfNone result (is_passable grid.now (stepped (place_of cell) step) ≡ false) }
 {
+    let Some(next) = map_cell_after(grid, cell, step) else {
+        return None;
+    };
+    if grid.passable(next) {
+        Some(next)
+    } else {
+        None
+    }
+}
+
+/// The cell after a step, if it is on the map.
+#[inline(always)]
+pub fn map_cell_after(grid: &Grid, cell: Cell, step: Step) -> Option<Cell>
+    ensures some { IfSome result (λ next. place_of next ≡ stepped (place_of cell) step) }
+    ensures none { IfNone result (is_passable grid.now (stepped (place_of cell) step) ≡ false) }
+{
     let place = Place {
         x: column_after(cell, step),
         y: row_after(cell, step),
@@ -144,11 +160,10 @@ fn row_after(cell: Cell, step: Step) -> i32
     }
 }
 
-/// The cell at a place, if it is on the map and passable.
+/// The cell at a place, if it is on the map.
 #[inline(always)]
 fn cell_at(grid: &Grid, place: Place) -> Option<Cell>
-    ensures some { IfSome result (λ cell. (place_of cell ≡ place)
-        × IsTrue (is_passable grid.now place)) }
+    ensures some { IfSome result (λ cell. place_of cell ≡ place) }
     ensures none { IfNone result (is_passable grid.now place ≡ false) }
 {
     let width = i32::from(grid.width());
@@ -161,15 +176,10 @@ fn cell_at(grid: &Grid, place: Place) -> Option<Cell>
     if is_left || is_right || is_above || is_below {
         return None;
     }
-    let cell = Cell {
+    Some(Cell {
         x: x as u16,
         y: y as u16,
-    };
-    if grid.passable(cell) {
-        Some(cell)
-    } else {
-        None
-    }
+    })
 }
 
 /// The first action that awaits more actions than there are, after one action more of an agent.

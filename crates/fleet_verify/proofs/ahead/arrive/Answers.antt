@@ -1,0 +1,65 @@
+use Rattle.std.proofs.Common.{◌≡◌, ◌+◌, ◌∙◌, ℕ, sym, ◌++◌, ◌∷◌, [], ap, Some, subst, arith}
+use Rattle.std.specs.Prelude.{IsTrue}
+use Rattle.std.proofs.lemmas.List.{map-append}
+use Rattle.std.proofs.lemmas.List.Elements.{All-push}
+use Rattle.fleet_model.specs.declared.geometry.Place.{Place}
+use Rattle.fleet_model.specs.Geometry.{is_move, place_of}
+use Rattle.fleet_grid.specs.Ground.{is_passable}
+use Rattle.fleet_verify.specs.declared.visit_order.PlacedVisit.{PlacedVisit}
+use Rattle.fleet_verify.specs.Ahead.{IsArrival, count_in, climbed_in}
+use Rattle.fleet_verify.specs.LastVisits.{kept_at}
+use Rattle.fleet_verify.specs.Order.{IsVisitPlaced}
+use Rattle.fleet_verify.proofs.Begin.{begun_kept}
+use Rattle.fleet_verify.proofs.NextLevel.{enters_by, visit_by, leads_on}
+use Rattle.fleet_verify.proofs.Climbing.{runner_count, runner_place, runner_ground, arrival_by}
+use Rattle.fleet_verify.proofs.Ordered.{grouped_on_more, entry_more, entry_none}
+use Rattle.fleet_verify.proofs.ahead.arrive.Goals as goal
+
+pub enter-requires-clause-visit : goal.enter-requires-clause-visit
+enter-requires-clause-visit g c =
+    let p = g.P.ProgramView.program c.args.program.now in
+    let placed : PlacedVisit = record { visit = record { agent = c.args.agent; position = c.args.runner.finished + 1 }; cell = c.in-Some.cell } in
+    visit_by p placed c.args.needs c.requires.runner.agent (arrival_by c.requires.runner c.requires.left c.requires.needs c.in-Some.cell c.in-Some.ensures.some) (ap is_move c.in-Go.is)
+
+pub enter-requires-clause-ground : goal.enter-requires-clause-ground
+enter-requires-clause-ground g c =
+    let p = g.P.ProgramView.program c.args.program.now in
+    begun_kept (is_passable c.args.grid.now) p (λ j. count_in (climbed_in c.args.ahead.now.rows.items c.args.agent c.args.runner.finished) j + 1) (kept_at c.args.ahead.now.last) c.args.ahead.now.pairs.items c.requires.runner.ahead.begun
+
+pub returns-in_ok-enter-in-Go-clause-here : goal.returns-in_ok-enter-in-Go-clause-here
+returns-in_ok-enter-in-Go-clause-here g c =
+    (arrival_by c.requires.runner c.requires.left c.requires.needs c.in-Some.cell c.in-Some.ensures.some).here
+
+pub returns-in_ok-enter-in-Go-clause-added : goal.returns-in_ok-enter-in-Go-clause-added
+returns-in_ok-enter-in-Go-clause-added g c = λ visits old.
+    let p = g.P.ProgramView.program c.args.program.now in
+    let s : PlacedVisit = record { visit = record { agent = c.args.agent; position = c.args.runner.finished + 1 }; cell = c.in-Some.cell } in
+    let made = c.in_ok-enter-in-Go.ensures in
+    let arrival = arrival_by c.requires.runner c.requires.left c.requires.needs c.in-Some.cell c.in-Some.ensures.some in
+    record {
+      placed = old.placed ++ s ∷ [];
+      same = map-append (λ (x : PlacedVisit). x.visit) old.placed (s ∷ []) ∙ (ap (λ vs. vs ++ s.visit ∷ []) old.same ∙ sym (entry_more p visits s.visit (enters_by p s c.args.needs arrival ∙ ap is_move c.in-Go.is)));
+      each = All-push (IsVisitPlaced p) old.placed s old.each (record { cell = made.cell; here = arrival.here });
+      grouped = grouped_on_more p old.placed s (kept_at c.args.ahead.now.last) (kept_at c.enter.new.last) c.args.ahead.now.pairs.items c.enter.new.pairs.items made.cell old.grouped made.here made.others made.pairs;
+    }
+
+pub returns-in-Dwell-clause-here : goal.returns-in-Dwell-clause-here
+returns-in-Dwell-clause-here g c =
+    let p = g.P.ProgramView.program c.args.program.now in
+    leads_on p c.args.agent c.args.runner.finished _ (place_of c.args.runner.cell) (c.requires.needs.step ∙ ap Some c.in-Dwell.is) (runner_place c.requires.runner)
+
+pub returns-in-Dwell-clause-ground : goal.returns-in-Dwell-clause-ground
+returns-in-Dwell-clause-ground g c = runner_ground c.requires.runner
+
+pub returns-in-Dwell-clause-added : goal.returns-in-Dwell-clause-added
+returns-in-Dwell-clause-added g c = λ visits old.
+    let p = g.P.ProgramView.program c.args.program.now in
+    let s : PlacedVisit = record { visit = record { agent = c.args.agent; position = c.args.runner.finished + 1 }; cell = c.args.runner.cell } in
+    let here = leads_on p c.args.agent c.args.runner.finished _ (place_of c.args.runner.cell) (c.requires.needs.step ∙ ap Some c.in-Dwell.is) (runner_place c.requires.runner) in
+    let arrival : IsArrival p s c.args.needs = record { first = omega arith; last = omega (arith, c.requires.left); here = here; step = c.requires.needs.step; latest = c.requires.needs.latest } in
+    record {
+      placed = old.placed;
+      same = old.same ∙ sym (entry_none p visits s.visit (enters_by p s c.args.needs arrival ∙ ap is_move c.in-Dwell.is));
+      each = old.each;
+      grouped = old.grouped;
+    }

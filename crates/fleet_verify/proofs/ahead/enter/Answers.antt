@@ -1,0 +1,10 @@
+use Rattle.std.proofs.Common.{Option, sym, ◌∙◌, subst}
+use Rattle.fleet_model.specs.declared.program.Visit.{Visit}
+use Rattle.fleet_model.specs.Visit.{ComesAfterByAwait}
+use Rattle.fleet_verify.specs.Order.{IsOpenNext}
+use Rattle.fleet_verify.proofs.ahead.enter.Goals as goal
+
+pub returns-in_ok-open_unless_follows-in-Some-clause-pairs : goal.returns-in_ok-open_unless_follows-in-Some-clause-pairs
+returns-in_ok-open_unless_follows-in-Some-clause-pairs g c =
+    let before = sym c.in-Some.is ∙ c.in_ok-first.ensures.before in
+    subst (λ (o : Option Visit). IsOpenNext (ComesAfterByAwait (g.P.ProgramView.program c.args.program.now)) o c.args.placed c.args.pairs.now.items c.open_unless_follows.new.pairs.items) before c.in_ok-open_unless_follows-in-Some.ensures

@@ -253,7 +253,8 @@ fn reaches_other<P: ProgramView>(
     let mut steps = ticks.steps();
     let mut known = true;
     for m in 0..program.await_count(action.agent, action.number) {
-        if m != k {
+        let is_other = m != k;
+        if is_other {
             let other = awaited_at(program, action, m);
             match reaches(program, ticks, first, other, &mut steps) {
                 Some(true) => return Some(true),
@@ -287,7 +288,8 @@ fn reaches<P: ProgramView>(
     ensures fewer { steps.new ≤ steps.old }
 {
     let _ = program.agents();
-    if last.agent == first.agent {
+    let is_own = last.agent == first.agent;
+    if is_own {
         return Some(first.number <= last.number);
     }
     if ticks.tick(program, last) <= ticks.tick(program, first) {

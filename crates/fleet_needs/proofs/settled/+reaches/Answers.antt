@@ -10,19 +10,19 @@ use Rattle.fleet_needs.proofs.Settling.{await_of, none_if_low, own_only, apart_m
 use Rattle.fleet_needs.proofs.settled.+reaches.Goals as goal
 use Rattle.fleet_needs.proofs.settled.+reaches.Goals.{in-Some-false, in-None}
 
-pub returns-then-last-first-clause-yes : goal.returns-then-last-first-clause-yes
-returns-then-last-first-clause-yes g t c = λ e.
-    own_first (g.P.ProgramView.program c.args.program.now) c.args.first c.args.last c.requires.first.first c.requires.last c.if-last-first.true
+pub returns-then-is_own-clause-yes : goal.returns-then-is_own-clause-yes
+returns-then-is_own-clause-yes g t c = λ e.
+    own_first (g.P.ProgramView.program c.args.program.now) c.args.first c.args.last c.requires.first.first c.requires.last (omega (arith, c.if-is_own.true))
     (leb-true c.args.first.number c.args.last.number (same_Some _ _ e))
 
-pub returns-then-last-first-clause-no : goal.returns-then-last-first-clause-no
-returns-then-last-first-clause-no g t c = λ e r.
-    let le = own_only (g.P.ProgramView.program c.args.program.now) (finish_tick c.args.ticks.now) c.requires.ticks.rising c.args.first c.args.last c.requires.first c.requires.last c.if-last-first.true r in
+pub returns-then-is_own-clause-no : goal.returns-then-is_own-clause-no
+returns-then-is_own-clause-no g t c = λ e r.
+    let le = own_only (g.P.ProgramView.program c.args.program.now) (finish_tick c.args.ticks.now) c.requires.ticks.rising c.args.first c.args.last c.requires.first c.requires.last (omega (arith, c.if-is_own.true)) r in
     grind (arith, same_Some _ _ e, le-leb c.args.first.number c.args.last.number le)
 
 pub returns-then-tick-clause-no : goal.returns-then-tick-clause-no
 returns-then-tick-clause-no g t c = λ e.
-    none_if_low (g.P.ProgramView.program c.args.program.now) (finish_tick c.args.ticks.now) c.requires.ticks.rising c.args.first c.args.last c.if-last-first.false
+    none_if_low (g.P.ProgramView.program c.args.program.now) (finish_tick c.args.ticks.now) c.requires.ticks.rising c.args.first c.args.last (λ s. omega (arith, s, c.if-is_own.false))
     (omega (arith, c.if-tick.true, c.tick.ensures, c.tick-2.ensures))
 
 pub returns-in-Some-true-clause-yes : goal.returns-in-Some-true-clause-yes
@@ -47,7 +47,7 @@ pub returns-then-is_first-clause-no : goal.returns-then-is_first-clause-no
 returns-then-is_first-clause-no g t c = λ e.
     let p = g.P.ProgramView.program c.args.program.now in
     let whole : c.loop-k.k ≡ length (awaits_of p c.args.last.agent c.args.last.number) = omega (arith, c.loop-k-test.false, c.await_count-awaits.ensures, c.loop-k.auto.k-end) in
-    none_reached p c.args.first c.args.last c.if-last-first.false
+    none_reached p c.args.first c.args.last (λ s. omega (arith, s, c.if-is_own.false))
     (λ m w l. c.loop-k.invariant.apart (c.join_answers.ensures.no e).0 m w (omega (arith, l, whole)))
     (λ b agent number some. absurd (omega (arith, number, some, c.if-is_first.true)))
 
@@ -60,7 +60,7 @@ pub returns-clause-no : goal.returns-clause-no
 returns-clause-no g t c = λ e.
     let p = g.P.ProgramView.program c.args.program.now in
     let whole : c.loop-k.k ≡ length (awaits_of p c.args.last.agent c.args.last.number) = omega (arith, c.loop-k-test.false, c.await_count-awaits.ensures, c.loop-k.auto.k-end) in
-    none_reached p c.args.first c.args.last c.if-last-first.false
+    none_reached p c.args.first c.args.last (λ s. omega (arith, s, c.if-is_own.false))
     (λ m w l. c.loop-k.invariant.apart (c.join_answers-2.ensures.no e).0 m w (omega (arith, l, whole)))
     (λ b agent number some r. c.reaches-2.ensures.no (c.join_answers-2.ensures.no e).1 (subst (λ (x : ActionId). Reaches p c.args.first x)
     (let f : b.number ≡ c.before-2.result.number = omega (arith, number, c.before-2.ensures.number) in

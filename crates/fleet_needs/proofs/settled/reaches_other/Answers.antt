@@ -5,24 +5,24 @@ use Rattle.fleet_model.specs.Program.{awaits_of}
 use Rattle.fleet_model.specs.Chain.{Reaches}
 use Rattle.fleet_needs.proofs.Settling.{await_of, apart_but, by_other, by_own, none_implied, no_is_not_yes, yes_is_not_no}
 use Rattle.fleet_needs.proofs.settled.reaches_other.Goals as goal
-use Rattle.fleet_needs.proofs.settled.reaches_other.Goals.{then-m-k+in-Some-false, then-m-k+in-None, else-m-k}
+use Rattle.fleet_needs.proofs.settled.reaches_other.Goals.{then-is_other+in-Some-false, then-is_other+in-None, else-is_other}
 
 pub returns-in-Some-true-clause-yes : goal.returns-in-Some-true-clause-yes
 returns-in-Some-true-clause-yes g c = λ e.
     by_other (g.P.ProgramView.program c.args.program.now) c.agents.ensures.well_formed c.args.action c.args.k (await_of c.args.first) c.requires.awaited
-    c.args.first refl c.loop-m.m (await_of c.awaited_at-other.result) c.if-m-k.true c.awaited_at-other.ensures.awaited
+    c.args.first refl c.loop-m.m (await_of c.awaited_at-other.result) (λ s. omega (arith, s, c.if-is_other.true)) c.awaited_at-other.ensures.awaited
     (c.reaches.ensures.yes (c.in-Some-true.is ∙ ap Some c.in-Some-true.field-0-test))
 
 pub loop-m-preserved : goal.loop-m-preserved
 loop-m-preserved g c =
     let p = g.P.ProgramView.program c.args.program.now in
     record {
-      apart = λ known. elim c.if-m-k.branch [
-        | then-m-k+in-Some-false w ↦
+      apart = λ known. elim c.if-is_other.branch [
+        | then-is_other+in-Some-false w ↦
             apart_but p c.args.first c.args.action c.args.k c.loop-m.m (await_of w.awaited_at-other.result) w.awaited_at-other.ensures.awaited
             (λ ne. w.reaches.ensures.no (w.in-Some-false.is ∙ ap Some w.in-Some-false.field-0-test)) (c.loop-m.invariant.apart (sym w.known-is ∙ known))
-        | then-m-k+in-None w ↦ absurd (let e : true ≡ false = sym known ∙ w.known-is in cc)
-        | else-m-k w ↦ λ m v l there. c.loop-m.invariant.apart (sym w.known-is ∙ known) m v (omega (arith, l.0, l.1, w.if-m-k.false), l.1) there
+        | then-is_other+in-None w ↦ absurd (let e : true ≡ false = sym known ∙ w.known-is in cc)
+        | else-is_other w ↦ λ m v l there. c.loop-m.invariant.apart (sym w.known-is ∙ known) m v (omega (arith, l.0, l.1, w.if-is_other.false), l.1) there
       ];
     }
 

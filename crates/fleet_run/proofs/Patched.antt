@@ -1,15 +1,16 @@
 -- The text of a place, written over that of one beside it by its last digits.
-use Rattle.std.proofs.Common.{◌≡◌, ◌≤◌, ◌<◌, ◌+◌, ◌/◌, ◌%◌, ◌^◌, ◌++◌, ◌∷◌, [], ℤ, pos, negsuc, set, zero, suc, inl, inr, refl, ℕ, List, length, take, drop, ap, sym, ◌∙◌, arith, append_assoc, length-append, slice_index}
+use Rattle.std.proofs.Common.{◌≡◌, ◌≢◌, ◌≤◌, ◌<◌, ◌+◌, ◌-◌, ◌/◌, ◌%◌, ◌^◌, ◌++◌, ◌∷◌, [], ℤ, pos, negsuc, set, zero, suc, inl, inr, ◌⊎◌, refl, ℕ, List, length, take, drop, ap, sym, ◌∙◌, subst, arith, append_assoc, length-append, slice_index}
 use Rattle.std.proofs.lemmas.Int.{ints}
 use Rattle.std.proofs.lemmas.Bool.{cases_lt}
-use Rattle.std.proofs.lemmas.List.{take-append-drop, length-take}
+use Rattle.std.proofs.lemmas.List.{append-nil, take-append-drop, length-take}
 use Rattle.std.proofs.Math.Seq.{get_or-append_seam, set-append_seam}
 use Rattle.std.proofs.lemmas.Fmt.{decimal_step, decimal_digit}
 use Rattle.std.specs.Fmt.{decimal, signed_decimal}
 use Rattle.fleet_text.proofs.DigitLemmas.{length-decimal_more, length-decimal_last}
 use Rattle.fleet_model.specs.declared.geometry.Place.{Place}
 use Rattle.fleet_run.specs.Text.{place_text}
-use Rattle.fleet_run.specs.Line.{AreClose, IsTextBeside, IsWrittenOver}
+use Rattle.std.specs.Prelude.{if◌then◌else◌, Bool, true, false}
+use Rattle.fleet_run.specs.Line.{AreClose, AreBytesClose, IsTextBeside, IsWrittenOver, WritesOver}
 
 -- ---- how many digits a number has
 
@@ -68,208 +69,192 @@ front_and_last n fits =
 
 -- ---- a coordinate and one close to it
 
--- a coordinate that is not negative, and is close to a number of as many digits
+-- a coordinate that is not negative, and is close to a number
 record IsNumberBy (z : ℤ) (n : ℕ) : Type 0 where
   number : ℕ
   is : z ≡ pos number
   low : number ≤ n + 1
   high : n ≤ number + 1
-  long : length (decimal number) ≡ length (decimal n)
 
-same_number : (z : ℤ) (n : ℕ) → z ≡ pos n → IsNumberBy z n
-same_number z n e = record { number = n; is = e; low = omega arith; high = omega arith; long = refl }
+close_number : (z : ℤ) (n : ℕ) → 1 ≤ n → AreClose z (pos n) → IsNumberBy z n
+close_number (pos m) n first close = record { number = m; is = refl; low = omega (arith, ints, close.low); high = omega (arith, ints, close.high) }
+close_number (negsuc k) n first close = absurd (omega (arith, ints, first, close.high))
 
-close_number : (z : ℤ) (n : ℕ) → AreClose z (pos n) → length (signed_decimal z) ≡ length (decimal n) → IsNumberBy z n
-close_number (pos m) n close long = record {
-  number = m;
-  is = refl;
-  low = omega (arith, ints, close.low);
-  high = omega (arith, ints, close.high);
-  long = long;
-}
-close_number (negsuc k) n close long =
-    let more : suc (length (decimal (suc k))) ≡ length (decimal n) = long in
-    absurd (omega (arith, ints, more, length-decimal_last (suc k) (omega (arith, ints, close.high)), length-decimal_last n (omega (arith, ints, close.high))))
+-- .. or it is -1, and the number is 0
+close_or_below : (z : ℤ) (n : ℕ) → AreClose z (pos n) → IsNumberBy z n ⊎ ((n ≡ 0) × (z ≡ negsuc 0))
+close_or_below (pos m) n close = inl (record { number = m; is = refl; low = omega (arith, ints, close.low); high = omega (arith, ints, close.high) })
+close_or_below (negsuc k) n close =
+    let none : n ≡ 0 = omega (arith, ints, close.high) in
+    let one : k ≡ 0 = omega (arith, ints, close.high) in
+    inr (none, ap (λ (j : ℕ). negsuc j) one)
 
 -- a number close to another whose last digit is close to that of the other has as many tens
 same_tens : (m n : ℕ) → m ≤ n + 1 → n ≤ m + 1 → 48 + m % 10 ≤ 48 + n % 10 + 1 → 48 + n % 10 ≤ 48 + m % 10 + 1 → m / 10 ≡ n / 10
 same_tens m n low high digit_low digit_high = omega arith
 
+-- .. and if that is the same, so is the number
+same_if : (m n : ℕ) → m ≤ n + 1 → n ≤ m + 1 → 48 + m % 10 ≡ 48 + n % 10 → m ≡ n
+same_if m n low high digit = omega arith
+
 -- ---- the text of a place
 
-length_place : (q : Place) → length (place_text q) ≡ 2 + length (signed_decimal q.x) + length (signed_decimal q.y)
-length_place q =
-    let whole : length (place_text q) ≡ suc (length (signed_decimal q.x ++ (44 ∷ signed_decimal q.y))) = refl in
-    let parts : length (signed_decimal q.x ++ (44 ∷ signed_decimal q.y)) ≡ length (signed_decimal q.x) + suc (length (signed_decimal q.y)) = length-append (signed_decimal q.x) (44 ∷ signed_decimal q.y) in
-    omega (arith, whole, parts)
+-- up to the last digit of the row, which these come before
+abbrev to_row : (q : Place) → List ℕ → List ℕ
+to_row q F = 32 ∷ (signed_decimal q.x ++ (44 ∷ F))
 
-arranged : (P Q D : List ℕ) (a b : ℕ) → (32 ∷ ((P ++ (a ∷ [])) ++ (44 ∷ (Q ++ (b ∷ []))))) ++ D ≡ (32 ∷ P) ++ (a ∷ ((44 ∷ Q) ++ (b ∷ D)))
-arranged P Q D a b =
-    ap (λ l. 32 ∷ l)
-    (append_assoc (P ++ (a ∷ [])) (44 ∷ (Q ++ (b ∷ []))) D
-    ∙ (append_assoc P (a ∷ []) (44 ∷ ((Q ++ (b ∷ [])) ++ D))
-    ∙ ap (λ l. P ++ (a ∷ (44 ∷ l))) (append_assoc Q (b ∷ []) D)))
+-- up to the last digit of the column, and behind it
+abbrev to_column : ℕ → List ℕ
+to_column m = 32 ∷ front (m / 10)
 
--- the text of a place at these columns and rows, and what comes after it
-spelled : (q : Place) (m n : ℕ) (D : List ℕ) → q.x ≡ pos m → q.y ≡ pos n → m < 2 ^ 64 → n < 2 ^ 64
-    → place_text q ++ D ≡ (32 ∷ front (m / 10)) ++ ((48 + m % 10) ∷ ((44 ∷ front (n / 10)) ++ ((48 + n % 10) ∷ D)))
-spelled q m n D columns rows fits fits' =
-    let column : signed_decimal q.x ≡ front (m / 10) ++ ((48 + m % 10) ∷ []) = ap signed_decimal columns ∙ front_and_last m fits in
-    let at_row : signed_decimal q.y ≡ front (n / 10) ++ ((48 + n % 10) ∷ []) = ap signed_decimal rows ∙ front_and_last n fits' in
-    ap (λ l. (32 ∷ (l ++ (44 ∷ signed_decimal q.y))) ++ D) column
-    ∙ (ap (λ l. (32 ∷ ((front (m / 10) ++ ((48 + m % 10) ∷ [])) ++ (44 ∷ l))) ++ D) at_row
-    ∙ arranged (front (m / 10)) (front (n / 10)) D (48 + m % 10) (48 + n % 10))
+abbrev past_column : (q : Place) → List ℕ
+past_column q = 44 ∷ signed_decimal q.y
 
--- ---- a place in a row of bytes
+by_row : (q : Place) (F D : List ℕ) (d : ℕ) → signed_decimal q.y ≡ F ++ (d ∷ []) → place_text q ++ D ≡ to_row q F ++ (d ∷ D)
+by_row q F D d digits =
+    ap (λ l. (32 ∷ (signed_decimal q.x ++ (44 ∷ l))) ++ D) digits
+    ∙ ap (λ l. 32 ∷ l)
+    (append_assoc (signed_decimal q.x) (44 ∷ (F ++ (d ∷ []))) D
+    ∙ (ap (λ l. signed_decimal q.x ++ (44 ∷ l)) (append_assoc F (d ∷ []) D)
+    ∙ sym (append_assoc (signed_decimal q.x) (44 ∷ F) (d ∷ D))))
 
--- the row up to the last digit of the column, and up to that of the row
-abbrev up_to_column : (A P : List ℕ) → List ℕ
-up_to_column A P = A ++ (32 ∷ P)
+by_column : (q : Place) (m : ℕ) (D : List ℕ) → q.x ≡ pos m → m < 2 ^ 64 → place_text q ++ D ≡ to_column m ++ ((48 + m % 10) ∷ (past_column q ++ D))
+by_column q m D is fits =
+    let digits : signed_decimal q.x ≡ front (m / 10) ++ ((48 + m % 10) ∷ []) = ap signed_decimal is ∙ front_and_last m fits in
+    ap (λ l. (32 ∷ (l ++ past_column q)) ++ D) digits
+    ∙ ap (λ l. 32 ∷ l)
+    (append_assoc (front (m / 10) ++ ((48 + m % 10) ∷ [])) (past_column q) D
+    ∙ append_assoc (front (m / 10)) ((48 + m % 10) ∷ []) (past_column q ++ D))
 
-abbrev up_to_row : (A P Q : List ℕ) (a : ℕ) → List ℕ
-up_to_row A P Q a = up_to_column A P ++ (a ∷ (44 ∷ Q))
+-- the digits of a number
+digits_of : (z : ℤ) (n : ℕ) → z ≡ pos n → n < 2 ^ 64 → signed_decimal z ≡ front (n / 10) ++ ((48 + n % 10) ∷ [])
+digits_of z n is fits = ap signed_decimal is ∙ front_and_last n fits
 
--- the row with the two digits in it
-abbrev with_digits : (A P Q D : List ℕ) (a b : ℕ) → List ℕ
-with_digits A P Q D a b = up_to_row A P Q a ++ (b ∷ D)
+-- how long a text is
+long_row : (r : Place) (F : List ℕ) (d : ℕ) → signed_decimal r.y ≡ F ++ (d ∷ []) → length (place_text r) ≡ length (to_row r F) + 1
+long_row r F d digits =
+    let nothing : List ℕ = [] in
+    sym (ap length (append-nil (place_text r))) ∙ (ap length (by_row r F nothing d digits) ∙ length-append (to_row r F) (d ∷ nothing))
 
-by_column : (A P Q D : List ℕ) (a b : ℕ) → with_digits A P Q D a b ≡ up_to_column A P ++ (a ∷ ((44 ∷ Q) ++ (b ∷ D)))
-by_column A P Q D a b = append_assoc (up_to_column A P) (a ∷ (44 ∷ Q)) (b ∷ D)
+long_column : (r : Place) (m : ℕ) → r.x ≡ pos m → m < 2 ^ 64 → length (place_text r) ≡ length (to_column m) + suc (length (past_column r))
+long_column r m is fits =
+    let nothing : List ℕ = [] in
+    sym (ap length (append-nil (place_text r)))
+    ∙ (ap length (by_column r m nothing is fits)
+    ∙ (length-append (to_column m) ((48 + m % 10) ∷ (past_column r ++ nothing)) ∙ ap (λ l. length (to_column m) + suc (length l)) (append-nil (past_column r))))
 
-in_row : (A P Q D : List ℕ) (a b : ℕ) → A ++ ((32 ∷ P) ++ (a ∷ ((44 ∷ Q) ++ (b ∷ D)))) ≡ with_digits A P Q D a b
-in_row A P Q D a b = sym (append_assoc A (32 ∷ P) (a ∷ ((44 ∷ Q) ++ (b ∷ D)))) ∙ sym (by_column A P Q D a b)
+-- ---- a digit in a row of bytes
 
-long_to_column : (A P : List ℕ) → length (up_to_column A P) ≡ length A + 1 + length P
-long_to_column A P =
-    let parts : length (up_to_column A P) ≡ length A + suc (length P) = length-append A (32 ∷ P) in
-    omega (arith, parts)
+module _ (row A B D : List ℕ) (digit : ℕ) (is : row ≡ A ++ (B ++ (digit ∷ D))) (at : ℕ) (long : at ≡ length A + length B) where
+  here : at ≡ length (A ++ B)
+  here = long ∙ sym (length-append A B)
 
-long_to_row : (A P Q : List ℕ) (a : ℕ) → length (up_to_row A P Q a) ≡ length A + 3 + length P + length Q
-long_to_row A P Q a =
-    let parts : length (up_to_row A P Q a) ≡ length (up_to_column A P) + suc (suc (length Q)) = length-append (up_to_column A P) (a ∷ (44 ∷ Q)) in
-    omega (arith, parts, long_to_column A P)
+  seam : row ≡ (A ++ B) ++ (digit ∷ D)
+  seam = is ∙ sym (append_assoc A B (digit ∷ D))
 
-module _ (A P Q D : List ℕ) (a b : ℕ) where
-  column_read : (at : ℕ) → at ≡ length A + 1 + length P → slice_index (with_digits A P Q D a b) at ≡ a
-  column_read at e =
+  digit_read : slice_index row at ≡ digit
+  digit_read =
       let nothing : ℕ = 0 in
-      ap (λ k. slice_index (with_digits A P Q D a b) k) (e ∙ sym (long_to_column A P))
-      ∙ (ap (λ l. slice_index l (length (up_to_column A P))) (by_column A P Q D a b) ∙ get_or-append_seam (up_to_column A P) a ((44 ∷ Q) ++ (b ∷ D)) nothing)
+      ap (λ k. slice_index row k) here ∙ (ap (λ l. slice_index l (length (A ++ B))) seam ∙ get_or-append_seam (A ++ B) digit D nothing)
 
-  row_read : (at : ℕ) → at ≡ length A + 3 + length P + length Q → slice_index (with_digits A P Q D a b) at ≡ b
-  row_read at e =
-      let nothing : ℕ = 0 in
-      ap (λ k. slice_index (with_digits A P Q D a b) k) (e ∙ sym (long_to_row A P Q a)) ∙ get_or-append_seam (up_to_row A P Q a) b D nothing
+  digit_written : (new : ℕ) → set row at new ≡ A ++ (B ++ (new ∷ D))
+  digit_written new =
+      ap (λ k. set row k new) here
+      ∙ (ap (λ l. set l (length (A ++ B)) new) seam ∙ (set-append_seam (A ++ B) digit D new ∙ append_assoc A B (new ∷ D)))
 
-  column_written : (at new : ℕ) → at ≡ length A + 1 + length P → set (with_digits A P Q D a b) at new ≡ with_digits A P Q D new b
-  column_written at new e =
-      ap (λ k. set (with_digits A P Q D a b) k new) (e ∙ sym (long_to_column A P))
-      ∙ (ap (λ l. set l (length (up_to_column A P)) new) (by_column A P Q D a b)
-      ∙ (set-append_seam (up_to_column A P) a ((44 ∷ Q) ++ (b ∷ D)) new ∙ sym (by_column A P Q D new b)))
+-- ---- the last digit of a coordinate over that of a place beside it
 
-  row_written : (at new : ℕ) → at ≡ length A + 3 + length P + length Q → set (with_digits A P Q D a b) at new ≡ with_digits A P Q D a new
-  row_written at new e = ap (λ k. set (with_digits A P Q D a b) k new) (e ∙ sym (long_to_row A P Q a)) ∙ set-append_seam (up_to_row A P Q a) b D new
-
--- ---- the digits of a place over those of one beside it
-
--- the place at these columns and rows
-
-abbrev pub numbered : (x y : ℕ) → Place
-numbered x y = record { x = pos x; y = pos y }
-
-long_front : (n : ℕ) → n < 2 ^ 64 → length (decimal n) ≡ length (front (n / 10)) + 1
-long_front n fits =
-    let parts : length (front (n / 10) ++ ((48 + n % 10) ∷ [])) ≡ length (front (n / 10)) + 1 = length-append (front (n / 10)) ((48 + n % 10) ∷ []) in
-    ap length (front_and_last n fits) ∙ parts
-
-record AreNumbersBy (q : Place) (x y : ℕ) : Type 0 where
-  column : IsNumberBy q.x x
-  at_row : IsNumberBy q.y y
-
-module _ (row : List ℕ) (at end x y : ℕ) (small : x < 100000) (small' : y < 100000) (text : IsTextBeside (numbered x y) at end row)
-    (within : end ≤ length row) (long : at + length (decimal x) + 1 + length (decimal y) + 1 ≡ end) where
-  long_places : length (signed_decimal text.other.x) + length (signed_decimal text.other.y) ≡ length (decimal x) + length (decimal y)
-  long_places = omega (arith, text.fits, length_place text.other, long)
-
-  numbers_by : AreNumbersBy text.other x y
-  numbers_by = elim text.beside [
-    | inl same ↦
-        let as_long : length (signed_decimal text.other.x) ≡ length (decimal x) = ap (λ z. length (signed_decimal z)) same.0 in
-        record { column = same_number text.other.x x same.0; at_row = close_number text.other.y y same.1 (omega (arith, long_places, as_long)) }
-    | inr same ↦
-        let as_long : length (signed_decimal text.other.y) ≡ length (decimal y) = ap (λ z. length (signed_decimal z)) same.0 in
-        record { column = close_number text.other.x x same.1 (omega (arith, long_places, as_long)); at_row = same_number text.other.y y same.0 }
-  ]
-
-  abbrev before : List ℕ
-  before = take at row
-
-  abbrev behind : List ℕ
-  behind = drop end row
-
-  abbrev m : ℕ
-  m = numbers_by.column.number
-
-  abbrev n : ℕ
-  n = numbers_by.at_row.number
-
-  long_before : length before ≡ at
+module _ (q : Place) (row : List ℕ) (at end : ℕ) (text : IsTextBeside q at end row) (within : end ≤ length row) where
+  long_before : length (take at row) ≡ at
   long_before = omega (arith, length-take at row, text.fits, within)
 
-  row_is : row ≡ with_digits before (front (m / 10)) (front (n / 10)) behind (48 + m % 10) (48 + n % 10)
-  row_is =
-      sym (take-append-drop at row)
-      ∙ (ap (λ l. before ++ l) (text.written ∙ spelled text.other m n behind numbers_by.column.is numbers_by.at_row.is (omega (arith, numbers_by.column.low)) (omega (arith, numbers_by.at_row.low)))
-      ∙ in_row before (front (m / 10)) (front (n / 10)) behind (48 + m % 10) (48 + n % 10))
+  row_is : row ≡ take at row ++ (place_text text.other ++ drop end row)
+  row_is = sym (take-append-drop at row) ∙ ap (λ l. take at row ++ l) text.written
 
-  at_column : at + length (decimal x) ≡ length before + 1 + length (front (m / 10))
-  at_column = omega (arith, long_before, numbers_by.column.long, long_front m (omega (arith, numbers_by.column.low)))
+  -- the last digit of the other place's row
+  module _ (F : List ℕ) (d : ℕ) (digits : signed_decimal text.other.y ≡ F ++ (d ∷ [])) where
+    row_at : end - 1 ≡ length (take at row) + length (to_row text.other F)
+    row_at = omega (arith, long_before, text.fits, long_row text.other F d digits)
 
-  at_last : at + length (decimal x) + 1 + length (decimal y) ≡ length before + 3 + length (front (m / 10)) + length (front (n / 10))
-  at_last = omega (arith, at_column, numbers_by.at_row.long, long_front n (omega (arith, numbers_by.at_row.low)))
+    in_row : row ≡ take at row ++ (to_row text.other F ++ (d ∷ drop end row))
+    in_row = row_is ∙ ap (λ l. take at row ++ l) (by_row text.other F (drop end row) d digits)
 
-  column_digit : slice_index row (at + length (decimal x)) ≡ 48 + m % 10
-  column_digit =
-      ap (λ l. slice_index l (at + length (decimal x))) row_is
-      ∙ column_read before (front (m / 10)) (front (n / 10)) behind (48 + m % 10) (48 + n % 10) (at + length (decimal x)) at_column
+    row_digit : slice_index row (end - 1) ≡ d
+    row_digit = digit_read row (take at row) (to_row text.other F) (drop end row) d in_row (end - 1) row_at
 
-  row_digit : slice_index row (at + length (decimal x) + 1 + length (decimal y)) ≡ 48 + n % 10
-  row_digit =
-      ap (λ l. slice_index l (at + length (decimal x) + 1 + length (decimal y))) row_is
-      ∙ row_read before (front (m / 10)) (front (n / 10)) behind (48 + m % 10) (48 + n % 10) (at + length (decimal x) + 1 + length (decimal y)) at_last
+  module _ (y : ℕ) (y_is : q.y ≡ pos y) (few : y < 100000) where
+    pub row_patched : 1 ≤ y → slice_index row (end - 1) ≢ 48 + y % 10 → AreBytesClose (slice_index row (end - 1)) (48 + y % 10)
+        → IsWrittenOver q at end row (set row (end - 1) (48 + y % 10))
+    row_patched first changed close = elim text.beside [
+      | inl same ↦
+          let other = close_number text.other.y y first (subst (λ z. AreClose text.other.y z) y_is same.1) in
+          let m = other.number in
+          let digits = digits_of text.other.y m other.is (omega (arith, other.low, few)) in
+          let own = digits_of q.y y y_is (omega (arith, few)) in
+          let digit = row_digit (front (m / 10)) (48 + m % 10) digits in
+          let tens : m / 10 ≡ y / 10 = same_tens m y other.low other.high (omega (arith, digit, close.low)) (omega (arith, digit, close.high)) in
+          let fronts : to_row text.other (front (m / 10)) ≡ to_row q (front (y / 10)) = ap (λ z. 32 ∷ (signed_decimal z ++ (44 ∷ front (m / 10)))) same.0 ∙ ap (λ k. 32 ∷ (signed_decimal q.x ++ (44 ∷ front k))) tens in
+          record {
+            fits = omega (arith, text.fits, long_row text.other (front (m / 10)) (48 + m % 10) digits, long_row q (front (y / 10)) (48 + y % 10) own, ap length fronts);
+            written = digit_written row (take at row) (to_row text.other (front (m / 10))) (drop end row) (48 + m % 10) (in_row (front (m / 10)) (48 + m % 10) digits) (end - 1)
+                (row_at (front (m / 10)) (48 + m % 10) digits) (48 + y % 10)
+                ∙ (ap (λ l. take at row ++ (l ++ ((48 + y % 10) ∷ drop end row))) fronts ∙ ap (λ l. take at row ++ l) (sym (by_row q (front (y / 10)) (drop end row) (48 + y % 10) own)));
+          }
+      | inr same ↦ absurd (changed (row_digit (front (y / 10)) (48 + y % 10) (digits_of text.other.y y (same.0 ∙ y_is) (omega (arith, few)))))
+    ]
 
-  pub patched : (slice_index row (at + length (decimal x)) ≤ 48 + x % 10 + 1) → (48 + x % 10 ≤ slice_index row (at + length (decimal x)) + 1)
-      → (slice_index row (at + length (decimal x) + 1 + length (decimal y)) ≤ 48 + y % 10 + 1)
-      → (48 + y % 10 ≤ slice_index row (at + length (decimal x) + 1 + length (decimal y)) + 1)
-      → IsWrittenOver (numbered x y) at end row
-      (set (set row (at + length (decimal x)) (48 + x % 10)) (at + length (decimal x) + 1 + length (decimal y)) (48 + y % 10))
-  patched column_low column_high row_low row_high =
-      let tens : m / 10 ≡ x / 10 = same_tens m x numbers_by.column.low numbers_by.column.high (omega (arith, column_digit, column_low)) (omega (arith, column_digit, column_high)) in
-      let tens' : n / 10 ≡ y / 10 = same_tens n y numbers_by.at_row.low numbers_by.at_row.high (omega (arith, row_digit, row_low)) (omega (arith, row_digit, row_high)) in
-      let column = at + length (decimal x) in
-      let last = at + length (decimal x) + 1 + length (decimal y) in
-      let one : set row column (48 + x % 10) ≡ with_digits before (front (m / 10)) (front (n / 10)) behind (48 + x % 10) (48 + n % 10) =
-      ap (λ l. set l column (48 + x % 10)) row_is
-      ∙ column_written before (front (m / 10)) (front (n / 10)) behind (48 + m % 10) (48 + n % 10) column (48 + x % 10) at_column in
-      let both : set (set row column (48 + x % 10)) last (48 + y % 10) ≡ with_digits before (front (m / 10)) (front (n / 10)) behind (48 + x % 10) (48 + y % 10) =
-      ap (λ l. set l last (48 + y % 10)) one
-      ∙ row_written before (front (m / 10)) (front (n / 10)) behind (48 + x % 10) (48 + n % 10) last (48 + y % 10) at_last in
-      let whole : with_digits before (front (x / 10)) (front (y / 10)) behind (48 + x % 10) (48 + y % 10) ≡ before ++ (place_text (numbered x y) ++ behind) =
-      sym (in_row before (front (x / 10)) (front (y / 10)) behind (48 + x % 10) (48 + y % 10))
-      ∙ ap (λ l. before ++ l) (sym (spelled (numbered x y) x y behind refl refl (omega arith) (omega arith))) in
-      record {
-        fits = omega (arith, length_place (numbered x y), long);
-        written = both ∙ (ap (λ k. with_digits before (front k) (front (n / 10)) behind (48 + x % 10) (48 + y % 10)) tens
-            ∙ (ap (λ k. with_digits before (front (x / 10)) (front k) behind (48 + x % 10) (48 + y % 10)) tens' ∙ whole));
-      }
+    -- the other place stands in the same row
+    record IsInRow : Type 0 where
+      at_row : text.other.y ≡ q.y
+      column : AreClose text.other.x q.x
 
-pub patched_by : (row : List ℕ) (at end x y columns rows a b : ℕ) → x < 100000 → y < 100000 → IsTextBeside (numbered x y) at end row → end ≤ length row
-    → columns ≡ length (decimal x) → rows ≡ length (decimal y) → a ≡ 48 + x % 10 → b ≡ 48 + y % 10 → at + columns + 1 + rows + 1 ≡ end
-    → slice_index row (at + columns) ≤ a + 1 → a ≤ slice_index row (at + columns) + 1
-    → slice_index row (at + columns + 1 + rows) ≤ b + 1 → b ≤ slice_index row (at + columns + 1 + rows) + 1
-    → IsWrittenOver (numbered x y) at end row (set (set row (at + columns) a) (at + columns + 1 + rows) b)
-patched_by row at end x y columns rows a b small small' text within columns_are rows_are a_is b_is long column_low column_high row_low row_high =
-    rw (columns_are, rows_are, a_is, b_is)
-    (patched row at end x y small small' text within (rw (columns_are, rows_are) at long)
-    (rw (columns_are, a_is) at column_low) (rw (columns_are, a_is) at column_high)
-    (rw (columns_are, rows_are, b_is) at row_low) (rw (columns_are, rows_are, b_is) at row_high))
+    in_same_row : slice_index row (end - 1) ≡ 48 + y % 10 → IsInRow
+    in_same_row kept = elim text.beside [
+      | inl same ↦ elim (close_or_below text.other.y y (subst (λ z. AreClose text.other.y z) y_is same.1)) [
+        | inl other ↦
+            let m = other.number in
+            let digit = row_digit (front (m / 10)) (48 + m % 10) (digits_of text.other.y m other.is (omega (arith, other.low, few))) in
+            let equal : m ≡ y = same_if m y other.low other.high (sym digit ∙ kept) in
+            record { at_row = other.is ∙ (ap (λ (n : ℕ). pos n) equal ∙ sym y_is); column = record { low = rw same.0 (omega (arith, ints)); high = rw same.0 (omega (arith, ints)) } }
+        | inr below ↦
+            let one : signed_decimal text.other.y ≡ (45 ∷ []) ++ (49 ∷ []) = ap signed_decimal below.1 ∙ ap (λ l. 45 ∷ l) (decimal_digit 1 (omega arith)) in
+            let digit = row_digit (45 ∷ []) 49 one in
+            absurd (omega (arith, digit, kept, below.0))
+      ]
+      | inr same ↦ record { at_row = same.0; column = same.1 }
+    ]
+
+    pub column_patched : (x digits : ℕ) → q.x ≡ pos x → 1 ≤ x → x < 100000 → digits ≡ length (decimal y) → slice_index row (end - 1) ≡ 48 + y % 10
+        → AreBytesClose (slice_index row (end - 1 - 1 - digits)) (48 + x % 10) → IsWrittenOver q at end row (set row (end - 1 - 1 - digits) (48 + x % 10))
+    column_patched x digits x_is x_first x_few digits_are kept close =
+        let h = in_same_row kept in
+        let other = close_number text.other.x x x_first (subst (λ z. AreClose text.other.x z) x_is h.column) in
+        let k = other.number in
+        let fits : k < 2 ^ 64 = omega (arith, other.low, x_few) in
+        let in_column : row ≡ take at row ++ (to_column k ++ ((48 + k % 10) ∷ (past_column text.other ++ drop end row))) = row_is ∙ ap (λ l. take at row ++ l) (by_column text.other k (drop end row) other.is fits) in
+        let past : length (past_column text.other) ≡ suc digits = ap (λ z. suc (length (signed_decimal z))) (h.at_row ∙ y_is) ∙ ap suc (sym digits_are) in
+        let column_at : end - 1 - 1 - digits ≡ length (take at row) + length (to_column k) = omega (arith, long_before, text.fits, long_column text.other k other.is fits, past) in
+        let digit = digit_read row (take at row) (to_column k) (past_column text.other ++ drop end row) (48 + k % 10) in_column (end - 1 - 1 - digits) column_at in
+        let tens : k / 10 ≡ x / 10 = same_tens k x other.low other.high (omega (arith, digit, close.low)) (omega (arith, digit, close.high)) in
+        let fronts : to_column k ≡ to_column x = ap (λ n. 32 ∷ front n) tens in
+        let pasts : past_column text.other ≡ past_column q = ap (λ z. 44 ∷ signed_decimal z) h.at_row in
+        record {
+          fits = omega (arith, text.fits, long_column text.other k other.is fits, long_column q x x_is (omega (arith, x_few)), ap length fronts, ap length pasts);
+          written = digit_written row (take at row) (to_column k) (past_column text.other ++ drop end row) (48 + k % 10) in_column (end - 1 - 1 - digits) column_at (48 + x % 10)
+              ∙ (ap (λ l. take at row ++ (l ++ ((48 + x % 10) ∷ (past_column text.other ++ drop end row)))) fronts
+              ∙ (ap (λ l. take at row ++ (to_column x ++ ((48 + x % 10) ∷ (l ++ drop end row)))) pasts
+              ∙ ap (λ l. take at row ++ l) (sym (by_column q x (drop end row) x_is (omega (arith, x_few))))));
+        }
+
+    -- the column ends in the row of bytes
+    pub column_within : (digits : ℕ) → digits ≡ length (decimal y) → slice_index row (end - 1) ≡ 48 + y % 10 → 2 + digits ≤ end
+    column_within digits digits_are kept =
+        let h = in_same_row kept in
+        let past : length (past_column text.other) ≡ suc digits = ap (λ z. suc (length (signed_decimal z))) (h.at_row ∙ y_is) ∙ ap suc (sym digits_are) in
+        let parts : length (place_text text.other) ≡ suc (length (signed_decimal text.other.x) + length (past_column text.other)) = ap suc (length-append (signed_decimal text.other.x) (past_column text.other)) in
+        omega (arith, text.fits, parts, past)
+
+-- what was written, if it was
+pub written_if : (result : Bool) (q : Place) (at end : ℕ) (row patched new : List ℕ) → new ≡ (if result then patched else row) → (result ≡ true → IsWrittenOver q at end row patched)
+    → WritesOver result q at end row new
+written_if true q at end row patched new e h = rw e (h refl)
+written_if false q at end row patched new e h = e

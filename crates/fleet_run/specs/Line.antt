@@ -1,5 +1,5 @@
 -- A line that is kept from tick to tick.
-use Rattle.std.specs.Prelude.{◌≡◌, ◌≤◌, ◌<◌, ◌+◌, ◌-◌, ◌++◌, ◌⊎◌, ℤ, pos, ◌+ℤ◌, ◌≤ℤ◌, ℕ, Bool, true, false, List, length, take, drop, get_or, codes}
+use Rattle.std.specs.Prelude.{◌≡◌, ◌≤◌, ◌<◌, ◌+◌, ◌-◌, ◌++◌, ◌⊎◌, ℤ, pos, ◌+ℤ◌, ◌≤ℤ◌, ◌%◌, ℕ, Bool, true, false, List, length, take, drop, get_or, codes}
 use Rattle.std.specs.List.{flat_map, copy_within}
 use Rattle.fleet_model.specs.declared.geometry.Place.{Place}
 use Rattle.fleet_model.specs.Machine.{Configuration, standing_at}
@@ -52,6 +52,16 @@ pub record IsResized (i : ℕ) (text row row' begins begins' : List ℕ) : Type 
 pub record AreClose (a b : ℤ) : Type 0 where
   pub low : a ≤ℤ (b +ℤ pos 1)
   pub high : b ≤ℤ (a +ℤ pos 1)
+
+-- .. of bytes
+pub record AreBytesClose (byte other : ℕ) : Type 0 where
+  pub low : byte ≤ other + 1
+  pub high : other ≤ byte + 1
+
+-- the byte is close to the last digit of the number, which is not 0
+pub record IsOneDigitOff (n byte : ℕ) : Type 0 where
+  pub first : 1 ≤ n
+  pub close : AreBytesClose byte (48 + n % 10)
 
 -- one of the two coordinates is the same, and the other differs by one at most
 abbrev pub IsBeside : Place → Place → Type 0

@@ -1,11 +1,11 @@
 //! The line of a run, kept from tick to tick.
 
-ghost use Rattle.std.specs.Prelude.{◌≡◌, ◌+◌, ◌-◌, ◌<◌, ◌≤◌, ◌^◌, ◌++◌, ◌∷◌, ℕ, true, length, take, drop, set, get_or, IfSome, ◌%◌, pos};
+ghost use Rattle.std.specs.Prelude.{◌≡◌, ◌+◌, ◌-◌, ◌<◌, ◌≤◌, ◌^◌, ◌++◌, ◌∷◌, ℕ, true, length, take, drop, set, get_or, slice_index, if◌then◌else◌, IfSome, ◌%◌, pos};
 ghost use Rattle.std.specs.List.{copy_within};
 ghost use Rattle.fleet_model.specs.declared.standing.Standing.{Standing};
 ghost use Rattle.fleet_model.specs.Machine.{Configuration, standing_at};
 ghost use Rattle.std.specs.Fmt.{decimal};
-ghost use Rattle.fleet_run.specs.Line.{IsBeside, IsLineKept, IsKeptBefore, IsResized, IsTextBeside, WritesOver};
+ghost use Rattle.fleet_run.specs.Line.{AreBytesClose, IsOneDigitOff, IsBeside, IsLineKept, IsKeptBefore, IsResized, IsTextBeside, WritesOver};
 ghost use Rattle.fleet_run.specs.Text.{place_text};
 
 use crate::trace::{LINE, PLACE, write_count, write_place};
@@ -281,46 +281,30 @@ fn last_digit(number: u32) -> u8
 
 /// Whether the bytes are the same or follow one another.
 fn are_close(byte: u8, other: u8) -> bool
-    ensures low { result ≡ true → byte ≤ other + 1 }
-    ensures high { result ≡ true → other ≤ byte + 1 }
+    ensures { result ≡ true → AreBytesClose byte other }
 {
     byte.abs_diff(other) <= 1
 }
 
-/// Writes the last digits of the place at these columns and rows over those of one beside it, whose text stands there,
-/// if no other byte of the text changes, and answers whether it did.
-fn patch_digits(x: u32, y: u32, row: &mut [u8], begin: usize, end: usize) -> bool
-    requires columns { x < 100000 }
-    requires rows { y < 100000 }
-    requires room { length row.old ≡ LINE }
-    requires order { begin ≤ end }
-    requires within { end ≤ LINE }
-    requires text { IsTextBeside (record { x = pos x; y = pos y }) begin end row.old }
-    ensures { WritesOver result (record { x = pos x; y = pos y }) begin end row.old row.new }
+/// Writes the last digit of a coordinate over that of one beside it, if the two are close, and the coordinate is not 0,
+/// beside which lies -1 too. Answers whether it did.
+fn patch_digit(coordinate: u32, row: &mut [u8], at: usize) -> bool
+    requires { at < length row.old }
+    ensures close { result ≡ true → IsOneDigitOff coordinate (slice_index row.old at) }
+    ensures written { row.new
+        ≡ (if result then set row.old at (48 + coordinate % 10) else row.old) }
 {
-    let columns = digit_count(x);
-    let rows = digit_count(y);
-    let column = begin + columns;
-    let last = column + 1 + rows;
-    let is_other_length = last + 1 != end;
-    if is_other_length {
+    let digit = last_digit(coordinate);
+    let is_edge = coordinate == 0;
+    if is_edge || !are_close(row[at], digit) {
         return false;
     }
-    let x_digit = last_digit(x);
-    let y_digit = last_digit(y);
-    if !are_close(row[column], x_digit) {
-        return false;
-    }
-    if !are_close(row[last], y_digit) {
-        return false;
-    }
-    row[column] = x_digit;
-    row[last] = y_digit;
+    row[at] = digit;
     true
 }
 
-/// Writes a place over the text of one beside it, if no byte of the text changes but the last digits, and answers
-/// whether it did.
+/// Writes the last digit of one coordinate of a place over that of one beside it, whose text stands there, if no other
+/// byte of the text changes, and answers whether it did. The other coordinate is the same.
 pub fn patch_place(place: Place, row: &mut [u8], begin: usize, end: usize) -> bool
     requires room { length row.old ≡ LINE }
     requires order { begin ≤ end }
@@ -328,11 +312,17 @@ pub fn patch_place(place: Place, row: &mut [u8], begin: usize, end: usize) -> bo
     requires text { IsTextBeside place begin end row.old }
     ensures { WritesOver result place begin end row.old row.new }
 {
-    let Some(x) = small_number(place.x) else {
-        return false;
-    };
+    let _ = begin;
     let Some(y) = small_number(place.y) else {
         return false;
     };
-    patch_digits(x, y, row, begin, end)
+    let last = end - 1;
+    let is_other_row = row[last] != last_digit(y);
+    if is_other_row {
+        return patch_digit(y, row, last);
+    }
+    let Some(x) = small_number(place.x) else {
+        return false;
+    };
+    patch_digit(x, row, last - 1 - digit_count(y))
 }

@@ -118,7 +118,7 @@ module _ (p : Program) (k : ℕ) (reports : List Words) (taken : AreTaken p k (n
   unfolding told_to
   told_low t i = omega arith
 
-  limited : (t i : ℕ) → t < m → count_of (c (t + 1)) i ≤ told t i
+  pub limited : (t i : ℕ) → t < m → count_of (c (t + 1)) i ≤ told t i
   limited t i l =
       let n = may t l in
       let said = λ (j : ℕ) (d : Reported) (inside : j < length (get_or reports t [])). (n.ordered j d inside).told in

@@ -12,3 +12,5 @@ pub mod Replaying
 mod Said
 mod WindowLemmas
 mod StreamLemmas
+pub mod Stood
+mod BreakLemmas

@@ -14,3 +14,5 @@ pub mod StreamTalk
 pub mod RefusalWords
 pub mod Replay
 pub mod ReplayTalk
+pub mod Standing
+pub mod Breaks

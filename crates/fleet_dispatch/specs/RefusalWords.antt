@@ -1,8 +1,10 @@
--- The line of a dispatch that stopped before its end.
+-- The line of a dispatch that stopped before its end, and that of times that are not told.
 use Rattle.std.specs.Prelude.{ℕ, Bool, true, false, List, [], ◌∷◌, codes}
 use Rattle.fleet_text.specs.Refusals.{memory_words, named, named_at, named_by}
 use Rattle.fleet_dispatch.specs.declared.fault.DispatchFault.{DispatchFault}
 use Rattle.fleet_dispatch.specs.declared.fault.DispatchFault.TheVariants as d
+use Rattle.fleet_dispatch.specs.declared.times_fault.TimesFault.{TimesFault}
+use Rattle.fleet_dispatch.specs.declared.times_fault.TimesFault.TheVariants as t
 
 -- the words of the line of a dispatch that stopped
 abbrev pub dispatch_words : DispatchFault → List (List ℕ)
@@ -21,3 +23,13 @@ is_dispatch_failure d.OutOfMemory = true
 is_dispatch_failure d.Write = true
 is_dispatch_failure d.Input = true
 is_dispatch_failure _ = false
+
+-- the words of the line of a refusal of times
+abbrev pub times_words : TimesFault → List (List ℕ)
+times_words t.OutOfMemory = memory_words
+times_words t.Broken = named (codes "times") 2 (codes "Broken")
+
+-- whether memory failed
+abbrev pub is_times_failure : TimesFault → Bool
+is_times_failure t.OutOfMemory = true
+is_times_failure t.Broken = false

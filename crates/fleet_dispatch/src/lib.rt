@@ -15,8 +15,10 @@
 //! the next line in a `window`, the bytes that were read and not yet passed, and reads on only if no LF is among them.
 //! `stream_floor` is the floor that borrows such an input and such an output, and the dispatch over it. `fault` has the
 //! refusals. `led` has the laws: what robots do that carry out the orders is a schedule, k orders ahead or one.
+//! `standing` has where they stand after the reports of a log, and `breaks` reads in which actions they break down.
 #![tactic(auto)]
 
+mod breaks;
 mod dispatch;
 mod fault;
 mod floor;
@@ -32,9 +34,12 @@ mod report;
 mod report_text;
 mod reports_to;
 mod run;
+mod standing;
 mod stream_floor;
+mod times_fault;
 mod window;
 
+pub use breaks::breaks_of;
 pub use dispatch::dispatch_accepted;
 pub use fault::DispatchFault;
 pub use floor::{Floor, HearFault};
@@ -44,5 +49,7 @@ pub use pace::Pace;
 pub use report::{Report, Reported};
 pub use reports_to::ReportsTo;
 pub use run::{DispatchReport, MAX_REPORTS, Session, run_session, start_session};
+pub use standing::{MOST_AHEAD, reports_lead_as_runs_do, standings_after};
 pub use stream_floor::{StreamFloor, dispatch_over};
+pub use times_fault::TimesFault;
 pub use window::{LINE_ROOM, Window};

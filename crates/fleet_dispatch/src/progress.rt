@@ -53,7 +53,7 @@ impl Model for Progress {
 }
 
 /// Where the first `count` actions of agent `i` lead it.
-fn place_after<P: ProgramView>(program: &P, i: u16, count: u32) -> Place
+pub fn place_after<P: ProgramView>(program: &P, i: u16, count: u32) -> Place
     requires well_formed { IsWellFormed (P.program program.now) }
     requires agent { i < length (P.program program.now) }
     requires within { count ≤ moves (P.program program.now) i }

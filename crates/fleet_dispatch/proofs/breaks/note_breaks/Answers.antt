@@ -1,0 +1,38 @@
+use Rattle.std.proofs.Common.{◌≡◌, ℕ, length, set, sym, ap, subst, ◌∙◌, None, arith}
+use Rattle.std.proofs.lemmas.Bool.{false≢true}
+use Rattle.std.specs.Prelude.{slice_index_or}
+use Rattle.std.proofs.lemmas.List.{take_all, length-set}
+use Rattle.std.proofs.lemmas.Option.{slice_get-get_or}
+use Rattle.fleet_model.specs.Chain.{IsAction}
+use Rattle.fleet_dispatch.specs.declared.report.Reported.{Reported}
+use Rattle.fleet_dispatch.specs.Breaks.{named_action, breaks_from}
+use Rattle.fleet_dispatch.proofs.BreakLemmas.{breaks_more, name_more, name_all}
+use Rattle.fleet_dispatch.proofs.breaks.note_breaks.Goals as goal
+
+pub returns-then-not-is_action : goal.returns-then-not-is_action
+returns-then-not-is_action g c = λ named.
+    let p = g.P.ProgramView.program c.args.program.now in
+    let nobody : Reported = record { agent = 0; number = None } in
+    let w : Reported = slice_index_or c.args.words.now c.loop-k.k nobody in
+    let act : IsAction p (named_action w) = named c.loop-k.k w (slice_get-get_or c.args.words.now c.loop-k.k nobody c.loop-k-test.true) in
+    let here = subst (λ (n : ℕ). IsAction p (record { agent = w.agent; number = n })) (sym c.unwrap_or-number.ensures) act in
+    false≢true (sym c.if-not-is_action.true ∙ c.is_action.ensures.1 here)
+
+pub loop-k-preserved : goal.loop-k-preserved
+loop-k-preserved g c =
+    let p = g.P.ProgramView.program c.args.program.now in
+    let nobody : Reported = record { agent = 0; number = None } in
+    let w : Reported = slice_index_or c.args.words.now c.loop-k.k nobody in
+    let at = slice_get-get_or c.args.words.now c.loop-k.k nobody c.loop-k-test.true in
+    let act = c.is_action.ensures.0 c.if-not-is_action.false in
+    record {
+      all = length-set c.loop-k.breaks.items w.agent c.unwrap_or-number.result ∙ c.loop-k.invariant.all;
+      noted = breaks_more c.args.breaks.now.items c.args.words.now c.loop-k.k w at c.loop-k.breaks.items c.loop-k.invariant.noted _ (ap (λ (n : ℕ). set c.loop-k.breaks.items w.agent n) c.unwrap_or-number.ensures);
+      actions = name_more p c.args.words.now c.loop-k.k w c.loop-k.invariant.actions at (subst (λ (n : ℕ). IsAction p (record { agent = w.agent; number = n })) c.unwrap_or-number.ensures act);
+    }
+
+pub returns : goal.returns
+returns g c =
+    let p = g.P.ProgramView.program c.args.program.now in
+    let all : length c.args.words.now ≡ c.loop-k.k = omega (arith, c.loop-k-test.false, c.loop-k.auto.k-end) in
+    (name_all p c.args.words.now c.loop-k.k c.loop-k.invariant.actions all, c.loop-k.invariant.noted ∙ ap (breaks_from c.args.breaks.now.items) (take_all c.loop-k.k c.args.words.now (omega (arith, all))))

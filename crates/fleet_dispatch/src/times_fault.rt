@@ -1,0 +1,45 @@
+//! Why no times are told of an accepted program.
+
+use fleet_model::OutOfMemory;
+use fleet_text::{OutFault, Refusal, TraceOut, put_memory, put_named};
+use thiserror::Error;
+
+/// Why no times are told of an accepted program.
+#[derive(Clone, Copy, Debug, Error)]
+pub enum TimesFault {
+    #[error("out of memory")]
+    OutOfMemory,
+    /// They have to be words `A:N` in rising order of agent, one space between two, each of which is an action.
+    #[error("what is broken is no list of actions of the program")]
+    Broken,
+}
+
+impl From<OutOfMemory> for TimesFault {
+    ghost use Rattle.std.specs.Prelude.{◌≡◌};
+    ghost use Rattle.fleet_dispatch.specs.declared.times_fault.TimesFault.TheVariants.{OutOfMemory};
+
+    ghost from_gives = { λ _ e. e ≡ OutOfMemory };
+
+    fn from(_e: OutOfMemory) -> TimesFault {
+        TimesFault::OutOfMemory
+    }
+}
+
+impl Refusal for TimesFault {
+    ghost use Rattle.fleet_dispatch.specs.RefusalWords.{times_words, is_times_failure};
+
+    ghost words = { times_words };
+
+    ghost is_failure = { is_times_failure };
+
+    fn put<O: TraceOut>(&self, out: &mut O) -> Result<(), OutFault> {
+        match *self {
+            TimesFault::OutOfMemory => put_memory(out),
+            TimesFault::Broken => put_named(out, "times", 2, "Broken"),
+        }
+    }
+
+    fn is_failure(&self) -> bool {
+        matches!(self, TimesFault::OutOfMemory)
+    }
+}

@@ -93,13 +93,13 @@ module _ (p : Program) (k : ℕ) (reports : List Words) (taken : AreTaken p k (n
   abbrev told : ℕ → ℕ → ℕ
   told t i = told_to p k (counts_at p reports t) i
 
-  next : (t : ℕ) → t < m → c (t + 1) ≡ counts_after (c t) (get_or reports t [])
+  pub next : (t : ℕ) → t < m → c (t + 1) ≡ counts_after (c t) (get_or reports t [])
   next t l = ap (counts_by (none_done p)) (take_more reports t [] l) ∙ counts_more (none_done p) (take t reports) (get_or reports t [])
 
   may : (t : ℕ) → t < m → MayBeTaken p k (c t) (get_or reports t [])
   may t l = taken_at p k (none_done p) reports t taken l
 
-  none_first : (i : ℕ) → count_of (c 0) i ≡ 0
+  pub none_first : (i : ℕ) → count_of (c 0) i ≡ 0
   none_first i = elim (cases_lt i (length p)) [
     | inl l ↦ get_or-replicate (length p) i 0 0 l
     | inr le ↦ get_or_past (replicate (length p) 0) i 0 (omega (arith, length-replicate {A = ℕ} (length p) 0))

@@ -3,12 +3,20 @@ pub mod Words
 pub mod Telling
 pub mod Steps
 pub mod Texts
+pub mod LogText
+pub mod Found
 pub mod Heard
 pub mod Reports
 pub mod Outcomes
+pub mod Taking
+pub mod TalkLaws
 pub mod Leading
 pub mod Promises
+pub mod AsRun
 pub mod Replaying
+pub mod PlainNumbers
+pub mod Spelling
+pub mod Kept
 mod Said
 mod WindowLemmas
 mod StreamLemmas

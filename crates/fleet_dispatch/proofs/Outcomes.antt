@@ -8,30 +8,32 @@ use Rattle.fleet_dispatch.specs.declared.fault.DispatchFault.TheVariants as f
 use Rattle.fleet_dispatch.specs.declared.run.DispatchReport.{DispatchReport}
 use Rattle.fleet_dispatch.specs.declared.run.Session.{Session}
 use Rattle.fleet_dispatch.specs.declared.pace.Pace.{Pace}
-use Rattle.fleet_dispatch.specs.Report.{Words, IsRising, Counts, counts_after, is_repeat}
+use Rattle.fleet_dispatch.specs.Report.{Words, IsRising, Counts, counts_after, is_repeat, Line, words_in, is_taken}
+use Rattle.fleet_dispatch.specs.ReportText.{log_line}
+use Rattle.fleet_dispatch.specs.Standings.{standings_text}
 use Rattle.fleet_dispatch.specs.Ahead.{told_at, AreOrdered, IsFirstUnordered, is_all_done}
-use Rattle.fleet_dispatch.specs.Talk.{Talk, Told, Cut, Heard, Tells}
+use Rattle.fleet_dispatch.specs.Talk.{Talk, Told, Cut, Heard, Asked, Unlogged, Tells}
 use Rattle.fleet_dispatch.specs.Orders.{new_orders, closing}
-use Rattle.fleet_dispatch.specs.Dispatch.{Course, Left, left_by, Dispatches, MayBeTaken, AreTaken, told_by, counts_now, due_orders, said_before, said_by, taken_now}
+use Rattle.fleet_dispatch.specs.Dispatch.{Course, Left, left_by, Dispatches, MayBeTaken, AreHeard, told_by, reports_in, turns_of, counts_now, due_orders, said_before, said_by, taken_now}
 use Rattle.fleet_dispatch.specs.Session.{Concludes, TakesLine, IsLineTaken, left_in, course_in as course_of}
-use Rattle.fleet_dispatch.proofs.Reports.{more, length_more, counts_now_more, taken_now_more, said_more, told_now_more, are_taken_more, talk_none}
+use Rattle.fleet_dispatch.proofs.Reports.{more, length_more, counts_now_more, taken_now_more, said_more, told_now_more, are_heard_more, talk_none}
 
 -- what was said in two stretches was said in both
 pub record Joins (first then both : Talk → Type 0) : Type 0 where
   pub join : (before after : Talk) → first before → then after → both (before ++ after)
 
 -- Before the orders are told that are due after these reports
-pub record IsUnderWay (d : Course) (talks : Talk → Type 0) (s : Session) (lines : ℕ) (reports : List Words) : Type 0 where
-  pub taken : AreTaken d.program d.ahead d.start reports
+pub record IsUnderWay (d : Course) (talks : Talk → Type 0) (s : Session) (lines : ℕ) (reports : List Line) : Type 0 where
+  pub taken : AreHeard d reports
   pub count : lines ≡ length reports
   pub done : s.progress.done ≡ counts_now d reports
-  pub told : s.progress.told ≡ told_by d.program d.ahead d.start d.start reports
+  pub told : s.progress.told ≡ told_by d.program d.ahead d.start d.start (reports_in reports)
   pub number : s.taken ≡ taken_now d reports
   pub talk : talks (said_before d reports)
 
 -- .. and after they are told
-pub record AreOrdersTold (d : Course) (talks : Talk → Type 0) (s : Session) (lines : ℕ) (reports : List Words) : Type 0 where
-  pub taken : AreTaken d.program d.ahead d.start reports
+pub record AreOrdersTold (d : Course) (talks : Talk → Type 0) (s : Session) (lines : ℕ) (reports : List Line) : Type 0 where
+  pub taken : AreHeard d reports
   pub count : lines ≡ length reports
   pub done : s.progress.done ≡ counts_now d reports
   pub told : s.progress.told ≡ told_at d.program d.ahead (counts_now d reports)
@@ -39,7 +41,7 @@ pub record AreOrdersTold (d : Course) (talks : Talk → Type 0) (s : Session) (l
   pub talk : talks (said_by d reports)
 
 -- what a session has carried out is what these reports have
-left_is : (d : Course) (s : Session) (reports : List Words) → s.progress.done ≡ counts_now d reports → s.taken ≡ taken_now d reports → left_in s ≡ left_by d reports
+left_is : (d : Course) (s : Session) (reports : List Line) → s.progress.done ≡ counts_now d reports → s.taken ≡ taken_now d reports → left_in s ≡ left_by d reports
 left_is d s reports e f = cc
 
 pub at_start : (p : Program) (pace : Pace) (talks : Talk → Type 0) (s : Session) → talks [] → s.progress.told ≡ s.progress.done → IsUnderWay (course_of p pace s) talks s 0 []
@@ -52,11 +54,11 @@ at_start p pace talks s silent fresh = record {
   talk = subst talks (talk_none p pace.form pace.ahead s.progress.done s.progress.done) silent;
 }
 
-module _ (d : Course) (first then both : Talk → Type 0) (j : Joins first then both) (s s' : Session) (lines : ℕ) (reports : List Words) where
+module _ (d : Course) (first then both : Talk → Type 0) (j : Joins first then both) (s s' : Session) (lines : ℕ) (reports : List Line) where
   module _ (way : IsUnderWay d first s lines reports) (done : s'.progress.done ≡ s.progress.done) (told : s'.progress.told ≡ told_at d.program d.ahead s.progress.done) where
     due : new_orders d.program d.form s.progress.told s'.progress.told ≡ due_orders d reports
     due = ap (λ (x : Counts). new_orders d.program d.form x s'.progress.told) way.told
-        ∙ ap (new_orders d.program d.form (told_by d.program d.ahead d.start d.start reports)) (told ∙ ap (told_at d.program d.ahead) way.done)
+        ∙ ap (new_orders d.program d.form (told_by d.program d.ahead d.start d.start (reports_in reports))) (told ∙ ap (told_at d.program d.ahead) way.done)
 
     pub write_stops : {T E : Type 0} (works : Type 0) (r : Result T E) → Tells then works r (new_orders d.program d.form s.progress.told s'.progress.told) → is_err r ≡ true
         → s'.taken ≡ s.taken → Dispatches d both (left_in s') (Err f.Write)
@@ -105,13 +107,14 @@ module _ (d : Course) (first then both : Talk → Type 0) (j : Joins first then 
         let text : closing agents moves number ≡ closing (length d.program) (total_moves d.program) (taken_now d reports) = cc in
         let P : List ℕ → Type 0 = λ bytes. (m : ℕ) × (m ≤ length bytes) × then (Cut (take m bytes) ∷ []) in
         let cut : P (closing (length d.program) (total_moves d.program) (taken_now d reports)) = subst P text h in
-        (reports, record { taken = told.taken; told = inr (ap (is_all_done d.program) (sym told.done) ∙ over, (cut.0, cut.1, j.join _ _ told.talk cut.2)) }, left_is d s reports told.done told.number)
+        (reports, record { taken = told.taken; told = inr (inr (record { finish = ap (is_all_done d.program) (sym told.done) ∙ over; cut = (cut.0, cut.1, j.join _ _ told.talk cut.2) })) }, left_is d s reports told.done told.number)
     concludes agents moves number (Err f.OutOfMemory) over e m n h = absurd h
     concludes agents moves number (Err (f.Form _)) over e m n h = absurd h
     concludes agents moves number (Err (f.NotOrdered _ _)) over e m n h = absurd h
     concludes agents moves number (Err (f.Ended _)) over e m n h = absurd h
     concludes agents moves number (Err f.ReportLimit) over e m n h = absurd h
     concludes agents moves number (Err (f.Log _)) over e m n h = absurd h
+    concludes agents moves number (Err (f.LogWrite _)) over e m n h = absurd h
     concludes agents moves number (Err f.Input) over e m n h = absurd h
 
     module _ (left : is_all_done d.program s.progress.done ≡ false) where
@@ -160,18 +163,41 @@ module _ (d : Course) (first then both : Talk → Type 0) (j : Joins first then 
             left_is d s' reports (h.2.done ∙ told.done) (h.2.taken ∙ told.number),
           )
       line_stops T pace works n f.OutOfMemory same next h = absurd h
-      line_stops T pace works n f.Write same next h = absurd h
+      line_stops T pace works n f.Write same next h =
+          let P : Counts → Type 0 = λ c. (m : ℕ) × (m ≤ length (standings_text d.program c)) × then (Asked ∷ Cut (take m (standings_text d.program c)) ∷ []) in
+          let cut : P (counts_now d reports) = subst P told.done h.0 in (
+            reports,
+            record {
+              taken = told.taken;
+              told = inr (inl (record { left = unfinished; cut = (cut.0, cut.1, subst both (sym (append_assoc (said_by d reports) (Asked ∷ []) _)) (j.join _ _ told.talk cut.2)) }));
+            },
+            left_is d s' reports (h.1.done ∙ told.done) (h.1.taken ∙ told.number),
+          )
+      line_stops T pace works n (f.LogWrite line) same next h =
+          let count = told.count in
+          let r = h.1 in (
+            reports,
+            record {
+              taken = told.taken;
+              report = r.0;
+              next = next_report r.0 pace same r.1.rising r.1.ordered;
+              new = ap (λ (c : Counts). is_repeat c r.0) (sym told.done) ∙ r.1.new;
+              talk = (r.1.cut.0, r.1.cut.1, j.join _ _ told.talk r.1.cut.2);
+              number = let e = h.0 in omega arith;
+            },
+            left_is d s' reports (h.2.done ∙ told.done) (h.2.taken ∙ told.number),
+          )
       line_stops T pace works n f.ReportLimit same next h = absurd h
       line_stops T pace works n (f.Log line) same next h = absurd h
 
-      pub one_line_on : (pace : Pace) (works : Type 0) (report : Words) → pace.ahead ≡ d.ahead → IsLineTaken d.program pace then works s s' report
-          → IsUnderWay d both s' (lines + 1) (more d reports report)
-      one_line_on pace works report same h = record {
-        taken = are_taken_more d.program d.ahead d.start reports report told.taken (next_report report pace same h.rising h.ordered);
-        count = let count = told.count in omega (arith, length_more d reports report);
-        done = h.done ∙ ap (λ (c : Counts). counts_after c report) told.done ∙ sym (counts_now_more d reports report);
-        told = h.told ∙ told.told ∙ sym (told_now_more d reports report);
-        number = h.taken ∙ ap (λ (c : Counts). s.taken + cond (is_repeat c report) 0 1) told.done ∙ ap (λ x. x + cond (is_repeat (counts_now d reports) report) 0 1) told.number ∙ sym (taken_now_more d reports report);
-        talk = subst both (sym (said_more d reports report))
-            (j.join _ _ told.talk h.heard);
+      pub one_line_on : (pace : Pace) (works : Type 0) (line : Line) → pace.ahead ≡ d.ahead → IsLineTaken d.program pace then works s s' line
+          → IsUnderWay d both s' (lines + 1) (more d reports line)
+      one_line_on pace works line same h = record {
+        taken = are_heard_more d reports line told.taken (next_report (words_in line) pace same h.rising h.ordered);
+        count = let count = told.count in omega (arith, length_more d reports line);
+        done = h.done ∙ ap (λ (c : Counts). counts_after c (words_in line)) told.done ∙ sym (counts_now_more d reports line);
+        told = h.told ∙ told.told ∙ sym (told_now_more d reports line);
+        number = h.taken ∙ ap (λ (c : Counts). s.taken + cond (is_taken c line) 1 0) told.done ∙ ap (λ x. x + cond (is_taken (counts_now d reports) line) 1 0) told.number ∙ sym (taken_now_more d reports line);
+        talk = subst both (sym (said_more d reports line))
+            (j.join _ _ told.talk (subst (λ (c : Counts). then (turns_of d.program c line)) told.done h.said));
       }

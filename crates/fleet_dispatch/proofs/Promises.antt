@@ -24,11 +24,11 @@ use Rattle.fleet_model.proofs.Tick.{fails_at}
 use Rattle.fleet_verify.proofs.CriticalPaths.{never_stuck}
 use Rattle.fleet_verify.proofs.RunEnds.{sum_rises, sum_of_moves}
 use Rattle.fleet_dispatch.specs.declared.report.Reported.{Reported}
-use Rattle.fleet_dispatch.specs.Report.{Words, Counts, count_of, said_of, raised, counts_after}
+use Rattle.fleet_dispatch.specs.Report.{Words, Counts, count_of, said_of, raised, counts_after, Line, words_in}
 use Rattle.fleet_dispatch.specs.Ahead.{told_to, told_at, is_all_done}
 use Rattle.fleet_dispatch.specs.Orders.{new_orders}
 use Rattle.fleet_dispatch.specs.Progress.{AreDone}
-use Rattle.fleet_dispatch.specs.Dispatch.{Course, counts_by, told_by, taken_by, counts_now, AreTaken}
+use Rattle.fleet_dispatch.specs.Dispatch.{Course, counts_by, told_by, taken_by, reports_in, counts_now, AreTaken, AreHeard}
 use Rattle.fleet_dispatch.specs.Lead.{none_done, counts_at, dispatch_of, NeverFalls, MayBeOnOrder, Arrive, is_news, news_by, LeadsWell, resumed, SaysAlike}
 use Rattle.fleet_dispatch.proofs.Telling.{told_cannot}
 use Rattle.fleet_dispatch.proofs.Words.{length_after, length_raised, raised_here, raised_grows, after_grows}
@@ -274,25 +274,35 @@ module _ (p : Program) (k : ℕ) (reports : List Words) (taken : AreTaken p k (n
 
 -- ---- where other reports have led
 
-counts_on : (counts : Counts) (log live : List Words) → counts_by counts (log ++ live) ≡ counts_by (counts_by counts log) live
+counts_on : (counts : Counts) (log live : List Line) → counts_by counts (reports_in (log ++ live)) ≡ counts_by (counts_by counts (reports_in log)) (reports_in live)
 counts_on counts [] live = refl
-counts_on counts (q ∷ log) live = counts_on (counts_after counts q) log live
+counts_on counts (q ∷ log) live = counts_on (counts_after counts (words_in q)) log live
 
-taken_on : (counts : Counts) (log live : List Words) → taken_by counts (log ++ live) ≡ taken_by counts log + taken_by (counts_by counts log) live
+taken_on : (counts : Counts) (log live : List Line) → taken_by counts (log ++ live) ≡ taken_by counts log + taken_by (counts_by counts (reports_in log)) live
 taken_on counts [] live = omega arith
-taken_on counts (q ∷ log) live = omega (arith, taken_on (counts_after counts q) log live)
+taken_on counts (q ∷ log) live = omega (arith, taken_on (counts_after counts (words_in q)) log live)
 
-told_on : (p : Program) (k : ℕ) (told other counts : Counts) (log live : List Words) (r : Words) → told_by p k told counts (log ++ r ∷ live) ≡ told_by p k other (counts_by counts log) (r ∷ live)
+told_on : (p : Program) (k : ℕ) (told other counts : Counts) (log live : List Line) (r : Line)
+    → told_by p k told counts (reports_in (log ++ r ∷ live)) ≡ told_by p k other (counts_by counts (reports_in log)) (reports_in (r ∷ live))
 told_on p k told other counts [] live r = refl
-told_on p k told other counts (q ∷ log) live r = told_on p k (told_at p k counts) other (counts_after counts q) log live r
+told_on p k told other counts (q ∷ log) live r = told_on p k (told_at p k counts) other (counts_after counts (words_in q)) log live r
 
-pub says_alike : (d : Course) (log live : List Words) (r : Words) → SaysAlike d (resumed d log) (log ++ r ∷ live) (r ∷ live)
+pub says_alike : (d : Course) (log live : List Line) (r : Line) → SaysAlike d (resumed d log) (log ++ r ∷ live) (r ∷ live)
 says_alike d log live r =
     let counts : counts_now d (log ++ r ∷ live) ≡ counts_now (resumed d log) (r ∷ live) = counts_on d.start log (r ∷ live) in
     let told = told_on d.program d.ahead d.start (counts_now d log) d.start log live r in
     record {
       counts = counts;
       orders = ap (λ (t : Counts). new_orders d.program d.form t (told_at d.program d.ahead (counts_now d (log ++ r ∷ live)))) told
-          ∙ ap (λ (x : Counts). new_orders d.program d.form (told_by d.program d.ahead (counts_now d log) (counts_now d log) (r ∷ live)) (told_at d.program d.ahead x)) counts;
+          ∙ ap (λ (x : Counts). new_orders d.program d.form (told_by d.program d.ahead (counts_now d log) (counts_now d log) (reports_in (r ∷ live))) (told_at d.program d.ahead x)) counts;
       taken = omega (arith, taken_on d.start log (r ∷ live));
     }
+
+-- lines that could be heard, and others after them, could be heard one after the other
+together : (p : Program) (k : ℕ) (counts : Counts) (log live : List Line) → AreTaken p k counts (reports_in log) → AreTaken p k (counts_by counts (reports_in log)) (reports_in live)
+    → AreTaken p k counts (reports_in (log ++ live))
+together p k counts [] live before after = after
+together p k counts (q ∷ log) live before after = (before.0, together p k (counts_after counts (words_in q)) log live before.1 after)
+
+pub heard_together : (d : Course) (log live : List Line) → AreHeard d log → AreHeard (resumed d log) live → AreHeard d (log ++ live)
+heard_together d log live before after = together d.program d.ahead d.start log live before after

@@ -1,5 +1,5 @@
 -- A dispatch over a log: its talk, how it ends, and what it has carried out.
-use Rattle.std.proofs.Common.{◌≡◌, ℕ, ◌<◌, ◌≤◌, ◌⊎◌, ◌++◌, List, [], ◌∷◌, length, Option, Some, None, Result, Ok, Err, refl, ap, sym, ◌∙◌, subst, inl, inr, arith, take_all}
+use Rattle.std.proofs.Common.{◌≡◌, ℕ, ◌<◌, ◌≤◌, ◌⊎◌, ◌++◌, List, [], ◌∷◌, length, Option, Some, None, Result, Ok, Err, refl, ap, sym, ◌∙◌, subst, inl, inr, arith, take_all, append_assoc}
 use Rattle.std.specs.Result.{IsErrAnd}
 use Rattle.fleet_model.specs.Program.{Program, IsWellFormed}
 use Rattle.fleet_dispatch.specs.declared.fault.DispatchFault.{DispatchFault}
@@ -7,10 +7,10 @@ use Rattle.fleet_dispatch.specs.declared.fault.DispatchFault.TheVariants as f
 use Rattle.fleet_dispatch.specs.declared.form.ReportForm.{ReportForm}
 use Rattle.fleet_dispatch.specs.declared.pace.Pace.{Pace}
 use Rattle.fleet_dispatch.specs.declared.run.DispatchReport.{DispatchReport}
-use Rattle.fleet_dispatch.specs.Report.{Words, Counts, count_of}
+use Rattle.fleet_dispatch.specs.Report.{Words, Counts, count_of, Line}
 use Rattle.fleet_dispatch.specs.Progress.{AreCounts}
-use Rattle.fleet_dispatch.specs.Talk.{Turn, Talk, Cut, Unheard}
-use Rattle.fleet_dispatch.specs.Dispatch.{Course, Left, left_by, counts_by, Dispatches, AreTaken}
+use Rattle.fleet_dispatch.specs.Talk.{Turn, Talk, Heard, Cut, Unlogged, Unheard}
+use Rattle.fleet_dispatch.specs.Dispatch.{Course, Left, left_by, counts_by, reports_in, Dispatches, AreTaken, AreHeard}
 use Rattle.fleet_dispatch.specs.Lead.{none_done, counts_at}
 use Rattle.fleet_dispatch.specs.Replay.{ReplaysTurn, ReplaysTurns, IsReplay, IsReplayed, Replays, LeadsOn, replay_end}
 use Rattle.fleet_dispatch.specs.Session.{IsOpened, course_in, left_in, first_course}
@@ -30,6 +30,10 @@ uncut form log before bytes h = (last_turn form log h.0 before (Cut bytes) h.1).
 unbroken : (form : ReportForm) (log : List ℕ) (before : Talk) → IsReplay form log (before ++ Unheard ∷ []) → ⊥
 unbroken form log before h = (last_turn form log h.0 before Unheard h.1).2
 
+unlogged : (form : ReportForm) (log : List ℕ) (before : Talk) (turn : Turn) (bytes : List ℕ) → IsReplay form log (before ++ turn ∷ Unlogged bytes ∷ []) → ⊥
+unlogged form log before turn bytes h =
+    (last_turn form log h.0 (before ++ turn ∷ []) (Unlogged bytes) (subst (ReplaysTurns form log h.0) (sym (append_assoc before (turn ∷ []) (Unlogged bytes ∷ []))) h.1)).2
+
 -- ---- how it ends
 
 pub replays : (d : Course) (log : List ℕ) (left : Left) (r : Result DispatchReport DispatchFault) → Dispatches d (IsReplay d.form log) left r → Replays d log left (replay_end r)
@@ -40,10 +44,11 @@ replays d log left (Err (f.NotOrdered line agent)) h = inr (agent, h)
 replays d log left (Err (f.Ended line)) h = inr (line, h)
 replays d log left (Err f.Write) h = absurd (elim h.1.told [
   | inl orders ↦ uncut d.form log _ _ orders.2
-  | inr lines ↦ uncut d.form log _ _ lines.1.2
+  | inr others ↦ elim others [ inl answer ↦ uncut d.form log _ _ answer.cut.2 | inr lines ↦ uncut d.form log _ _ lines.cut.2 ]
 ])
 replays d log left (Err f.ReportLimit) h = h
 replays d log left (Err (f.Log line)) h = absurd h
+replays d log left (Err (f.LogWrite line)) (lines, h, e) = absurd (unlogged d.form log _ (Heard h.report) _ h.talk.2)
 replays d log left (Err f.Input) h = absurd (unbroken d.form log _ h.1.talk)
 
 -- ---- what it has carried out
@@ -56,8 +61,8 @@ all_counts p k reports taken =
 pub replayed_counts : (p : Program) (pace : Pace) (log : List ℕ) (left : Left) → IsReplayed (first_course p pace) log left → AreCounts p left.done
 replayed_counts p pace log left h = elim h [ inl x ↦ ended x.1.0 x.1.1.taken x.1.2 | inr x ↦ ended x.1.0 x.1.1.taken x.1.2 ]
   where
-    ended : (reports : List Words) → AreTaken p pace.ahead (none_done p) reports → left ≡ left_by (first_course p pace) reports → AreCounts p left.done
-    ended reports taken e = subst (AreCounts p) (sym (ap (λ (x : Left). x.done) e)) (all_counts p pace.ahead reports taken)
+    ended : (lines : List Line) → AreHeard (first_course p pace) lines → left ≡ left_by (first_course p pace) lines → AreCounts p left.done
+    ended lines taken e = subst (AreCounts p) (sym (ap (λ (x : Left). x.done) e)) (all_counts p pace.ahead (reports_in lines) taken)
 
 -- a session that is opened with nothing carried out begins the first course
 pub begins_so : (p : Program) (pace : Pace) (s : Session) (counts : Counts) → counts ≡ none_done p → IsOpened p pace counts 0 s → course_in p pace s ≡ first_course p pace
@@ -76,6 +81,7 @@ led_or_stopped p pace log past (f.Ended line) h = (past, h)
 led_or_stopped p pace log past f.Write h = (past, h)
 led_or_stopped p pace log past f.ReportLimit h = (past, h)
 led_or_stopped p pace log past (f.Log line) h = (past, h)
+led_or_stopped p pace log past (f.LogWrite line) h = (past, h)
 led_or_stopped p pace log past f.Input h = (past, h)
 
 -- .. an error that is handed on

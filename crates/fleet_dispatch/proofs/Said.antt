@@ -7,14 +7,14 @@ use Rattle.fleet_dispatch.specs.Session.{first_course}
 use Rattle.fleet_dispatch.specs.declared.fault.DispatchFault.{DispatchFault}
 use Rattle.fleet_dispatch.specs.declared.fault.DispatchFault.TheVariants as f
 use Rattle.fleet_dispatch.specs.declared.run.DispatchReport.{DispatchReport}
-use Rattle.fleet_dispatch.specs.Report.{Words}
+use Rattle.fleet_dispatch.specs.Report.{Line}
 use Rattle.fleet_dispatch.specs.Talk.{Turn, Talk}
 use Rattle.fleet_dispatch.specs.Dispatch.{Course, Left, StopsAtLine, Dispatches, IsCut}
 use Rattle.fleet_dispatch.specs.Replay.{IsReplayed, course_from, GoesOn, DispatchesAfter, LeadsOn}
 
 -- ---- of every talk there is more to say
 module _ (talks talks' : Talk → Type 0) (more : (talk : Talk) → talks talk → talks' talk) (d : Course) where
-  line_more : (turn : Turn) (line : ℕ) (reports : List Words) → StopsAtLine d talks turn line reports → StopsAtLine d talks' turn line reports
+  line_more : (turn : Turn) (line : ℕ) (reports : List Line) → StopsAtLine d talks turn line reports → StopsAtLine d talks' turn line reports
   line_more turn line reports s = record { taken = s.taken; left = s.left; talk = more _ s.talk; number = s.number }
 
   cut_more : (before : Talk) (text : List ℕ) → IsCut talks before text → IsCut talks' before text
@@ -30,12 +30,19 @@ module _ (talks talks' : Talk → Type 0) (more : (talk : Talk) → talks talk �
     reports,
     record {
       taken = s.taken;
-      told = elim s.told [ inl orders ↦ inl (cut_more _ _ orders) | inr lines ↦ inr (lines.0, cut_more _ _ lines.1) ];
+      told = elim s.told [
+        | inl orders ↦ inl (cut_more _ _ orders)
+        | inr others ↦ elim others [
+          | inl answer ↦ inr (inl (record { left = answer.left; cut = cut_more _ _ answer.cut }))
+          | inr lines ↦ inr (inr (record { finish = lines.finish; cut = cut_more _ _ lines.cut }))
+        ]
+      ];
     },
     e,
   )
   dispatches_more left (Err f.ReportLimit) (reports, s, e) = (reports, record { taken = s.taken; left = s.left; talk = more _ s.talk; limit = s.limit }, e)
   dispatches_more left (Err (f.Log line)) s = s
+  dispatches_more left (Err (f.LogWrite line)) (reports, s, e) = (reports, record { taken = s.taken; report = s.report; next = s.next; new = s.new; talk = (s.talk.0, s.talk.1, more _ s.talk.2); number = s.number }, e)
   dispatches_more left (Err f.Input) (reports, s, e) = (reports, line_more _ _ reports s, e)
 
 -- .. and of a dispatch that begins with a log
@@ -52,6 +59,7 @@ module _ (talks talks' : Talk → Type 0) (more : (talk : Talk) → talks talk �
   after_more (Err f.Write) s = on (Err f.Write) s
   after_more (Err f.ReportLimit) s = elim s [ inl h ↦ inl (on (Err f.ReportLimit) h) | inr h ↦ inr (h.0, more _ h.1) ]
   after_more (Err (f.Log line)) s = (s.0, more _ s.1)
+  after_more (Err (f.LogWrite line)) s = on (Err (f.LogWrite line)) s
   after_more (Err f.Input) s = on (Err f.Input) s
 
 -- ---- what holds of every talk holds of a dispatch
@@ -65,9 +73,13 @@ module _ (talks : Talk → Type 0) (K : Type 0) (gives : (talk : Talk) → talks
   dispatch_gives left (Err (f.Form line)) (reports, s, e) = gives _ s.talk
   dispatch_gives left (Err (f.NotOrdered line agent)) (reports, s, e) = gives _ s.stops.talk
   dispatch_gives left (Err (f.Ended line)) (reports, s, e) = gives _ s.talk
-  dispatch_gives left (Err f.Write) (reports, s, e) = elim s.told [ inl orders ↦ cut_gives _ _ orders | inr lines ↦ cut_gives _ _ lines.1 ]
+  dispatch_gives left (Err f.Write) (reports, s, e) = elim s.told [
+    | inl orders ↦ cut_gives _ _ orders
+    | inr others ↦ elim others [ inl answer ↦ cut_gives _ _ answer.cut | inr lines ↦ cut_gives _ _ lines.cut ]
+  ]
   dispatch_gives left (Err f.ReportLimit) (reports, s, e) = gives _ s.talk
   dispatch_gives left (Err (f.Log line)) s = absurd s
+  dispatch_gives left (Err (f.LogWrite line)) (reports, s, e) = gives _ s.talk.2
   dispatch_gives left (Err f.Input) (reports, s, e) = gives _ s.talk
 
 -- a dispatch that took its memory, and went on from its log
@@ -87,6 +99,7 @@ from_there d log talks past left r replayed s = go r s
     go (Err f.Write) s = there (Err f.Write) s
     go (Err f.ReportLimit) s = inl (there (Err f.ReportLimit) s)
     go (Err (f.Log line)) s = absurd s
+    go (Err (f.LogWrite line)) s = there (Err (f.LogWrite line)) s
     go (Err f.Input) s = there (Err f.Input) s
 
 -- a dispatch that its log stopped, or for which there was no memory
@@ -98,6 +111,7 @@ led_stops p pace log talks (f.Ended line) h silent = absurd h.1
 led_stops p pace log talks f.Write h silent = absurd h.1
 led_stops p pace log talks f.ReportLimit h silent = inr (h, silent)
 led_stops p pace log talks (f.Log line) h silent = (h, silent)
+led_stops p pace log talks (f.LogWrite line) h silent = absurd h.1
 led_stops p pace log talks f.Input h silent = absurd h.1
 
 -- an error that is handed on

@@ -14,9 +14,10 @@ use Rattle.fleet_text.specs.Text.{is_lf}
 use Rattle.fleet_text.proofs.TextLaws.{found_nowhere}
 use Rattle.fleet_dispatch.specs.declared.form.ReportForm.{ReportForm}
 use Rattle.fleet_dispatch.specs.declared.window.TheConstants.{LINE_ROOM}
-use Rattle.fleet_dispatch.specs.Report.{Words}
-use Rattle.fleet_dispatch.specs.ReportText.{report_of}
-use Rattle.fleet_dispatch.specs.Stream.{HasLine, GivesReport, IsMisheard, HasNoLine}
+use Rattle.fleet_dispatch.specs.Report.{Words, Line}
+use Rattle.fleet_dispatch.specs.ReportText.{line_of}
+use Rattle.fleet_dispatch.specs.declared.report_text.LineKind.{LineKind}
+use Rattle.fleet_dispatch.specs.Stream.{HasLine, GivesLine, IsMisheard, HasNoLine}
 use Rattle.fleet_dispatch.specs.Hearing.{EndsLine, HearsLine}
 use Rattle.fleet_dispatch.specs.declared.floor.HearFault.{HearFault}
 use Rattle.fleet_dispatch.specs.declared.floor.HearFault.TheVariants as h
@@ -45,17 +46,17 @@ first_line read more end e =
     }
 
 module _ (form : ReportForm) where
-  -- a line that is a report
-  pub heard : (a : Option (List ℕ)) (read : List ℕ) (left : Option (List ℕ)) (end : ℕ) (words : Words) → Keeps a (prepend_known read left) → position is_lf read ≡ Some end
-      → report_of form (strip_carriage_return (take end read)) ≡ Some words → GivesReport form a (prepend_known (drop (end + 1) read) left) words
-  heard None read left end words k e says = tt
-  heard (Some t) read None end words k e says = absurd k
-  heard (Some t) read (Some more) end words k e says =
+  -- a line that is a report or the question
+  pub heard : (a : Option (List ℕ)) (read : List ℕ) (left : Option (List ℕ)) (end : ℕ) (said : Line) → Keeps a (prepend_known read left) → position is_lf read ≡ Some end
+      → line_of form (strip_carriage_return (take end read)) ≡ Some said → GivesLine form a (prepend_known (drop (end + 1) read) left) said
+  heard None read left end said k e says = tt
+  heard (Some t) read None end said k e says = absurd k
+  heard (Some t) read (Some more) end said k e says =
       (strip_carriage_return (take end read), subst (λ (x : List ℕ). HasLine x (strip_carriage_return (take end read)) (drop (end + 1) read ++ more)) k (first_line read more end e), says)
 
   -- a line that is none
   pub misheard : (a : Option (List ℕ)) (read : List ℕ) (left : Option (List ℕ)) (end : ℕ) → Keeps a (prepend_known read left) → position is_lf read ≡ Some end
-      → report_of form (strip_carriage_return (take end read)) ≡ None → IfSome a (IsMisheard form)
+      → line_of form (strip_carriage_return (take end read)) ≡ None → IfSome a (IsMisheard form)
   misheard None read left end k e none = tt
   misheard (Some t) read None end k e none = absurd k
   misheard (Some t) read (Some more) end k e none =
@@ -79,7 +80,7 @@ module _ (form : ReportForm) where
   )
 
   -- no line was found
-  pub unfound : (a b left : Option (List ℕ)) (read : List ℕ) (e : HearFault) (r : Result Bool HearFault) (words : Words) → IsErrAnd r (λ x. x ≡ e)
+  pub unfound : (a b left : Option (List ℕ)) (read : List ℕ) (e : HearFault) (r : Result (Option LineKind) HearFault) (words : Words) → IsErrAnd r (λ x. x ≡ e)
       → Keeps a (prepend_known read left) → EndsLine left read (Err e) → HearsLine form a b r words
   unfound a b left read e (Ok x) words same k ends = absurd same
   unfound a b left read h.Form (Err f) words same k ends = subst (λ x. HearsLine form a b (Err x) words) (sym same) (long_line a left k ends)

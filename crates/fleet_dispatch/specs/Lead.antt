@@ -1,17 +1,21 @@
 -- Robots that are led by a dispatch: when each action is ordered and reported, and what is promised of whatever they do.
-use Rattle.std.specs.Prelude.{◌≡◌, ◌≢◌, ℕ, ◌+◌, ◌<◌, ◌≤◌, Bool, true, false, IsTrue, ◌&&◌, nat_le, nat_lt, List, [], ◌∷◌, length, take, replicate, Option, option_map, if◌then◌else◌}
-use Rattle.std.specs.List.{list_any, position}
+use Rattle.std.specs.Prelude.{◌≡◌, ◌≢◌, ℕ, ◌+◌, ◌<◌, ◌≤◌, Bool, true, false, IsTrue, ◌&&◌, nat_le, nat_lt, List, [], ◌∷◌, length, get_or, take, filter, replicate, Option, option_map, if◌then◌else◌}
+use Rattle.std.specs.List.{list_any, position, flat_map}
 use Rattle.fleet_model.specs.declared.geometry.Place.{Place}
 use Rattle.fleet_model.specs.declared.program.ActionId.{ActionId}
 use Rattle.fleet_model.specs.Program.{Program, total_moves, path}
-use Rattle.fleet_model.specs.Machine.{indices}
+use Rattle.fleet_model.specs.Machine.{indices, Holds, is_among, run, count_at, is_finished}
+use Rattle.fleet_model.specs.Claims.{holds_of, is_new}
+use Rattle.fleet_machine.specs.Confirmed.{AreAllReady}
 use Rattle.fleet_model.specs.Chain.{IsAction, DirectlyNeeds}
 use Rattle.fleet_model.specs.Schedule.{Schedule, IsBy, IsSchedule, IsSafeSchedule}
 use Rattle.fleet_model.specs.Dispatch.{Dispatch, OrdersAwait, IsCarriedOut}
 use Rattle.fleet_run.specs.Fleet.{AreOnGoals}
-use Rattle.fleet_dispatch.specs.Report.{Words, Counts, count_of, said_of, counts_after}
-use Rattle.fleet_dispatch.specs.Ahead.{told_to, is_all_done}
-use Rattle.fleet_dispatch.specs.Dispatch.{Course, counts_by, configuration_at, counts_now, due_orders, taken_now}
+use Rattle.fleet_dispatch.specs.Report.{Words, Counts, count_of, said_of, counts_after, Line}
+use Rattle.fleet_dispatch.specs.declared.form.ReportForm.{ReportForm}
+use Rattle.fleet_dispatch.specs.Ahead.{told_to, told_at, is_all_done}
+use Rattle.fleet_dispatch.specs.Orders.{order_line, new_orders}
+use Rattle.fleet_dispatch.specs.Dispatch.{Course, counts_by, told_by, configuration_at, counts_now, due_orders, taken_now}
 
 -- nothing is carried out
 abbrev pub none_done : Program → Counts
@@ -111,8 +115,8 @@ pub record LeadsWell (passable : Place → Bool) (p : Program) (k : ℕ) (report
 
 -- ---- a dispatch that goes on
 
--- the dispatch that begins where these reports have led another
-abbrev pub resumed : Course → List Words → Course
+-- the dispatch that begins where these lines have led another
+abbrev pub resumed : Course → List Line → Course
 resumed d log = record {
   program = d.program;
   form = d.form;
@@ -121,8 +125,40 @@ resumed d log = record {
   before = taken_now d log;
 }
 
--- after these reports each, two dispatches say the same orders, and have taken as many reports
-pub record SaysAlike (d e : Course) (reports others : List Words) : Type 0 where
-  pub counts : counts_now d reports ≡ counts_now e others
-  pub orders : due_orders d reports ≡ due_orders e others
-  pub taken : taken_now d reports ≡ taken_now e others
+-- after these lines each, two dispatches say the same orders, and have taken as many reports
+pub record SaysAlike (d e : Course) (lines others : List Line) : Type 0 where
+  pub counts : counts_now d lines ≡ counts_now e others
+  pub orders : due_orders d lines ≡ due_orders e others
+  pub taken : taken_now d lines ≡ taken_now e others
+
+-- ---- a dispatch that gives one order at a time, and the machine
+
+-- the agents that have carried out more by the report
+abbrev pub movers : Program → Counts → Words → List ℕ
+movers p counts words =
+    filter (λ i. nat_lt (count_of counts i) (count_of (counts_after counts words) i)) (indices (length p))
+
+-- .. by each of these reports
+abbrev pub movers_by : Program → Counts → List Words → List (List ℕ)
+movers_by p counts [] = []
+movers_by p counts (r ∷ reports) = movers p counts r ∷ movers_by p (counts_after counts r) reports
+
+-- the holds that hold with each of these reports all agents but those that have carried out more by it
+abbrev pub holds_by : Program → List Words → Holds
+holds_by p reports = holds_of (length p) (movers_by p (none_done p) reports)
+
+-- the orders that are due after t ticks of a run under these holds and were not before, in rising order of agent
+unfoldable pub orders_in_run : Program → ReportForm → Holds → ℕ → List ℕ
+orders_in_run p form holds t =
+    flat_map (λ i. if is_new p holds t i then order_line p form i (count_at (run p holds t) i) else []) (indices (length p))
+
+-- A dispatch that took these reports and gives one order at a time is the run of the machine under the holds of all others: each agent
+-- stands where it does in the run, and all is carried out when the run is finished; those that have carried out more by a report were ready;
+-- and the orders that are due are those of the agents that are ready, and have not still the order that they had before
+pub record IsRun (p : Program) (form : ReportForm) (reports : List Words) : Type 0 where
+  pub here : configuration_at p (counts_by (none_done p) reports) ≡ run p (holds_by p reports) (length reports)
+  pub finished : is_all_done p (counts_by (none_done p) reports) ≡ is_finished p (run p (holds_by p reports) (length reports))
+  pub answers : (t : ℕ) → t < length reports
+      → AreAllReady p (run p (holds_by p reports) t) (is_among (movers p (counts_at p reports t) (get_or reports t [])))
+  pub orders : new_orders p form (told_by p 1 (none_done p) (none_done p) reports) (told_at p 1 (counts_by (none_done p) reports))
+      ≡ orders_in_run p form (holds_by p reports) (length reports)

@@ -2,6 +2,7 @@ pub mod Report
 pub mod ReportText
 pub mod Ahead
 pub mod Progress
+pub mod Standings
 pub mod Talk
 pub mod Orders
 pub mod Dispatch

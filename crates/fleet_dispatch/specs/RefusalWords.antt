@@ -15,12 +15,14 @@ dispatch_words (d.Ended line) = named_at (codes "dispatch") 4 (codes "Ended") (c
 dispatch_words d.Write = named (codes "dispatch") 5 (codes "Write")
 dispatch_words d.ReportLimit = named (codes "dispatch") 6 (codes "ReportLimit")
 dispatch_words (d.Log line) = named_at (codes "dispatch") 7 (codes "Log") (codes "line") line
+dispatch_words (d.LogWrite line) = named_at (codes "dispatch") 8 (codes "LogWrite") (codes "line") line
 dispatch_words d.Input = codes "file" ∷ codes "-" ∷ []
 
--- whether memory, the reports or the orders failed
+-- whether memory, the reports, the orders or the log failed
 abbrev pub is_dispatch_failure : DispatchFault → Bool
 is_dispatch_failure d.OutOfMemory = true
 is_dispatch_failure d.Write = true
+is_dispatch_failure (d.LogWrite line) = true
 is_dispatch_failure d.Input = true
 is_dispatch_failure _ = false
 

@@ -1,24 +1,28 @@
 -- A dispatch that goes on where the reports of a log have led it.
-use Rattle.std.specs.Prelude.{◌≡◌, ℕ, ◌⊎◌, List, [], ◌∷◌, None, Some, Result, Ok, Err, ⊤}
+use Rattle.std.specs.Prelude.{◌≡◌, ℕ, ◌⊎◌, List, [], ◌∷◌, ◌++◌, All, None, Some, Result, Ok, Err, ⊤}
 use Rattle.fleet_model.specs.Program.{Program, IsWellFormed}
 use Rattle.fleet_dispatch.specs.declared.fault.DispatchFault.{DispatchFault}
 use Rattle.fleet_dispatch.specs.declared.fault.DispatchFault.TheVariants.{OutOfMemory, Form, NotOrdered, Ended, ReportLimit, Log}
 use Rattle.fleet_dispatch.specs.declared.form.ReportForm.{ReportForm}
 use Rattle.fleet_dispatch.specs.declared.pace.Pace.{Pace}
 use Rattle.fleet_dispatch.specs.declared.run.DispatchReport.{DispatchReport}
-use Rattle.fleet_dispatch.specs.ReportText.{report_of}
+use Rattle.fleet_dispatch.specs.Report.{Line, Reports, Asks}
+use Rattle.fleet_dispatch.specs.ReportText.{line_of}
 use Rattle.fleet_dispatch.specs.Stream.{HasLine, HasNoLine}
-use Rattle.fleet_dispatch.specs.Talk.{Turn, Talk, Told, Cut, Heard, Misheard, NoMore, Unheard}
+use Rattle.fleet_dispatch.specs.Talk.{Turn, Talk, Told, Cut, Heard, Asked, Logged, Unlogged, Misheard, NoMore, Unheard}
 use Rattle.fleet_dispatch.specs.Dispatch.{Course, Left, Dispatches}
 use Rattle.fleet_dispatch.specs.Session.{IsReady, left_in, first_course}
 use Rattle.fleet_dispatch.specs.declared.run.Session.{Session}
 
--- One turn over a log: what is told is told to nobody, and a report is the next line, which an LF ends
+-- One turn over a log: what is told is told to nobody, nothing more is logged, and what is heard is the next line, which an LF ends
 abbrev pub ReplaysTurn : ReportForm → (log log' : List ℕ) → Turn → Type 0
 ReplaysTurn form log log' (Told bytes) = log' ≡ log
 ReplaysTurn form log log' (Cut bytes) = ⊥
-ReplaysTurn form log log' (Heard words) = (line : List ℕ) × HasLine log line log' × (report_of form line ≡ Some words)
-ReplaysTurn form log log' Misheard = (line : List ℕ) × (rest : List ℕ) × HasLine log line rest × (report_of form line ≡ None)
+ReplaysTurn form log log' (Heard words) = (line : List ℕ) × HasLine log line log' × (line_of form line ≡ Some (Reports words))
+ReplaysTurn form log log' Asked = (line : List ℕ) × HasLine log line log' × (line_of form line ≡ Some Asks)
+ReplaysTurn form log log' (Logged bytes) = log' ≡ log
+ReplaysTurn form log log' (Unlogged bytes) = ⊥
+ReplaysTurn form log log' Misheard = (line : List ℕ) × (rest : List ℕ) × HasLine log line rest × (line_of form line ≡ None)
 ReplaysTurn form log log' NoMore = HasNoLine log
 ReplaysTurn form log log' Unheard = ⊥
 
@@ -86,3 +90,22 @@ abbrev pub LeadsOn : Program → Pace → List ℕ → Result Session DispatchFa
 LeadsOn p pace log (Ok s) = IsLedOn p pace log s
 LeadsOn p pace log (Err OutOfMemory) = ⊤
 LeadsOn p pace log (Err fault) = (past : Left) × Replays {T = Unit {0}} (first_course p pace) log past (Err fault)
+
+-- ---- what a dispatch leaves in its log
+
+-- what the talk logged, one after another
+abbrev pub logged_in : Talk → List ℕ
+logged_in [] = []
+logged_in (Logged bytes ∷ talk) = bytes ++ logged_in talk
+logged_in (Told bytes ∷ talk) = logged_in talk
+logged_in (Cut bytes ∷ talk) = logged_in talk
+logged_in (Heard words ∷ talk) = logged_in talk
+logged_in (Asked ∷ talk) = logged_in talk
+logged_in (Unlogged bytes ∷ talk) = logged_in talk
+logged_in (Misheard ∷ talk) = logged_in talk
+logged_in (NoMore ∷ talk) = logged_in talk
+logged_in (Unheard ∷ talk) = logged_in talk
+
+-- each of these is what some text says
+abbrev pub AreRead : ReportForm → List Line → Type 0
+AreRead form lines = All (λ line. (text : List ℕ) × (line_of form text ≡ Some line)) lines

@@ -1,5 +1,5 @@
 -- Reports: which actions robots say that they have carried out, and what is carried out by them.
-use Rattle.std.specs.Prelude.{◌≡◌, ℕ, ◌+◌, ◌-◌, ◌<◌, ◌≤◌, Bool, false, List, [], ◌∷◌, length, get_or, set, map, take, nat_lt, nat_le, Option, if◌then◌else◌}
+use Rattle.std.specs.Prelude.{◌≡◌, ℕ, ◌+◌, ◌-◌, ◌<◌, ◌≤◌, Bool, false, not, List, [], ◌∷◌, length, get_or, set, map, take, nat_lt, nat_le, Option, if◌then◌else◌}
 use Rattle.std.specs.List.{list_all}
 use Rattle.std.specs.List.Sorted.{IsStrictlyIncreasing}
 use Rattle.std.specs.Option.{option_map_or}
@@ -50,3 +50,18 @@ counts_after counts (w ∷ ws) = counts_after (raised counts w.agent (said_of co
 abbrev pub is_repeat : Counts → Words → Bool
 is_repeat counts [] = false
 is_repeat counts (w ∷ ws) = list_all (λ x. nat_le (said_of counts x) (count_of counts x.agent)) (w ∷ ws)
+
+-- what a line says that is heard
+pub data Line : Type 0 where
+  Reports : Words → Line  -- that this is carried out
+  Asks : Line  -- the question where the agents are
+
+-- the words of a report; the question says of nobody that something is carried out
+abbrev pub words_in : Line → Words
+words_in (Reports words) = words
+words_in Asks = []
+
+-- a report is taken that is no repeat, and the question is none
+abbrev pub is_taken : Counts → Line → Bool
+is_taken counts (Reports words) = not (is_repeat counts words)
+is_taken counts Asks = false

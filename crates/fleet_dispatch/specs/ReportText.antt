@@ -1,5 +1,5 @@
 -- Which report a line stands for.
-use Rattle.std.specs.Prelude.{◌≡◌, ℕ, ◌+◌, ◌-◌, Bool, ◌&&◌, ◌==◌, nat_le, nat_lt, List, [], ◌∷◌, ◌++◌, length, map, take, drop, position, Option, None, Some, option_and_then, option_map, codes, decimal, if◌then◌else◌}
+use Rattle.std.specs.Prelude.{◌≡◌, ℕ, ◌+◌, ◌-◌, Bool, false, ◌&&◌, ◌==◌, nat_le, nat_lt, List, [], ◌∷◌, ◌++◌, length, map, take, drop, position, Option, None, Some, option_and_then, option_map, codes, decimal, if◌then◌else◌}
 use Rattle.std.specs.List.{slice_split, join_with_byte}
 use Rattle.std.specs.Option.{option_map_or}
 use Rattle.fleet_model.specs.declared.limits.TheConstants.{MAX_AGENTS}
@@ -9,7 +9,9 @@ use Rattle.fleet_dispatch.specs.declared.form.ReportForm.{ReportForm}
 use Rattle.fleet_dispatch.specs.declared.form.ReportForm.TheVariants.{Numbered, Unnumbered}
 use Rattle.fleet_dispatch.specs.declared.number.TheConstants.{TOO_LONG}
 use Rattle.fleet_dispatch.specs.declared.report.Reported.{Reported}
-use Rattle.fleet_dispatch.specs.Report.{Words}
+use Rattle.fleet_dispatch.specs.declared.report_text.LineKind.{LineKind}
+use Rattle.fleet_dispatch.specs.declared.report_text.LineKind.TheVariants.{Report, Question}
+use Rattle.fleet_dispatch.specs.Report.{Words, Line, Reports, Asks}
 
 -- ---- how a report is spelled
 
@@ -52,3 +54,24 @@ words_of form least room (word ∷ words) =
 abbrev pub report_of : ReportForm → Bytes → Option Words
 report_of form line =
     if is_dash line then Some [] else words_of form 0 MAX_AGENTS (slice_split is_space line)
+
+-- the line of a report in a log
+abbrev pub log_line : Words → Bytes
+log_line words = report_line words ++ codes "\n"
+
+-- ---- the question where the agents are
+
+-- whether it is the line of the question
+abbrev pub is_question : Bytes → Bool
+is_question [] = false
+is_question (b ∷ []) = b == 63
+is_question (b ∷ c ∷ bs) = false
+
+-- what a line says, if it is a report or the question
+abbrev pub line_of : ReportForm → Bytes → Option Line
+line_of form line = if is_question line then Some Asks else option_map Reports (report_of form line)
+
+-- what was heard, if it is a report with these words or the question
+abbrev pub heard_line : LineKind → Words → Line
+heard_line Report words = Reports words
+heard_line Question words = Asks

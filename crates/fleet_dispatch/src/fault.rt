@@ -22,6 +22,8 @@ pub enum DispatchFault {
     ReportLimit,
     #[error("line {line} of the log is no report of this dispatch")]
     Log { line: u64 },
+    #[error("the report of line {line} cannot be logged")]
+    LogWrite { line: u64 },
     #[error("the reports cannot be read")]
     Input,
 }
@@ -51,6 +53,9 @@ impl Refusal for DispatchFault {
             DispatchFault::Write => put_named(out, "dispatch", 5, "Write"),
             DispatchFault::ReportLimit => put_named(out, "dispatch", 6, "ReportLimit"),
             DispatchFault::Log { line } => put_named_at(out, "dispatch", 7, "Log", "line", line),
+            DispatchFault::LogWrite { line } => {
+                put_named_at(out, "dispatch", 8, "LogWrite", "line", line)
+            }
             DispatchFault::Input => put_line(out, &[Word::Text("file"), Word::Text("-")]),
         }
     }
@@ -58,7 +63,10 @@ impl Refusal for DispatchFault {
     fn is_failure(&self) -> bool {
         matches!(
             self,
-            DispatchFault::OutOfMemory | DispatchFault::Write | DispatchFault::Input
+            DispatchFault::OutOfMemory
+                | DispatchFault::Write
+                | DispatchFault::LogWrite { .. }
+                | DispatchFault::Input
         )
     }
 }

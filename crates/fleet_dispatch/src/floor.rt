@@ -1,27 +1,28 @@
-//! Floors: where the robots are told their orders, and where they report.
+//! Floors: where the robots are told their orders, where they report, and where their reports are logged.
 
 use crate::report::Report;
+use crate::report_text::LineKind;
 use fleet_text::OutFault;
 
 /// Why no report was heard.
 #[derive(Clone, Copy)]
 pub enum HearFault {
-    /// The line is no report.
+    /// The line is no report, and not the question.
     Form,
     /// The line cannot be read.
     Broken,
 }
 
-/// A floor of robots. All that is said to it and heard from it is one talk, in turn, so a contract says which bytes
-/// were said before a report was heard.
+/// A floor of robots. All that is said to it, heard from it and logged is one talk, in turn, so a contract says which
+/// bytes were said before a report was heard, and that it was logged before others were said.
 pub trait Floor {
     ghost use Rattle.std.specs.Prelude.{ℕ, List, [], ◌++◌};
-    ghost use Rattle.fleet_dispatch.specs.Talk.{Talk, Tells, Hears};
+    ghost use Rattle.fleet_dispatch.specs.Talk.{Talk, Tells, Logs, Hears};
 
-    /// From the first to the second this was said and heard.
+    /// From the first to the second this was said, heard and logged.
     ghost talks: { Self → Self → Talk → Type 0 };
 
-    /// Whether it can be told more and heard further.
+    /// Whether it can be told more, heard further, and have more logged.
     ghost works: { Self → Type 0 };
 
     /// Whether the second is the first, further on: what it borrows is the same.
@@ -33,8 +34,15 @@ pub trait Floor {
         requires { works self.old }
         ensures { Tells (talks self.old self.new) (works self.new) result bytes.now };
 
-    /// Waits for a report, and makes this one the one that it heard. `Ok(false)` if there is none any more.
-    fn hear(&mut self, report: &mut Report) -> Result<bool, HearFault>
+    /// Has the log take all of the bytes and hand them on before it answers. If it fails, a front of them was taken, and
+    /// nothing more can be logged.
+    fn log(&mut self, bytes: &[u8]) -> Result<(), OutFault>
+        requires { works self.old }
+        ensures { Logs (talks self.old self.new) (works self.new) result bytes.now };
+
+    /// Waits for a line, and answers what was heard: of a report, it makes this one the one that it heard. `Ok(None)` if
+    /// there is no line any more.
+    fn hear(&mut self, report: &mut Report) -> Result<Option<LineKind>, HearFault>
         requires { works self.old }
         ensures { Hears (talks self.old self.new) (works self.new) result report.new };
 

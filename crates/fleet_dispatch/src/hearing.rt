@@ -1,4 +1,4 @@
-//! How the next line of an input is found, and heard as a report.
+//! How the next line of an input is found and heard.
 
 ghost use Rattle.std.specs.Prelude.{◌≡◌, ◌≤◌, ◌<◌, ◌+◌, length, drop, take, position, Some, None};
 ghost use Rattle.std.specs.Io.KnownBytes.{prepend_known};
@@ -9,7 +9,7 @@ ghost use Rattle.fleet_dispatch.specs.Hearing.{FindsLine, HearsLine};
 use crate::floor::HearFault;
 use crate::form::ReportForm;
 use crate::report::Report;
-use crate::report_text::read_report;
+use crate::report_text::{LineKind, read_line};
 use crate::window::{LINE_ROOM, Window};
 use fleet_text::without_cr;
 use std::io::Read;
@@ -43,25 +43,25 @@ fn find_line<R: Read>(input: &mut R, window: &mut Window) -> Result<Option<usize
     }
 }
 
-/// Hears the next line of the input, which ends with an LF, and makes the report the one that it stands for.
+/// Hears the next line of the input, which ends with an LF: of a report it makes this one the one that the line stands
+/// for.
 pub fn hear_line<R: Read>(
     form: ReportForm,
     input: &mut R,
     window: &mut Window,
     report: &mut Report,
-) -> Result<bool, HearFault>
+) -> Result<Option<LineKind>, HearFault>
     ensures { HearsLine form (prepend_known (window_rest window.old) (R.remaining input.old))
         (prepend_known (window_rest window.new) (R.remaining input.new)) result report.new }
 {
     let found = find_line(input, window)?;
     let Some(end) = found else {
-        return Ok(false);
+        return Ok(None);
     };
     let line = without_cr(&window.rest()[..end]);
-    let is_report = read_report(form, line, report);
-    if !is_report {
+    let Some(heard) = read_line(form, line, report) else {
         return Err(HearFault::Form);
-    }
+    };
     window.pass(end + 1);
-    Ok(true)
+    Ok(Some(heard))
 }

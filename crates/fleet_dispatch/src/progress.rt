@@ -1,20 +1,23 @@
 //! How far each agent has come: what it has carried out, and what it is told.
 
-ghost use Rattle.std.specs.Prelude.{◌≡◌, ◌≢◌, ◌<◌, ◌≤◌, ◌+◌, ◌*◌, ◌++◌, ℕ, length, take, set, get_or, min, true, false, nat_lt, Some, None, is_some, IfOk, IfSome, IfNone, MatchOption, MatchBool};
+ghost use Rattle.std.specs.Prelude.{◌≡◌, ◌≢◌, ◌<◌, ◌≤◌, ◌+◌, ◌*◌, ◌++◌, ℕ, length, take, set, get_or, min, true, false, not, nat_lt, Some, None, is_some, IfOk, IfSome, IfNone, MatchOption, MatchBool};
 ghost use Rattle.fleet_model.specs.declared.geometry.Place.{Place};
-ghost use Rattle.fleet_model.specs.Program.{IsWellFormed, moves, path};
+ghost use Rattle.std.specs.List.{find};
+ghost use Rattle.fleet_model.specs.Program.{IsWellFormed, moves, path, awaits_of};
 ghost use Rattle.fleet_machine.specs.AgentSet.{AreNoneFrom, IsNextFrom};
 ghost use Rattle.fleet_machine.specs.Machine.{flag_of};
 ghost use Rattle.fleet_machine.specs.WaitLists.{home_of};
 ghost use Rattle.fleet_dispatch.specs.Report.{IsRising, count_of, said_of, counts_after, raised, is_repeat};
-ghost use Rattle.fleet_dispatch.specs.Ahead.{told_at, IsOrdered, AreOrdered, IsFirstUnordered, is_all_done};
+ghost use Rattle.fleet_dispatch.specs.Ahead.{is_done, told_at, IsOrdered, AreOrdered, IsFirstUnordered, is_all_done};
 ghost use Rattle.fleet_dispatch.specs.Orders.{agent_orders, new_orders, order_line};
+ghost use Rattle.fleet_dispatch.specs.Standings.{next_wait, left_line, standings_text};
 ghost use Rattle.fleet_dispatch.specs.Progress.{AreDone, IsMissing, HasRows, Leads, LeadsBut, TellsMore, AreCounts, AreAgents, AreTold, IsWoken, is_woken};
 
 use crate::form::ReportForm;
 use crate::orders::{ORDER, Order, add_order};
 use crate::pace::Pace;
 use crate::report::{Report, Reported};
+use crate::standings::{STANDING, Whereabouts, add_standing};
 use fleet_machine::{AgentSet, WaitLists};
 use fleet_model::{Await, Place, ProgramView};
 use std::alloc::{AllocError, Global};
@@ -154,6 +157,16 @@ impl Progress {
         self.told[i as usize]
     }
 
+    /// The action that agent `i` is to be told next.
+    fn next_of(&self, i: u16) -> u32
+        requires agent { i < length self.now.told }
+        requires few { count_of self.now.told i < 4294967295 }
+        ensures { result ≡ count_of self.now.told i + 1 }
+    {
+        let last = self.told_of(i);
+        last + 1
+    }
+
     /// Where the actions lead agent `i` that it is told.
     fn place_of(&self, i: u16) -> Place
         requires { i < length self.now.places }
@@ -276,15 +289,17 @@ impl Progress {
         self.next_left(0).is_none()
     }
 
-    /// An await of action `n` of agent `i` that is not carried out, if it has one.
+    /// The first await of action `n` of agent `i` that is not carried out, if it has one.
     fn missing<P: ProgramView>(&self, program: &P, i: u16, n: u32) -> Option<Await>
         requires well_formed { IsWellFormed (P.program program.now) }
         requires rows { HasRows (P.program program.now) self.now }
         requires agent { i < length (P.program program.now) }
         requires first { 1 ≤ n }
         requires last { n ≤ moves (P.program program.now) i }
-        ensures { MatchOption result (AreDone (P.program program.now) self.now.done i n)
+        ensures missing { MatchOption result (AreDone (P.program program.now) self.now.done i n)
             (IsMissing (P.program program.now) self.now.done i n) }
+        ensures first { result ≡ find (λ w. not (is_done self.now.done w))
+            (awaits_of (P.program program.now) i n) }
     {
         for k in 0..program.await_count(i, n) {
             let awaited = program.await_at(i, n, k);
@@ -321,7 +336,7 @@ impl Progress {
         ensures written { take result row.new ≡ take at row.old
             ++ order_line (P.program program.now) form i (count_of self.old.told i) }
     {
-        let number = self.told_of(i) + 1;
+        let number = self.next_of(i);
         let from = self.place_of(i);
         let to = from.after(program.step(i, number));
         self.advance(i, number, to);
@@ -531,5 +546,63 @@ impl Progress {
             let said = self.said(program, *word);
             self.raise(program, word.agent as u16, said);
         }
+    }
+
+    /// Where agent `i` is, which has an action left.
+    fn whereabouts<P: ProgramView>(&self, program: &P, i: u16) -> Whereabouts
+        requires well_formed { IsWellFormed (P.program program.now) }
+        requires rows { HasRows (P.program program.now) self.now }
+        requires agent { i < length (P.program program.now) }
+        requires left { count_of self.now.done i < moves (P.program program.now) i }
+        ensures { result ≡ record {
+          agent = i;
+          place = path (P.program program.now) i (count_of self.now.done i);
+          done = count_of self.now.done i;
+          moves = moves (P.program program.now) i;
+          waits = next_wait (P.program program.now) self.now.done i;
+        } }
+    {
+        let done = self.done_of(i);
+        Whereabouts {
+            agent: i,
+            place: place_after(program, i, done),
+            done,
+            moves: program.moves(i),
+            waits: self.missing(program, i, done + 1),
+        }
+    }
+
+    /// Writes where agent `i` is, if it has an action left, behind what ends at `at`, and answers where that ends.
+    fn add_left<P: ProgramView>(&self, program: &P, i: u16, row: &mut [u8], at: usize) -> usize
+        requires well_formed { IsWellFormed (P.program program.now) }
+        requires rows { HasRows (P.program program.now) self.now }
+        requires agent { i < length (P.program program.now) }
+        requires room { at + STANDING ≤ length row.old }
+        ensures high { result ≤ at + STANDING }
+        ensures written { take result row.new ≡ take at row.old
+            ++ left_line (P.program program.now) self.now.done i }
+    {
+        let is_left = self.done_of(i) < program.moves(i);
+        if !is_left {
+            return at;
+        }
+        add_standing(self.whereabouts(program, i), row, at)
+    }
+
+    /// Writes where the agents are that have an action left, in rising order, into the row from its front, and answers
+    /// where that ends. It goes from each start through all actions that are carried out.
+    pub fn write_standings<P: ProgramView>(&self, program: &P, row: &mut [u8]) -> usize
+        requires well_formed { IsWellFormed (P.program program.now) }
+        requires rows { HasRows (P.program program.now) self.now }
+        requires room { length row.old ≡ STANDING * length (P.program program.now) }
+        ensures within { result ≤ length row.new }
+        ensures written { take result row.new
+            ≡ standings_text (P.program program.now) self.now.done }
+    {
+        let mut at = 0;
+        for i in 0..program.agents() {
+            at = self.add_left(program, i, row, at);
+        }
+        at
     }
 }

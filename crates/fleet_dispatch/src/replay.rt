@@ -11,13 +11,14 @@ use crate::form::ReportForm;
 use crate::hearing::end_in;
 use crate::pace::Pace;
 use crate::report::Report;
-use crate::report_text::read_report;
+use crate::report_text::{LineKind, read_line};
 use crate::run::{DispatchReport, Session, run_session, start_session};
 use fleet_model::ProgramView;
 use fleet_text::{OutFault, without_cr};
 use std::alloc::{AllocError, Global};
 
-/// A floor whose reports are the lines of a text, each ended by an LF, and to which nothing that is told matters.
+/// A floor whose reports are the lines of a text, each ended by an LF, and to which nothing that is told or logged
+/// matters.
 #[derive(Drop)]
 struct LogFloor<'a> {
     form: ReportForm,
@@ -40,17 +41,20 @@ impl Floor for LogFloor<'_> {
         Ok(())
     }
 
-    fn hear(&mut self, report: &mut Report) -> Result<bool, HearFault> {
+    fn log(&mut self, _: &[u8]) -> Result<(), OutFault> {
+        Ok(())
+    }
+
+    fn hear(&mut self, report: &mut Report) -> Result<Option<LineKind>, HearFault> {
         let Some(end) = end_in(self.rest) else {
-            return Ok(false);
+            return Ok(None);
         };
         let line = without_cr(&self.rest[..end]);
-        let is_report = read_report(self.form, line, report);
-        if !is_report {
+        let Some(heard) = read_line(self.form, line, report) else {
             return Err(HearFault::Form);
-        }
+        };
         self.rest = &self.rest[end + 1..];
-        Ok(true)
+        Ok(Some(heard))
     }
 
     ghost silent = { λ f. (refl, refl) };

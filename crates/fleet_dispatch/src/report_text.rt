@@ -1,15 +1,24 @@
-//! The report that a line stands for.
+//! What a line says: a report, or the question where the agents are.
 
-ghost use Rattle.std.specs.Prelude.{◌≡◌, [], position, MatchBool, Some, None};
+ghost use Rattle.std.specs.Prelude.{◌≡◌, [], position, MatchBool, Some, None, IfSome, option_map};
 ghost use Rattle.std.specs.List.{slice_split};
 ghost use Rattle.fleet_run.specs.HoldText.{is_space, is_dash};
-ghost use Rattle.fleet_dispatch.specs.ReportText.{is_colon, word_of, words_of, report_of};
+ghost use Rattle.fleet_dispatch.specs.ReportText.{is_colon, word_of, words_of, report_of, is_question, line_of, heard_line};
 
 use crate::form::ReportForm;
 use crate::number::long_number_of;
 use crate::report::{Report, Reported};
 use fleet_model::MAX_AGENTS;
 use fleet_run::cut;
+
+/// What a line says that is heard.
+#[derive(Clone, Copy)]
+pub enum LineKind {
+    /// A report.
+    Report,
+    /// The question where the agents are.
+    Question,
+}
 
 /// Where the first colon is.
 fn colon_in(word: &[u8]) -> Option<usize>
@@ -85,10 +94,32 @@ fn add_words(form: ReportForm, line: &[u8], report: &mut Report) -> bool
 
 /// Makes the report the one that the line stands for. Answers whether the line stands for one; if it does not, the
 /// report may be any.
-pub fn read_report(form: ReportForm, line: &[u8], report: &mut Report) -> bool
+fn read_report(form: ReportForm, line: &[u8], report: &mut Report) -> bool
     ensures { MatchBool result
         (report_of form line.now ≡ Some report.new) (report_of form line.now ≡ None) }
 {
     report.clear();
     is_dash(line) || add_words(form, line, report)
+}
+
+/// Whether it is the line of the question where the agents are.
+fn is_question(line: &[u8]) -> bool
+    ensures { result ≡ is_question line.now }
+{
+    matches!(line, [b'?'])
+}
+
+/// What the line says, if it is a report or the question. Makes the report the one that the line stands for; if it
+/// stands for none, the report may be any.
+pub fn read_line(form: ReportForm, line: &[u8], report: &mut Report) -> Option<LineKind>
+    ensures { line_of form line.now ≡ option_map (λ heard. heard_line heard report.new) result }
+{
+    if is_question(line) {
+        return Some(LineKind::Question);
+    }
+    if read_report(form, line, report) {
+        Some(LineKind::Report)
+    } else {
+        None
+    }
 }

@@ -1,20 +1,24 @@
 //! Dispatch of a fleet, report by report.
 
-ghost use Rattle.std.specs.Prelude.{◌≡◌, ◌<◌, IfOk};
+ghost use Rattle.std.specs.Prelude.{◌≡◌, ◌<◌, ◌+◌, length, IfOk, if◌then◌else◌};
 ghost use Rattle.fleet_model.specs.Program.{IsWellFormed};
 ghost use Rattle.fleet_dispatch.specs.Dispatch.{Dispatches};
-ghost use Rattle.fleet_dispatch.specs.Session.{IsReady, IsOpened, TakesLine, Concludes, left_in, course_in};
+ghost use Rattle.fleet_dispatch.specs.Session.{IsReady, IsOpened, TakesLine, TakesReport, LogsReport, Concludes, left_in, course_in};
 ghost use Rattle.fleet_dispatch.specs.Orders.{new_orders};
 ghost use Rattle.fleet_dispatch.specs.Ahead.{told_at};
 ghost use Rattle.fleet_dispatch.specs.Progress.{AreCounts};
+ghost use Rattle.fleet_dispatch.specs.Standings.{standings_text};
 ghost use Rattle.fleet_dispatch.specs.Talk.{Tells};
 
 use crate::fault::DispatchFault;
 use crate::floor::{Floor, HearFault};
+use crate::log_text::{LOG_LINE, write_log_line};
 use crate::orders::{ORDER, tell_closing};
 use crate::pace::Pace;
 use crate::progress::Progress;
 use crate::report::Report;
+use crate::report_text::LineKind;
+use crate::standings::STANDING;
 use fleet_model::{ProgramView, total_moves};
 use fleet_text::OutFault;
 use std::alloc::{AllocError, Global};
@@ -31,13 +35,15 @@ pub struct DispatchReport {
     pub reports: u32,
 }
 
-/// A dispatch under way: what is carried out and told, the last report, a row for the orders, and how many reports were
-/// taken.
+/// A dispatch under way: what is carried out and told, the last report, room for the orders, for a line of the log and
+/// for where all agents are, and how many reports were taken.
 #[derive(Drop)]
 pub struct Session {
     progress: Progress,
     report: Report,
     row: Vec<u8>,
+    line: Vec<u8>,
+    answer: Vec<u8>,
     taken: u32,
 }
 
@@ -56,10 +62,14 @@ pub fn start_session<P: ProgramView>(
     let report = Report::new(alloc)?;
     let room = ORDER * pace.ahead as usize * program.agents() as usize;
     let row = vec![in alloc; 0; room]?;
+    let line = vec![in alloc; 0; LOG_LINE]?;
+    let answer = vec![in alloc; 0; STANDING * program.agents() as usize]?;
     Ok(Session {
         progress,
         report,
         row,
+        line,
+        answer,
         taken,
     })
 }
@@ -103,7 +113,88 @@ fn tell_orders<P: ProgramView, F: Floor>(
     floor.tell(&session.row[..end])
 }
 
-/// Hears the line of this number, and takes it as a report; one that is a repeat changes nothing.
+/// How many reports are taken with one more, which is a repeat or not.
+fn counted(taken: u32, is_repeat: bool) -> u32
+    requires few { taken < MAX_REPORTS }
+    ensures { result ≡ taken + (if is_repeat then 0 else 1) }
+{
+    if is_repeat { taken } else { taken + 1 }
+}
+
+/// Has a report logged that is no repeat.
+fn log_report<F: Floor>(
+    report: &Report,
+    is_repeat: bool,
+    row: &mut [u8],
+    floor: &mut F,
+) -> Result<(), OutFault>
+    requires room { length row.old ≡ LOG_LINE }
+    requires floor { F.works floor.old }
+    ensures { LogsReport (F.talks floor.old floor.new) (F.works floor.new) is_repeat result report.now }
+{
+    if is_repeat {
+        return Ok(());
+    }
+    let begin = write_log_line(report, row);
+    floor.log(&row[begin..])
+}
+
+/// Takes the report that was heard in the line of this number. It is logged before anything follows from it; one that is
+/// a repeat changes nothing.
+fn take_report<P: ProgramView, F: Floor>(
+    session: &mut Session,
+    program: &P,
+    pace: Pace,
+    floor: &mut F,
+    line: u64,
+) -> Result<(), DispatchFault>
+    requires well_formed { IsWellFormed (P.program program.now) }
+    requires ready { IsReady (P.program program.now) pace session.old }
+    requires told { session.old.progress.told
+        ≡ told_at (P.program program.now) pace.ahead session.old.progress.done }
+    requires few { session.old.taken < MAX_REPORTS }
+    requires floor { F.works floor.old }
+    ensures { TakesReport (P.program program.now) pace (F.talks floor.old floor.new)
+        (F.works floor.new) session.old session.new line session.old.report result }
+{
+    let _ = pace;
+    if let Some(agent) = session.progress.first_unordered(program, &session.report) {
+        return Err(DispatchFault::NotOrdered { line, agent });
+    }
+    let is_repeat = session.progress.is_repeat(program, &session.report);
+    let logged = log_report(&session.report, is_repeat, &mut session.line, floor);
+    if logged.is_err() {
+        return Err(DispatchFault::LogWrite { line });
+    }
+    session.progress.take(program, &session.report);
+    session.taken = counted(session.taken, is_repeat);
+    Ok(())
+}
+
+/// Tells where the agents are that have not arrived.
+fn answer_question<P: ProgramView, F: Floor>(
+    session: &mut Session,
+    program: &P,
+    pace: Pace,
+    floor: &mut F,
+) -> Result<(), OutFault>
+    requires well_formed { IsWellFormed (P.program program.now) }
+    requires ready { IsReady (P.program program.now) pace session.old }
+    requires floor { F.works floor.old }
+    ensures ready { IsReady (P.program program.now) pace session.new }
+    ensures done { session.new.progress ≡ session.old.progress }
+    ensures taken { session.new.taken ≡ session.old.taken }
+    ensures said { Tells (F.talks floor.old floor.new) (F.works floor.new) result
+        (standings_text (P.program program.now) session.old.progress.done) }
+{
+    let _ = pace;
+    let end = session
+        .progress
+        .write_standings(program, &mut session.answer);
+    floor.tell(&session.answer[..end])
+}
+
+/// Hears the line of this number, and takes it as a report, or answers the question.
 fn take_line<P: ProgramView, F: Floor>(
     session: &mut Session,
     program: &P,
@@ -120,22 +211,23 @@ fn take_line<P: ProgramView, F: Floor>(
     ensures { TakesLine (P.program program.now) pace (F.talks floor.old floor.new)
         (F.works floor.new) session.old session.new line result }
 {
-    let _ = pace;
     match floor.hear(&mut session.report) {
-        Ok(true) => {}
-        Ok(false) => return Err(DispatchFault::Ended { line }),
-        Err(HearFault::Form) => return Err(DispatchFault::Form { line }),
-        Err(HearFault::Broken) => return Err(DispatchFault::Input),
+        Ok(Some(LineKind::Report)) => {
+            if let Err(fault) = take_report(session, program, pace, floor, line) {
+                return Err(fault);
+            }
+            Ok(())
+        }
+        Ok(Some(LineKind::Question)) => {
+            if answer_question(session, program, pace, floor).is_err() {
+                return Err(DispatchFault::Write);
+            }
+            Ok(())
+        }
+        Ok(None) => Err(DispatchFault::Ended { line }),
+        Err(HearFault::Form) => Err(DispatchFault::Form { line }),
+        Err(HearFault::Broken) => Err(DispatchFault::Input),
     }
-    if let Some(agent) = session.progress.first_unordered(program, &session.report) {
-        return Err(DispatchFault::NotOrdered { line, agent });
-    }
-    if session.progress.is_repeat(program, &session.report) {
-        return Ok(());
-    }
-    session.progress.take(program, &session.report);
-    session.taken += 1;
-    Ok(())
 }
 
 /// Tells that all have arrived, with these numbers, and answers them.
@@ -161,8 +253,9 @@ fn conclude<F: Floor>(
 /// The orders, the reports and the closing lines of a dispatch, until all stand on their goals.
 ///
 /// Errors: `Form` if a line is no report, `NotOrdered` if a report says an action that is not ordered, `Ended` if no
-/// line is left, `Input` if one cannot be read; `Write` if orders or the closing lines
-/// cannot be told; `ReportLimit` if actions are left after `MAX_REPORTS` lines or reports.
+/// line is left, `Input` if one cannot be read; `LogWrite` if a report cannot be logged, which is not taken then;
+/// `Write` if orders, an answer or the closing lines cannot be told; `ReportLimit` if actions are left after
+/// `MAX_REPORTS` lines or reports.
 pub fn run_session<P: ProgramView, F: Floor>(
     session: &mut Session,
     program: &P,

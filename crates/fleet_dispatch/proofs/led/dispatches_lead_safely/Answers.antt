@@ -1,5 +1,7 @@
 use Rattle.fleet_dispatch.proofs.Leading.{safely_led, carried_out, ordered_at_once}
-use Rattle.fleet_dispatch.proofs.Promises.{leads_well, says_alike}
+use Rattle.fleet_dispatch.proofs.Promises.{leads_well, says_alike, heard_together}
+use Rattle.fleet_dispatch.proofs.AsRun.{as_run}
+use Rattle.fleet_dispatch.proofs.Kept.{leads_there}
 use Rattle.fleet_dispatch.proofs.led.dispatches_lead_safely.Goals as goal
 
 pub returns-clause-safely : goal.returns-clause-safely
@@ -16,3 +18,12 @@ returns-clause-well c passable tasks p ok ahead reports taken = leads_well p ahe
 
 pub returns-clause-resume : goal.returns-clause-resume
 returns-clause-resume c = says_alike
+
+pub returns-clause-together : goal.returns-clause-together
+returns-clause-together c = heard_together
+
+pub returns-clause-machine : goal.returns-clause-machine
+returns-clause-machine c p form reports taken = as_run p reports taken form
+
+pub returns-clause-kept : goal.returns-clause-kept
+returns-clause-kept c = leads_there

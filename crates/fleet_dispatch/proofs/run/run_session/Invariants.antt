@@ -1,5 +1,5 @@
 use Rattle.std.proofs.Common.{◌-◌, List}
-use Rattle.fleet_dispatch.specs.Report.{Words}
+use Rattle.fleet_dispatch.specs.Report.{Line}
 use Rattle.fleet_dispatch.specs.Session.{IsReady}
 use Rattle.fleet_dispatch.specs.declared.run.TheConstants.{MAX_REPORTS}
 use Rattle.fleet_dispatch.specs.Session.{course_in as course_of}
@@ -12,7 +12,7 @@ invariant-lines g l =
     record {
       ready : IsReady p l.pace l.session;
       works : g.F.Floor.works l.floor;
-      under_way : (reports : List Words) × IsUnderWay (course_of p l.pace l.initial.session) (g.F.Floor.talks l.initial.floor l.floor) l.session l.lines reports;
+      under_way : (lines : List Line) × IsUnderWay (course_of p l.pace l.initial.session) (g.F.Floor.talks l.initial.floor l.floor) l.session l.lines lines;
     }
 
 abbrev pub decreases-lines : goal.decreases-lines

@@ -1,54 +1,31 @@
-use Rattle.std.proofs.Common.{◌≡◌, ◌∙◌, sym, refl, arith, Bool, true, false, [], ◌∷◌, Ok}
-use Rattle.fleet_dispatch.specs.Report.{Words, is_repeat}
-use Rattle.fleet_dispatch.specs.Talk.{Talk, Heard, Hears}
-use Rattle.fleet_dispatch.proofs.Words.{repeat_changes_nothing}
-use Rattle.fleet_dispatch.proofs.Steps.{words_told}
+use Rattle.std.proofs.Common.{◌≡◌, ◌∙◌, sym, refl, true, false}
+use Rattle.fleet_dispatch.proofs.Outcomes.{Joins}
+use Rattle.fleet_dispatch.proofs.Taking.{heard_report, heard_question, report_taken, report_refused, answered, unanswered}
+use Rattle.fleet_dispatch.proofs.run.take_line.Given
 use Rattle.fleet_dispatch.proofs.run.take_line.Goals as goal
 
--- a report was heard
-heard : (talks : Talk → Type 0) (works : Type 0) (words : Words) (b : Bool) → b ≡ true → Hears talks works (Ok b) words → talks (Heard words ∷ []) × works
-heard talks works words true e h = h
-heard talks works words false e h = absurd cc
+-- one stretch of talk after another
+joins : (g : Given.Over) (a b d : g.row.F.Denot) → Joins (g.F.Floor.talks a b) (g.F.Floor.talks b d) (g.F.Floor.talks a d)
+joins g a b d = record { join = g.met.F.Floor.joined a b d }
 
-pub take-requires-clause-ordered : goal.take-requires-clause-ordered
-take-requires-clause-ordered g c =
-    let p = g.P.ProgramView.program c.args.program.now in
-    words_told p c.args.pace.ahead c.args.session.now.progress c.hear.new.report c.requires.told (c.in_default.ensures.first c.args.pace.ahead c.requires.told)
+pub returns-in-Err : goal.returns-in-Err
+returns-in-Err g c =
+    report_refused _ _ _ (joins g c.args.floor.now c.hear.new.self c.take_report.new.floor) (g.P.ProgramView.program c.args.program.now) c.args.pace (g.F.Floor.works c.take_report.new.floor) c.args.session.now c.take_report.new.session c.args.line
+    (Unit {0}) (Unit {0}) c.hear.new.report c.in-Err.fault (heard_report (g.F.Floor.talks c.args.floor.now c.hear.new.self) (g.F.Floor.works c.hear.new.self) c.hear.new.report c.in-Ok-Some-Report.field-0 (cc) c.in-Ok-Some-Report.ensures).0 c.in-Err.ensures
 
-pub returns-then-is_repeat : goal.returns-then-is_repeat
-returns-then-is_repeat g c =
-    let s = c.args.session.now in
-    let report = c.hear.new.report in
-    let repeat : is_repeat s.progress.done report ≡ true = sym c.is_repeat.ensures ∙ c.if-is_repeat.true in
-    let said = heard (g.F.Floor.talks c.args.floor.now c.hear.new.self) (g.F.Floor.works c.hear.new.self) report c.in-Ok-true.field-0 (cc) c.in-Ok-true.ensures in (
-      report,
-      record {
-        heard = said.0;
-        still = said.1;
-        rising = c.first_unordered.ensures.rising;
-        ordered = c.in_default.ensures.first c.args.pace.ahead c.requires.told;
-        ready = record { leads = c.requires.ready.leads; row = c.requires.ready.row };
-        done = sym (repeat_changes_nothing s.progress.done report repeat);
-        told = refl;
-        taken = rw repeat (omega arith);
-      },
-    )
+pub returns-in_default : goal.returns-in_default
+returns-in_default g c =
+    report_taken _ _ _ (joins g c.args.floor.now c.hear.new.self c.take_report.new.floor) (g.P.ProgramView.program c.args.program.now) c.args.pace (g.F.Floor.works c.take_report.new.floor) c.args.session.now c.take_report.new.session c.args.line
+    (Unit {0}) (Unit {0}) c.hear.new.report tt tt (heard_report (g.F.Floor.talks c.args.floor.now c.hear.new.self) (g.F.Floor.works c.hear.new.self) c.hear.new.report c.in-Ok-Some-Report.field-0 (cc) c.in-Ok-Some-Report.ensures).0 c.in_default.ensures
 
-pub returns : goal.returns
-returns g c =
-    let s = c.args.session.now in
-    let report = c.hear.new.report in
-    let new : is_repeat s.progress.done report ≡ false = sym c.is_repeat.ensures ∙ c.if-is_repeat.false in
-    let said = heard (g.F.Floor.talks c.args.floor.now c.hear.new.self) (g.F.Floor.works c.hear.new.self) report c.in-Ok-true.field-0 (cc) c.in-Ok-true.ensures in (
-      report,
-      record {
-        heard = said.0;
-        still = said.1;
-        rising = c.first_unordered.ensures.rising;
-        ordered = c.in_default.ensures.first c.args.pace.ahead c.requires.told;
-        ready = record { leads = c.take.ensures.leads c.args.pace.ahead c.requires.ready.leads; row = c.requires.ready.row };
-        done = c.take.ensures.done;
-        told = c.take.ensures.told;
-        taken = rw new refl;
-      },
-    )
+pub returns-then-is_err : goal.returns-then-is_err
+returns-then-is_err g c =
+    unanswered _ _ _ (joins g c.args.floor.now c.hear.new.self c.answer_question.new.floor) (g.P.ProgramView.program c.args.program.now) c.args.pace (g.F.Floor.works c.answer_question.new.floor) c.args.session.now c.answer_question.new.session c.args.line
+    c.answer_question.ensures.ready c.answer_question.ensures.done c.answer_question.ensures.taken
+    (heard_question (g.F.Floor.talks c.args.floor.now c.hear.new.self) (g.F.Floor.works c.hear.new.self) c.hear.new.report c.in-Ok-Some-Question.field-0 (cc) c.in-Ok-Some-Question.ensures).0 (Unit {0}) c.answer_question.result (sym c.is_err.ensures.value ∙ c.if-is_err.true) c.answer_question.ensures.said
+
+pub returns-else-is_err : goal.returns-else-is_err
+returns-else-is_err g c =
+    answered _ _ _ (joins g c.args.floor.now c.hear.new.self c.answer_question.new.floor) (g.P.ProgramView.program c.args.program.now) c.args.pace (g.F.Floor.works c.answer_question.new.floor) c.args.session.now c.answer_question.new.session c.args.line
+    c.answer_question.ensures.ready c.answer_question.ensures.done c.answer_question.ensures.taken
+    (heard_question (g.F.Floor.talks c.args.floor.now c.hear.new.self) (g.F.Floor.works c.hear.new.self) c.hear.new.report c.in-Ok-Some-Question.field-0 (cc) c.in-Ok-Some-Question.ensures).0 (Unit {0}) c.answer_question.result tt (sym c.is_err.ensures.value ∙ c.if-is_err.false) c.answer_question.ensures.said

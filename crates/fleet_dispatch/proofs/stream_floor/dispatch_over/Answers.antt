@@ -1,14 +1,13 @@
-use Rattle.std.proofs.Common.{◌≡◌, rules, subst}
-use Rattle.fleet_dispatch.specs.Talk.{Talk}
-use Rattle.fleet_dispatch.specs.Window.{window_rest}
-use Rattle.fleet_dispatch.specs.declared.form.ReportForm.{ReportForm}
+use Rattle.std.proofs.Common.{None, true, false}
+use Rattle.fleet_text.specs.Sink.{SinkState}
+use Rattle.fleet_dispatch.specs.Talk.{IsSaid}
 use Rattle.fleet_dispatch.proofs.Said.{after_more}
 use Rattle.fleet_dispatch.proofs.stream_floor.dispatch_over.Goals as goal
 
+-- what is known of a log that keeps nothing
+no_log : SinkState
+no_log = record { taken = None; has_failed = false; is_flushed = true }
+
 pub returns : goal.returns
-returns g c =
-    let f = c.new-floor.result in
-    let h = c.dispatch_accepted.new.floor in
-    let over : ReportForm → Talk → Type 0 = λ form talk. g.R.ReportsTo.talks form f.input.now (window_rest f.window) f.orders.now h.input.now (window_rest h.window) h.orders.now talk in
-    after_more (λ talk. over f.form talk × (h.form ≡ f.form) × (h.input.ghost_name ≡ f.input.ghost_name) × (h.orders.ghost_name ≡ f.orders.ghost_name)) _
-    (λ talk said. let here : over c.args.pace.form talk = subst (λ form. over form talk) c.new-floor.ensures.form said.0 in (window_rest h.window, search rules)) _ _ _ c.dispatch_accepted.ensures.outcome
+unfolding no_log
+returns g c = after_more _ (IsSaid g.R.ReportsTo.talks c.args.input.now c.args.orders.now c.dispatch_logged.new.input c.dispatch_logged.new.orders c.args.pace.form) (λ talk said. (no_log, no_log, said)) _ _ _ c.dispatch_logged.ensures.outcome

@@ -1,5 +1,6 @@
 use Rattle.std.proofs.Common.{◌≡◌, ◌+◌, ◌<◌, ◌≤◌, ◌∙◌, ℕ, true, length, get_or, take, Contains, sym, ap, subst, arith, le-leb, leb-true, rules}
 use Rattle.std.specs.List.{list_all}
+use Rattle.std.proofs.lemmas.Bool.{lt-leb}
 use Rattle.std.proofs.lemmas.List.{take_all}
 use Rattle.std.proofs.lemmas.List.Elements.{All-contains}
 use Rattle.std.proofs.lemmas.List.Folds.{list_all_more}
@@ -9,6 +10,7 @@ use Rattle.fleet_model.specs.declared.program.Await.{Await}
 use Rattle.fleet_model.specs.Program.{awaits_of}
 use Rattle.fleet_machine.proofs.Ready.{awaited_agent}
 use Rattle.fleet_dispatch.specs.Ahead.{is_done}
+use Rattle.fleet_dispatch.proofs.Found.{first_found, none_found}
 use Rattle.fleet_dispatch.proofs.progress.Progress.missing.Goals as goal
 
 pub done_of-requires : goal.done_of-requires
@@ -17,8 +19,8 @@ done_of-requires g c =
     let there = awaited_agent p c.args.i c.args.n c.loop-k.k c.await_at-awaited.result c.requires.well_formed c.await_at-awaited.ensures in
     omega (arith, there, c.requires.rows.done)
 
-pub returns-then-is_missing : goal.returns-then-is_missing
-returns-then-is_missing g c =
+pub returns-then-is_missing-clause-missing : goal.returns-then-is_missing-clause-missing
+returns-then-is_missing-clause-missing g c =
     let p = g.P.ProgramView.program c.args.program.now in
     let w = c.await_at-awaited.result in
     let ws = awaits_of p c.args.i c.args.n in
@@ -39,9 +41,21 @@ loop-k-preserved g c =
     let here : is_done c.args.self.now.done (get_or ws c.loop-k.k w) ≡ true = ap (is_done c.args.self.now.done) (get_or_from_slice_get ws c.loop-k.k w w at) ∙ met in
     rw (list_all_more (is_done c.args.self.now.done) ws c.loop-k.k w (slice_get_within ws c.loop-k.k w at), c.loop-k.invariant, here) (search rules)
 
-pub returns : goal.returns
-returns g c = λ w h.
+pub returns-clause-missing : goal.returns-clause-missing
+returns-clause-missing g c = λ w h.
     let p = g.P.ProgramView.program c.args.program.now in
     let ws = awaits_of p c.args.i c.args.n in
     let all : list_all (is_done c.args.self.now.done) ws ≡ true = ap (list_all (is_done c.args.self.now.done)) (sym (take_all c.loop-k.k ws (omega (arith, c.loop-k-test.false, c.await_count-k-end.ensures)))) ∙ c.loop-k.invariant in
     leb-true _ _ (All-contains (λ (v : Await). is_done c.args.self.now.done v ≡ true) ws w (AllPass-from_list_all (is_done c.args.self.now.done) ws all) h)
+
+pub returns-then-is_missing-clause-first : goal.returns-then-is_missing-clause-first
+returns-then-is_missing-clause-first g c =
+    let p = g.P.ProgramView.program c.args.program.now in
+    let ws = awaits_of p c.args.i c.args.n in
+    first_found (is_done c.args.self.now.done) ws c.loop-k.k c.await_at-awaited.result c.loop-k.invariant c.await_at-awaited.ensures (lt-leb _ _ (omega (arith, c.if-is_missing.true, c.done_of.ensures)))
+
+pub returns-clause-first : goal.returns-clause-first
+returns-clause-first g c =
+    let p = g.P.ProgramView.program c.args.program.now in
+    let ws = awaits_of p c.args.i c.args.n in
+    none_found (is_done c.args.self.now.done) ws (ap (list_all (is_done c.args.self.now.done)) (sym (take_all c.loop-k.k ws (omega (arith, c.loop-k-test.false, c.await_count-k-end.ensures)))) ∙ c.loop-k.invariant)

@@ -48,8 +48,8 @@ returns-in-Some-clause-leads g c =
     let now = told_waits p i n w.agent c.args.self.now c.actions.self new inv.told c.wait_for.ensures in
     let inside : i < length c.actions.self.waiting.homes = omega (arith, inv.rows.homes, c.requires.agent) in
     let home : home_of new.waiting.homes i ≡ Some w.agent = ap (λ (x : ProgressState). home_of x.waiting.homes i) c.wait_for.ensures ∙ get_or-set_same c.actions.self.waiting.homes i (Some w.agent) None inside in
-    let mem : Contains (awaits_of p i (n + 1)) w = subst (λ m. Contains (awaits_of p i (m + 1)) w) c.told_of-next.ensures c.in-Some.ensures.is_await in
-    let unmet : count_of new.done w.agent < w.count = omega (arith, c.in-Some.ensures.unmet, ap (λ (x : ProgressState). count_of x.done w.agent) c.wait_for.ensures) in
+    let mem : Contains (awaits_of p i (n + 1)) w = subst (λ m. Contains (awaits_of p i (m + 1)) w) c.told_of-next.ensures c.in-Some.ensures.missing.is_await in
+    let unmet : count_of new.done w.agent < w.count = omega (arith, c.in-Some.ensures.missing.unmet, ap (λ (x : ProgressState). count_of x.done w.agent) c.wait_for.ensures) in
     agent_told p c.args.pace.ahead i n c.args.self.now new c.requires.leads c.requires.agent now inv.may (lacks_now p c.args.pace.ahead i w.agent n new w now.told_here mem refl unmet home)
 
 pub returns-clause-leads : goal.returns-clause-leads
@@ -81,7 +81,7 @@ actions-preserved g c =
     let rises : count_of s.told i ≤ n = inv.rises in
     let less : n < min (moves p i) (count_of s.done i + k) =
     omega (arith, c.actions-test.true, c.told_of.ensures, c.last_told-last.ensures, ap (λ (x : ProgressState). count_of x.done i) c.set_due.ensures) in
-    let free : AreDone p s.done i (n + 1) = subst (λ (x : Counts). AreDone p x i (n + 1)) inv.told.done (subst (λ m. AreDone p c.actions.self.done i (m + 1)) c.told_of-next.ensures c.in_default.ensures) in
+    let free : AreDone p s.done i (n + 1) = subst (λ (x : Counts). AreDone p x i (n + 1)) inv.told.done (subst (λ m. AreDone p c.actions.self.done i (m + 1)) c.told_of-next.ensures c.in_default.ensures.missing) in
     let rows = inv.rows in
     record {
       told = subst (IsAgentTold p s new i) (sym here) now;

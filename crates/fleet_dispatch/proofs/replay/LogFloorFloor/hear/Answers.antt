@@ -1,10 +1,10 @@
 use Rattle.std.proofs.Common.{◌≡◌, ◌+◌, ◌∙◌, take, drop, refl, ap, sym}
 use Rattle.std.specs.Str.Lines.{strip_carriage_return}
-use Rattle.fleet_dispatch.specs.ReportText.{report_of}
+use Rattle.fleet_dispatch.specs.ReportText.{line_of}
 use Rattle.fleet_dispatch.proofs.replay.LogFloorFloor.hear.Goals as goal
 
-pub returns-then-not-is_report : goal.returns-then-not-is_report
-returns-then-not-is_report c =
+pub returns-in_default-read_line : goal.returns-in_default-read_line
+returns-in_default-read_line c =
     let text = c.args.self.now.rest.now in
     let end = c.in-Some.end in
     let line = strip_carriage_return (take end text) in (
@@ -14,7 +14,7 @@ returns-then-not-is_report c =
           line,
           drop (end + 1) text,
           record { end = end; ends = sym c.end_in.ensures ∙ c.in-Some.is; line_is = refl; rest_is = refl },
-          ap (report_of c.args.self.now.form) (sym c.without_cr-line.ensures) ∙ c.if-not-is_report.ensures,
+          ap (line_of c.args.self.now.form) (sym c.without_cr-line.ensures) ∙ c.in_default-read_line.ensures,
         ),
         refl,
       ),

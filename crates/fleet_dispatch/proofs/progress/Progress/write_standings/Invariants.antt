@@ -1,0 +1,13 @@
+use Rattle.std.proofs.Common.{◌≡◌, ◌*◌, ◌≤◌, length, take}
+use Rattle.std.specs.List.{flat_map, range_with_len}
+use Rattle.fleet_dispatch.specs.Standings.{left_line}
+use Rattle.fleet_dispatch.proofs.progress.Progress.write_standings.Given as goal
+
+abbrev pub invariant-loop-i : goal.invariant-loop-i
+invariant-loop-i g l =
+    let p = g.P.ProgramView.program l.program in
+    record {
+      at : l.at ≤ 96 * l.i;
+      row : length l.row ≡ length l.fn.row;
+      written : take l.at l.row ≡ flat_map (left_line p l.self.done) (range_with_len 0 l.i);
+    }

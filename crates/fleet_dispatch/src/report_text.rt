@@ -94,7 +94,7 @@ fn add_words(form: ReportForm, line: &[u8], report: &mut Report) -> bool
 
 /// Makes the report the one that the line stands for. Answers whether the line stands for one; if it does not, the
 /// report may be any.
-fn read_report(form: ReportForm, line: &[u8], report: &mut Report) -> bool
+pub fn read_report(form: ReportForm, line: &[u8], report: &mut Report) -> bool
     ensures { MatchBool result
         (report_of form line.now ≡ Some report.new) (report_of form line.now ≡ None) }
 {

@@ -42,31 +42,8 @@ fn report_no_words<E: TraceOut>(error: &io::Error, err: &mut E) -> u8
     2
 }
 
-/// Does what the words of the command line ask, or writes why there are none. Answers the status.
-fn run_args<R: ReportsTo<O>, F: Files, O: Flush, E: TraceOut>(
-    alloc: Global,
-    args: io::Result<Args>,
-    input: &mut R,
-    files: &mut F,
-    out: &mut O,
-    err: &mut E,
-) -> u8
-    requires out_working { IsWorking (O.state out.old) }
-    requires err_working { IsWorking (E.state err.old) }
-    ensures { RunsProgram args (R.remaining input.old) (F.contents files.old) (F.contents files.new)
-        (input.new ≡ input.old) (out.new ≡ out.old)
-        (IsSaid R.talks input.old out.old input.new out.new)
-        (O.state out.old) (O.state out.new)
-        (E.state err.old) (E.state err.new)
-        result }
-{
-    match words_of(alloc, args) {
-        Ok(words) => run_command(alloc, words.as_slice(), input, files, out, err),
-        Err(error) => report_no_words(&error, err),
-    }
-}
-
-/// The same, with the status as the process ends with it.
+/// Does what the words of the command line ask, or writes why there are none. Answers the status with which the process
+/// ends.
 fn run_program<R: ReportsTo<O>, F: Files, O: Flush, E: TraceOut>(
     alloc: Global,
     args: io::Result<Args>,
@@ -84,7 +61,10 @@ fn run_program<R: ReportsTo<O>, F: Files, O: Flush, E: TraceOut>(
         (E.state err.old) (E.state err.new)
         (exit_status result) }
 {
-    ExitCode::from(run_args(alloc, args, input, files, out, err))
+    match words_of(alloc, args) {
+        Ok(words) => ExitCode::from(run_command(alloc, words.as_slice(), input, files, out, err)),
+        Err(error) => ExitCode::from(report_no_words(&error, err)),
+    }
 }
 
 fn main(rt: HostRuntime) -> ExitCode {

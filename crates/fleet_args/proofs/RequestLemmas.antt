@@ -18,8 +18,9 @@ use Rattle.clap.specs.declared.error.ErrorKind.TheVariants as kind
 use Rattle.clap.specs.declared.parser.matches.Found.{Found}
 use Rattle.clap.proofs.WalkLemmas.{both, first_value-rows, one_text-rows}
 use Rattle.fleet_args.specs.Values.{number_in, number_by, values_found, values_of}
-use Rattle.fleet_args.specs.Request.{AsksCommand, has_values, AsksBy, is_answered_by, is_help, IsStopOf, StopsFor}
-use Rattle.fleet_args.specs.declared.request.Request.{Request}
+use Rattle.fleet_args.specs.Commands.{AsksCommand, has_values}
+use Rattle.fleet_args.specs.Request.{AsksBy, is_answered_by, is_help, IsStopOf, StopsFor}
+use Rattle.fleet_args.specs.declared.commands.Request.{Request}
 use Rattle.fleet_args.specs.declared.request.WordStop.{WordStop}
 use Rattle.fleet_args.specs.declared.request.WordStop.TheVariants as stop
 

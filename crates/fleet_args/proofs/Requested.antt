@@ -22,11 +22,11 @@ use Rattle.clap.proofs.WalkLemmas.{both}
 use Rattle.fleet_args.specs.declared.arguments.OptionNames.{OptionNames}
 use Rattle.fleet_args.specs.declared.arguments.Argument.{Argument}
 use Rattle.fleet_args.specs.declared.arguments.Argument.TheVariants as a
-use Rattle.fleet_args.specs.declared.tries.Best.TheVariants as best_is
+use Rattle.fleet_args.specs.declared.commands.Best.TheVariants as best_is
 use Rattle.fleet_model.specs.declared.limits.TheConstants.{MAX_MOVES, MAX_TRIES}
 use Rattle.fleet_model.specs.declared.deps.Deps.TheVariants as deps
 use Rattle.fleet_args.specs.Arguments.{AreNames, agents_rule, horizon_rule, tries_rule, best_rule, deps_rule, dwell_rule, ahead_rule, rule_for, word}
-use Rattle.fleet_args.specs.CommandLine.{commands, fleet, fleet_top, shape_in}
+use Rattle.fleet_args.specs.Commands.{commands, fleet, fleet_top, shape_in}
 use Rattle.fleet_args.specs.Values.{Values, values_of, best_by, deps_in, number_by, number_in, has_text, reads_number, has_number, has_count, has_kind, reads_best, has_value}
 use Rattle.fleet_args.specs.Request.{is_answered_by}
 use Rattle.fleet_args.proofs.RequestLemmas.{digits_from, is_small, is_small_number}

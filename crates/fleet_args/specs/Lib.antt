@@ -1,5 +1,4 @@
 pub mod Arguments
 pub mod Values
-pub mod Requests
-pub mod CommandLine
+pub mod Commands
 pub mod Request

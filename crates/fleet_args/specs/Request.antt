@@ -1,37 +1,14 @@
 -- The request that the words make, by the matches that `clap` defines for them.
-use Rattle.std.specs.Prelude.{◌≡◌, ◌≢◌, Bool, true, false, not, List, [], Option, Some, None, Result, MatchResult, codes, ⊤}
-use Rattle.std.specs.List.{find, list_all, list_any}
-use Rattle.std.specs.Option.{option_map_or}
-use Rattle.std.specs.Str.{bytes_eq}
+use Rattle.std.specs.Prelude.{◌≡◌, ◌≢◌, Bool, true, false, not, List, [], Option, Some, None, Result, MatchResult, ⊤}
+use Rattle.std.specs.List.{list_any}
 use Rattle.clap.specs.Words.{App, Row, Text, subcommand_of, takes, fault_of}
 use Rattle.clap.specs.declared.error.ErrorKind.{ErrorKind}
 use Rattle.clap.specs.declared.error.ErrorKind.TheVariants as kind
-use Rattle.fleet_args.specs.CommandLine.{OptionNames, AreNames, commands, fleet}
-use Rattle.fleet_args.specs.Values.{Values, values_of, has_value}
-use Rattle.fleet_args.specs.Requests.{AsksInstance, AsksCheck, AsksPlan, AsksCompile, AsksVerify, AsksRun, AsksRehearse, AsksAuto, AsksThin, AsksMigrate, AsksList, AsksDispatch}
-use Rattle.fleet_args.specs.declared.request.Request.{Request}
-use Rattle.fleet_args.specs.declared.request.Request.TheVariants as r
+use Rattle.fleet_args.specs.Commands.{OptionNames, AreNames, AsksCommand, fleet, has_values}
+use Rattle.fleet_args.specs.Values.{values_of}
+use Rattle.fleet_args.specs.declared.commands.Request.{Request}
 use Rattle.fleet_args.specs.declared.request.WordStop.{WordStop}
 use Rattle.fleet_args.specs.declared.request.WordStop.TheVariants as stop
-
--- the command of this name, with these values of its arguments, asks this
-abbrev pub AsksCommand : Text → Values → Request → Type 0
-AsksCommand name values (r.Instance request) = (name ≡ codes "instance") × AsksInstance values request
-AsksCommand name values (r.Check request) = (name ≡ codes "check") × AsksCheck values request
-AsksCommand name values (r.Plan request) = (name ≡ codes "plan") × AsksPlan values request
-AsksCommand name values (r.Compile request) = (name ≡ codes "compile") × AsksCompile values request
-AsksCommand name values (r.Verify request) = (name ≡ codes "verify") × AsksVerify values request
-AsksCommand name values (r.Run request) = (name ≡ codes "run") × AsksRun values request
-AsksCommand name values (r.Rehearse request) = (name ≡ codes "rehearse") × AsksRehearse values request
-AsksCommand name values (r.Auto request) = (name ≡ codes "auto") × AsksAuto values request
-AsksCommand name values (r.Thin request) = (name ≡ codes "thin") × AsksThin values request
-AsksCommand name values (r.Migrate request) = (name ≡ codes "migrate") × AsksMigrate values request
-AsksCommand name values (r.List request) = (name ≡ codes "list") × AsksList values request
-AsksCommand name values (r.Dispatch request) = (name ≡ codes "dispatch") × AsksDispatch values request
-
--- this is the name of a command, and the arguments that it cannot do without have values
-abbrev pub has_values : Text → Values → Bool
-has_values name values = option_map_or (λ c. list_all (has_value values) c.1) (find (λ c. bytes_eq name c.0) commands) false
 
 -- the command that was found, with its rows, asks this
 abbrev pub AsksBy : Option (Text × List Row) → Request → Type 0

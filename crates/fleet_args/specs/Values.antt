@@ -10,8 +10,8 @@ use Rattle.clap.specs.declared.parser.ArgMatches.{ArgMatches}
 use Rattle.clap.specs.declared.parser.matches.Found.{Found}
 use Rattle.fleet_args.specs.declared.arguments.Argument.{Argument}
 use Rattle.fleet_args.specs.declared.arguments.Argument.TheVariants as a
-use Rattle.fleet_args.specs.declared.tries.Best.{Best}
-use Rattle.fleet_args.specs.declared.tries.Best.TheVariants as best
+use Rattle.fleet_args.specs.declared.commands.Best.{Best}
+use Rattle.fleet_args.specs.declared.commands.Best.TheVariants as best
 use Rattle.fleet_model.specs.declared.deps.Deps.{Deps}
 use Rattle.fleet_model.specs.declared.deps.Deps.TheVariants as deps
 

@@ -6,7 +6,7 @@ ghost use Rattle.fleet_args.specs.Arguments.{IsArg, IsLeafCommand, IsApp, IsLoca
 ghost use Rattle.fleet_args.specs.declared.arguments.OptionNames.{OptionNames};
 ghost use Rattle.fleet_args.specs.Values.{IsBestIfUsed, IsCount, IsFlag, IsKind, IsNumber, IsNumberIfUsed, IsText, best_in, deps_in, has_count, has_kind, has_number, has_text, number_by, reads_best, reads_number, values_in};
 
-use crate::tries::Best;
+use crate::commands::Best;
 use clap::builder::ValueParser;
 use clap::{Arg, ArgAction, ArgMatches, Command};
 use fleet_model::{Deps, MAX_MOVES, MAX_TRIES};

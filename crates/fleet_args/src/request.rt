@@ -1,49 +1,17 @@
-//! Requests, and the command line that asks them.
+//! The command line, and the request that its words make.
 
 ghost use Rattle.std.specs.Prelude.{◌≡◌, map, string_bytes, true, IfOk, codes};
 ghost use Rattle.clap.specs.Words.{subcommand_rows_of, kind_of, app_of, new_app, with_subcommand};
-ghost use Rattle.fleet_args.specs.CommandLine.{AreNames, fleet, fleet_top, with_shapes};
-ghost use Rattle.fleet_args.specs.Values.{values_in};
-ghost use Rattle.fleet_args.specs.Request.{AsksCommand, has_values, AsksBy, is_answered_by, IsStopOf, Reads, ReadsFleet};
+ghost use Rattle.fleet_args.specs.Commands.{AreNames, fleet, fleet_top, with_shapes};
+ghost use Rattle.fleet_args.specs.Request.{AsksBy, is_answered_by, IsStopOf, Reads, ReadsFleet};
 ghost use Rattle.fleet_args.specs.Arguments.{shape_for};
 
 use crate::arguments::{CommandText, OptionNames, command_of};
-use crate::auto::{AutoRequest, auto_in};
-use crate::check::{CheckRequest, check_in};
-use crate::compile::{CompileRequest, compile_in};
-use crate::dispatch::{DispatchRequest, dispatch_in};
-use crate::instance::{InstanceRequest, instance_in};
-use crate::list::{ListRequest, list_in};
-use crate::migrate::{MigrateRequest, migrate_in};
-use crate::plan::{PlanRequest, plan_in};
-use crate::rehearse::{RehearseRequest, rehearse_in};
-use crate::run::{RunRequest, run_in};
-use crate::thin::{ThinRequest, thin_in};
-use crate::verify::{VerifyRequest, verify_in};
-use crate::{
-    auto, check, compile, dispatch, instance, list, migrate, plan, rehearse, run, thin, verify,
-};
+use crate::commands::{COMMANDS, Request, request_by};
 use clap::error::ErrorKind;
 use clap::{ArgMatches, Command};
 use std::alloc::{AllocError, Global};
 use thiserror::Error;
-
-/// A command with its words and options.
-#[derive(Clone, Copy)]
-pub enum Request<'a> {
-    Instance(InstanceRequest<'a>),
-    Check(CheckRequest<'a>),
-    Plan(PlanRequest<'a>),
-    Compile(CompileRequest<'a>),
-    Verify(VerifyRequest<'a>),
-    Run(RunRequest<'a>),
-    Rehearse(RehearseRequest<'a>),
-    Auto(AutoRequest<'a>),
-    Thin(ThinRequest<'a>),
-    Migrate(MigrateRequest<'a>),
-    List(ListRequest<'a>),
-    Dispatch(DispatchRequest<'a>),
-}
 
 /// Why the words are no request. The texts are `clap`'s, of whole lines: the error and how to get help, or the help.
 #[derive(Debug, Drop, Error)]
@@ -54,28 +22,6 @@ pub enum WordStop {
     Usage(String),
     #[error("{0}")]
     Help(String),
-}
-
-/// The request of the command of this name, by its matches.
-fn request_by<'a>(name: &str, matches: &ArgMatches<'a>) -> Request<'a>
-    requires { has_values name.now (values_in matches.now) ≡ true }
-    ensures { AsksCommand name.now (values_in matches.now) result }
-{
-    match name {
-        "instance" => Request::Instance(instance_in(matches)),
-        "check" => Request::Check(check_in(matches)),
-        "plan" => Request::Plan(plan_in(matches)),
-        "compile" => Request::Compile(compile_in(matches)),
-        "verify" => Request::Verify(verify_in(matches)),
-        "run" => Request::Run(run_in(matches)),
-        "rehearse" => Request::Rehearse(rehearse_in(matches)),
-        "auto" => Request::Auto(auto_in(matches)),
-        "thin" => Request::Thin(thin_in(matches)),
-        "migrate" => Request::Migrate(migrate_in(matches)),
-        "list" => Request::List(list_in(matches)),
-        "dispatch" => Request::Dispatch(dispatch_in(matches)),
-        _ => unreachable!(),
-    }
 }
 
 /// The request that the matches of the command line give.
@@ -194,22 +140,6 @@ fn with_commands<'a>(
         }
     }
 }
-
-/// The commands, in the order of help.
-static COMMANDS: [CommandText; 12] = [
-    instance::COMMAND,
-    check::COMMAND,
-    plan::COMMAND,
-    compile::COMMAND,
-    verify::COMMAND,
-    run::COMMAND,
-    rehearse::COMMAND,
-    auto::COMMAND,
-    thin::COMMAND,
-    migrate::COMMAND,
-    list::COMMAND,
-    dispatch::COMMAND,
-];
 
 /// The whole command line, with these names.
 pub(crate) fn fleet_command<'a>(

@@ -1,14 +1,5 @@
 pub mod FileLemmas
-pub mod AutoLemmas
-pub mod FlushLemmas
-pub mod NamedLemmas
-pub mod TracedLemmas
-pub mod HexRuns
-pub mod RehearsesLemmas
-pub mod InstanceLemmas
-pub mod MadeRuns
-pub mod CountLemmas
+pub mod RunLemmas
+pub mod PrintLemmas
 pub mod OutputLemmas
-pub mod VerifyLemmas
-mod DispatchLemmas
 pub mod CommandLemmas

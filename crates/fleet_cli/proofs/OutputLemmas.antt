@@ -1,12 +1,41 @@
--- The answers of a file OUT that was to be written, and of what was to be printed.
-use Rattle.std.proofs.Common.{◌≡◌, ℕ, List, Option, Result, Ok, Err, MatchResult, inr}
-use Rattle.std.specs.Prelude.{codes}
+-- The lines of counts, and the answers of what was to be printed or written.
+use Rattle.std.proofs.Common.{◌≡◌, ◌∙◌, ℕ, ◌+◌, ◌<◌, List, [], ◌∷◌, ◌++◌, length, take, drop, get_or, ap, refl, sym, subst, append_assoc, append-nil, Option, Result, Ok, Err, MatchResult, inr}
+use Rattle.std.proofs.lemmas.List.{take_more, map-append, take-append-drop}
 use Rattle.std.specs.Borrow.{Bor}
+use Rattle.fleet_text.specs.Sink.{SinkState, Takes, StopsWithin}
+use Rattle.fleet_text.proofs.SinkLemmas.{takes_more, stops_after, stops_within_more}
+use Rattle.fleet_text.specs.Words.{count_line}
+use Rattle.fleet_cli.specs.Output.{with_labels, count_lines, WritesOut, IsOutRefusal, AnswersOut}
 use Rattle.fleet_cli.specs.Files.{Store}
-use Rattle.fleet_text.specs.Sink.{SinkState, Delivers, IsDelivered, FailsAfter}
 use Rattle.fleet_cli.specs.declared.fault.Fault.{Fault}
-use Rattle.fleet_cli.specs.declared.fault.Fault.TheVariants as f
-use Rattle.fleet_cli.specs.Printed.{IsPrinted, WritesOut, IsOutRefusal, AnswersOut}
+
+count_lines-append : (xs ys : List (List ℕ × ℕ)) → count_lines (xs ++ ys) ≡ count_lines xs ++ count_lines ys
+count_lines-append [] ys = refl
+count_lines-append (x ∷ xs) ys = rw (count_lines-append xs ys) (sym (append_assoc (count_line x.0 x.1) (count_lines xs) (count_lines ys)))
+
+module _ (counts : List (Bor (List ℕ) × ℕ)) (i : ℕ) (d : Bor (List ℕ) × ℕ) (below : i < length counts) where
+  one_more : count_lines (with_labels (take (i + 1) counts))
+      ≡ count_lines (with_labels (take i counts)) ++ count_line (get_or counts i d).0.now (get_or counts i d).1
+  one_more =
+      ap (λ cs. count_lines (with_labels cs)) (take_more counts i d below)
+      ∙ ap count_lines (map-append (λ c. (c.0.now, c.1)) (take i counts) (get_or counts i d ∷ []))
+      ∙ count_lines-append (with_labels (take i counts)) (with_labels (get_or counts i d ∷ []))
+      ∙ ap (λ t. count_lines (with_labels (take i counts)) ++ t) (append-nil (count_line (get_or counts i d).0.now (get_or counts i d).1))
+
+  all : count_lines (with_labels (take (i + 1) counts)) ++ count_lines (with_labels (drop (i + 1) counts)) ≡ count_lines (with_labels counts)
+  all =
+      sym (count_lines-append (with_labels (take (i + 1) counts)) (with_labels (drop (i + 1) counts)))
+      ∙ ap count_lines (sym (map-append (λ c. (c.0.now, c.1)) (take (i + 1) counts) (drop (i + 1) counts)))
+      ∙ ap (λ cs. count_lines (with_labels cs)) (take-append-drop (i + 1) counts)
+
+  module _ (a b c : SinkState) (so_far : Takes a b (count_lines (with_labels (take i counts)))) where
+    pub one_count_more : Takes b c (count_line (get_or counts i d).0.now (get_or counts i d).1) → Takes a c (count_lines (with_labels (take (i + 1) counts)))
+    one_count_more h = subst (Takes a c) (sym one_more) (takes_more a b c _ _ so_far h)
+
+    pub stops_in_count : StopsWithin b c (count_line (get_or counts i d).0.now (get_or counts i d).1) → StopsWithin a c (count_lines (with_labels counts))
+    stops_in_count h =
+        let here : StopsWithin a c (count_lines (with_labels (take (i + 1) counts))) = subst (StopsWithin a c) (sym one_more) (stops_after a b c _ _ so_far h) in
+        subst (StopsWithin a c) all (stops_within_more a c _ (count_lines (with_labels (drop (i + 1) counts))) here)
 
 -- a value was made, and this is the answer of writing its bytes and printing its text
 pub made_out : {A : Type 0} (files after : Option Store) (name : List ℕ) (Makes : A → Type 0) (Refuses : Fault → Type 0) (bytes text : A → List ℕ) (out out' : SinkState) (made : A) (r : Result ℕ Fault)
@@ -14,24 +43,3 @@ pub made_out : {A : Type 0} (files after : Option Store) (name : List ℕ) (Make
     → AnswersOut files after name Makes Refuses bytes text out out' r
 made_out files after name Makes Refuses bytes text out out' made (Ok status) m h = (made, m, h.0, h.1)
 made_out files after name Makes Refuses bytes text out out' made (Err fault) m h = inr (made, m, h)
-
--- what a command answers that was to print this text
-pub printed_as : {T E : Type 0} (P : ℕ → Type 0) (Q : Fault → Type 0) (done : Result T E) (r : Result ℕ Fault) (out out' : SinkState) (text : List ℕ)
-    → IsPrinted done r → Delivers out out' done text → (IsDelivered out out' text → P 0)
-    → ((name : Bor (List ℕ)) → name.now ≡ codes "-" → FailsAfter out out' text → Q (f.File name)) → MatchResult r P Q
-printed_as P Q (Ok x) (Ok status) out out' text answer delivered ok err = rw answer (ok delivered)
-printed_as P Q (Ok x) (Err fault) out out' text answer delivered ok err = absurd answer
-printed_as P Q (Err e) (Ok status) out out' text answer delivered ok err = absurd answer
-printed_as P Q (Err e) (Err (f.File name)) out out' text answer delivered ok err = err name answer delivered
-printed_as P Q (Err e) (Err f.Memory) out out' text answer delivered ok err = absurd answer
-printed_as P Q (Err e) (Err (f.Map x)) out out' text answer delivered ok err = absurd answer
-printed_as P Q (Err e) (Err (f.Scen x)) out out' text answer delivered ok err = absurd answer
-printed_as P Q (Err e) (Err (f.Text x)) out out' text answer delivered ok err = absurd answer
-printed_as P Q (Err e) (Err (f.Check x)) out out' text answer delivered ok err = absurd answer
-printed_as P Q (Err e) (Err (f.Search x)) out out' text answer delivered ok err = absurd answer
-printed_as P Q (Err e) (Err (f.Hex x)) out out' text answer delivered ok err = absurd answer
-printed_as P Q (Err e) (Err (f.Load x)) out out' text answer delivered ok err = absurd answer
-printed_as P Q (Err e) (Err (f.Compile x)) out out' text answer delivered ok err = absurd answer
-printed_as P Q (Err e) (Err (f.Verify x)) out out' text answer delivered ok err = absurd answer
-printed_as P Q (Err e) (Err (f.Run x)) out out' text answer delivered ok err = absurd answer
-printed_as P Q (Err e) (Err (f.Dispatch x)) out out' text answer delivered ok err = absurd answer

@@ -3,8 +3,8 @@ use Rattle.std.specs.Prelude.{◌≡◌, ℕ, List, [], ◌∷◌, ◌⊎◌, Op
 use Rattle.std.specs.Borrow.{Bor}
 use Rattle.clap.specs.Words.{Text}
 use Rattle.fleet_args.specs.Request.{ReadsFleet}
-use Rattle.fleet_args.specs.declared.request.Request.{Request}
-use Rattle.fleet_args.specs.declared.request.Request.TheVariants as r
+use Rattle.fleet_args.specs.declared.commands.Request.{Request}
+use Rattle.fleet_args.specs.declared.commands.Request.TheVariants as r
 use Rattle.fleet_args.specs.declared.request.WordStop.{WordStop}
 use Rattle.fleet_args.specs.declared.request.WordStop.TheVariants as w
 use Rattle.fleet_cli.specs.Files.{Store, AreUnchanged}
@@ -14,18 +14,9 @@ use Rattle.fleet_cli.specs.Output.{IsRefusalWritten, Finishes}
 use Rattle.fleet_cli.specs.Named.{given_names, IsUnread, AreTexts}
 use Rattle.fleet_cli.specs.declared.named.FileNames.{FileNames}
 use Rattle.fleet_cli.specs.declared.named.FileTexts.{FileTexts}
-use Rattle.fleet_cli.specs.HexRun.{RunsHex}
-use Rattle.fleet_cli.specs.RehearseCommand.{AnswersRehearse}
-use Rattle.fleet_cli.specs.InstanceCommand.{AnswersInstance}
-use Rattle.fleet_cli.specs.CheckCommand.{AnswersCheck}
-use Rattle.fleet_cli.specs.PlanCommand.{AnswersPlan}
-use Rattle.fleet_cli.specs.CompileCommand.{AnswersCompile}
-use Rattle.fleet_cli.specs.VerifyCommand.{AnswersVerify}
-use Rattle.fleet_cli.specs.DriveCommand.{AnswersRun}
-use Rattle.fleet_cli.specs.AutoCommand.{AnswersAuto}
-use Rattle.fleet_cli.specs.ThinCommand.{AnswersThin}
-use Rattle.fleet_cli.specs.MigrateCommand.{AnswersMigrate}
-use Rattle.fleet_cli.specs.ListCommand.{AnswersList}
+use Rattle.fleet_cli.specs.RunCommands.{RunsHex, AnswersRehearse, AnswersRun, AnswersAuto}
+use Rattle.fleet_cli.specs.PrintCommands.{AnswersInstance, AnswersCheck, AnswersPlan, AnswersVerify, AnswersList}
+use Rattle.fleet_cli.specs.WriteCommands.{AnswersCompile, AnswersThin, AnswersMigrate}
 use Rattle.fleet_cli.specs.DispatchCommand.{AnswersDispatch}
 use Rattle.fleet_dispatch.specs.Talk.{Talk}
 use Rattle.fleet_dispatch.specs.declared.form.ReportForm.{ReportForm}

@@ -1,4 +1,8 @@
--- The faults of the steps as faults of the whole: want of memory in any step is one and the same.
+-- Refusals of the program: those of the steps within, and the line and the status of each.
+use Rattle.fleet_cli.specs.declared.input.FileFault.{FileFault}
+use Rattle.fleet_cli.specs.declared.input.FileFault.TheVariants as k
+use Rattle.fleet_cli.specs.declared.input.InputStop.{InputStop}
+use Rattle.fleet_cli.specs.declared.input.InputStop.TheVariants as i
 use Rattle.fleet_grid.specs.declared.fault.MapFault.{MapFault}
 use Rattle.fleet_grid.specs.declared.fault.MapFault.TheVariants as m
 use Rattle.fleet_scen.specs.declared.fault.ScenFault.{ScenFault}
@@ -9,39 +13,94 @@ use Rattle.fleet_adg.specs.declared.fault.CompileFault.{CompileFault}
 use Rattle.fleet_adg.specs.declared.fault.CompileFault.TheVariants as c
 use Rattle.fleet_run.specs.declared.run.RunFault.{RunFault}
 use Rattle.fleet_run.specs.declared.run.RunFault.TheVariants as r
-use Rattle.fleet_code.specs.declared.fault.LoadFault.{LoadFault}
-use Rattle.fleet_code.specs.declared.fault.LoadFault.TheVariants as l
-use Rattle.fleet_verify.specs.declared.fault.VerifyFault.{VerifyFault}
-use Rattle.fleet_verify.specs.declared.fault.VerifyFault.TheVariants as v
-use Rattle.fleet_cli.specs.declared.auto_fault.AcceptFault.{AcceptFault}
-use Rattle.fleet_cli.specs.declared.auto_fault.AcceptFault.TheVariants as a
-use Rattle.fleet_cli.specs.declared.auto_fault.AutoFault.{AutoFault}
-use Rattle.fleet_cli.specs.declared.auto_fault.AutoFault.TheVariants.{OutOfMemory, Map, Scen, Plan, Compile, Run}
+use Rattle.fleet_cli.specs.declared.fault.AutoFault.{AutoFault}
+use Rattle.fleet_cli.specs.declared.fault.AutoFault.TheVariants as a
+use Rattle.std.specs.Prelude.{ℕ, Bool, true, List, [], ◌∷◌, if◌then◌else◌, codes}
+use Rattle.fleet_text.specs.Words.{line_text}
+use Rattle.fleet_text.specs.Refusals.{memory_words}
+use Rattle.fleet_grid.specs.RefusalWords.{map_words, is_map_failure}
+use Rattle.fleet_scen.specs.RefusalWords.{scen_words, is_scen_failure}
+use Rattle.fleet_plan.specs.RefusalWords.{text_words, is_text_failure, check_words, is_check_failure}
+use Rattle.fleet_search.specs.RefusalWords.{search_words, is_search_failure}
+use Rattle.fleet_code.specs.RefusalWords.{hex_words, is_hex_failure, load_words, is_load_failure}
+use Rattle.fleet_adg.specs.RefusalWords.{compile_words, is_compile_failure}
+use Rattle.fleet_verify.specs.RefusalWords.{verify_words, is_verify_failure}
+use Rattle.fleet_run.specs.RefusalWords.{run_words, is_run_failure}
+use Rattle.fleet_dispatch.specs.RefusalWords.{dispatch_words, is_dispatch_failure}
+use Rattle.fleet_cli.specs.declared.fault.Fault.{Fault}
+use Rattle.fleet_cli.specs.declared.fault.Fault.TheVariants as f
+
+-- an input that cannot be read, or is too long, has failed
+abbrev pub input_fault : InputStop → FileFault
+input_fault i.OutOfMemory = k.OutOfMemory
+input_fault i.Unreadable = k.Failed
+input_fault i.TooLong = k.Failed
 
 abbrev pub map_fault : MapFault → AutoFault
-map_fault m.OutOfMemory = OutOfMemory
-map_fault fault = Map fault
+map_fault m.OutOfMemory = a.OutOfMemory
+map_fault fault = a.Map fault
 
 abbrev pub scen_fault : ScenFault → AutoFault
-scen_fault s.OutOfMemory = OutOfMemory
-scen_fault fault = Scen fault
+scen_fault s.OutOfMemory = a.OutOfMemory
+scen_fault fault = a.Scen fault
 
 abbrev pub plan_fault : PlanStop → AutoFault
-plan_fault p.OutOfMemory = OutOfMemory
-plan_fault stop = Plan stop
+plan_fault p.OutOfMemory = a.OutOfMemory
+plan_fault stop = a.Plan stop
 
 abbrev pub compile_fault : CompileFault → AutoFault
-compile_fault c.OutOfMemory = OutOfMemory
-compile_fault fault = Compile fault
+compile_fault c.OutOfMemory = a.OutOfMemory
+compile_fault fault = a.Compile fault
 
 abbrev pub run_fault : RunFault → AutoFault
-run_fault r.OutOfMemory = OutOfMemory
-run_fault fault = Run fault
+run_fault r.OutOfMemory = a.OutOfMemory
+run_fault fault = a.Run fault
 
-abbrev pub load_fault : LoadFault → AcceptFault
-load_fault l.OutOfMemory = a.OutOfMemory
-load_fault fault = a.Load fault
+-- the words of the line of a refusal
+abbrev pub words_of : Fault → List (List ℕ)
+words_of (f.Map fault) = map_words fault
+words_of (f.Scen fault) = scen_words fault
+words_of (f.Text fault) = text_words fault
+words_of (f.Check fault) = check_words fault
+words_of (f.Search stop) = search_words stop
+words_of (f.Hex fault) = hex_words fault
+words_of (f.Load fault) = load_words fault
+words_of (f.Compile fault) = compile_words fault
+words_of (f.Verify fault) = verify_words fault
+words_of (f.Run fault) = run_words fault
+words_of (f.Dispatch fault) = dispatch_words fault
+words_of f.Memory = memory_words
+words_of (f.File name) = codes "file" ∷ name.now ∷ []
 
-abbrev pub verify_fault : VerifyFault → AcceptFault
-verify_fault v.OutOfMemory = a.OutOfMemory
-verify_fault fault = a.Verify fault
+-- the line of a refusal
+abbrev pub refusal_line : Fault → List ℕ
+refusal_line fault = line_text (words_of fault)
+
+-- whether memory, a file, the source or the sink failed
+abbrev pub is_failure_of : Fault → Bool
+is_failure_of (f.Map fault) = is_map_failure fault
+is_failure_of (f.Scen fault) = is_scen_failure fault
+is_failure_of (f.Text fault) = is_text_failure fault
+is_failure_of (f.Check fault) = is_check_failure fault
+is_failure_of (f.Search stop) = is_search_failure stop
+is_failure_of (f.Hex fault) = is_hex_failure fault
+is_failure_of (f.Load fault) = is_load_failure fault
+is_failure_of (f.Compile fault) = is_compile_failure fault
+is_failure_of (f.Verify fault) = is_verify_failure fault
+is_failure_of (f.Run fault) = is_run_failure fault
+is_failure_of (f.Dispatch fault) = is_dispatch_failure fault
+is_failure_of f.Memory = true
+is_failure_of (f.File _) = true
+
+-- 3 if memory, a file, the source or the sink failed, and 1 for every other refusal
+abbrev pub status_of : Fault → ℕ
+status_of fault = if is_failure_of fault then 3 else 1
+
+-- the fault of a step as a refusal of the program, whose line and status are those of the fault within
+abbrev pub step_fault : AutoFault → Fault
+step_fault a.OutOfMemory = f.Memory
+step_fault (a.Map fault) = f.Map fault
+step_fault (a.Scen fault) = f.Scen fault
+step_fault (a.Plan stop) = f.Search stop
+step_fault (a.Compile fault) = f.Compile fault
+step_fault (a.Run fault) = f.Run fault

@@ -1,26 +1,19 @@
--- What commands write.
-use Rattle.std.specs.Prelude.{◌≡◌, ℕ, Some, Result, Ok, Err, codes}
-use Rattle.fleet_model.specs.Program.{Program}
-use Rattle.fleet_model.specs.Machine.{Holds, run, IsEnd}
-use Rattle.fleet_text.specs.Sink.{SinkState, Receives, IsDelivered, IsUnwritten}
-use Rattle.fleet_run.specs.Text.{rehearsal_text}
-use Rattle.fleet_run.specs.Outcome.{run_end}
-use Rattle.fleet_cli.specs.Lines.{refusal_line, status_of}
+-- What commands write, and what several of them print or write in the same way.
+use Rattle.std.specs.Prelude.{◌≡◌, ℕ, Result, Ok, Err, codes, List, [], ◌∷◌, ◌++◌, ◌⊎◌, Option, map}
+use Rattle.fleet_text.specs.Sink.{SinkState, Receives, IsDelivered, IsUnwritten, FailsAfter}
+use Rattle.fleet_cli.specs.Faults.{refusal_line, status_of}
 use Rattle.fleet_run.specs.declared.run.End.{End}
 use Rattle.fleet_run.specs.declared.run.End.TheVariants.{Finished, Stuck}
 use Rattle.fleet_cli.specs.declared.fault.Fault.{Fault}
 use Rattle.fleet_cli.specs.declared.fault.Fault.TheVariants as f
+use Rattle.std.specs.Borrow.{Bor}
+use Rattle.fleet_cli.specs.Files.{Store, AreUnchanged, ChangesOnly, Replaces}
+use Rattle.fleet_cli.specs.Named.{IsWriteFault}
+use Rattle.fleet_text.specs.Words.{line_text, count_line}
 
 -- the refusal was reported: the sink took its line, or failed within it
 abbrev pub IsRefusalWritten : Fault → (err err' : SinkState) → Type 0
 IsRefusalWritten fault err err' = Receives err err' (refusal_line fault)
-
--- the rehearsal of the program under these holds was written and handed on, and ended so
-pub record WritesRehearsal (p : Program) (holds : Holds) (out out' : SinkState) (end : End) : Type 0 where
-  pub ticks : ℕ
-  pub ends : IsEnd p holds ticks
-  pub ends_so : run_end p (run p holds ticks) ≡ Some end
-  pub delivered : IsDelivered out out' (rehearsal_text p holds ticks)
 
 -- the command is done with this status, and nothing was reported; or its refusal was reported, and the refusal's status is answered
 abbrev pub Finishes : Result ℕ Fault → (err err' : SinkState) → ℕ → Type 0
@@ -36,3 +29,50 @@ end_status Stuck = 1
 abbrev pub IsOutFault : Fault → Type 0
 IsOutFault (f.File name) = name.now ≡ codes "-"
 IsOutFault _ = ⊥
+
+-- counts with their labels
+abbrev pub with_labels : List (Bor (List ℕ) × ℕ) → List (List ℕ × ℕ)
+with_labels counts = map (λ c. (c.0.now, c.1)) counts
+
+-- a line for each count: its label and its number
+abbrev pub count_lines : List (List ℕ × ℕ) → List ℕ
+count_lines [] = []
+count_lines (count ∷ counts) = count_line count.0 count.1 ++ count_lines counts
+
+-- a word in a line of its own, and the counts
+unfoldable pub report : List ℕ → List (List ℕ × ℕ) → List ℕ
+report title counts = line_text (title ∷ []) ++ count_lines counts
+
+-- the text was printed and handed on, and 0 is answered; or the output failed
+abbrev pub Prints : List ℕ → (out out' : SinkState) → Result ℕ Fault → Type 0
+Prints text out out' (Ok status) = IsDelivered out out' text × (status ≡ 0)
+Prints text out out' (Err fault) = IsOutFault fault × FailsAfter out out' text
+
+-- What a command answers that makes something of its texts, before anything is written, and then does something with it: it was made, and
+-- this is what came after it; or it was refused, and nothing was written
+abbrev pub Does : (A : Type 0) → (Fault → Type 0) → (A → (out out' : SinkState) → Result ℕ Fault → Type 0) → (out out' : SinkState) → Result ℕ Fault → Type 0
+Does A Refuses After out out' result = ((a : A) × After a out out' result) ⊎ ((fault : Fault) × (result ≡ Err fault) × Refuses fault × IsUnwritten out out')
+
+-- the one was done, and this is what came of the other; or the one was refused
+abbrev pub Follow : (first second : (out out' : SinkState) → Result ℕ Fault → Type 0) → (out out' : SinkState) → Result ℕ Fault → Type 0
+Follow first second out out' result = ((mid : SinkState) × first out mid (Ok 0) × second mid out' result) ⊎ ((fault : Fault) × (result ≡ Err fault) × first out out' (Err fault))
+
+-- the file holds the bytes, every other file is as before, and the text was printed and handed on
+pub record WritesOut (files after : Option Store) (name bytes : List ℕ) (out out' : SinkState) (text : List ℕ) : Type 0 where
+  pub written : Replaces files after name bytes
+  pub printed : IsDelivered out out' text
+
+-- The file could not be written: every other file is as before, and nothing was printed. Or it holds the bytes, every other file is as
+-- before, and the output failed
+abbrev pub IsOutRefusal : (files after : Option Store) → (name bytes : List ℕ) → (out out' : SinkState) → (text : List ℕ) → Fault → Type 0
+IsOutRefusal files after name bytes out out' text fault =
+    (IsWriteFault name fault × ChangesOnly files after name × IsUnwritten out out')
+    ⊎ (Replaces files after name bytes × IsOutFault fault × FailsAfter out out' text)
+
+-- What a command answers that makes a value, writes its bytes to a file and then prints a text of it. A refusal of the value, before
+-- anything is written: every file is as before. Or the value was made, and the file could not be written or the output failed
+abbrev pub AnswersOut : {A : Type 0} → (files after : Option Store) → (name : List ℕ) → (A → Type 0) → (Fault → Type 0) → (A → List ℕ) → (A → List ℕ) → (out out' : SinkState) → Result ℕ Fault → Type 0
+AnswersOut {A} files after name Makes Refuses bytes text out out' (Ok status) = (made : A) × Makes made × WritesOut files after name (bytes made) out out' (text made) × (status ≡ 0)
+AnswersOut {A} files after name Makes Refuses bytes text out out' (Err fault) =
+    (Refuses fault × AreUnchanged files after × IsUnwritten out out')
+    ⊎ ((made : A) × Makes made × IsOutRefusal files after name (bytes made) out out' (text made) fault)

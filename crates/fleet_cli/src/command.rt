@@ -3,24 +3,15 @@
 ghost use Rattle.std.specs.Prelude.{◌≡◌, map, string_bytes};
 ghost use Rattle.fleet_text.specs.Sink.{IsWorking};
 ghost use Rattle.fleet_dispatch.specs.Talk.{IsSaid};
-ghost use Rattle.fleet_cli.specs.Command.{names_by, names_of, AnswersRequest, DoesRequest, RunsRequest, StopsAtWords, RunsCommand};
+ghost use Rattle.fleet_cli.specs.Command.{names_by, names_of, AnswersRequest, RunsRequest, StopsAtWords, RunsCommand};
 
-use crate::auto_command::do_auto;
-use crate::check_command::do_check;
-use crate::compile_command::do_compile;
 use crate::dispatch_command::do_dispatch;
-use crate::drive_command::do_run;
 use crate::fault::{Fault, finish, refuse};
 use crate::files::Files;
-use crate::hex_run::run_hex;
-use crate::instance_command::do_instance;
-use crate::list_command::do_list;
-use crate::migrate_command::do_migrate;
 use crate::named::{FileNames, FileTexts, read_files};
-use crate::plan_command::do_plan;
-use crate::rehearse_command::do_rehearse;
-use crate::thin_command::do_thin;
-use crate::verify_command::do_verify;
+use crate::print_commands::{do_check, do_instance, do_list, do_plan, do_verify};
+use crate::run_commands::{do_auto, do_rehearse, do_run, run_hex};
+use crate::write_commands::{do_compile, do_migrate, do_thin};
 use fleet_args::{Request, WordStop, read_words};
 use fleet_dispatch::ReportsTo;
 use fleet_run::{Flush, OutFault, TraceOut, put_all};
@@ -73,6 +64,7 @@ fn names_of<'a>(request: &Request<'a>) -> FileNames<'a>
 
 /// What the request's command answers for the texts of its files: the status, or the refusal that is to be written. Its
 /// output goes to `out`, and of the commands `dispatch` alone reads `input`.
+#[tactic(auto, using(crate::proofs::FileLemmas::kept_self))]
 fn answer_request<'a, R: ReportsTo<O>, F: Files, O: Flush>(
     alloc: Global,
     request: &Request<'a>,
@@ -103,25 +95,7 @@ fn answer_request<'a, R: ReportsTo<O>, F: Files, O: Flush>(
     }
 }
 
-/// Reads the files that the request names, all before any is judged, and does what it asks.
-fn do_request<'a, R: ReportsTo<O>, F: Files, O: Flush>(
-    alloc: Global,
-    request: &Request<'a>,
-    input: &mut R,
-    files: &mut F,
-    out: &mut O,
-) -> Result<u8, Fault<'a>>
-    requires { IsWorking (O.state out.old) }
-    ensures { DoesRequest (F.contents files.old) (F.contents files.new)
-        (input.new ≡ input.old) (out.new ≡ out.old)
-        (IsSaid R.talks input.old out.old input.new out.new) request.now
-        (O.state out.old) (O.state out.new) result }
-{
-    let texts = read_files(alloc, files, names_of(request))?;
-    answer_request(alloc, request, texts, input, files, out)
-}
-
-/// Does what the request asks: its output goes to `out`, a refusal's line to `err`, and of the commands `dispatch` alone
+/// Reads the files that the request names, all before any is judged, and does what it asks: its output goes to `out`, a refusal's line to `err`, and of the commands `dispatch` alone
 /// reads `input`, by which robots report. Answers the status.
 pub fn run_request<R: ReportsTo<O>, F: Files, O: Flush, E: TraceOut>(
     alloc: Global,
@@ -138,7 +112,13 @@ pub fn run_request<R: ReportsTo<O>, F: Files, O: Flush, E: TraceOut>(
         (IsSaid R.talks input.old out.old input.new out.new) request.now
         (O.state out.old) (O.state out.new) (E.state err.old) (E.state err.new) result }
 {
-    finish(do_request(alloc, request, input, files, out), err)
+    match read_files(alloc, files, names_of(request)) {
+        Ok(texts) => finish(
+            answer_request(alloc, request, texts, input, files, out),
+            err,
+        ),
+        Err(fault) => refuse(&fault, err),
+    }
 }
 
 /// Reports why the words are no request: help on `out` with status 0, usage on `err` with status 2, want of memory with

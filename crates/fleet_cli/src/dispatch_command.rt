@@ -6,8 +6,8 @@ ghost use Rattle.fleet_dispatch.specs.Talk.{IsSaid};
 ghost use Rattle.fleet_cli.specs.DispatchCommand.{pace_of, AnswersDispatch};
 
 use crate::fault::Fault;
-use crate::inputs::{accept, read_problem};
 use crate::named::FileTexts;
+use crate::steps::{accept, read_problem};
 use fleet_args::DispatchRequest;
 use fleet_dispatch::{Pace, ReportForm, ReportsTo, dispatch_over};
 use fleet_run::Flush;

@@ -1,21 +1,22 @@
-//! A refusal of the program, with its status and its line.
+//! Refusals of the program, with their statuses and lines, and those of the steps within.
 
 ghost use Rattle.std.specs.Prelude.{◌≡◌};
 ghost use Rattle.fleet_text.specs.Sink.{IsWorking, Receives};
 ghost use Rattle.fleet_cli.specs.Output.{Finishes};
-ghost use Rattle.fleet_cli.specs.Lines.{refusal_line, status_of};
+ghost use Rattle.fleet_cli.specs.Faults.{refusal_line, status_of};
 
-use crate::auto_fault::{AcceptFault, AutoFault};
 use fleet_adg::CompileFault;
 use fleet_code::{HexFault, LoadFault};
 use fleet_dispatch::DispatchFault;
 use fleet_grid::MapFault;
+use fleet_model::OutOfMemory;
 use fleet_plan::{PlanFault, TextFault};
 use fleet_run::RunFault;
 use fleet_scen::ScenFault;
 use fleet_search::PlanStop;
 use fleet_text::{OutFault, Refusal, TraceOut, Word, put_line, put_memory};
 use fleet_verify::VerifyFault;
+use thiserror::Error;
 
 /// Every refusal of the program but usage and help. `File` names the file that cannot be read or written, and is `-`
 /// for the standard streams.
@@ -39,7 +40,7 @@ pub enum Fault<'a> {
 /// The fault of a step, with its own line and status. Want of memory in any step is `Memory`.
 impl From<AutoFault> for Fault<'_> {
     ghost use Rattle.std.specs.Prelude.{◌≡◌};
-    ghost use Rattle.fleet_cli.specs.Lines.{step_fault};
+    ghost use Rattle.fleet_cli.specs.Faults.{step_fault};
 
     ghost from_gives = { λ fault r. r ≡ step_fault fault };
 
@@ -55,23 +56,8 @@ impl From<AutoFault> for Fault<'_> {
     }
 }
 
-impl From<AcceptFault> for Fault<'_> {
-    ghost use Rattle.std.specs.Prelude.{◌≡◌};
-    ghost use Rattle.fleet_cli.specs.Lines.{accept_fault};
-
-    ghost from_gives = { λ fault r. r ≡ accept_fault fault };
-
-    fn from(fault: AcceptFault) -> Self {
-        match fault {
-            AcceptFault::OutOfMemory => Fault::Memory,
-            AcceptFault::Load(fault) => Fault::Load(fault),
-            AcceptFault::Verify(fault) => Fault::Verify(fault),
-        }
-    }
-}
-
 impl Refusal for Fault<'_> {
-    ghost use Rattle.fleet_cli.specs.Lines.{words_of, is_failure_of};
+    ghost use Rattle.fleet_cli.specs.Faults.{words_of, is_failure_of};
 
     ghost words = { words_of };
 
@@ -150,5 +136,108 @@ pub fn finish<E: TraceOut>(done: Result<u8, Fault<'_>>, err: &mut E) -> u8
     match done {
         Ok(status) => status,
         Err(fault) => refuse(&fault, err),
+    }
+}
+
+/// The refusal of the first step that refuses. Want of memory in any step is `OutOfMemory`.
+#[derive(Clone, Copy, Debug, Error)]
+pub enum AutoFault {
+    #[error("out of memory")]
+    OutOfMemory,
+    /// The map's text is no map.
+    #[error("the map: {0}")]
+    Map(MapFault),
+    /// The scenario's text is no scenario on the map.
+    #[error("the scenario: {0}")]
+    Scen(ScenFault),
+    /// An agent is left without a path.
+    #[error("the plan: {0}")]
+    Plan(PlanStop),
+    /// The agents of the plan make too many moves.
+    #[error("the program: {0}")]
+    Compile(CompileFault),
+    /// The run stopped before its end.
+    #[error("the run: {0}")]
+    Run(RunFault),
+}
+
+impl From<OutOfMemory> for AutoFault {
+    ghost use Rattle.std.specs.Prelude.{◌≡◌};
+    ghost use Rattle.fleet_cli.specs.declared.fault.AutoFault.TheVariants.{OutOfMemory};
+
+    ghost from_gives = { λ _ r. r ≡ OutOfMemory };
+
+    fn from(_e: OutOfMemory) -> AutoFault {
+        AutoFault::OutOfMemory
+    }
+}
+
+impl From<MapFault> for AutoFault {
+    ghost use Rattle.std.specs.Prelude.{◌≡◌};
+    ghost use Rattle.fleet_cli.specs.Faults.{map_fault};
+
+    ghost from_gives = { λ fault r. r ≡ map_fault fault };
+
+    fn from(fault: MapFault) -> AutoFault {
+        match fault {
+            MapFault::OutOfMemory => AutoFault::OutOfMemory,
+            fault => AutoFault::Map(fault),
+        }
+    }
+}
+
+impl From<ScenFault> for AutoFault {
+    ghost use Rattle.std.specs.Prelude.{◌≡◌};
+    ghost use Rattle.fleet_cli.specs.Faults.{scen_fault};
+
+    ghost from_gives = { λ fault r. r ≡ scen_fault fault };
+
+    fn from(fault: ScenFault) -> AutoFault {
+        match fault {
+            ScenFault::OutOfMemory => AutoFault::OutOfMemory,
+            fault => AutoFault::Scen(fault),
+        }
+    }
+}
+
+impl From<PlanStop> for AutoFault {
+    ghost use Rattle.std.specs.Prelude.{◌≡◌};
+    ghost use Rattle.fleet_cli.specs.Faults.{plan_fault};
+
+    ghost from_gives = { λ stop r. r ≡ plan_fault stop };
+
+    fn from(stop: PlanStop) -> AutoFault {
+        match stop {
+            PlanStop::OutOfMemory => AutoFault::OutOfMemory,
+            stop => AutoFault::Plan(stop),
+        }
+    }
+}
+
+impl From<CompileFault> for AutoFault {
+    ghost use Rattle.std.specs.Prelude.{◌≡◌};
+    ghost use Rattle.fleet_cli.specs.Faults.{compile_fault};
+
+    ghost from_gives = { λ fault r. r ≡ compile_fault fault };
+
+    fn from(fault: CompileFault) -> AutoFault {
+        match fault {
+            CompileFault::OutOfMemory => AutoFault::OutOfMemory,
+            fault => AutoFault::Compile(fault),
+        }
+    }
+}
+
+impl From<RunFault> for AutoFault {
+    ghost use Rattle.std.specs.Prelude.{◌≡◌};
+    ghost use Rattle.fleet_cli.specs.Faults.{run_fault};
+
+    ghost from_gives = { λ fault r. r ≡ run_fault fault };
+
+    fn from(fault: RunFault) -> AutoFault {
+        match fault {
+            RunFault::OutOfMemory => AutoFault::OutOfMemory,
+            fault => AutoFault::Run(fault),
+        }
     }
 }

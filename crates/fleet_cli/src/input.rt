@@ -34,7 +34,7 @@ enum InputStop {
 
 impl From<InputStop> for FileFault {
     ghost use Rattle.std.specs.Prelude.{◌≡◌};
-    ghost use Rattle.fleet_cli.specs.Input.{input_fault};
+    ghost use Rattle.fleet_cli.specs.Faults.{input_fault};
 
     ghost from_gives = { λ stop fault. fault ≡ input_fault stop };
 

@@ -1,8 +1,8 @@
 //! What several commands print or write in the same way: counts, and a file OUT with counts of it.
 
-ghost use Rattle.std.specs.Prelude.{◌≡◌, MatchResult};
-ghost use Rattle.fleet_text.specs.Sink.{IsWorking, TakesAll, Delivers};
-ghost use Rattle.fleet_cli.specs.Printed.{with_labels, count_lines, report, IsPrinted, WritesOut, IsOutRefusal};
+ghost use Rattle.std.specs.Prelude.{◌≡◌, ℕ, List, MatchResult};
+ghost use Rattle.fleet_text.specs.Sink.{IsWorking, SinkState, TakesAll, Delivers};
+ghost use Rattle.fleet_cli.specs.Output.{with_labels, count_lines, report, Prints, WritesOut, IsOutRefusal};
 
 use crate::fault::Fault;
 use crate::files::Files;
@@ -65,7 +65,8 @@ pub(crate) fn print_report<O: Flush>(
 
 /// The status of a command that was to print: 0, or the refusal of the standard output.
 pub(crate) fn status_after_print<'a>(done: Result<(), OutFault>) -> Result<u8, Fault<'a>>
-    ensures { IsPrinted done result }
+    ensures { (out out' : SinkState) → (text : List ℕ) → Delivers out out' done text
+        → Prints text out out' result }
 {
     match done {
         Ok(()) => Ok(0),

@@ -1,7 +1,7 @@
 use Rattle.std.proofs.Common.{◌≡◌, IfOk, map, subst}
 use Rattle.clap.specs.Words.{app_of}
 use Rattle.fleet_args.specs.Arguments.{shape_for}
-use Rattle.fleet_args.specs.CommandLine.{fleet_top, with_shapes}
+use Rattle.fleet_args.specs.Commands.{fleet_top, with_shapes}
 use Rattle.fleet_args.proofs.request.fleet_command.Goals as goal
 
 pub returns : goal.returns

@@ -1,6 +1,6 @@
 use Rattle.std.proofs.Common.{◌∙◌, ap, refl, subst, map, string_bytes}
 use Rattle.clap.specs.Words.{app_of, kind_of}
-use Rattle.fleet_args.specs.CommandLine.{fleet}
+use Rattle.fleet_args.specs.Commands.{fleet}
 use Rattle.fleet_args.specs.Request.{AsksBy, is_answered_by}
 use Rattle.fleet_args.proofs.RequestLemmas.{enters_same, faultless, stops_for_built}
 use Rattle.fleet_args.proofs.Requested.{is_answered}

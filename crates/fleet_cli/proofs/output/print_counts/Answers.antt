@@ -1,4 +1,4 @@
-use Rattle.fleet_cli.proofs.FlushLemmas.{delivers_after}
+use Rattle.fleet_cli.proofs.RunLemmas.{delivers_after}
 use Rattle.fleet_cli.proofs.output.print_counts.Goals as goal
 
 pub returns : goal.returns

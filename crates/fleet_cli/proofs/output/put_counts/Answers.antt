@@ -1,6 +1,6 @@
 use Rattle.std.proofs.Common.{rules}
 use Rattle.fleet_text.proofs.SinkLemmas.{takes_err}
-use Rattle.fleet_cli.proofs.CountLemmas.{one_count_more, stops_in_count}
+use Rattle.fleet_cli.proofs.OutputLemmas.{one_count_more, stops_in_count}
 use Rattle.fleet_cli.proofs.output.put_counts.Goals as goal
 
 pub returns-in_err-put_count : goal.returns-in_err-put_count

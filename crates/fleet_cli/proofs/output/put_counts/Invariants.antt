@@ -1,6 +1,6 @@
 use Rattle.std.proofs.Common.{take}
 use Rattle.fleet_text.specs.Sink.{Takes}
-use Rattle.fleet_cli.specs.Printed.{with_labels, count_lines}
+use Rattle.fleet_cli.specs.Output.{with_labels, count_lines}
 use Rattle.fleet_cli.proofs.output.put_counts.Given as goal
 
 abbrev pub invariant-loop-label : goal.invariant-loop-label

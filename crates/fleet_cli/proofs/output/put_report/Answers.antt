@@ -1,7 +1,7 @@
 use Rattle.std.proofs.Common.{rules, ◌∷◌, []}
 use Rattle.fleet_text.proofs.SinkLemmas.{takes_err, takes_then, stops_within_more}
 use Rattle.fleet_text.specs.Words.{line_text}
-use Rattle.fleet_cli.specs.Printed.{report}
+use Rattle.fleet_cli.specs.Output.{report}
 use Rattle.fleet_cli.proofs.output.put_report.Goals as goal
 
 pub returns-in_err-put_line : goal.returns-in_err-put_line

@@ -1,0 +1,91 @@
+-- The commands, each with its arguments and with what it is asked for, and the command line that has them.
+use Rattle.std.specs.Prelude.{◌≡◌, ℕ, Bool, true, false, List, [], ◌∷◌, Option, codes, fold, map}
+use Rattle.std.specs.Borrow.{Bor}
+use Rattle.std.specs.List.{find, list_all}
+use Rattle.std.specs.Option.{option_map_or}
+use Rattle.std.specs.Str.{bytes_eq}
+use Rattle.clap.specs.Words.{App, Shape, Text, new_app, with_subcommand}
+pub use Rattle.fleet_args.specs.Arguments.{AreNames}
+pub use Rattle.fleet_args.specs.declared.arguments.OptionNames.{OptionNames}
+use Rattle.fleet_args.specs.Arguments.{command, rule_for}
+use Rattle.fleet_args.specs.Values.{Values, IsText, IsTextIfUsed, IsNumberIfUsed, IsNumber, IsCount, IsKind, IsBestIfUsed, IsFlag, has_value}
+use Rattle.fleet_args.specs.declared.arguments.Argument.{Argument}
+use Rattle.fleet_args.specs.declared.arguments.Argument.TheVariants as a
+use Rattle.fleet_args.specs.declared.commands.Tries.{Tries}
+use Rattle.fleet_args.specs.declared.commands.Request.{Request}
+use Rattle.fleet_args.specs.declared.commands.Request.TheVariants as r
+
+-- the command line before it has commands: its words do not begin with the program's name, it has a version, and one of the commands is
+-- wanted
+abbrev pub fleet_top : App
+fleet_top = record (new_app (codes "fleet")) {
+  top = record (new_app (codes "fleet")).top { no_binary_name = true; has_version = true; subcommand_required = true };
+}
+
+-- the command line with commands of these shapes, one after another
+abbrev pub with_shapes : App → List Shape → App
+with_shapes = fold with_subcommand
+
+-- the commands in the order of help, each by its name and its arguments
+abbrev pub commands : List (Text × List Argument)
+commands =
+    (codes "instance", a.Map ∷ a.Scen ∷ a.Agents ∷ []) ∷
+    (codes "check", a.Map ∷ a.Scen ∷ a.Plan ∷ a.Agents ∷ a.Numbers ∷ []) ∷
+    (codes "plan", a.Map ∷ a.Scen ∷ a.Agents ∷ a.Horizon ∷ a.Tries ∷ a.Best ∷ []) ∷
+    (codes "compile", a.Map ∷ a.Scen ∷ a.Plan ∷ a.Out ∷ a.Agents ∷ a.Deps ∷ a.Dwell ∷ []) ∷
+    (codes "verify", a.Map ∷ a.Scen ∷ a.Program ∷ a.Agents ∷ []) ∷
+    (codes "run", a.Map ∷ a.Scen ∷ a.Program ∷ a.Agents ∷ a.Holds ∷ []) ∷
+    (codes "rehearse", a.Program ∷ a.Holds ∷ []) ∷
+    (codes "auto", a.Map ∷ a.Scen ∷ a.Agents ∷ a.Horizon ∷ a.Tries ∷ a.Best ∷ a.Deps ∷ a.Holds ∷ a.Numbers ∷ []) ∷
+    (codes "thin", a.Map ∷ a.Scen ∷ a.Program ∷ a.Out ∷ a.Agents ∷ []) ∷
+    (codes "migrate", a.Program ∷ a.Out ∷ []) ∷
+    (codes "list", a.Program ∷ []) ∷
+    (codes "dispatch", a.Map ∷ a.Scen ∷ a.Program ∷ a.Agents ∷ a.Ahead ∷ a.Unnumbered ∷ a.Resume ∷ []) ∷
+    []
+
+-- the shape of a command
+abbrev pub shape_in : OptionNames → Text × List Argument → Shape
+shape_in names c = command c.0 (map (rule_for names) c.1)
+
+-- the whole command line
+abbrev pub fleet : OptionNames → App
+fleet names = with_shapes fleet_top (map (shape_in names) commands)
+
+-- this is the name of a command, and the arguments that it cannot do without have values
+abbrev pub has_values : Text → Values → Bool
+has_values name values = option_map_or (λ c. list_all (has_value values) c.1) (find (λ c. bytes_eq name c.0) commands) false
+
+-- a map, a scenario and how many of its agents are asked for
+abbrev pub AsksInstance : Values → (map scen : Bor Text) → Option ℕ → Type 0
+AsksInstance values map scen agents = IsText values (codes "map") map × IsText values (codes "scen") scen × IsNumberIfUsed values (codes "agents") agents
+
+-- the same with a program
+abbrev pub AsksProgram : Values → (map scen program : Bor Text) → Option ℕ → Type 0
+AsksProgram values map scen program agents = AsksInstance values map scen agents × IsText values (codes "program") program
+
+-- how many orders are tried, and what makes a plan the best
+abbrev pub AsksTries : Values → Tries → Type 0
+AsksTries values tries = IsCount values (codes "tries") tries.count × IsBestIfUsed values (codes "best") tries.best
+
+-- the command of this name, with these values of its arguments, asks this
+abbrev pub AsksCommand : Text → Values → Request → Type 0
+AsksCommand name values (r.Instance q) = (name ≡ codes "instance") × AsksInstance values q.map q.scen q.agents
+AsksCommand name values (r.Check q) =
+    (name ≡ codes "check") × AsksInstance values q.map q.scen q.agents × IsText values (codes "plan") q.plan × IsFlag values (codes "numbers") q.numbers
+AsksCommand name values (r.Plan q) =
+    (name ≡ codes "plan") × AsksInstance values q.map q.scen q.agents × IsNumber values (codes "horizon") q.horizon × AsksTries values q.tries
+AsksCommand name values (r.Compile q) =
+    (name ≡ codes "compile") × AsksInstance values q.map q.scen q.agents × IsText values (codes "plan") q.plan × IsText values (codes "out") q.out
+    × IsKind values (codes "deps") q.deps × IsCount values (codes "dwell") q.dwell
+AsksCommand name values (r.Verify q) = (name ≡ codes "verify") × AsksProgram values q.map q.scen q.program q.agents
+AsksCommand name values (r.Run q) = (name ≡ codes "run") × AsksProgram values q.map q.scen q.program q.agents × IsTextIfUsed values (codes "holds") q.holds
+AsksCommand name values (r.Rehearse q) = (name ≡ codes "rehearse") × IsText values (codes "program") q.program × IsTextIfUsed values (codes "holds") q.holds
+AsksCommand name values (r.Auto q) =
+    (name ≡ codes "auto") × AsksInstance values q.map q.scen q.agents × IsNumber values (codes "horizon") q.horizon × AsksTries values q.tries
+    × IsKind values (codes "deps") q.deps × IsTextIfUsed values (codes "holds") q.holds × IsFlag values (codes "numbers") q.numbers
+AsksCommand name values (r.Thin q) = (name ≡ codes "thin") × AsksProgram values q.map q.scen q.program q.agents × IsText values (codes "out") q.out
+AsksCommand name values (r.Migrate q) = (name ≡ codes "migrate") × IsText values (codes "program") q.program × IsText values (codes "out") q.out
+AsksCommand name values (r.List q) = (name ≡ codes "list") × IsText values (codes "program") q.program
+AsksCommand name values (r.Dispatch q) =
+    (name ≡ codes "dispatch") × AsksProgram values q.map q.scen q.program q.agents × IsNumber values (codes "ahead") q.ahead
+    × IsFlag values (codes "unnumbered") q.unnumbered × IsTextIfUsed values (codes "resume") q.resume

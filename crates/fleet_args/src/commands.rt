@@ -1,0 +1,476 @@
+//! The commands: what each is asked for, its words and options, and how they are read from the matches.
+
+ghost use Rattle.std.specs.Prelude.{◌≡◌, codes, true};
+ghost use Rattle.fleet_args.specs.Values.{has_count, reads_best, values_in};
+ghost use Rattle.fleet_args.specs.Commands.{AsksCommand, AsksTries, has_values};
+
+use crate::arguments::{
+    Argument, CommandText, given_count, given_deps, given_number, text, used, used_best,
+    used_number,
+};
+use clap::ArgMatches;
+use fleet_model::Deps;
+
+/// What makes a plan the best of several.
+#[derive(Clone, Copy, Debug)]
+pub enum Best {
+    /// The least number of actions in the longest chain of its program.
+    Chain,
+    /// The least sum of costs, in steps.
+    Cost,
+}
+
+/// How many orders of the agents are tried at most, of which the first that makes a plan is the last; or, if the best
+/// plan is asked for, how many are tried in any case.
+#[derive(Clone, Copy, Debug)]
+pub struct Tries {
+    pub count: u32,
+    pub best: Option<Best>,
+}
+
+/// `fleet instance MAP SCEN [--agents K]`
+#[derive(Clone, Copy)]
+pub struct InstanceRequest<'a> {
+    pub map: &'a str,
+    pub scen: &'a str,
+    pub agents: Option<u16>,
+}
+
+/// `fleet check MAP SCEN PLAN [--agents K] [--numbers]`
+#[derive(Clone, Copy)]
+pub struct CheckRequest<'a> {
+    pub map: &'a str,
+    pub scen: &'a str,
+    pub plan: &'a str,
+    pub agents: Option<u16>,
+    pub numbers: bool,
+}
+
+/// `fleet plan MAP SCEN [--agents K] [--horizon H] [--tries N] [--best BEST]`
+#[derive(Clone, Copy)]
+pub struct PlanRequest<'a> {
+    pub map: &'a str,
+    pub scen: &'a str,
+    pub agents: Option<u16>,
+    pub horizon: u16,
+    pub tries: Tries,
+}
+
+/// `fleet compile MAP SCEN PLAN OUT [--agents K] [--deps DEPS] [--dwell N]`
+#[derive(Clone, Copy)]
+pub struct CompileRequest<'a> {
+    pub map: &'a str,
+    pub scen: &'a str,
+    pub plan: &'a str,
+    pub out: &'a str,
+    pub agents: Option<u16>,
+    pub deps: Deps,
+    pub dwell: u32,
+}
+
+/// `fleet verify MAP SCEN PROGRAM [--agents K]`
+#[derive(Clone, Copy)]
+pub struct VerifyRequest<'a> {
+    pub map: &'a str,
+    pub scen: &'a str,
+    pub program: &'a str,
+    pub agents: Option<u16>,
+}
+
+/// `fleet run MAP SCEN PROGRAM [--agents K] [--holds FILE]`
+#[derive(Clone, Copy)]
+pub struct RunRequest<'a> {
+    pub map: &'a str,
+    pub scen: &'a str,
+    pub program: &'a str,
+    pub agents: Option<u16>,
+    pub holds: Option<&'a str>,
+}
+
+/// `fleet rehearse PROGRAM [--holds FILE]`
+#[derive(Clone, Copy)]
+pub struct RehearseRequest<'a> {
+    pub program: &'a str,
+    pub holds: Option<&'a str>,
+}
+
+/// `fleet auto MAP SCEN [--agents K] [--horizon H] [--tries N] [--best BEST] [--deps DEPS] [--holds FILE] [--numbers]`
+#[derive(Clone, Copy)]
+pub struct AutoRequest<'a> {
+    pub map: &'a str,
+    pub scen: &'a str,
+    pub agents: Option<u16>,
+    pub horizon: u16,
+    pub tries: Tries,
+    pub deps: Deps,
+    pub holds: Option<&'a str>,
+    pub numbers: bool,
+}
+
+/// `fleet thin MAP SCEN PROGRAM OUT [--agents K]`
+#[derive(Clone, Copy)]
+pub struct ThinRequest<'a> {
+    pub map: &'a str,
+    pub scen: &'a str,
+    pub program: &'a str,
+    pub out: &'a str,
+    pub agents: Option<u16>,
+}
+
+/// `fleet migrate PROGRAM OUT`
+#[derive(Clone, Copy)]
+pub struct MigrateRequest<'a> {
+    pub program: &'a str,
+    pub out: &'a str,
+}
+
+/// `fleet list PROGRAM`
+#[derive(Clone, Copy)]
+pub struct ListRequest<'a> {
+    pub program: &'a str,
+}
+
+/// `fleet dispatch MAP SCEN PROGRAM [--agents K] [--ahead K] [--unnumbered] [--resume FILE]`
+#[derive(Clone, Copy)]
+pub struct DispatchRequest<'a> {
+    pub map: &'a str,
+    pub scen: &'a str,
+    pub program: &'a str,
+    pub agents: Option<u16>,
+    pub ahead: u16,
+    pub unnumbered: bool,
+    pub resume: Option<&'a str>,
+}
+
+/// A command with its words and options.
+#[derive(Clone, Copy)]
+pub enum Request<'a> {
+    Instance(InstanceRequest<'a>),
+    Check(CheckRequest<'a>),
+    Plan(PlanRequest<'a>),
+    Compile(CompileRequest<'a>),
+    Verify(VerifyRequest<'a>),
+    Run(RunRequest<'a>),
+    Rehearse(RehearseRequest<'a>),
+    Auto(AutoRequest<'a>),
+    Thin(ThinRequest<'a>),
+    Migrate(MigrateRequest<'a>),
+    List(ListRequest<'a>),
+    Dispatch(DispatchRequest<'a>),
+}
+
+/// The commands, in the order of help.
+pub(crate) static COMMANDS: [CommandText; 12] = [
+    CommandText {
+        name: "instance",
+        about: "Prints the size of a map, its passable cells, and each agent's start and goal",
+        arguments: &[Argument::Map, Argument::Scen, Argument::Agents],
+    },
+    CommandText {
+        name: "check",
+        about: "Tells whether a plan is free of conflict, or its first fault",
+        arguments: &[
+            Argument::Map,
+            Argument::Scen,
+            Argument::Plan,
+            Argument::Agents,
+            Argument::Numbers,
+        ],
+    },
+    CommandText {
+        name: "plan",
+        about: "Plans a path for each agent in turn, and prints the plan text",
+        arguments: &[
+            Argument::Map,
+            Argument::Scen,
+            Argument::Agents,
+            Argument::Horizon,
+            Argument::Tries,
+            Argument::Best,
+        ],
+    },
+    CommandText {
+        name: "compile",
+        about: "Compiles a conflict-free plan into a program, writes it to OUT, and prints its agents, moves, awaits and bytes",
+        arguments: &[
+            Argument::Map,
+            Argument::Scen,
+            Argument::Plan,
+            Argument::Out,
+            Argument::Agents,
+            Argument::Deps,
+            Argument::Dwell,
+        ],
+    },
+    CommandText {
+        name: "verify",
+        about: "Tells whether a program is safe and arrives whoever is held, or its first fault",
+        arguments: &[
+            Argument::Map,
+            Argument::Scen,
+            Argument::Program,
+            Argument::Agents,
+        ],
+    },
+    CommandText {
+        name: "run",
+        about: "Verifies a program and runs it: prints the positions tick by tick, then agents, ticks, chain and held",
+        arguments: &[
+            Argument::Map,
+            Argument::Scen,
+            Argument::Program,
+            Argument::Agents,
+            Argument::Holds,
+        ],
+    },
+    CommandText {
+        name: "rehearse",
+        about: "Runs any program until it is finished or stuck: prints the positions tick by tick, then agents, ticks and held",
+        arguments: &[Argument::Program, Argument::Holds],
+    },
+    CommandText {
+        name: "auto",
+        about: "Plans, compiles, verifies and runs: prints the positions tick by tick, then agents, ticks, chain and held",
+        arguments: &[
+            Argument::Map,
+            Argument::Scen,
+            Argument::Agents,
+            Argument::Horizon,
+            Argument::Tries,
+            Argument::Best,
+            Argument::Deps,
+            Argument::Holds,
+            Argument::Numbers,
+        ],
+    },
+    CommandText {
+        name: "thin",
+        about: "Drops the awaits of an accepted program that others imply, writes it to OUT, and prints its awaits before and after",
+        arguments: &[
+            Argument::Map,
+            Argument::Scen,
+            Argument::Program,
+            Argument::Out,
+            Argument::Agents,
+        ],
+    },
+    CommandText {
+        name: "migrate",
+        about: "Writes a program to OUT in version 2 of the bytes, and prints how many they are",
+        arguments: &[Argument::Program, Argument::Out],
+    },
+    CommandText {
+        name: "list",
+        about: "Prints any program as text: a line for each agent, and after it one for each of its actions",
+        arguments: &[Argument::Program],
+    },
+    CommandText {
+        name: "dispatch",
+        about: "Dispatches robots: prints go AGENT:N FROM TO as each move may begin, and reads a line for each report of which moves are done",
+        arguments: &[
+            Argument::Map,
+            Argument::Scen,
+            Argument::Program,
+            Argument::Agents,
+            Argument::Ahead,
+            Argument::Unnumbered,
+            Argument::Resume,
+        ],
+    },
+];
+
+/// The tries that the matches of a command ask for.
+pub(crate) fn tries_in(matches: &ArgMatches<'_>) -> Tries
+    requires count { has_count (values_in matches.now) (codes "tries") ≡ true }
+    requires best { reads_best (values_in matches.now) (codes "best") ≡ true }
+    ensures { AsksTries (values_in matches.now) result }
+{
+    Tries {
+        count: given_count(matches, "tries"),
+        best: used_best(matches, "best"),
+    }
+}
+
+/// The request of `instance`.
+fn instance_in<'a>(matches: &ArgMatches<'a>) -> Request<'a>
+    requires { has_values (codes "instance") (values_in matches.now) ≡ true }
+    ensures { AsksCommand (codes "instance") (values_in matches.now) result }
+{
+    Request::Instance(InstanceRequest {
+        map: text(matches, "map"),
+        scen: text(matches, "scen"),
+        agents: used_number(matches, "agents"),
+    })
+}
+
+/// The request of `check`.
+fn check_in<'a>(matches: &ArgMatches<'a>) -> Request<'a>
+    requires { has_values (codes "check") (values_in matches.now) ≡ true }
+    ensures { AsksCommand (codes "check") (values_in matches.now) result }
+{
+    Request::Check(CheckRequest {
+        map: text(matches, "map"),
+        scen: text(matches, "scen"),
+        plan: text(matches, "plan"),
+        agents: used_number(matches, "agents"),
+        numbers: used(matches, "numbers"),
+    })
+}
+
+/// The request of `plan`.
+fn plan_in<'a>(matches: &ArgMatches<'a>) -> Request<'a>
+    requires { has_values (codes "plan") (values_in matches.now) ≡ true }
+    ensures { AsksCommand (codes "plan") (values_in matches.now) result }
+{
+    Request::Plan(PlanRequest {
+        map: text(matches, "map"),
+        scen: text(matches, "scen"),
+        agents: used_number(matches, "agents"),
+        horizon: given_number(matches, "horizon"),
+        tries: tries_in(matches),
+    })
+}
+
+/// The request of `compile`.
+fn compile_in<'a>(matches: &ArgMatches<'a>) -> Request<'a>
+    requires { has_values (codes "compile") (values_in matches.now) ≡ true }
+    ensures { AsksCommand (codes "compile") (values_in matches.now) result }
+{
+    Request::Compile(CompileRequest {
+        map: text(matches, "map"),
+        scen: text(matches, "scen"),
+        plan: text(matches, "plan"),
+        out: text(matches, "out"),
+        agents: used_number(matches, "agents"),
+        deps: given_deps(matches, "deps"),
+        dwell: given_count(matches, "dwell"),
+    })
+}
+
+/// The request of `verify`.
+fn verify_in<'a>(matches: &ArgMatches<'a>) -> Request<'a>
+    requires { has_values (codes "verify") (values_in matches.now) ≡ true }
+    ensures { AsksCommand (codes "verify") (values_in matches.now) result }
+{
+    Request::Verify(VerifyRequest {
+        map: text(matches, "map"),
+        scen: text(matches, "scen"),
+        program: text(matches, "program"),
+        agents: used_number(matches, "agents"),
+    })
+}
+
+/// The request of `run`.
+fn run_in<'a>(matches: &ArgMatches<'a>) -> Request<'a>
+    requires { has_values (codes "run") (values_in matches.now) ≡ true }
+    ensures { AsksCommand (codes "run") (values_in matches.now) result }
+{
+    Request::Run(RunRequest {
+        map: text(matches, "map"),
+        scen: text(matches, "scen"),
+        program: text(matches, "program"),
+        agents: used_number(matches, "agents"),
+        holds: matches.get_str("holds"),
+    })
+}
+
+/// The request of `rehearse`.
+fn rehearse_in<'a>(matches: &ArgMatches<'a>) -> Request<'a>
+    requires { has_values (codes "rehearse") (values_in matches.now) ≡ true }
+    ensures { AsksCommand (codes "rehearse") (values_in matches.now) result }
+{
+    Request::Rehearse(RehearseRequest {
+        program: text(matches, "program"),
+        holds: matches.get_str("holds"),
+    })
+}
+
+/// The request of `auto`.
+fn auto_in<'a>(matches: &ArgMatches<'a>) -> Request<'a>
+    requires { has_values (codes "auto") (values_in matches.now) ≡ true }
+    ensures { AsksCommand (codes "auto") (values_in matches.now) result }
+{
+    Request::Auto(AutoRequest {
+        map: text(matches, "map"),
+        scen: text(matches, "scen"),
+        agents: used_number(matches, "agents"),
+        horizon: given_number(matches, "horizon"),
+        tries: tries_in(matches),
+        deps: given_deps(matches, "deps"),
+        holds: matches.get_str("holds"),
+        numbers: used(matches, "numbers"),
+    })
+}
+
+/// The request of `thin`.
+fn thin_in<'a>(matches: &ArgMatches<'a>) -> Request<'a>
+    requires { has_values (codes "thin") (values_in matches.now) ≡ true }
+    ensures { AsksCommand (codes "thin") (values_in matches.now) result }
+{
+    Request::Thin(ThinRequest {
+        map: text(matches, "map"),
+        scen: text(matches, "scen"),
+        program: text(matches, "program"),
+        out: text(matches, "out"),
+        agents: used_number(matches, "agents"),
+    })
+}
+
+/// The request of `migrate`.
+fn migrate_in<'a>(matches: &ArgMatches<'a>) -> Request<'a>
+    requires { has_values (codes "migrate") (values_in matches.now) ≡ true }
+    ensures { AsksCommand (codes "migrate") (values_in matches.now) result }
+{
+    Request::Migrate(MigrateRequest {
+        program: text(matches, "program"),
+        out: text(matches, "out"),
+    })
+}
+
+/// The request of `list`.
+fn list_in<'a>(matches: &ArgMatches<'a>) -> Request<'a>
+    requires { has_values (codes "list") (values_in matches.now) ≡ true }
+    ensures { AsksCommand (codes "list") (values_in matches.now) result }
+{
+    Request::List(ListRequest {
+        program: text(matches, "program"),
+    })
+}
+
+/// The request of `dispatch`.
+fn dispatch_in<'a>(matches: &ArgMatches<'a>) -> Request<'a>
+    requires { has_values (codes "dispatch") (values_in matches.now) ≡ true }
+    ensures { AsksCommand (codes "dispatch") (values_in matches.now) result }
+{
+    Request::Dispatch(DispatchRequest {
+        map: text(matches, "map"),
+        scen: text(matches, "scen"),
+        program: text(matches, "program"),
+        agents: used_number(matches, "agents"),
+        ahead: given_number(matches, "ahead"),
+        unnumbered: used(matches, "unnumbered"),
+        resume: matches.get_str("resume"),
+    })
+}
+
+/// The request of the command of this name, by its matches.
+pub(crate) fn request_by<'a>(name: &str, matches: &ArgMatches<'a>) -> Request<'a>
+    requires { has_values name.now (values_in matches.now) ≡ true }
+    ensures { AsksCommand name.now (values_in matches.now) result }
+{
+    match name {
+        "instance" => instance_in(matches),
+        "check" => check_in(matches),
+        "plan" => plan_in(matches),
+        "compile" => compile_in(matches),
+        "verify" => verify_in(matches),
+        "run" => run_in(matches),
+        "rehearse" => rehearse_in(matches),
+        "auto" => auto_in(matches),
+        "thin" => thin_in(matches),
+        "migrate" => migrate_in(matches),
+        "list" => list_in(matches),
+        "dispatch" => dispatch_in(matches),
+        _ => unreachable!(),
+    }
+}

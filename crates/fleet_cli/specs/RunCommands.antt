@@ -1,0 +1,184 @@
+-- What the commands `run`, `auto` and `rehearse` do, and the program without words: a run, and the flush of its sink.
+use Rattle.std.specs.Prelude.{◌≡◌, true, false, Result, Ok, Err, ◌⊎◌, ℕ, List, Option, None, Bool, [], ◌∷◌, codes, length, ◌≢◌, ◌≤◌, IfSome}
+use Rattle.std.specs.Io.KnownBytes.{Keeps}
+use Rattle.fleet_model.specs.Program.{Program}
+use Rattle.fleet_text.specs.Sink.{SinkState, IsWorking, HasFailed, IsUnwritten}
+use Rattle.fleet_run.specs.Source.{SourceState}
+use Rattle.fleet_run.specs.Rehearsal.{IsRehearsed, Rehearses}
+use Rattle.fleet_run.specs.declared.run.RunFault.{RunFault}
+use Rattle.fleet_run.specs.declared.run.RunFault.TheVariants.{Write}
+use Rattle.fleet_run.specs.declared.report.Rehearsal.{Rehearsal}
+use Rattle.fleet_run.specs.declared.trace.Report.{Report}
+use Rattle.fleet_run.specs.Trace.{WritesTrace, Traces, StopsTrace, hold_source}
+use Rattle.fleet_args.specs.declared.commands.RunRequest.{RunRequest}
+use Rattle.fleet_cli.specs.declared.named.FileTexts.{FileTexts}
+use Rattle.fleet_cli.specs.Steps.{AcceptsTexts, AreTextsOf, ReadsProgram, IsTextsRefusal, IsProblemRefusal, IsPlannedFor, AreNumbersOf, IsMakingFault, IsLoadRefusal}
+use Rattle.fleet_cli.specs.declared.fault.Fault.{Fault}
+use Rattle.fleet_cli.specs.declared.fault.Fault.TheVariants as f
+use Rattle.fleet_args.specs.declared.commands.Tries.{Tries}
+use Rattle.fleet_model.specs.declared.task.Task.{Task}
+use Rattle.fleet_grid.specs.Ground.{Ground}
+use Rattle.fleet_plan.specs.Plan.{Plan}
+use Rattle.fleet_adg.specs.Compiled.{compiled_if_few}
+use Rattle.fleet_model.specs.declared.deps.Deps.{Deps}
+use Rattle.fleet_verify.specs.Parts.{IsAcceptedFor}
+use Rattle.fleet_cli.specs.declared.steps.PlanNumbers.{PlanNumbers}
+use Rattle.fleet_cli.specs.declared.fault.AutoFault.{AutoFault}
+use Rattle.fleet_cli.specs.declared.fault.AutoFault.TheVariants as a
+use Rattle.fleet_args.specs.declared.commands.AutoRequest.{AutoRequest}
+use Rattle.fleet_cli.specs.Output.{count_lines, Does, Follow, Prints, end_status, Finishes}
+use Rattle.fleet_grid.specs.MapText.{IsMapText, IsFirstMapFault}
+use Rattle.fleet_scen.specs.ScenText.{IsFirstScenFault}
+use Rattle.fleet_cli.specs.Faults.{step_fault}
+use Rattle.fleet_code.specs.Hex.{bytes_of}
+use Rattle.fleet_code.specs.declared.fault.HexFault.TheVariants as h
+use Rattle.fleet_cli.specs.declared.input.TheConstants.{MAX_BYTES}
+
+-- The answer of a run after the flush. It is the run's own, and the sink has handed on all, unless it had failed; or the sink
+-- could not hand on what it took, and that is a failed write.
+abbrev pub FlushesRun : {T : Type 0} → (out out' : SinkState) → (ran answer : Result T RunFault) → Type 0
+FlushesRun out out' ran answer =
+    Keeps out.taken out'.taken
+    × (((answer ≡ ran) × (out'.has_failed ≡ out.has_failed) × (IsWorking out' → out'.is_flushed ≡ true))
+    ⊎ ((answer ≡ Err Write) × IsWorking out × HasFailed out'))
+
+-- the sink before it failed to hand on
+abbrev pub unfailed : SinkState → SinkState
+unfailed out = record { taken = out.taken; has_failed = false; is_flushed = out.is_flushed }
+
+-- a rehearsal was done or refused, and the sink then failed to hand on what it took of it
+abbrev pub IsLost : Program → (source source' : SourceState) (out out' : SinkState) → Type 0
+IsLost p source source' out out' = HasFailed out' × ((ran : Result Rehearsal RunFault) × Rehearses p source source' out (unfailed out') ran)
+
+-- A rehearsal, and the flush after it. If it answers, its text was written and handed on. Its refusal is the rehearsal's, and all
+-- that was written is handed on, unless the sink failed; or it is `Write`, since the text that was written could not be handed on.
+abbrev pub RehearsesFlushed : Program → (source source' : SourceState) (out out' : SinkState) → Result Rehearsal RunFault → Type 0
+RehearsesFlushed p source source' out out' (Ok r) = IsRehearsed p source source' out out' r × (out'.is_flushed ≡ true)
+RehearsesFlushed p source source' out out' (Err fault) =
+    (Rehearses p source source' out out' (Err fault) × (IsWorking out' → out'.is_flushed ≡ true)) ⊎ ((fault ≡ Write) × IsLost p source source' out out')
+
+-- a run was done or refused, and the sink then failed to hand on what it took of it
+abbrev pub IsLostTrace : Program → ℕ → (held : List ℕ) → (out out' : SinkState) → Type 0
+IsLostTrace p chain held out out' = HasFailed out' × ((ran : Result Report RunFault) × Traces p chain held out (unfailed out') ran)
+
+-- A run, and the flush after it. If it answers, its trace was written and handed on. Its refusal is the run's, and all that was written is
+-- handed on, unless the sink failed; or it is `Write`, since the text that was written could not be handed on.
+abbrev pub TracesFlushed : Program → ℕ → (held : List ℕ) → (out out' : SinkState) → Result Report RunFault → Type 0
+TracesFlushed p chain held out out' (Ok r) = WritesTrace p chain held out out' r × (out'.is_flushed ≡ true)
+TracesFlushed p chain held out out' (Err fault) =
+    (Traces p chain held out out' (Err fault) × (IsWorking out' → out'.is_flushed ≡ true))
+    ⊎ ((fault ≡ Write) × IsLostTrace p chain held out out')
+
+-- The program was run under the holds, its trace was written and handed on, and 0 is answered; or the run or the flush after it was refused
+abbrev pub Runs : Program → ℕ → (held : List ℕ) → (out out' : SinkState) → Result ℕ Fault → Type 0
+Runs p chain held out out' (Ok status) = (report : Report) × TracesFlushed p chain held out out' (Ok report) × (status ≡ 0)
+Runs p chain held out out' (Err fault) = (e : RunFault) × (fault ≡ f.Run e) × TracesFlushed p chain held out out' (Err e)
+
+-- what `run` answers for the texts of its files
+abbrev pub AnswersRun : RunRequest → FileTexts → (out out' : SinkState) → Result ℕ Fault → Type 0
+AnswersRun r texts out out' result =
+    Does (AcceptsTexts texts.map.items texts.scen.items r.agents texts.subject.items) (IsTextsRefusal texts.map.items texts.scen.items r.agents texts.subject.items)
+    (λ x. Runs x.program x.chain texts.holds.items) out out' result
+
+-- The texts stand for a map and for tasks. For these a plan is made agent by agent in one of the first orders, each path the earliest
+-- against those before it; it is free of conflict; and this is its program, which is accepted for the map and the tasks, and the longest
+-- chain of the program. The plan has these numbers
+pub record MakesProgram (map scen : List ℕ) (asked : Option ℕ) (horizon : ℕ) (tries : Tries) (deps : Deps) : Type 0 where
+  pub ground : Ground
+  pub tasks : List Task
+  pub texts : AreTextsOf map scen asked ground tasks
+  pub plan : Plan
+  pub numbers : PlanNumbers
+  pub planned : IsPlannedFor ground tasks horizon tries numbers.tried plan
+  pub numbered : AreNumbersOf plan numbers
+  pub program : Program
+  pub compiled : compiled_if_few plan deps ≡ Ok program
+  pub chain : ℕ
+  pub accepted_for : IsAcceptedFor ground tasks program chain
+
+-- The refusal is that of the first step that refuses: the first fault of the map's text, or of the scenario's on that map; or an agent is
+-- left without a path by those before it; or the agents of the plan make too many moves; or the run of the program stops. Memory may run
+-- out in each step before the run, and until the run nothing is written
+abbrev pub IsAutoFault : (map scen : List ℕ) → Option ℕ → ℕ → Tries → Deps → List ℕ → (out out' : SinkState) → AutoFault → Type 0
+IsAutoFault map scen asked horizon tries deps held out out' a.OutOfMemory = IsUnwritten out out'
+IsAutoFault map scen asked horizon tries deps held out out' (a.Map fault) = IsFirstMapFault map fault × IsUnwritten out out'
+IsAutoFault map scen asked horizon tries deps held out out' (a.Scen fault) = (g : Ground) × IsMapText map g × IsFirstScenFault scen g asked fault × IsUnwritten out out'
+IsAutoFault map scen asked horizon tries deps held out out' (a.Plan stop) =
+    (g : Ground) × (tasks : List Task) × AreTextsOf map scen asked g tasks × IsMakingFault g tasks horizon tries deps (a.Plan stop) × IsUnwritten out out'
+IsAutoFault map scen asked horizon tries deps held out out' (a.Compile fault) =
+    (g : Ground) × (tasks : List Task) × AreTextsOf map scen asked g tasks × IsMakingFault g tasks horizon tries deps (a.Compile fault) × IsUnwritten out out'
+IsAutoFault map scen asked horizon tries deps held out out' (a.Run fault) =
+    (m : MakesProgram map scen asked horizon tries deps) × StopsTrace m.program m.chain held out out' fault
+
+-- one order is tried, that of the agents' numbers
+abbrev pub one_try : Tries
+one_try = record { count = 1; best = None }
+
+-- the trace of the program that is made of the texts was written under the holds, with the plan of that order, and the report has its
+-- numbers; or a refusal
+abbrev pub AutoRuns : (map scen : List ℕ) → Option ℕ → ℕ → Deps → List ℕ → (out out' : SinkState) → Result Report AutoFault → Type 0
+AutoRuns map scen asked horizon deps held out out' (Ok r) = (m : MakesProgram map scen asked horizon one_try deps) × WritesTrace m.program m.chain held out out' r
+AutoRuns map scen asked horizon deps held out out' (Err fault) = IsAutoFault map scen asked horizon one_try deps held out out' fault
+
+-- the first fault of the map's text or of the scenario's; or no plan is made, or its agents make too many moves
+abbrev pub IsMakingRefusal : (map scen : List ℕ) → Option ℕ → ℕ → Tries → Deps → Fault → Type 0
+IsMakingRefusal map scen asked horizon tries deps fault =
+    IsProblemRefusal map scen asked fault
+    ⊎ ((g : Ground) × (tasks : List Task) × (e : AutoFault) × (fault ≡ step_fault e) × AreTextsOf map scen asked g tasks × IsMakingFault g tasks horizon tries deps e)
+
+-- how many orders were tried for the plan, its steps and its sum of costs, each with its number
+abbrev pub plan_numbers_text : PlanNumbers → List ℕ
+plan_numbers_text n = count_lines ((codes "tries", n.tried) ∷ (codes "steps", n.steps) ∷ (codes "cost", n.cost) ∷ [])
+
+-- the numbers of the plan are printed, if they are asked for
+abbrev pub TellsNumbers : Bool → PlanNumbers → (out out' : SinkState) → Result ℕ Fault → Type 0
+TellsNumbers false numbers out out' result = (out' ≡ out) × (result ≡ Ok 0)
+TellsNumbers true numbers out out' result = Prints (plan_numbers_text numbers) out out' result
+
+-- what `auto` answers for the texts of its files
+abbrev pub AnswersAuto : AutoRequest → FileTexts → (out out' : SinkState) → Result ℕ Fault → Type 0
+AnswersAuto r texts out out' result =
+    Does (MakesProgram texts.map.items texts.scen.items r.agents r.horizon r.tries r.deps) (IsMakingRefusal texts.map.items texts.scen.items r.agents r.horizon r.tries r.deps)
+    (λ x. Follow (Runs x.program x.chain texts.holds.items) (TellsNumbers r.numbers x.numbers)) out out' result
+
+-- The program was rehearsed under the holds for which the bytes stand, and the text of that was written and handed on; the status says how
+-- it ended. Or the rehearsal or the flush after it was refused
+abbrev pub RehearsesProgram : Program → (held : List ℕ) → (out out' : SinkState) → Result ℕ Fault → Type 0
+RehearsesProgram p held out out' (Ok status) =
+    (source : SourceState) × (r : Rehearsal) × RehearsesFlushed p (hold_source p held) source out out' (Ok r) × (status ≡ end_status r.end)
+RehearsesProgram p held out out' (Err fault) =
+    (source : SourceState) × (e : RunFault) × (fault ≡ f.Run e) × RehearsesFlushed p (hold_source p held) source out out' (Err e)
+
+-- what `rehearse` answers for the texts of its files
+abbrev pub AnswersRehearse : FileTexts → (out out' : SinkState) → Result ℕ Fault → Type 0
+AnswersRehearse texts out out' result =
+    Does (ReadsProgram texts.subject.items) (IsLoadRefusal texts.subject.items) (λ x. RehearsesProgram x.program texts.holds.items) out out' result
+
+-- the text is all that the input had, if the input says it, and is no longer than a text that is read
+pub record IsTextOf (input : Option (List ℕ)) (text : List ℕ) : Type 0 where
+  pub whole : IfSome input (λ rest. text ≡ rest)
+  pub within : length text ≤ MAX_BYTES
+
+-- the bytes for which the text of the input stands in hexadecimal
+pub record ReadsInput (input : Option (List ℕ)) (bytes : List ℕ) : Type 0 where
+  pub text : List ℕ
+  pub read : IsTextOf input text
+  pub pairs : bytes_of text ≡ Ok bytes
+
+-- the input cannot be read, or this is the first fault of its text
+abbrev pub IsInputRefusal : Option (List ℕ) → Fault → Type 0
+IsInputRefusal input (f.Hex fault) = (text : List ℕ) × IsTextOf input text × (fault ≢ h.OutOfMemory → bytes_of text ≡ Err fault)
+IsInputRefusal input (f.File name) = name.now ≡ codes "-"
+IsInputRefusal input f.Memory = Unit {0}
+IsInputRefusal input _ = ⊥
+
+-- what the run without words answers: the program of the input is rehearsed, with nobody held
+abbrev pub AnswersHex : Option (List ℕ) → (out out' : SinkState) → Result ℕ Fault → Type 0
+AnswersHex input out out' result =
+    Does ((bytes : List ℕ) × ReadsInput input bytes × ReadsProgram bytes) (λ fault. IsInputRefusal input fault ⊎ ((bytes : List ℕ) × ReadsInput input bytes × IsLoadRefusal bytes fault))
+    (λ x. RehearsesProgram x.2.program []) out out' result
+
+-- 0 if the rehearsal was written and ends finished, 1 if it was written and ends stuck, and else the status of a refusal
+-- that was reported: the other output took that one line, or failed within it
+abbrev pub RunsHex : Option (List ℕ) → (out out' err err' : SinkState) → ℕ → Type 0
+RunsHex input out out' err err' status = (done : Result ℕ Fault) × AnswersHex input out out' done × Finishes done err err' status

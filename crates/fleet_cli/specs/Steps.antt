@@ -1,0 +1,144 @@
+-- What commands are made of: what the texts of a map, a scenario and a program stand for, and what is made for them.
+use Rattle.std.specs.Prelude.{ℕ, List, Option, ◌≡◌, ◌≢◌, ◌⊎◌, max, Bool, None, Some, Result, Ok, Err}
+use Rattle.fleet_model.specs.declared.task.Task.{Task}
+use Rattle.fleet_grid.specs.Ground.{Ground, is_passable}
+use Rattle.fleet_grid.specs.MapText.{IsMapText, IsFirstMapFault}
+use Rattle.fleet_grid.specs.declared.fault.MapFault.TheVariants as m
+use Rattle.fleet_scen.specs.ScenText.{IsScenText, IsFirstScenFault}
+use Rattle.fleet_scen.specs.declared.fault.ScenFault.TheVariants as s
+use Rattle.fleet_cli.specs.declared.fault.AutoFault.{AutoFault}
+use Rattle.fleet_cli.specs.declared.fault.AutoFault.TheVariants as a
+use Rattle.fleet_args.specs.declared.commands.Tries.{Tries}
+use Rattle.fleet_model.specs.Program.{Program}
+use Rattle.fleet_model.specs.declared.geometry.Place.{Place}
+use Rattle.fleet_model.specs.Chain.{IsLongestChain}
+use Rattle.fleet_model.specs.Accepted.{IsAccepted}
+use Rattle.fleet_plan.specs.Plan.{Plan, steps, IsConflictFree}
+use Rattle.fleet_plan.specs.Numbers.{sum_of_costs}
+use Rattle.fleet_search.specs.Orders.{IsMadeInTry, IsStuckInTries}
+use Rattle.fleet_search.specs.Best.{IsBestInTries}
+use Rattle.fleet_search.specs.declared.fault.PlanStop.{PlanStop}
+use Rattle.fleet_search.specs.declared.fault.PlanStop.TheVariants as p
+use Rattle.fleet_adg.specs.Compiled.{compiled_if_few}
+use Rattle.fleet_adg.specs.declared.fault.CompileFault.{CompileFault}
+use Rattle.fleet_code.specs.Spelling.{SpellsIn, Spells}
+use Rattle.fleet_code.specs.declared.format.Version.TheVariants.{One}
+use Rattle.fleet_model.specs.declared.deps.Deps.{Deps}
+use Rattle.fleet_model.specs.declared.deps.Deps.TheVariants.{Last}
+use Rattle.fleet_args.specs.declared.commands.Best.{Best}
+use Rattle.fleet_args.specs.declared.commands.Best.TheVariants as best
+use Rattle.fleet_cli.specs.declared.steps.TheConstants.{NO_CHAIN}
+use Rattle.fleet_cli.specs.declared.steps.PlanNumbers.{PlanNumbers}
+use Rattle.fleet_code.specs.LoadFaults.{IsFirstLoadFault}
+use Rattle.fleet_code.specs.declared.fault.LoadFault.TheVariants as l
+use Rattle.fleet_verify.specs.Parts.{IsAcceptedFor}
+use Rattle.fleet_verify.specs.Faults.{IsFault}
+use Rattle.fleet_cli.specs.declared.fault.Fault.{Fault}
+use Rattle.fleet_cli.specs.declared.fault.Fault.TheVariants as f
+
+-- the texts stand for this ground and these tasks
+pub record AreTextsOf (map scen : List ℕ) (asked : Option ℕ) (g : Ground) (tasks : List Task) : Type 0 where
+  pub ground : IsMapText map g
+  pub tasks_read : IsScenText scen g asked tasks
+
+-- the longest chain of the program has so many actions; if there is no program, this number stands for it
+abbrev pub IsChainIn : Result Program CompileFault → ℕ → Type 0
+IsChainIn (Ok program) chain = IsLongestChain program chain
+IsChainIn (Err fault) chain = chain ≡ NO_CHAIN
+
+-- by what a plan is the best: the longest chain of its program, in which a move into a cell awaits the latest leaving of it; or its sum of
+-- costs
+abbrev pub IsMeasure : Best → Plan → ℕ → Type 0
+IsMeasure best.Chain plan measure = IsChainIn (compiled_if_few plan Last) measure
+IsMeasure best.Cost plan measure = measure ≡ sum_of_costs plan
+
+-- in one of the first orders of the agents, of which so many are tried at most, each path is the earliest against those before it; or so
+-- many are tried in any case, and of the plans that are so made this one is the first with the least measure. So many were tried
+abbrev pub IsMadeBy : (Place → Bool) → List Task → ℕ → ℕ → Option Best → (tried : ℕ) → Plan → Type 0
+IsMadeBy passable tasks horizon count None tried plan = IsMadeInTry passable tasks horizon count tried plan
+IsMadeBy passable tasks horizon count (Some best) tried plan =
+    (tried ≡ max count 1) × ((measure : ℕ) × IsBestInTries passable tasks horizon (IsMeasure best) count plan measure)
+
+-- the plan is so made, and it is free of conflict
+pub record IsPlannedFor (g : Ground) (tasks : List Task) (horizon : ℕ) (tries : Tries) (tried : ℕ) (plan : Plan) : Type 0 where
+  pub made : IsMadeBy (is_passable g) tasks horizon tries.count tries.best tried plan
+  pub free : IsConflictFree (is_passable g) tasks plan
+
+-- these are the numbers of the plan
+pub record AreNumbersOf (plan : Plan) (numbers : PlanNumbers) : Type 0 where
+  pub steps : numbers.steps ≡ steps plan
+  pub cost : numbers.cost ≡ sum_of_costs plan
+
+-- the program is that of such a plan, which has these numbers, and it is accepted
+pub record IsMadeFor (g : Ground) (tasks : List Task) (horizon : ℕ) (tries : Tries) (deps : Deps) (numbers : PlanNumbers) (program : Program) : Type 0 where
+  pub plan : Plan
+  pub planned : IsPlannedFor g tasks horizon tries numbers.tried plan
+  pub numbered : AreNumbersOf plan numbers
+  pub compiled : compiled_if_few plan deps ≡ Ok program
+  pub accepted : IsAccepted (is_passable g) tasks program
+
+-- the bytes are the spelling, in version 1, of the program of such a plan
+pub record SpellsMade (g : Ground) (tasks : List Task) (horizon : ℕ) (tries : Tries) (deps : Deps) (numbers : PlanNumbers) (bytes : List ℕ) : Type 0 where
+  pub program : Program
+  pub made : IsMadeFor g tasks horizon tries deps numbers program
+  pub spelled : SpellsIn One bytes program
+
+-- in the last of so many orders an agent is left without a path by those before it
+abbrev pub IsPlanStop : Ground → List Task → ℕ → Tries → PlanStop → Type 0
+IsPlanStop g tasks horizon tries stop = (agent : ℕ) × (stop ≡ p.NoPath agent) × IsStuckInTries (is_passable g) tasks horizon tries.count agent
+
+-- memory ran out; or an agent is left without a path by those before it; or the agents of the plan make too many moves
+abbrev pub IsMakingFault : Ground → List Task → ℕ → Tries → Deps → AutoFault → Type 0
+IsMakingFault g tasks horizon tries deps a.OutOfMemory = Unit {0}
+IsMakingFault g tasks horizon tries deps (a.Plan stop) = IsPlanStop g tasks horizon tries stop
+IsMakingFault g tasks horizon tries deps (a.Compile fault) = (plan : Plan) × (tried : ℕ) × IsPlannedFor g tasks horizon tries tried plan × (compiled_if_few plan deps ≡ Err fault)
+IsMakingFault g tasks horizon tries deps _ = ⊥
+
+-- the bytes spell this program, which is accepted for the map and the tasks, with a longest chain of so many actions
+pub record Accepts (bytes : List ℕ) (g : Ground) (tasks : List Task) (p : Program) (chain : ℕ) : Type 0 where
+  pub spelled : Spells bytes p
+  pub accepted_for : IsAcceptedFor g tasks p chain
+
+-- a map and tasks, for which the texts stand
+pub record ReadsProblem (map scen : List ℕ) (asked : Option ℕ) : Type 0 where
+  pub ground : Ground
+  pub tasks : List Task
+  pub texts : AreTextsOf map scen asked ground tasks
+
+-- a program that the bytes spell
+pub record ReadsProgram (bytes : List ℕ) : Type 0 where
+  pub program : Program
+  pub spelled : Spells bytes program
+
+-- the texts of a map and a scenario are refused: the first fault of the map's text, or of the scenario's on that map. Memory may run out
+-- in any step, and stands in place of any fault
+abbrev pub IsProblemRefusal : (map scen : List ℕ) → Option ℕ → Fault → Type 0
+IsProblemRefusal map scen asked (f.Map fault) = fault ≢ m.OutOfMemory → IsFirstMapFault map fault
+IsProblemRefusal map scen asked (f.Scen fault) = (g : Ground) × IsMapText map g × (fault ≢ s.OutOfMemory → IsFirstScenFault scen g asked fault)
+IsProblemRefusal map scen asked f.Memory = Unit {0}
+IsProblemRefusal map scen asked _ = ⊥
+
+-- the bytes spell no program: this is their first fault
+abbrev pub IsLoadRefusal : List ℕ → Fault → Type 0
+IsLoadRefusal bytes (f.Load fault) = fault ≢ l.OutOfMemory → IsFirstLoadFault bytes fault
+IsLoadRefusal bytes f.Memory = Unit {0}
+IsLoadRefusal bytes _ = ⊥
+
+-- the bytes of a program are refused, or the program that they spell
+abbrev pub IsAcceptRefusal : List ℕ → Ground → List Task → Fault → Type 0
+IsAcceptRefusal bytes g tasks (f.Verify fault) = (p : Program) × Spells bytes p × IsFault (is_passable g) tasks p fault
+IsAcceptRefusal bytes g tasks fault = IsLoadRefusal bytes fault
+
+-- the texts stand for a map and for tasks, and the bytes spell a program that is accepted for them
+pub record AcceptsTexts (map scen : List ℕ) (asked : Option ℕ) (bytes : List ℕ) : Type 0 where
+  pub ground : Ground
+  pub tasks : List Task
+  pub texts : AreTextsOf map scen asked ground tasks
+  pub program : Program
+  pub chain : ℕ
+  pub accepts : Accepts bytes ground tasks program chain
+
+-- the texts and the bytes are refused, judged in this order: map, scenario, program
+abbrev pub IsTextsRefusal : (map scen : List ℕ) → Option ℕ → List ℕ → Fault → Type 0
+IsTextsRefusal map scen asked bytes fault =
+    IsProblemRefusal map scen asked fault ⊎ ((g : Ground) × (tasks : List Task) × AreTextsOf map scen asked g tasks × IsAcceptRefusal bytes g tasks fault)

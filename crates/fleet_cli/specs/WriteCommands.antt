@@ -1,0 +1,97 @@
+-- What the commands `compile`, `thin` and `migrate` write and print.
+use Rattle.std.specs.Prelude.{◌≡◌, ◌≢◌, ℕ, List, [], ◌∷◌, length, Option, Ok, Err, codes, Result}
+use Rattle.fleet_model.specs.declared.task.Task.{Task}
+use Rattle.fleet_model.specs.Program.{Program, total_moves, total_awaits}
+use Rattle.fleet_model.specs.Accepted.{IsAccepted}
+use Rattle.fleet_grid.specs.Ground.{Ground, is_passable}
+use Rattle.fleet_plan.specs.Plan.{Plan, IsConflictFree}
+use Rattle.fleet_adg.specs.Compiled.{compiled_staying_if_few}
+use Rattle.fleet_model.specs.declared.deps.Deps.{Deps}
+use Rattle.fleet_adg.specs.declared.fault.CompileFault.TheVariants as c
+use Rattle.fleet_code.specs.Spelling.{SpellsShortest, SpellsIn, Spells}
+use Rattle.fleet_text.specs.Sink.{SinkState, IsUnwritten}
+use Rattle.fleet_cli.specs.Files.{Store}
+use Rattle.fleet_args.specs.declared.commands.CompileRequest.{CompileRequest}
+use Rattle.fleet_cli.specs.declared.named.FileTexts.{FileTexts}
+use Rattle.fleet_cli.specs.Output.{count_lines, AnswersOut}
+use Rattle.fleet_cli.specs.Steps.{AcceptsTexts, IsTextsRefusal, IsLoadRefusal}
+use Rattle.fleet_cli.specs.PrintCommands.{ArePlanTexts, IsPlanRefusal}
+use Rattle.fleet_cli.specs.declared.fault.Fault.{Fault}
+use Rattle.fleet_cli.specs.declared.fault.Fault.TheVariants as f
+use Rattle.fleet_model.specs.Chain.{IsLongestChain}
+use Rattle.fleet_verify.specs.Reduced.{IsThinned, RunEqually}
+use Rattle.fleet_args.specs.declared.commands.ThinRequest.{ThinRequest}
+use Rattle.fleet_code.specs.declared.format.Version.TheVariants.{Two}
+use Rattle.fleet_args.specs.declared.commands.MigrateRequest.{MigrateRequest}
+
+-- the texts stand for a map, for tasks and for a plan that is free of conflict; the program is that of the plan with so many stays after
+-- the moves of each agent, and is accepted; and the bytes spell it, in version 1 if that has bytes for it
+pub record CompilesTexts (map scen plan : List ℕ) (asked : Option ℕ) (deps : Deps) (dwell : ℕ) (program : Program) (bytes : List ℕ) : Type 0 where
+  pub ground : Ground
+  pub tasks : List Task
+  pub paths : Plan
+  pub texts : ArePlanTexts map scen plan asked ground tasks paths
+  pub free : IsConflictFree (is_passable ground) tasks paths
+  pub compiled : compiled_staying_if_few paths deps dwell ≡ Ok program
+  pub accepted : IsAccepted (is_passable ground) tasks program
+  pub spelled : SpellsShortest bytes program
+
+-- the first fault of the texts, judged in this order: map, scenario, plan text, plan, program; or memory ran out
+abbrev pub IsCompileFault : (map scen plan : List ℕ) → Option ℕ → Deps → ℕ → Fault → Type 0
+IsCompileFault map scen plan asked deps dwell (f.Compile fault) =
+    (g : Ground) × (tasks : List Task) × (paths : Plan) × ArePlanTexts map scen plan asked g tasks paths × IsConflictFree (is_passable g) tasks paths
+    × (fault ≢ c.OutOfMemory → compiled_staying_if_few paths deps dwell ≡ Err fault)
+IsCompileFault map scen plan asked deps dwell fault = IsPlanRefusal map scen plan asked fault
+
+-- the agents, the moves and the awaits of the program, and its bytes, each with its number
+abbrev pub compiled_text : Program → List ℕ → List ℕ
+compiled_text p bytes =
+    count_lines ((codes "agents", length p) ∷ (codes "moves", total_moves p) ∷ (codes "awaits", total_awaits p) ∷ (codes "bytes", length bytes) ∷ [])
+
+-- What the command answers for the texts of its files. The file OUT holds the program's bytes, every other file is as before, and the
+-- program's numbers were printed; or a refusal before anything is written; or OUT could not be written, or the output failed
+abbrev pub AnswersCompile : (files after : Option Store) → CompileRequest → FileTexts → (out out' : SinkState) → Result ℕ Fault → Type 0
+AnswersCompile files after r texts out out' result =
+    AnswersOut {A = Program × List ℕ} files after r.out.now (λ made. CompilesTexts texts.map.items texts.scen.items texts.subject.items r.agents r.deps r.dwell made.0 made.1)
+    (IsCompileFault texts.map.items texts.scen.items texts.subject.items r.agents r.deps r.dwell) (λ made. made.1) (λ made. compiled_text made.0 made.1) out out' result
+
+-- the program of the bytes is accepted for the texts; the bytes that are written spell that program without its implied awaits, in
+-- version 1 if that has bytes for it; it is accepted for the same map and tasks, has the same longest chain and runs equally; and the
+-- two have so many awaits
+pub record ThinsTexts (map scen : List ℕ) (asked : Option ℕ) (program : List ℕ) (before after : ℕ) (bytes : List ℕ) : Type 0 where
+  pub accepts : AcceptsTexts map scen asked program
+  pub thinned : Program
+  pub is : IsThinned accepts.program thinned
+  pub accepted : IsAccepted (is_passable accepts.ground) accepts.tasks thinned
+  pub longest : IsLongestChain thinned accepts.chain
+  pub equally : RunEqually accepts.program thinned
+  pub spelled : SpellsShortest bytes thinned
+  pub had : before ≡ total_awaits accepts.program
+  pub has : after ≡ total_awaits thinned
+
+-- the awaits before and after
+abbrev pub thinned_text : ℕ → ℕ → List ℕ
+thinned_text before after = count_lines ((codes "awaits", before) ∷ (codes "awaits", after) ∷ [])
+
+-- What the command answers for the texts of its files. The file OUT holds the bytes, every other file is as before, and the numbers of
+-- awaits were printed; or a refusal before anything is written; or OUT could not be written, or the output failed
+abbrev pub AnswersThin : (files after : Option Store) → ThinRequest → FileTexts → (out out' : SinkState) → Result ℕ Fault → Type 0
+AnswersThin files after r texts out out' result =
+    AnswersOut {A = ℕ × ℕ × List ℕ} files after r.out.now (λ made. ThinsTexts texts.map.items texts.scen.items r.agents texts.subject.items made.0 made.1 made.2)
+    (IsTextsRefusal texts.map.items texts.scen.items r.agents texts.subject.items) (λ made. made.2) (λ made. thinned_text made.0 made.1) out out' result
+
+-- the bytes spell a program, in either version, and the others spell it in version 2
+pub record MigratesBytes (bytes migrated : List ℕ) : Type 0 where
+  pub program : Program
+  pub spelled : Spells bytes program
+  pub anew : SpellsIn Two migrated program
+
+-- how many bytes there are
+abbrev pub migrated_text : List ℕ → List ℕ
+migrated_text migrated = count_lines ((codes "bytes", length migrated) ∷ [])
+
+-- What the command answers for the bytes of its file. The file OUT holds the program's bytes in version 2, every other file is as before,
+-- and how many they are was printed; or a refusal before anything is written; or OUT could not be written, or the output failed
+abbrev pub AnswersMigrate : (files after : Option Store) → MigrateRequest → FileTexts → (out out' : SinkState) → Result ℕ Fault → Type 0
+AnswersMigrate files after r texts out out' result =
+    AnswersOut files after r.out.now (MigratesBytes texts.subject.items) (IsLoadRefusal texts.subject.items) (λ migrated. migrated) migrated_text out out' result

@@ -1,0 +1,305 @@
+//! The commands that print what they find: `instance`, `check`, `plan`, `verify` and `list`.
+
+ghost use Rattle.std.specs.Prelude.{◌<◌, ◌∷◌, [], length, List, ℕ, IfOk};
+ghost use Rattle.fleet_text.specs.Sink.{IsWorking, TakesAll, Delivers};
+ghost use Rattle.fleet_cli.specs.PrintCommands.{task_line, task_lines, map_line, instance_text, AnswersInstance, check_text, IsAskedBound, AnswersCheck, AnswersPlan, accepted_text, SpellsBreakingHolds, ReportsRefused, AnswersVerify, AnswersList};
+ghost use Rattle.fleet_model.specs.declared.geometry.Place.{Place};
+ghost use Rattle.fleet_verify.specs.Broken.{MeetUnordered, IsBrokenBy};
+ghost use Rattle.fleet_run.specs.Listing.{program_text};
+
+use crate::fault::Fault;
+use crate::named::FileTexts;
+use crate::output::{print_report, status_after_print};
+use crate::steps::{plan_by, read_problem, view_subject};
+use fleet_args::{CheckRequest, InstanceRequest, PlanRequest, VerifyRequest};
+use fleet_grid::Grid;
+use fleet_model::{Cell, OutOfMemory, ProgramView, Visit, total_awaits, total_moves};
+use fleet_plan::{Checked, Plan, check, read_plan, write_plan};
+use fleet_run::{Flush, OutFault, TraceOut, put_program, write_holds};
+use fleet_scen::Instance;
+use fleet_search::bound;
+use fleet_text::{Word, deliver, put_count, put_line};
+use fleet_verify::{Accepted, Refused, VerifyFault, breaking_holds, verify};
+use std::alloc::Global;
+
+/// Writes the line of an agent, with its start and its goal.
+#[tactic(auto, unfolding(crate::specs::PrintCommands::task_line))]
+fn put_task<O: TraceOut>(out: &mut O, i: u16, start: Cell, goal: Cell) -> Result<(), OutFault>
+    requires { IsWorking (O.state out.old) }
+    ensures { TakesAll (O.state out.old) (O.state out.new) result (task_line i start goal) }
+{
+    let start = Word::Pair(start.x, start.y);
+    let goal = Word::Pair(goal.x, goal.y);
+    put_line(out, &[Word::Label(i as u64), start, goal])
+}
+
+/// Writes the line of each agent.
+fn put_tasks<O: TraceOut>(out: &mut O, instance: &Instance) -> Result<(), OutFault>
+    requires { IsWorking (O.state out.old) }
+    ensures { TakesAll (O.state out.old) (O.state out.new) result
+        (task_lines instance.now (length instance.now)) }
+{
+    for i in 0..instance.agents() {
+        put_task(out, i, instance.start(i), instance.goal(i))?;
+    }
+    Ok(())
+}
+
+/// Writes the line of the map's columns and rows.
+#[tactic(auto, unfolding(crate::specs::PrintCommands::map_line))]
+fn put_sizes<O: TraceOut>(out: &mut O, grid: &Grid) -> Result<(), OutFault>
+    requires { IsWorking (O.state out.old) }
+    ensures { TakesAll (O.state out.old) (O.state out.new) result (map_line grid.now) }
+{
+    let width = Word::Number(grid.width() as u64);
+    let height = Word::Number(grid.height() as u64);
+    put_line(out, &[Word::Text("map"), width, height])
+}
+
+/// Writes the sizes of the map, its passable cells, and the tasks of the agents.
+fn put_instance<O: TraceOut>(out: &mut O, grid: &Grid, instance: &Instance) -> Result<(), OutFault>
+    requires { IsWorking (O.state out.old) }
+    ensures { TakesAll (O.state out.old) (O.state out.new) result
+        (instance_text grid.now instance.now) }
+{
+    put_sizes(out, grid)?;
+    put_count(out, "ground", grid.ground() as u64)?;
+    put_count(out, "agents", instance.agents() as u64)?;
+    put_tasks(out, instance)
+}
+
+/// Prints the instance, and has the sink hand it on.
+fn print_instance<O: Flush>(out: &mut O, grid: &Grid, instance: &Instance) -> Result<(), OutFault>
+    requires { IsWorking (O.state out.old) }
+    ensures { Delivers (O.state out.old) (O.state out.new) result
+        (instance_text grid.now instance.now) }
+{
+    put_instance(out, grid, instance)?;
+    out.flush()
+}
+
+/// The command `instance`: prints to `out` the sizes of the map, its passable cells, and the start and the goal of each
+/// agent. Answers 0.
+#[inline(never)]
+pub(crate) fn do_instance<'a, O: Flush>(
+    alloc: Global,
+    request: &InstanceRequest<'a>,
+    texts: FileTexts,
+    out: &mut O,
+) -> Result<u8, Fault<'a>>
+    requires { IsWorking (O.state out.old) }
+    ensures { AnswersInstance request.now texts (O.state out.old) (O.state out.new) result }
+{
+    let problem = read_problem(alloc, &texts, request.agents)?;
+    status_after_print(print_instance(out, &problem.grid, &problem.instance))
+}
+
+/// Prints that the plan is free of conflict, with its agents and steps and, if its bound is given, its other numbers.
+fn print_check<O: Flush>(out: &mut O, plan: &Plan, bound: Option<u32>) -> Result<(), OutFault>
+    requires { IsWorking (O.state out.old) }
+    ensures { Delivers (O.state out.old) (O.state out.new) result (check_text plan.now bound) }
+{
+    match bound {
+        None => print_report(
+            out,
+            "conflict-free",
+            &[
+                ("agents", plan.agents() as u64),
+                ("steps", plan.steps() as u64),
+            ],
+        ),
+        Some(bound) => print_report(
+            out,
+            "conflict-free",
+            &[
+                ("agents", plan.agents() as u64),
+                ("steps", plan.steps() as u64),
+                ("cost", plan.sum_of_costs() as u64),
+                ("bound", bound as u64),
+                ("moves", plan.moves() as u64),
+                ("waits", plan.waits() as u64),
+            ],
+        ),
+    }
+}
+
+/// The sum of the distances from the starts to the goals, if the numbers are asked for.
+fn asked_bound(
+    alloc: Global,
+    checked: &Checked<'_>,
+    numbers: bool,
+) -> Result<Option<u32>, OutOfMemory>
+    ensures { IfOk result (IsAskedBound checked.now.grid checked.now.instance numbers) }
+{
+    if numbers {
+        let sum = bound(alloc, checked)?;
+        Ok(Some(sum))
+    } else {
+        Ok(None)
+    }
+}
+
+/// The command `check`: judges the plan, and prints to `out` that it is free of conflict, with its agents and its steps
+/// and, if they are asked for, its sum of costs, the sum of the distances to the goals, its moves and its waits. Answers 0. A plan's first fault is a refusal.
+#[inline(never)]
+pub(crate) fn do_check<'a, O: Flush>(
+    alloc: Global,
+    request: &CheckRequest<'a>,
+    texts: FileTexts,
+    out: &mut O,
+) -> Result<u8, Fault<'a>>
+    requires { IsWorking (O.state out.old) }
+    ensures { AnswersCheck request.now texts (O.state out.old) (O.state out.new) result }
+{
+    let problem = read_problem(alloc, &texts, request.agents)?;
+    let plan = match read_plan(alloc, &texts.subject) {
+        Ok(plan) => plan,
+        Err(fault) => return Err(Fault::Text(fault)),
+    };
+    let checked = match check(alloc, plan, &problem.grid, &problem.instance) {
+        Ok(checked) => checked,
+        Err(refusal) => return Err(Fault::Check(refusal.fault)),
+    };
+    let Ok(bound) = asked_bound(alloc, &checked, request.numbers) else {
+        return Err(Fault::Memory);
+    };
+    status_after_print(print_check(out, checked.plan(), bound))
+}
+
+/// The command `plan`: prints to `out` a plan in which each agent's path is the earliest against those of the agents
+/// before it, in one of the first orders of the agents, or the best of these plans. Answers 0. The texts are let go once they are read.
+#[inline(never)]
+pub(crate) fn do_plan<'a, O: Flush>(
+    alloc: Global,
+    request: &PlanRequest<'a>,
+    texts: FileTexts,
+    out: &mut O,
+) -> Result<u8, Fault<'a>>
+    requires { IsWorking (O.state out.old) }
+    ensures { AnswersPlan request.now texts (O.state out.old) (O.state out.new) result }
+{
+    let problem = read_problem(alloc, &texts, request.agents)?;
+    drop(texts);
+    let found = match plan_by(
+        alloc,
+        &problem.grid,
+        &problem.instance,
+        request.horizon,
+        request.tries,
+    ) {
+        Ok(found) => found,
+        Err(stop) => return Err(Fault::Search(stop)),
+    };
+    let text = match write_plan(alloc, found.checked.plan()) {
+        Ok(text) => text,
+        Err(OutOfMemory) => return Err(Fault::Memory),
+    };
+    status_after_print(deliver(out, &text))
+}
+
+/// Prints that the program is accepted, with its numbers.
+fn print_accepted<P: ProgramView, O: Flush>(
+    out: &mut O,
+    accepted: &Accepted<'_, P>,
+) -> Result<(), OutFault>
+    requires { IsWorking (O.state out.old) }
+    ensures { Delivers (O.state out.old) (O.state out.new) result
+        (accepted_text (P.program accepted.now.program) accepted.now.chain) }
+{
+    let program = accepted.program();
+    print_report(
+        out,
+        "accepted",
+        &[
+            ("agents", program.agents() as u64),
+            ("moves", total_moves(program) as u64),
+            ("awaits", total_awaits(program) as u64),
+            ("chain", accepted.chain() as u64),
+        ],
+    )
+}
+
+/// The breaking holds of two visits of a cell that no chain orders, as text.
+fn breaking_text<P: ProgramView>(
+    alloc: Global,
+    program: &P,
+    first: Visit,
+    second: Visit,
+) -> Result<Vec<u8>, OutOfMemory>
+    requires { (q : Place) × MeetUnordered (P.program program.now) q first second }
+    ensures { IfOk result
+        (λ text. SpellsBreakingHolds (P.program program.now) first second text.items) }
+{
+    let holds = breaking_holds(alloc, program, first, second)?;
+    Ok(write_holds(alloc, &holds)?)
+}
+
+/// The refusal of a program. If it is of two visits of a cell that no chain orders, their breaking holds are printed.
+fn report_refused<'a, P: ProgramView + Drop, O: Flush>(
+    alloc: Global,
+    refused: Refused<P>,
+    out: &mut O,
+) -> Fault<'a>
+    requires working { IsWorking (O.state out.old) }
+    requires broken { IsBrokenBy (P.program refused.program) refused.fault }
+    ensures { ReportsRefused (P.program refused.program) refused.fault
+        (O.state out.old) (O.state out.new) result }
+{
+    let Refused { fault, program } = refused;
+    let VerifyFault::Unordered { first, second, .. } = &fault else {
+        return Fault::Verify(fault);
+    };
+    let Ok(text) = breaking_text(alloc, &program, *first, *second) else {
+        return Fault::Memory;
+    };
+    match deliver(out, &text) {
+        Ok(()) => Fault::Verify(fault),
+        Err(OutFault) => Fault::File("-"),
+    }
+}
+
+/// The command `verify`: prints to `out` that the program is accepted, with its numbers, or, of a program that is refused
+/// for two visits which no chain orders, the holds that break it. Answers 0.
+#[inline(never)]
+pub(crate) fn do_verify<'a, O: Flush>(
+    alloc: Global,
+    request: &VerifyRequest<'a>,
+    texts: FileTexts,
+    out: &mut O,
+) -> Result<u8, Fault<'a>>
+    requires { IsWorking (O.state out.old) }
+    ensures { AnswersVerify request.now texts (O.state out.old) (O.state out.new) result }
+{
+    let problem = read_problem(alloc, &texts, request.agents)?;
+    let program = view_subject(alloc, &texts)?;
+    let accepted = match verify(alloc, program, &problem.grid, &problem.instance) {
+        Ok(accepted) => accepted,
+        Err(refused) => return Err(report_refused(alloc, refused, out)),
+    };
+    status_after_print(print_accepted(out, &accepted))
+}
+
+/// Prints the program as text, and has the sink hand it on.
+#[tactic(auto, using(crate::proofs::RunLemmas::delivers_after))]
+fn print_program<P: ProgramView, O: Flush>(out: &mut O, program: &P) -> Result<(), OutFault>
+    requires { IsWorking (O.state out.old) }
+    ensures { Delivers (O.state out.old) (O.state out.new) result
+        (program_text (P.program program.now)) }
+{
+    put_program(out, program)?;
+    out.flush()
+}
+
+/// The command `list`: prints the program that the file spells to `out`, as text. Answers 0.
+#[inline(never)]
+pub(crate) fn do_list<'a, O: Flush>(
+    alloc: Global,
+    texts: FileTexts,
+    out: &mut O,
+) -> Result<u8, Fault<'a>>
+    requires { IsWorking (O.state out.old) }
+    ensures { AnswersList texts (O.state out.old) (O.state out.new) result }
+{
+    let program = view_subject(alloc, &texts)?;
+    status_after_print(print_program(out, &program))
+}

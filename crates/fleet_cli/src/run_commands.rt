@@ -1,0 +1,250 @@
+//! The commands that run a program tick by tick, `run`, `auto` and `rehearse`, and the run of the program without words;
+//! and what becomes of their output at the end: a run's sink hands on all that was written before anything is reported.
+
+ghost use Rattle.std.specs.Prelude.{◌≡◌, IfOk, IfErr};
+ghost use Rattle.fleet_text.specs.Sink.{IsWorking};
+ghost use Rattle.fleet_cli.specs.Output.{end_status};
+ghost use Rattle.fleet_cli.specs.RunCommands.{FlushesRun, Runs, AutoRuns, AnswersRun, TellsNumbers, AnswersAuto, RehearsesProgram, AnswersRehearse, ReadsInput, IsInputRefusal, AnswersHex, RunsHex};
+
+use crate::fault::{AutoFault, Fault, finish};
+use crate::input::{FileFault, read_whole};
+use crate::named::FileTexts;
+use crate::output::{print_counts, status_after_print};
+use crate::steps::{
+    ONE_TRY, PlanNumbers, accept, accept_made, made_bytes, read_problem, view_program, view_subject,
+};
+use fleet_adg::Deps;
+use fleet_args::{AutoRequest, RunRequest};
+use fleet_code::{each_spelling_has_one_program, read_hex};
+use fleet_grid::read_map;
+use fleet_model::ProgramView;
+use fleet_run::{
+    End, Flush, HoldText, OutFault, Report, RunFault, TraceOut, rehearse, run_accepted,
+};
+use fleet_scen::read_scen;
+use fleet_verify::Accepted;
+use std::alloc::Global;
+use std::io::Read;
+
+/// Has the sink of a run hand on all that was written, unless it has failed. A flush that fails is a failed write.
+fn flush_run<T: Drop, O: Flush>(out: &mut O, ran: Result<T, RunFault>) -> Result<T, RunFault>
+    ensures { FlushesRun (O.state out.old) (O.state out.new) ran result }
+{
+    if out.failed() {
+        return ran;
+    }
+    match out.flush() {
+        Ok(()) => ran,
+        Err(OutFault) => Err(RunFault::Write),
+    }
+}
+
+/// Runs an accepted program, under the holds for which the bytes stand, writes its trace, and has the sink hand it on.
+/// Answers 0.
+fn run_flushed<'a, P: ProgramView + Drop, O: Flush>(
+    alloc: Global,
+    accepted: Accepted<'_, P>,
+    holds: &[u8],
+    out: &mut O,
+) -> Result<u8, Fault<'a>>
+    requires { IsWorking (O.state out.old) }
+    ensures { Runs (P.program accepted.entry.program) accepted.entry.chain holds.now
+        (O.state out.old) (O.state out.new) result }
+{
+    let ran = run_accepted(alloc, accepted, holds, out);
+    match flush_run(out, ran) {
+        Ok(_) => Ok(0),
+        Err(fault) => Err(Fault::Run(fault)),
+    }
+}
+
+/// The command `run`: verifies the program, and writes its trace, under the holds, to `out`. Answers 0.
+#[inline(never)]
+pub(crate) fn do_run<'a, O: Flush>(
+    alloc: Global,
+    request: &RunRequest<'a>,
+    texts: FileTexts,
+    out: &mut O,
+) -> Result<u8, Fault<'a>>
+    requires { IsWorking (O.state out.old) }
+    ensures { AnswersRun request.now texts (O.state out.old) (O.state out.new) result }
+{
+    let problem = read_problem(alloc, &texts, request.agents)?;
+    let accepted = accept(alloc, &texts, &problem)?;
+    run_flushed(alloc, accepted, &texts.holds, out)
+}
+
+/// Plans for the map and the scenario (of whose agents the first `asked`, or all), with paths that arrive by the
+/// horizon, compiles the plan, writes the program as bytes, loads and verifies these, and runs the program under the
+/// holds. The trace is written to `out`, which is not flushed. The report has the trace's numbers.
+///
+/// Errors: the fault of the first step that refuses. Before the run nothing is written; of a run that stops `out` has
+/// the lines that `drive` names. Encoding, loading and verifying refuse for want of memory alone.
+pub fn auto_run<O: TraceOut>(
+    alloc: Global,
+    map: &[u8],
+    scen: &[u8],
+    asked: Option<u16>,
+    horizon: u16,
+    deps: Deps,
+    holds: &[u8],
+    out: &mut O,
+) -> Result<Report, AutoFault>
+    requires { IsWorking (O.state out.old) }
+    ensures { AutoRuns map.now scen.now asked horizon deps holds.now
+        (O.state out.old) (O.state out.new) result }
+{
+    each_spelling_has_one_program();
+    let grid = read_map(alloc, map)?;
+    let instance = read_scen(alloc, scen, &grid, asked)?;
+    let made = made_bytes(alloc, &grid, &instance, horizon, ONE_TRY, deps)?;
+    let accepted = accept_made(alloc, &made.bytes, &grid, &instance)?;
+    let report = run_accepted(alloc, accepted, holds, out)?;
+    Ok(report)
+}
+
+/// Prints the numbers of a plan that was run, if they are asked for. Answers 0.
+fn tell_numbers<'a, O: Flush>(
+    asked: bool,
+    numbers: &PlanNumbers,
+    out: &mut O,
+) -> Result<u8, Fault<'a>>
+    requires { IsWorking (O.state out.old) }
+    ensures { TellsNumbers asked numbers.now (O.state out.old) (O.state out.new) result }
+{
+    if !asked {
+        return Ok(0);
+    }
+    status_after_print(print_counts(
+        out,
+        &[
+            ("tries", numbers.tried as u64),
+            ("steps", numbers.steps as u64),
+            ("cost", numbers.cost as u64),
+        ],
+    ))
+}
+
+/// The command `auto`: plans for the map and the scenario, compiles the plan, and writes the trace of the program, under
+/// the holds, to `out`, and after it the numbers of the plan, if they are asked for. Answers 0.
+#[inline(never)]
+pub(crate) fn do_auto<'a, O: Flush>(
+    alloc: Global,
+    request: &AutoRequest<'a>,
+    texts: FileTexts,
+    out: &mut O,
+) -> Result<u8, Fault<'a>>
+    requires { IsWorking (O.state out.old) }
+    ensures { AnswersAuto request.now texts (O.state out.old) (O.state out.new) result }
+{
+    each_spelling_has_one_program();
+    let problem = read_problem(alloc, &texts, request.agents)?;
+    let made = made_bytes(
+        alloc,
+        &problem.grid,
+        &problem.instance,
+        request.horizon,
+        request.tries,
+        request.deps,
+    )?;
+    let Ok(accepted) = accept_made(alloc, &made.bytes, &problem.grid, &problem.instance) else {
+        return Err(Fault::Memory);
+    };
+    run_flushed(alloc, accepted, &texts.holds, out)?;
+    tell_numbers(request.numbers, &made.numbers, out)
+}
+
+/// The status of a rehearsal that ended so: 0 if finished, 1 if stuck.
+fn end_status(end: End) -> u8
+    ensures { result ≡ end_status end }
+{
+    match end {
+        End::Finished => 0,
+        End::Stuck => 1,
+    }
+}
+
+/// Rehearses the program under the holds for which the bytes `held` stand, and has the sink hand on the text of that.
+/// Answers 0 if it ends finished and 1 if it ends stuck.
+fn rehearse_program<'a, P: ProgramView, O: Flush>(
+    alloc: Global,
+    program: &P,
+    held: &[u8],
+    out: &mut O,
+) -> Result<u8, Fault<'a>>
+    requires { IsWorking (O.state out.old) }
+    ensures { RehearsesProgram (P.program program.now) held.now
+        (O.state out.old) (O.state out.new) result }
+{
+    let mut source = HoldText::new(held, program.agents());
+    let ran = rehearse(alloc, program, &mut source, out);
+    match flush_run(out, ran) {
+        Ok(rehearsal) => Ok(end_status(rehearsal.end)),
+        Err(fault) => Err(Fault::Run(fault)),
+    }
+}
+
+/// The command `rehearse`: writes the rehearsal of the program, under the holds, to `out`. Answers 0 if it ends finished
+/// and 1 if it ends stuck.
+#[inline(never)]
+pub(crate) fn do_rehearse<'a, O: Flush>(
+    alloc: Global,
+    texts: FileTexts,
+    out: &mut O,
+) -> Result<u8, Fault<'a>>
+    requires { IsWorking (O.state out.old) }
+    ensures { AnswersRehearse texts (O.state out.old) (O.state out.new) result }
+{
+    let program = view_subject(alloc, &texts)?;
+    rehearse_program(alloc, &program, &texts.holds, out)
+}
+
+/// The bytes for which the input stands in hexadecimal.
+fn read_hex_input<R: Read>(alloc: Global, input: &mut R) -> Result<Vec<u8>, Fault<'static>>
+    ensures bytes { IfOk result (λ bytes. ReadsInput (R.remaining input.old) bytes.items) }
+    ensures fault { IfErr result (IsInputRefusal (R.remaining input.old)) }
+{
+    let text = match read_whole(alloc, input) {
+        Ok(text) => text,
+        Err(FileFault::OutOfMemory) => return Err(Fault::Memory),
+        Err(FileFault::Failed) => return Err(Fault::File("-")),
+    };
+    match read_hex(alloc, &text) {
+        Ok(bytes) => Ok(bytes),
+        Err(fault) => Err(Fault::Hex(fault)),
+    }
+}
+
+/// Rehearses, with nobody held, the program that the input stands for in hexadecimal.
+fn rehearse_hex<R: Read, O: Flush>(
+    alloc: Global,
+    input: &mut R,
+    out: &mut O,
+) -> Result<u8, Fault<'static>>
+    requires { IsWorking (O.state out.old) }
+    ensures { AnswersHex (R.remaining input.old) (O.state out.old) (O.state out.new) result }
+{
+    let bytes = read_hex_input(alloc, input)?;
+    let program = view_program(alloc, &bytes)?;
+    rehearse_program(alloc, &program, b"", out)
+}
+
+/// Reads program bytes in hexadecimal from `input`, at most `MAX_BYTES` bytes of text, and writes the rehearsal of the
+/// program, with nobody held, to `out`. Answers 0 if the rehearsal ends finished and 1 if it ends stuck; a refusal is
+/// written to `err` and its status answered: 1, or 3 if memory, the input or `out` failed.
+#[inline(never)]
+pub fn run_hex<R: Read, O: Flush, E: TraceOut>(
+    alloc: Global,
+    input: &mut R,
+    out: &mut O,
+    err: &mut E,
+) -> u8
+    requires out_working { IsWorking (O.state out.old) }
+    requires err_working { IsWorking (E.state err.old) }
+    ensures { RunsHex (R.remaining input.old)
+        (O.state out.old) (O.state out.new)
+        (E.state err.old) (E.state err.new)
+        result }
+{
+    finish(rehearse_hex(alloc, input, out), err)
+}

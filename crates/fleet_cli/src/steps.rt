@@ -1,0 +1,320 @@
+//! What commands are made of: from the texts of a map and a scenario to an instance, from bytes to a program and to an
+//! accepted one, and from an instance to a plan, the program of that plan and its bytes.
+
+ghost use Rattle.std.specs.Prelude.{IfOk, IfErr, ◌≡◌, ℕ};
+ghost use Rattle.fleet_code.specs.Spelling.{Spells};
+ghost use Rattle.fleet_cli.specs.Steps.{AreTextsOf, Accepts, IsProblemRefusal, IsLoadRefusal, IsAcceptRefusal, AreNumbersOf, IsMadeFor, SpellsMade, IsMakingFault, IsMeasure, IsPlannedFor};
+ghost use Rattle.fleet_model.specs.Program.{NeverStays, AreShort, Program};
+ghost use Rattle.fleet_model.specs.Accepted.{IsAccepted};
+ghost use Rattle.fleet_grid.specs.Ground.{is_passable};
+ghost use Rattle.fleet_model.specs.Chain.{IsLongestChain};
+ghost use Rattle.fleet_plan.specs.Plan.{IsConflictFree};
+ghost use Rattle.fleet_search.specs.Best.{IsBestInTries};
+ghost use Rattle.fleet_search.specs.Orders.{IsStuckInTries};
+
+use crate::fault::{AutoFault, Fault};
+use crate::named::FileTexts;
+use fleet_adg::{CompileFault, Deps, compile};
+use fleet_args::{Best, Tries};
+use fleet_code::{CodeView, LoadFault, encode_shortest, view};
+use fleet_grid::{Grid, read_map};
+use fleet_model::{OutOfMemory, Program};
+use fleet_plan::{Checked, Plan};
+use fleet_scen::{Instance, read_scen};
+use fleet_search::{
+    Found, Measure, Measured, PlanStop, SumOfCosts, best_in_orders, first_in_orders,
+};
+use fleet_verify::{Accepted, VerifyFault, verify};
+use std::alloc::Global;
+
+/// A map, and an instance on it.
+#[derive(Drop)]
+pub struct Problem {
+    pub grid: Grid,
+    pub instance: Instance,
+}
+
+/// The map and the instance for which the texts of a command stand: of the scenario's agents the first `asked`, or all.
+pub(crate) fn read_problem<'a>(
+    alloc: Global,
+    texts: &FileTexts,
+    asked: Option<u16>,
+) -> Result<Problem, Fault<'a>>
+    ensures read { IfOk result (λ p. AreTextsOf texts.now.map.items texts.now.scen.items asked
+        p.grid p.instance) }
+    ensures fault { IfErr result
+        (IsProblemRefusal texts.now.map.items texts.now.scen.items asked) }
+{
+    let grid = match read_map(alloc, &texts.map) {
+        Ok(grid) => grid,
+        Err(fault) => return Err(Fault::Map(fault)),
+    };
+    match read_scen(alloc, &texts.scen, &grid, asked) {
+        Ok(instance) => Ok(Problem { grid, instance }),
+        Err(fault) => Err(Fault::Scen(fault)),
+    }
+}
+
+/// The program that the bytes spell, read in place, or the refusal of the program.
+pub(crate) fn view_program<'g, 'a>(
+    alloc: Global,
+    bytes: &'g [u8],
+) -> Result<CodeView<'g>, Fault<'a>>
+    ensures spelled { IfOk result (λ v. Spells bytes.now v.program) }
+    ensures fault { IfErr result (IsLoadRefusal bytes.now) }
+{
+    match view(alloc, bytes) {
+        Ok(program) => Ok(program),
+        Err(fault) => Err(Fault::Load(fault)),
+    }
+}
+
+/// The same, of the file that the command is about.
+pub(crate) fn view_subject<'g, 'a>(
+    alloc: Global,
+    texts: &'g FileTexts,
+) -> Result<CodeView<'g>, Fault<'a>>
+    ensures spelled { IfOk result (λ v. Spells texts.now.subject.items v.program) }
+    ensures fault { IfErr result (IsLoadRefusal texts.now.subject.items) }
+{
+    view_program(alloc, &texts.subject)
+}
+
+/// The program that the bytes of that file spell, read in place and accepted for the map and the instance, or the refusal
+/// of the program.
+pub(crate) fn accept<'g, 'a>(
+    alloc: Global,
+    texts: &'g FileTexts,
+    problem: &'g Problem,
+) -> Result<Accepted<'g, CodeView<'g>>, Fault<'a>>
+    ensures accepted { IfOk result (λ a. Accepts texts.now.subject.items
+        problem.now.grid problem.now.instance a.program.program a.chain) }
+    ensures fault { IfErr result (IsAcceptRefusal texts.now.subject.items
+        problem.now.grid problem.now.instance) }
+{
+    let program = view_subject(alloc, texts)?;
+    match verify(alloc, program, &problem.grid, &problem.instance) {
+        Ok(accepted) => Ok(accepted),
+        Err(refused) => Err(Fault::Verify(refused.fault)),
+    }
+}
+
+/// What is told of a plan that was made: how many orders of the agents were tried for it, its steps, and its sum of costs
+/// in steps.
+#[derive(Clone, Copy, Debug)]
+pub struct PlanNumbers {
+    pub tried: u32,
+    pub steps: u32,
+    pub cost: u32,
+}
+
+/// One order is tried, that of the agents' numbers.
+pub(crate) const ONE_TRY: Tries = Tries {
+    count: 1,
+    best: None,
+};
+
+/// A program of a plan, and the numbers of the plan.
+#[derive(Drop)]
+struct MadeProgram {
+    program: Program,
+    numbers: PlanNumbers,
+}
+
+/// The bytes of such a program.
+#[derive(Drop)]
+pub struct MadeBytes {
+    pub bytes: Vec<u8>,
+    pub numbers: PlanNumbers,
+}
+
+/// The numbers of the plan.
+fn numbers_of(plan: &Plan, tried: u32) -> PlanNumbers
+    ensures tried { result.tried ≡ tried }
+    ensures numbers { AreNumbersOf plan.now result }
+{
+    PlanNumbers {
+        tried,
+        steps: plan.steps(),
+        cost: plan.sum_of_costs(),
+    }
+}
+
+/// The program of the plan that is made for the map and the instance.
+fn made_program(
+    alloc: Global,
+    grid: &Grid,
+    instance: &Instance,
+    horizon: u16,
+    tries: Tries,
+    deps: Deps,
+) -> Result<MadeProgram, AutoFault>
+    ensures made { IfOk result
+        (λ m. IsMadeFor grid.now instance.now horizon tries deps m.numbers m.program) }
+    ensures short { IfOk result (λ m. AreShort m.program) }
+    ensures moves { IfOk result (λ m. NeverStays m.program) }
+    ensures fault { IfErr result (IsMakingFault grid.now instance.now horizon tries deps) }
+{
+    let Found { checked, tried } = plan_by(alloc, grid, instance, horizon, tries)?;
+    let program = compile(alloc, &checked, deps)?;
+    let numbers = numbers_of(checked.plan(), tried);
+    Ok(MadeProgram { program, numbers })
+}
+
+/// The bytes that spell the program of the plan that is made for the map and the instance, in version 1, and the numbers
+/// of the plan.
+pub fn made_bytes(
+    alloc: Global,
+    grid: &Grid,
+    instance: &Instance,
+    horizon: u16,
+    tries: Tries,
+    deps: Deps,
+) -> Result<MadeBytes, AutoFault>
+    ensures made { IfOk result
+        (λ m. SpellsMade grid.now instance.now horizon tries deps m.numbers m.bytes.items) }
+    ensures fault { IfErr result (IsMakingFault grid.now instance.now horizon tries deps) }
+{
+    let MadeProgram { program, numbers } = made_program(
+        alloc, grid, instance, horizon, tries, deps,
+    )?;
+    let bytes = encode_shortest(alloc, &program)?;
+    Ok(MadeBytes { bytes, numbers })
+}
+
+/// The one program that the bytes spell, read in place: refused for want of memory alone.
+fn view_made(alloc: Global, bytes: &[u8]) -> Result<CodeView<'_>, OutOfMemory>
+    requires { (p : Program) × Spells bytes.now p }
+    ensures spelled { IfOk result (λ v. Spells bytes.now v.program) }
+    ensures same { IfOk result (λ v. (p : Program) → Spells bytes.now p → p ≡ v.program) }
+{
+    match view(alloc, bytes) {
+        Ok(program) => Ok(program),
+        Err(LoadFault::OutOfMemory) => Err(OutOfMemory),
+        // The bytes spell a program.
+        Err(_) => unreachable!(),
+    }
+}
+
+/// The program that the bytes spell, which is accepted for the map and the instance, read in place and accepted: refused
+/// for want of memory alone.
+pub fn accept_made<'g>(
+    alloc: Global,
+    bytes: &'g [u8],
+    grid: &'g Grid,
+    instance: &'g Instance,
+) -> Result<Accepted<'g, CodeView<'g>>, OutOfMemory>
+    requires { (p : Program) × Spells bytes.now p
+        × IsAccepted (is_passable grid.now) instance.now p }
+    ensures { IfOk result (λ a. Accepts bytes.now grid.now instance.now a.program.program a.chain) }
+{
+    let program = view_made(alloc, bytes)?;
+    match verify(alloc, program, grid, instance) {
+        Ok(accepted) => Ok(accepted),
+        Err(refused) => match refused.fault {
+            VerifyFault::OutOfMemory => Err(OutOfMemory),
+            // The program is accepted.
+            _ => unreachable!(),
+        },
+    }
+}
+
+/// What stands for the chain of a plan that has no program, since its agents make too many moves.
+pub(crate) const NO_CHAIN: u32 = u32::MAX;
+
+/// The number of actions in the longest chain of a plan's program, in which a move into a cell awaits the latest
+/// leaving of it.
+#[derive(Clone, Copy)]
+struct LongestChain {
+    alloc: Global,
+}
+
+/// The number of actions in the longest chain of an accepted program.
+fn chain_of(
+    alloc: Global,
+    program: Program,
+    grid: &Grid,
+    instance: &Instance,
+) -> Result<u32, OutOfMemory>
+    requires { IsAccepted (is_passable grid.now) instance.now program }
+    ensures { IfOk result (IsLongestChain program) }
+{
+    match verify(alloc, program, grid, instance) {
+        Ok(accepted) => Ok(accepted.chain()),
+        Err(refused) => match refused.fault {
+            VerifyFault::OutOfMemory => Err(OutOfMemory),
+            // The program is accepted.
+            _ => unreachable!(),
+        },
+    }
+}
+
+impl Measure for LongestChain {
+    ghost use Rattle.fleet_cli.specs.Steps.{IsMeasure};
+    ghost use Rattle.fleet_args.specs.declared.commands.Best.TheVariants as best;
+
+    ghost is_measure = { λ _ plan n. IsMeasure best.Chain plan n };
+
+    fn measure(&self, checked: &Checked<'_>) -> Result<u32, OutOfMemory> {
+        match compile(self.alloc, checked, Deps::Last) {
+            Ok(program) => chain_of(self.alloc, program, checked.grid(), checked.instance()),
+            Err(CompileFault::OutOfMemory) => Err(OutOfMemory),
+            Err(CompileFault::TooLong) => Ok(NO_CHAIN),
+        }
+    }
+}
+
+/// The best plan of so many orders, all of which are tried.
+fn best_plan<'g>(
+    alloc: Global,
+    grid: &'g Grid,
+    instance: &'g Instance,
+    horizon: u16,
+    tries: u32,
+    best: Best,
+) -> Result<Measured<'g>, PlanStop>
+    ensures best { IfOk result (λ m. IsBestInTries (is_passable grid.now) instance.now horizon
+        (IsMeasure best) tries m.checked.plan m.measure) }
+    ensures free { IfOk result (λ m.
+        IsConflictFree (is_passable grid.now) instance.now m.checked.plan) }
+    ensures grid { IfOk result (λ m. m.checked.grid ≡ grid.now) }
+    ensures instance { IfOk result (λ m. m.checked.instance ≡ instance.now) }
+    ensures no_path { IfErr result (λ e. (agent : ℕ) → e ≡ PlanStop.NoPath agent
+        → IsStuckInTries (is_passable grid.now) instance.now horizon tries agent) }
+{
+    match best {
+        Best::Chain => {
+            let chain = LongestChain { alloc };
+            best_in_orders(alloc, grid, instance, horizon, tries, &chain)
+        }
+        Best::Cost => best_in_orders(alloc, grid, instance, horizon, tries, &SumOfCosts),
+    }
+}
+
+/// The plan that is made for the map and the instance by so many tries, with paths that arrive by the horizon, and how
+/// many orders were tried for it.
+pub(crate) fn plan_by<'g>(
+    alloc: Global,
+    grid: &'g Grid,
+    instance: &'g Instance,
+    horizon: u16,
+    tries: Tries,
+) -> Result<Found<'g>, PlanStop>
+    ensures planned { IfOk result
+        (λ f. IsPlannedFor grid.now instance.now horizon tries f.tried f.checked.plan) }
+    ensures grid { IfOk result (λ f. f.checked.grid ≡ grid.now) }
+    ensures instance { IfOk result (λ f. f.checked.instance ≡ instance.now) }
+    ensures no_path { IfErr result (λ e. (agent : ℕ) → e ≡ PlanStop.NoPath agent
+        → IsStuckInTries (is_passable grid.now) instance.now horizon tries.count agent) }
+{
+    match tries.best {
+        None => first_in_orders(alloc, grid, instance, horizon, tries.count),
+        Some(best) => {
+            let found = best_plan(alloc, grid, instance, horizon, tries.count, best)?;
+            Ok(Found {
+                checked: found.checked,
+                tried: tries.count.max(1),
+            })
+        }
+    }
+}

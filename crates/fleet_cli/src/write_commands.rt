@@ -1,0 +1,275 @@
+//! The commands that write a program to a file OUT, and then print its numbers: `compile`, `thin` and `migrate`.
+
+ghost use Rattle.std.specs.Prelude.{◌≡◌, ℕ, List, IfOk, IfErr, MatchResult};
+ghost use Rattle.fleet_text.specs.Sink.{IsWorking};
+ghost use Rattle.fleet_code.specs.Spelling.{SpellsShortest};
+ghost use Rattle.fleet_cli.specs.Output.{WritesOut, IsOutRefusal};
+ghost use Rattle.fleet_cli.specs.WriteCommands.{CompilesTexts, IsCompileFault, compiled_text, AnswersCompile, ThinsTexts, thinned_text, AnswersThin, MigratesBytes, migrated_text, AnswersMigrate};
+ghost use Rattle.fleet_model.specs.Program.{total_awaits};
+ghost use Rattle.fleet_cli.specs.Steps.{IsTextsRefusal, IsLoadRefusal};
+
+use crate::fault::Fault;
+use crate::files::Files;
+use crate::named::FileTexts;
+use crate::output::write_out;
+use crate::steps::{accept, read_problem};
+use fleet_adg::{ThinFault, compile_dwell, thin};
+use fleet_args::{CompileRequest, MigrateRequest, ThinRequest};
+use fleet_code::{encode_shortest, encode2, load};
+use fleet_model::{OutOfMemory, Program, ProgramView, total_awaits, total_moves};
+use fleet_plan::{check, read_plan};
+use fleet_run::Flush;
+use std::alloc::Global;
+
+/// A program, and the bytes that spell it.
+#[derive(Drop)]
+struct Compiled {
+    program: Program,
+    bytes: Vec<u8>,
+}
+
+/// The program, as it is asked for, of the plan for which the texts stand. The texts are let go once they are
+/// read.
+fn compiled_program<'a>(
+    alloc: Global,
+    request: &CompileRequest<'_>,
+    texts: FileTexts,
+) -> Result<Program, Fault<'a>>
+    ensures compiled { IfOk result
+        (λ p. (bytes : List ℕ) → SpellsShortest bytes p → CompilesTexts texts.map.items texts.scen.items texts.subject.items
+        request.now.agents request.now.deps request.now.dwell p bytes) }
+    ensures fault { IfErr result (IsCompileFault texts.map.items texts.scen.items texts.subject.items
+        request.now.agents request.now.deps request.now.dwell) }
+{
+    let problem = read_problem(alloc, &texts, request.agents)?;
+    let read = match read_plan(alloc, &texts.subject) {
+        Ok(read) => read,
+        Err(fault) => return Err(Fault::Text(fault)),
+    };
+    drop(texts);
+    let checked = match check(alloc, read, &problem.grid, &problem.instance) {
+        Ok(checked) => checked,
+        Err(refusal) => return Err(Fault::Check(refusal.fault)),
+    };
+    match compile_dwell(alloc, &checked, request.deps, request.dwell) {
+        Ok(program) => Ok(program),
+        Err(fault) => Err(Fault::Compile(fault)),
+    }
+}
+
+/// The program, and the bytes that spell it. The plan is let go before the bytes are made.
+fn compile_texts<'a>(
+    alloc: Global,
+    request: &CompileRequest<'_>,
+    texts: FileTexts,
+) -> Result<Compiled, Fault<'a>>
+    ensures compiled { IfOk result (λ c. CompilesTexts texts.map.items texts.scen.items texts.subject.items
+        request.now.agents request.now.deps request.now.dwell c.program c.bytes.items) }
+    ensures fault { IfErr result (IsCompileFault texts.map.items texts.scen.items texts.subject.items
+        request.now.agents request.now.deps request.now.dwell) }
+{
+    let program = compiled_program(alloc, request, texts)?;
+    let Ok(bytes) = encode_shortest(alloc, &program) else {
+        return Err(Fault::Memory);
+    };
+    Ok(Compiled { program, bytes })
+}
+
+/// Writes the bytes of the program to the file OUT, and prints its numbers.
+fn write_compiled<'a, F: Files, O: Flush>(
+    files: &mut F,
+    name: &'a str,
+    program: &Program,
+    bytes: &[u8],
+    out: &mut O,
+) -> Result<u8, Fault<'a>>
+    requires { IsWorking (O.state out.old) }
+    ensures { MatchResult result
+        (λ status. WritesOut (F.contents files.old) (F.contents files.new) name.entry.now bytes.now
+        (O.state out.old) (O.state out.new) (compiled_text program.now bytes.now) × (status ≡ 0))
+        (IsOutRefusal (F.contents files.old) (F.contents files.new) name.entry.now bytes.now
+        (O.state out.old) (O.state out.new) (compiled_text program.now bytes.now)) }
+{
+    write_out(
+        files,
+        name,
+        bytes,
+        out,
+        &[
+            ("agents", program.agents() as u64),
+            ("moves", total_moves(program) as u64),
+            ("awaits", total_awaits(program) as u64),
+            ("bytes", bytes.len() as u64),
+        ],
+    )
+}
+
+/// The command `compile`: writes the bytes of the plan's program to the file OUT once all before it succeeded, and prints
+/// the program's numbers to `out`. Answers 0.
+#[inline(never)]
+pub(crate) fn do_compile<'a, F: Files, O: Flush>(
+    alloc: Global,
+    request: &CompileRequest<'a>,
+    texts: FileTexts,
+    files: &mut F,
+    out: &mut O,
+) -> Result<u8, Fault<'a>>
+    requires { IsWorking (O.state out.old) }
+    ensures { AnswersCompile (F.contents files.old) (F.contents files.new) request.now texts
+        (O.state out.old) (O.state out.new) result }
+{
+    let compiled = compile_texts(alloc, request, texts)?;
+    write_compiled(files, request.out, &compiled.program, &compiled.bytes, out)
+}
+
+/// The bytes of a thinned program, and how many awaits there were before and are after.
+#[derive(Drop)]
+struct Thinned {
+    before: u32,
+    after: u32,
+    bytes: Vec<u8>,
+}
+
+/// The program that the bytes spell, accepted for the map and the instance for which the texts stand, and thinned; and
+/// how many awaits it had before.
+fn thinned_program<'a>(
+    alloc: Global,
+    request: &ThinRequest<'_>,
+    texts: FileTexts,
+) -> Result<(u32, Program), Fault<'a>>
+    ensures thinned { IfOk result
+        (λ t. (bytes : List ℕ) → SpellsShortest bytes t.1 → ThinsTexts texts.map.items texts.scen.items request.now.agents texts.subject.items t.0 (total_awaits t.1) bytes) }
+    ensures fault { IfErr result (IsTextsRefusal texts.map.items texts.scen.items request.now.agents texts.subject.items) }
+{
+    let problem = read_problem(alloc, &texts, request.agents)?;
+    let accepted = accept(alloc, &texts, &problem)?;
+    match thin(alloc, &accepted) {
+        Ok(thinned) => Ok((total_awaits(accepted.program()), thinned)),
+        Err(ThinFault::OutOfMemory) => Err(Fault::Memory),
+    }
+}
+
+/// The thinned program's bytes. The program that was thinned is let go before they are made.
+fn thin_texts<'a>(
+    alloc: Global,
+    request: &ThinRequest<'_>,
+    texts: FileTexts,
+) -> Result<Thinned, Fault<'a>>
+    ensures thinned { IfOk result
+        (λ t. ThinsTexts texts.map.items texts.scen.items request.now.agents texts.subject.items t.before t.after t.bytes.items) }
+    ensures fault { IfErr result (IsTextsRefusal texts.map.items texts.scen.items request.now.agents texts.subject.items) }
+{
+    let (before, thinned) = thinned_program(alloc, request, texts)?;
+    let after = total_awaits(&thinned);
+    let Ok(bytes) = encode_shortest(alloc, &thinned) else {
+        return Err(Fault::Memory);
+    };
+    Ok(Thinned {
+        before,
+        after,
+        bytes,
+    })
+}
+
+/// Writes the bytes of the thinned program to the file OUT, and prints its awaits before and after.
+fn write_thinned<'a, F: Files, O: Flush>(
+    files: &mut F,
+    name: &'a str,
+    thinned: &Thinned,
+    out: &mut O,
+) -> Result<u8, Fault<'a>>
+    requires { IsWorking (O.state out.old) }
+    ensures { MatchResult result
+        (λ status. WritesOut (F.contents files.old) (F.contents files.new) name.entry.now
+        thinned.now.bytes.items (O.state out.old) (O.state out.new)
+        (thinned_text thinned.now.before thinned.now.after) × (status ≡ 0))
+        (IsOutRefusal (F.contents files.old) (F.contents files.new) name.entry.now
+        thinned.now.bytes.items (O.state out.old) (O.state out.new)
+        (thinned_text thinned.now.before thinned.now.after)) }
+{
+    write_out(
+        files,
+        name,
+        &thinned.bytes,
+        out,
+        &[
+            ("awaits", thinned.before as u64),
+            ("awaits", thinned.after as u64),
+        ],
+    )
+}
+
+/// The command `thin`: writes the bytes of the program without its implied awaits to the file OUT once all before it
+/// succeeded, and prints its awaits before and after to `out`. Answers 0.
+#[inline(never)]
+pub(crate) fn do_thin<'a, F: Files, O: Flush>(
+    alloc: Global,
+    request: &ThinRequest<'a>,
+    texts: FileTexts,
+    files: &mut F,
+    out: &mut O,
+) -> Result<u8, Fault<'a>>
+    requires { IsWorking (O.state out.old) }
+    ensures { AnswersThin (F.contents files.old) (F.contents files.new) request.now texts
+        (O.state out.old) (O.state out.new) result }
+{
+    let thinned = thin_texts(alloc, request, texts)?;
+    write_thinned(files, request.out, &thinned, out)
+}
+
+/// The bytes, in version 2, of the program that these spell in either version.
+fn migrate_bytes<'a>(alloc: Global, bytes: &[u8]) -> Result<Vec<u8>, Fault<'a>>
+    ensures migrated { IfOk result (λ v. MigratesBytes bytes.now v.items) }
+    ensures fault { IfErr result (IsLoadRefusal bytes.now) }
+{
+    let program = match load(alloc, bytes) {
+        Ok(program) => program,
+        Err(fault) => return Err(Fault::Load(fault)),
+    };
+    match encode2(alloc, &program) {
+        Ok(migrated) => Ok(migrated),
+        Err(OutOfMemory) => Err(Fault::Memory),
+    }
+}
+
+/// Writes the bytes to the file OUT, and prints how many they are.
+fn write_migrated<'a, F: Files, O: Flush>(
+    files: &mut F,
+    name: &'a str,
+    migrated: &[u8],
+    out: &mut O,
+) -> Result<u8, Fault<'a>>
+    requires { IsWorking (O.state out.old) }
+    ensures { MatchResult result
+        (λ status. WritesOut (F.contents files.old) (F.contents files.new) name.entry.now
+        migrated.now (O.state out.old) (O.state out.new) (migrated_text migrated.now)
+        × (status ≡ 0))
+        (IsOutRefusal (F.contents files.old) (F.contents files.new) name.entry.now migrated.now
+        (O.state out.old) (O.state out.new) (migrated_text migrated.now)) }
+{
+    write_out(
+        files,
+        name,
+        migrated,
+        out,
+        &[("bytes", migrated.len() as u64)],
+    )
+}
+
+/// The command `migrate`: writes the program, of either version, to the file OUT in version 2 once all before it
+/// succeeded, and prints how many bytes it has to `out`. Answers 0.
+#[inline(never)]
+pub(crate) fn do_migrate<'a, F: Files, O: Flush>(
+    alloc: Global,
+    request: &MigrateRequest<'a>,
+    texts: FileTexts,
+    files: &mut F,
+    out: &mut O,
+) -> Result<u8, Fault<'a>>
+    requires { IsWorking (O.state out.old) }
+    ensures { AnswersMigrate (F.contents files.old) (F.contents files.new) request.now texts
+        (O.state out.old) (O.state out.new) result }
+{
+    let migrated = migrate_bytes(alloc, &texts.subject)?;
+    write_migrated(files, request.out, &migrated, out)
+}

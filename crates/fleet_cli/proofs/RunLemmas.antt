@@ -172,7 +172,7 @@ held_by held p n s source out out' r agents first h =
     subst At agents (subst Told first h)
 
 -- bytes were made of the texts, and they are accepted: so the program that they spell was made of the texts
-pub made : (one : OneProgramEach) {map scen : List ℕ} {asked : Option ℕ} {horizon : ℕ} {tries : Tries} {deps : Deps} {g : Ground} {tasks : List Task} {bytes : List ℕ} {q : Program} {chain : ℕ}
+abbrev pub made : (one : OneProgramEach) {map scen : List ℕ} {asked : Option ℕ} {horizon : ℕ} {tries : Tries} {deps : Deps} {g : Ground} {tasks : List Task} {bytes : List ℕ} {q : Program} {chain : ℕ}
     {numbers : PlanNumbers} → AreTextsOf map scen asked g tasks → SpellsMade g tasks horizon tries deps numbers bytes → Accepts bytes g tasks q chain → MakesProgram map scen asked horizon tries deps
 made one {g = g} {tasks} {bytes} {q} {chain} {numbers} texts plan accepts = record {
   ground = g;
@@ -189,10 +189,10 @@ made one {g = g} {tasks} {bytes} {q} {chain} {numbers} texts plan accepts = reco
 }
 
 -- .. and its run stopped
-pub auto_stops : {map scen : List ℕ} {asked : Option ℕ} {horizon : ℕ} {deps : Deps} {held : List ℕ} {out out' : SinkState} (m : MakesProgram map scen asked horizon one_try deps) (fault : RunFault)
+pub auto_stops : {map scen : List ℕ} {asked : Option ℕ} {horizon : ℕ} {deps : Deps} (held : List ℕ) (out out' : SinkState) (m : MakesProgram map scen asked horizon one_try deps) (fault : RunFault)
     → Traces m.program m.chain held out out' (Err fault) → AutoRuns map scen asked horizon deps held out out' (Err (run_fault fault))
-auto_stops m OutOfMemory h = h
-auto_stops m (Source x) h = (m, h)
-auto_stops m (Hold x) h = (m, h)
-auto_stops m Write h = (m, h)
-auto_stops m HoldLimit h = (m, h)
+auto_stops held out out' m OutOfMemory h = h
+auto_stops held out out' m (Source x) h = (m, h)
+auto_stops held out out' m (Hold x) h = (m, h)
+auto_stops held out out' m Write h = (m, h)
+auto_stops held out out' m HoldLimit h = (m, h)

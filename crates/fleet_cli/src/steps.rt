@@ -190,9 +190,11 @@ fn view_made(alloc: Global, bytes: &[u8]) -> Result<CodeView<'_>, OutOfMemory>
 {
     match view(alloc, bytes) {
         Ok(program) => Ok(program),
-        Err(LoadFault::OutOfMemory) => Err(OutOfMemory),
-        // The bytes spell a program.
-        Err(_) => unreachable!(),
+        Err(fault) => match fault {
+            LoadFault::OutOfMemory => Err(OutOfMemory),
+            // The bytes spell a program.
+            _ => unreachable!(),
+        },
     }
 }
 

@@ -26,9 +26,9 @@ returns g c =
 pub returns-in_err-problem : goal.returns-in_err-problem
 returns-in_err-problem g c =
     let e = err_from_is_err_and c.from_residual.result c.from_residual.ensures.1 in
-    rw (e.1, e.2) (inr (_, refl, inl c.in_err-problem.ensures.fault, refl, refl))
+    rw (e.1, e.2) (inr (_, refl, inl c.in_err-problem.ensures.fault, (refl, refl)))
 
 pub returns-in_err-accepted : goal.returns-in_err-accepted
 returns-in_err-accepted g c =
     let e = err_from_is_err_and c.from_residual-in_err-accepted.result c.from_residual-in_err-accepted.ensures.1 in
-    rw (e.1, e.2) (inr (_, refl, inr (_, _, c.in_ok-problem.ensures.read, c.in_err-accepted.ensures.fault), refl, refl))
+    rw (e.1, e.2) (inr (_, refl, inr (_, _, c.in_ok-problem.ensures.read, c.in_err-accepted.ensures.fault), (refl, refl)))

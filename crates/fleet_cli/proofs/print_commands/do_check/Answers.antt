@@ -1,18 +1,47 @@
-use Rattle.std.proofs.Common.{ap, inl, inr, refl, subst}
+use Rattle.std.proofs.Common.{List, ℕ, Option, ap, inl, inr, refl, subst}
 use Rattle.std.proofs.lemmas.Result.{err_from_is_err_and}
+use Rattle.fleet_text.specs.Sink.{Delivers}
+use Rattle.fleet_plan.specs.Plan.{Plan}
 use Rattle.fleet_plan.specs.PlanText.{IsPlanText}
 use Rattle.fleet_cli.proofs.RunLemmas.{keeps_self}
 use Rattle.fleet_cli.proofs.print_commands.do_check.Goals as goal
+use Rattle.fleet_cli.specs.Steps.{IsProblemRefusal}
+use Rattle.fleet_cli.specs.PrintCommands.{IsPlanRefusal, check_text}
+use Rattle.fleet_cli.specs.declared.fault.Fault.{Fault}
+use Rattle.fleet_cli.specs.declared.fault.Fault.TheVariants as f
+
+-- what is refused of a map and a scenario is refused of a plan for them
+plan_refuses : (map scen plan : List ℕ) (asked : Option ℕ) (fault : Fault) → IsProblemRefusal map scen asked fault → IsPlanRefusal map scen plan asked fault
+plan_refuses map scen plan asked f.Memory h = h
+plan_refuses map scen plan asked (f.Map x) h = h
+plan_refuses map scen plan asked (f.Scen x) h = h
+plan_refuses map scen plan asked (f.Text x) h = absurd h
+plan_refuses map scen plan asked (f.Check x) h = absurd h
+plan_refuses map scen plan asked (f.Search x) h = absurd h
+plan_refuses map scen plan asked (f.Hex x) h = absurd h
+plan_refuses map scen plan asked (f.Load x) h = absurd h
+plan_refuses map scen plan asked (f.Compile x) h = absurd h
+plan_refuses map scen plan asked (f.Verify x) h = absurd h
+plan_refuses map scen plan asked (f.Run x) h = absurd h
+plan_refuses map scen plan asked (f.Dispatch x) h = absurd h
+plan_refuses map scen plan asked (f.File x) h = absurd h
 
 pub returns-in_err-problem : goal.returns-in_err-problem
 returns-in_err-problem g c =
     let e = err_from_is_err_and c.from_residual.result c.from_residual.ensures.1 in
-    rw (e.1, e.2) (inr (_, refl, c.in_err-problem.ensures.fault, record { kept = keeps_self _; working = c.requires }))
+    rw (e.1, e.2) (inr (_, refl, plan_refuses c.args.texts.map.items c.args.texts.scen.items c.args.texts.subject.items c.args.request.now.agents _ c.in_err-problem.ensures.fault, record { kept = keeps_self _; working = c.requires }))
+
+pub returns-in-Err-check : goal.returns-in-Err-check
+returns-in-Err-check g c =
+    let found = subst (λ text. IsPlanText text c.in-Ok.plan) c.deref.ensures.value c.in-Ok.ensures.found in
+    inr (_, refl, (c.in_ok-problem.problem.grid, c.in_ok-problem.problem.instance, c.in-Ok.plan, record { instance = c.in_ok-problem.ensures.read; plan_read = found }, c.in-Err-check.ensures.fault), record { kept = keeps_self _; working = c.requires })
 
 pub returns : goal.returns
 returns g c =
     let found = subst (λ text. IsPlanText text c.in-Ok.plan) c.deref.ensures.value c.in-Ok.ensures.found in
     let same = ap (λ k. k.plan) c.in-Ok-check.ensures.checked in
+    let delivered = subst (λ (paths : Plan). Delivers (g.O.TraceOut.state c.args.out.now) (g.O.TraceOut.state c.print_check.new.out) c.print_check.result (check_text paths c.in-Ok-asked_bound.bound))
+    c.plan.ensures.value c.print_check.ensures in
     inl (
       record {
         ground = c.in_ok-problem.problem.grid;
@@ -21,7 +50,7 @@ returns g c =
         texts = record { instance = c.in_ok-problem.ensures.read; plan_read = rw same found };
         free = rw same c.in-Ok-check.ensures.right;
         bound = c.in-Ok-asked_bound.bound;
-        asked_bound = c.in-Ok-asked_bound.ensures;
+        asked_bound = rw (ap (λ k. k.grid) c.in-Ok-check.ensures.checked, ap (λ k. k.instance) c.in-Ok-check.ensures.checked) at c.in-Ok-asked_bound.ensures;
       },
-      c.status_after_print.ensures _ _ _ c.print_check.ensures,
+      c.status_after_print.ensures _ _ _ delivered,
     )

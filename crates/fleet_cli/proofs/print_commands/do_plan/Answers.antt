@@ -1,14 +1,39 @@
-use Rattle.std.proofs.Common.{List, ℕ, Result, ap, ◌∙◌, inl, inr, refl, subst}
+use Rattle.std.proofs.Common.{List, ℕ, Option, Result, ap, ◌∙◌, inl, inr, refl, subst}
 use Rattle.std.proofs.lemmas.Result.{err_from_is_err_and}
 use Rattle.fleet_plan.specs.PlanText.{plan_text}
 use Rattle.fleet_text.specs.Sink.{Delivers}
 use Rattle.fleet_cli.proofs.RunLemmas.{keeps_self}
 use Rattle.fleet_cli.proofs.print_commands.do_plan.Goals as goal
+use Rattle.fleet_args.specs.declared.commands.Tries.{Tries}
+use Rattle.fleet_cli.specs.Steps.{IsProblemRefusal}
+use Rattle.fleet_cli.specs.PrintCommands.{IsSearchRefusal}
+use Rattle.fleet_cli.specs.declared.fault.Fault.{Fault}
+use Rattle.fleet_cli.specs.declared.fault.Fault.TheVariants as f
+
+-- what is refused of a map and a scenario is refused of a plan for them
+search_refuses : (map scen : List ℕ) (asked : Option ℕ) (horizon : ℕ) (tries : Tries) (fault : Fault) → IsProblemRefusal map scen asked fault → IsSearchRefusal map scen asked horizon tries fault
+search_refuses map scen asked horizon tries f.Memory h = h
+search_refuses map scen asked horizon tries (f.Map x) h = h
+search_refuses map scen asked horizon tries (f.Scen x) h = h
+search_refuses map scen asked horizon tries (f.Text x) h = absurd h
+search_refuses map scen asked horizon tries (f.Check x) h = absurd h
+search_refuses map scen asked horizon tries (f.Search x) h = absurd h
+search_refuses map scen asked horizon tries (f.Hex x) h = absurd h
+search_refuses map scen asked horizon tries (f.Load x) h = absurd h
+search_refuses map scen asked horizon tries (f.Compile x) h = absurd h
+search_refuses map scen asked horizon tries (f.Verify x) h = absurd h
+search_refuses map scen asked horizon tries (f.Run x) h = absurd h
+search_refuses map scen asked horizon tries (f.Dispatch x) h = absurd h
+search_refuses map scen asked horizon tries (f.File x) h = absurd h
 
 pub returns-in_err-problem : goal.returns-in_err-problem
 returns-in_err-problem g c =
     let e = err_from_is_err_and c.from_residual.result c.from_residual.ensures.1 in
-    rw (e.1, e.2) (inr (_, refl, c.in_err-problem.ensures.fault, record { kept = keeps_self _; working = c.requires }))
+    rw (e.1, e.2) (inr (_, refl, search_refuses c.args.texts.map.items c.args.texts.scen.items c.args.request.now.agents c.args.request.now.horizon c.args.request.now.tries _ c.in_err-problem.ensures.fault, record { kept = keeps_self _; working = c.requires }))
+
+pub returns-in-Err : goal.returns-in-Err
+returns-in-Err g c =
+    inr (_, refl, (c.in_ok-problem.problem.grid, c.in_ok-problem.problem.instance, c.in_ok-problem.ensures.read, c.in-Err.ensures.no_path), record { kept = keeps_self _; working = c.requires })
 
 pub returns : goal.returns
 returns g c =

@@ -8,3 +8,6 @@ ok_program e = cc
 
 pub returns-in-Ok-clause-same : goal.returns-in-Ok-clause-same
 returns-in-Ok-clause-same c = λ p spells. ok_program (c.in-Ok.ensures.only p spells)
+
+pub unreachable-requires : goal.unreachable-requires
+unreachable-requires c = c.in-Err.ensures.refused c.in_default.not-OutOfMemory c.requires.0 c.requires.1

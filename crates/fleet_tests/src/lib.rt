@@ -16,8 +16,8 @@
 //! makes programs by hand and asks views, `text_calls` reads maps, scenarios and plans, `plan_calls` plans, compiles
 //! and thins, `code_calls` reads and writes bytes (each front of the pair's program, and each byte of it set to each
 //! other value, by both readers), `verify_calls` verifies, `kernel_calls` joins and compares rows, `run_calls` ticks,
-//! drives and rehearses (up to the most ticks of holds, and 1,024 agents of which one moves), and `cli_calls` does
-//! whole commands over files in memory. `ends` has their reader, their writer and the files that fail at a call.
+//! drives and rehearses (up to the most ticks of holds, and 1,024 agents of which one moves), `left_calls` goes on after a
+//! log and writes maps and scenarios, and `cli_calls` does whole commands over files in memory. `ends` has their reader, their writer and the files that fail at a call.
 #![tactic(auto)]
 
 #[cfg(test)]
@@ -34,6 +34,8 @@ mod ends;
 mod fleets;
 #[cfg(test)]
 mod kernel_calls;
+#[cfg(test)]
+mod left_calls;
 #[cfg(test)]
 mod model_calls;
 #[cfg(test)]

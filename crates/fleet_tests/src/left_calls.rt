@@ -1,0 +1,74 @@
+//! What is left after a log, robots that break down, and maps and scenarios that are written.
+
+use crate::fleets::{PAIR_BYTES, pair};
+use fleet_adg::tasks_of;
+use fleet_code::view;
+use fleet_dispatch::{DispatchFault, TimesFault, breaks_of, standings_after};
+use fleet_grid::{read_map, write_map};
+use fleet_model::{Cell, Place, Task};
+use fleet_scen::write_scen;
+use std::alloc::Global;
+use std::test::Fail;
+
+/// One row with each glyph.
+const GLYPHS: &[u8] = b"type octile\nheight 1\nwidth 7\nmap\n.G@OTSW";
+
+/// The row without its second cell.
+const WITHOUT: &[u8] = b"type octile\nheight 1\nwidth 7\nmap\n.@@@@.@\n";
+
+/// The tasks of the pair.
+const TASKS: &[u8] = b"version 1\n0\tmap\t4\t1\t1\t0\t3\t0\t0\n0\tmap\t4\t1\t0\t0\t2\t0\t0\n";
+
+#[test]
+fn maps_and_scenarios_are_written(rt: HostRuntime) -> Result<(), Fail> {
+    let alloc = rt.alloc();
+    let grid = read_map(alloc, GLYPHS)?;
+    let text = write_map(alloc, &grid, &[Cell { x: 1, y: 0 }])?;
+    assert_eq!(rt; text.as_slice(), WITHOUT);
+    let (_, _, program) = pair(alloc)?;
+    let tasks = tasks_of(alloc, &program)?;
+    assert_eq!(rt; write_scen(alloc, 4, 1, &tasks)?.as_slice(), TASKS);
+    Ok(())
+}
+
+/// Where agents 0 and 1 of the pair stand after a log, as columns, and how many actions each has finished.
+fn left_by(alloc: Global, log: &[u8]) -> Result<[(i32, u32); 2], Fail> {
+    let program = view(alloc, PAIR_BYTES)?;
+    let Ok(standings) = standings_after(alloc, &program, log) else {
+        return Err(Fail::from("refused"));
+    };
+    let [first, second] = standings.as_slice() else {
+        return Err(Fail::from("another fleet"));
+    };
+    Ok([(first.place.x, first.count), (second.place.x, second.count)])
+}
+
+#[test]
+fn logs_lead_on(rt: HostRuntime) -> Result<(), Fail> {
+    let alloc = rt.alloc();
+    assert_eq!(rt; left_by(alloc, b"")?, [(1, 0), (0, 0)]);
+    assert_eq!(rt; left_by(alloc, b"0:1\n0:2 1:1\n1:2")?, [(3, 2), (1, 1)]);
+    let program = view(alloc, PAIR_BYTES)?;
+    let fault = standings_after(alloc, &program, b"0:1\n1:3\n").err();
+    assert!(rt; matches!(fault, Some(DispatchFault::Log { line: 2 })));
+    Ok(())
+}
+
+#[test]
+fn robots_break_down_in_actions(rt: HostRuntime) -> Result<(), Fail> {
+    let alloc = rt.alloc();
+    let program = view(alloc, PAIR_BYTES)?;
+    assert_eq!(rt;
+        breaks_of(alloc, &program, b"-").ok().as_deref(),
+        Some([0, 0].as_slice())
+    );
+    assert_eq!(rt;
+        breaks_of(alloc, &program, b"0:1 1:2").ok().as_deref(),
+        Some([1, 2].as_slice())
+    );
+    for line in [b"1:3".as_slice(), b"2:1", b"1:0", b"1:1 0:1", b"1"] {
+        let fault = breaks_of(alloc, &program, line).err();
+        assert!(rt; matches!(fault, Some(TimesFault::Broken)));
+    }
+    Ok(())
+}

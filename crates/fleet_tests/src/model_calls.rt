@@ -1,13 +1,12 @@
 //! Programs that are made by hand, and what a view says of a program.
 
-ghost use Rattle.std.specs.Prelude.{◌<◌, ◌≤◌, ◌+◌, length};
-ghost use Rattle.fleet_model.specs.Program.{moves, awaits_of};
+ghost use Rattle.std.specs.Prelude.{◌<◌, length};
 
 use crate::fleets::{PAIR_BYTES, STAYING_BYTES};
 use fleet_code::{encode, load, view};
 use fleet_model::{
     Action, Actions, AgentProgram, Await, Awaits, Cell, Dir, Instruction, OutOfMemory, Program,
-    ProgramView, Reading, Step, total_awaits, total_moves, well_formed,
+    ProgramView, Step, total_awaits, total_moves, well_formed,
 };
 use std::alloc::{AllocError, Global};
 use std::test::Fail;
@@ -113,31 +112,6 @@ fn tell_instruction(one: Instruction, told: &mut Vec<u32>) -> Result<(), AllocEr
     Ok(())
 }
 
-/// Adds an instruction twice, as it is asked for and as it is read where it stands, and then whether the one after it,
-/// which has these numbers, stands where the reading says.
-fn tell_reading<P: ProgramView>(
-    program: &P,
-    i: u16,
-    finished: u32,
-    k: u16,
-    told: &mut Vec<u32>,
-) -> Result<(), AllocError>
-    requires agent { i < length (P.program program.now) }
-    requires left { finished < moves (P.program program.now) i }
-    requires place { k ≤ length (awaits_of (P.program program.now) i (finished + 1)) }
-{
-    let before = program.awaits_before(i, finished);
-    tell_instruction(program.instruction(i, finished, before, k), told)?;
-    let reading: Reading = program.read(i, finished, k, program.offset(i, finished, k));
-    tell_instruction(reading.instruction, told)?;
-    let next = match reading.instruction {
-        Instruction::Await(_) => program.offset(i, finished, k + 1),
-        Instruction::Step(_) => program.offset(i, finished + 1, 0),
-    };
-    told.push(u32::from(reading.after == next))?;
-    Ok(())
-}
-
 /// Adds the instructions of agent `i` from front to back, and last how many awaits it has.
 fn tell_instructions<P: ProgramView>(
     program: &P,
@@ -147,11 +121,12 @@ fn tell_instructions<P: ProgramView>(
     requires { i < length (P.program program.now) }
 {
     for finished in 0..program.moves(i) {
+        let before = program.awaits_before(i, finished);
         let awaits = program.await_count(i, finished + 1);
         for k in 0..awaits {
-            tell_reading(program, i, finished, k, told)?;
+            tell_instruction(program.instruction(i, finished, before, k), told)?;
         }
-        tell_reading(program, i, finished, awaits, told)?;
+        tell_instruction(program.instruction(i, finished, before, awaits), told)?;
     }
     told.push(program.awaits_before(i, program.moves(i)))?;
     Ok(())
@@ -169,13 +144,8 @@ fn read_by<P: ProgramView>(alloc: Global, program: &P) -> Result<Vec<u32>, Alloc
 #[test]
 fn views_are_read_from_front_to_back(rt: HostRuntime) -> Result<(), Fail> {
     let alloc = rt.alloc();
-    let pair = [
-        1, 1, 1, 1, 1, 1, 0, 0, 1, 0, 1, 1, 1, 1, 1, 0, 2, 0, 2, 1, 1, 1, 1, 2,
-    ];
-    let staying = [
-        1, 1, 1, 1, 1, 1, 4, 4, 1, 4, 4, 1, 0, 0, 1, 0, 1, 1, 1, 1, 1, 0, 2, 0, 2, 1, 1, 1, 1, 4,
-        4, 1, 4, 4, 1, 2,
-    ];
+    let pair = [1, 1, 0, 0, 1, 1, 0, 2, 1, 2];
+    let staying = [1, 1, 4, 4, 0, 0, 1, 1, 0, 2, 1, 4, 4, 2];
     for (bytes, due) in [
         (PAIR_BYTES, pair.as_slice()),
         (STAYING_BYTES, staying.as_slice()),

@@ -14,7 +14,6 @@ pub mod Leading
 pub mod Promises
 pub mod AsRun
 pub mod Replaying
-pub mod PlainNumbers
 pub mod Spelling
 pub mod Kept
 mod Said

@@ -17,7 +17,7 @@ use Rattle.fleet_text.specs.Words.{ended_text}
 use Rattle.fleet_text.proofs.TextLaws.{lines_first}
 use Rattle.fleet_text.proofs.WrittenLaws.{From, from_less, from_append, from_join, decimal_from, apart_from, lines_written}
 use Rattle.fleet_run.specs.HoldText.{is_space, is_dash, plain_number}
-use Rattle.fleet_dispatch.proofs.PlainNumbers.{plain_is_decimal}
+use Rattle.fleet_run.proofs.HoldLaws.{plain_is_decimal}
 use Rattle.fleet_dispatch.specs.declared.form.ReportForm.{ReportForm}
 use Rattle.fleet_dispatch.specs.declared.form.ReportForm.TheVariants.{Numbered, Unnumbered}
 use Rattle.fleet_dispatch.specs.declared.number.TheConstants.{TOO_LONG}

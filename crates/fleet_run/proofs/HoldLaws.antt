@@ -36,7 +36,7 @@ unfolding number_after
 digits_after m [] e = refl
 digits_after m (d ∷ ds) e = let p = and_parts (is_digit d) (all_ascii_digits ds) e in rw p.0 (digits_after (10 * m + (d - 48)) ds p.1)
 
-plain_is_decimal : (word : Bytes) (i : ℕ) → plain_number word ≡ Some i → i < 2 ^ 64 → word ≡ decimal i
+pub plain_is_decimal : (word : Bytes) (i : ℕ) → plain_number word ≡ Some i → i < 2 ^ 64 → word ≡ decimal i
 unfolding number
 plain_is_decimal [] i e small = absurd cc
 plain_is_decimal (d ∷ []) i e small =

@@ -3,3 +3,4 @@ pub mod RunLemmas
 pub mod PrintLemmas
 pub mod OutputLemmas
 pub mod CommandLemmas
+pub mod CommandCases

@@ -1,6 +1,8 @@
 -- Where the parts of a program stand in its bytes.
-use Rattle.std.proofs.Common.{◌≡◌, ℕ, zero, suc, ◌-◌, ◌+◌, ◌*◌, ◌≤◌, ◌<◌, List, [], ◌∷◌, ◌++◌, length, take, drop, slice_get, slice_index_or, Option, Some, Result, Ok, refl, sym, ap, subst, ◌∙◌, append_assoc, arith, inl, inr, All, ◌⊎◌}
+use Rattle.std.proofs.Common.{◌≡◌, ℕ, zero, suc, ◌-◌, ◌+◌, ◌*◌, ◌/◌, ◌%◌, get_or, ◌≤◌, ◌<◌, List, [], ◌∷◌, ◌++◌, length, take, drop, slice_get, slice_index_or, Option, Some, Result, Ok, refl, sym, ap, subst, ◌∙◌, append_assoc, arith, inl, inr, All, ◌⊎◌}
 use Rattle.std.specs.List.{flat_map}
+use Rattle.std.specs.Int.{w32, to_be_bytes}
+use Rattle.std.proofs.lemmas.Nat.{be_bytes_4}
 use Rattle.std.proofs.lemmas.List.{append-nil, length-append, drop-drop, length-drop, length-take-le, drop_at, get_or-drop}
 use Rattle.std.proofs.lemmas.Option.{slice_get_cases, slice_get_past, slice_get_within, get_or_from_slice_get, same_Some, none-some}
 use Rattle.std.proofs.lemmas.List.Elements.{All-get_or}
@@ -44,6 +46,27 @@ stands_within bytes at text h some =
     let same = ap length h.1 in
     let sum = length-append text h.0 in
     omega (arith, left, same, sum, some)
+
+-- two numbers of two bytes each are one of four
+
+small_bytes : (a b c d : ℕ) → a < 256 → b < 256 → c < 256 → d < 256 → (i : ℕ) → get_or (a ∷ b ∷ c ∷ d ∷ []) i 0 < 256
+small_bytes a b c d a' b' c' d' zero = a'
+small_bytes a b c d a' b' c' d' (suc zero) = b'
+small_bytes a b c d a' b' c' d' (suc (suc zero)) = c'
+small_bytes a b c d a' b' c' d' (suc (suc (suc zero))) = d'
+small_bytes a b c d a' b' c' d' (suc (suc (suc (suc i)))) = omega arith
+
+pub both_numbers : (m n : ℕ) → m < 65536 → n < 65536 → to_be_bytes w32 (m * 65536 + n) ≡ two_bytes m ++ two_bytes n
+both_numbers m n m_fits n_fits =
+    be_bytes_4 (two_bytes m ++ two_bytes n) (m * 65536 + n) refl
+    (small_bytes (m / 256 % 256) (m % 256) (n / 256 % 256) (n % 256) (omega arith) (omega arith) (omega arith) (omega arith))
+    (omega (arith, m_fits, n_fits))
+
+pub both_parts : (w : Await) (both : ℕ) → w.agent < 65536 → w.count < 65536 → both ≡ w.agent * 65536 + w.count → record { agent = both / 65536; count = both % 65536 } ≡ w
+both_parts w both agent_fits count_fits is =
+    let agent : both / 65536 ≡ w.agent = omega (arith, is, count_fits) in
+    let count : both % 65536 ≡ w.count = omega (arith, is, count_fits) in
+    λ i. record { agent = agent i; count = count i }
 
 -- the piece for one of several items
 pub piece_stands : {A : Type 0} (f : A → List ℕ) (bytes : List ℕ) (at : ℕ) (xs : List A) (n : ℕ) (x : A) → StandsAt bytes at (flat_map f xs) → slice_get xs n ≡ Some x

@@ -1,6 +1,6 @@
 //! Programs in place: a view of the bytes that spell one.
 
-ghost use Rattle.std.specs.Prelude.{◌≢◌, ◌≡◌, ◌≤◌, ◌<◌, ◌+◌, ◌^◌, ℕ, List, length, IfOk, IfErr};
+ghost use Rattle.std.specs.Prelude.{◌≢◌, ◌≡◌, ◌≤◌, ◌<◌, ◌+◌, ◌++◌, ◌^◌, ℕ, List, length, IfOk, IfErr};
 ghost use Rattle.fleet_model.specs.declared.geometry.Cell.{Cell};
 ghost use Rattle.fleet_model.specs.declared.program.Await.{Await};
 ghost use Rattle.fleet_model.specs.declared.program.AgentProgram.{AgentProgram};
@@ -81,18 +81,6 @@ fn long_number_in(bytes: &[u8], at: usize) -> u32
     u32::from_be_bytes([bytes[at], bytes[at + 1], bytes[at + 2], bytes[at + 3]])
 }
 
-/// The number of actions or the count at the offset `at`, as wide as the version has it.
-fn count_in(version: Version, bytes: &[u8], at: usize) -> u32
-    requires { at + count_len version ≤ length bytes.now }
-    ensures { (n : ℕ) → n ≤ most_count version → StandsAt bytes.now at (count version n)
-        → result ≡ n }
-{
-    match version {
-        Version::One => u32::from(number_in(bytes, at)),
-        Version::Two => long_number_in(bytes, at),
-    }
-}
-
 /// The cell at the offset `at`.
 fn cell_in(bytes: &[u8], at: usize) -> Cell
     requires { at + 4 ≤ length bytes.now }
@@ -104,15 +92,31 @@ fn cell_in(bytes: &[u8], at: usize) -> Cell
     }
 }
 
+/// The await whose agent and count, of two bytes each, stand at the offset `at`. They are read as one number.
+fn short_await_in(bytes: &[u8], at: usize) -> Await
+    requires { at + 4 ≤ length bytes.now }
+    ensures { (w : Await) → w.agent < 65536 → w.count < 65536
+        → StandsAt bytes.now at (two_bytes w.agent ++ two_bytes w.count) → result ≡ w }
+{
+    let both = long_number_in(bytes, at);
+    Await {
+        agent: (both / 65_536) as u16,
+        count: both % 65_536,
+    }
+}
+
 /// The await whose opcode is at the offset `at`.
 fn await_in(version: Version, bytes: &[u8], at: usize) -> Await
     requires { at + await_len version ≤ length bytes.now }
     ensures { (w : Await) → w.agent < 65536 → w.count ≤ most_count version
         → StandsAt bytes.now at (await version w) → result ≡ w }
 {
-    Await {
-        agent: number_in(bytes, at + 1),
-        count: count_in(version, bytes, at + 1 + NUMBER_LEN),
+    match version {
+        Version::One => short_await_in(bytes, at + 1),
+        Version::Two => Await {
+            agent: number_in(bytes, at + 1),
+            count: long_number_in(bytes, at + 1 + NUMBER_LEN),
+        },
     }
 }
 

@@ -349,10 +349,8 @@ impl Machine {
         requires { i < length self.old.ready }
         ensures { self.new ≡ record self.old { ready = set self.old.ready i is_ready } }
     {
-        if is_ready {
-            self.ready.set(i, true);
-        } else {
-            self.ready.set(i, false);
+        if self.ready.contains(i) != is_ready {
+            self.ready.set(i, is_ready);
         }
     }
 

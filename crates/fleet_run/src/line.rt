@@ -279,11 +279,13 @@ fn last_digit(number: u32) -> u8
     b'0' + (number % 10) as u8
 }
 
-/// Whether the bytes are the same or follow one another.
-fn are_close(byte: u8, other: u8) -> bool
-    ensures { result ≡ true → AreBytesClose byte other }
+/// Whether a byte is a digit or stands beside it.
+fn are_close(byte: u8, digit: u8) -> bool
+    requires first { 48 ≤ digit }
+    requires last { digit ≤ 57 }
+    ensures { result ≡ true → AreBytesClose byte digit }
 {
-    byte.abs_diff(other) <= 1
+    byte.wrapping_sub(digit).wrapping_add(1) <= 2
 }
 
 /// Writes the last digit of a coordinate over that of one beside it, if the two are close, and the coordinate is not 0,

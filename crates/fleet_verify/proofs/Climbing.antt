@@ -18,7 +18,7 @@ use Rattle.fleet_verify.specs.declared.ahead.Runner.{Runner}
 use Rattle.fleet_verify.specs.LastVisits.{kept_at}
 use Rattle.fleet_verify.specs.Ahead.{AddsLevel, IsAhead, IsAheadBy, IsArrival, IsNext, IsRunner, AreNeeds, climbed_in, count_in}
 use Rattle.fleet_verify.proofs.NextLevel.{place_at, leads_on}
-use Rattle.fleet_verify.proofs.PieceLaws.{row_last, push_same, begun_more}
+use Rattle.fleet_verify.proofs.PieceLaws.{row_last, push_same}
 
 -- ---- rows
 

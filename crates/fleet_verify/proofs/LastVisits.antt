@@ -1,13 +1,15 @@
 -- Squares of cells, and the visits that they keep.
-use Rattle.std.proofs.Common.{◌≡◌, ◌≢◌, ℕ, suc, ◌+◌, ◌*◌, ◌/◌, ◌%◌, ◌<◌, ◌≤◌, nat_eq, Bool, true, false, List, [], ◌∷◌, length, get_or, slice_get, Some, None, refl, sym, ap, ◌∙◌, subst, arith, inl, inr}
-use Rattle.std.proofs.lemmas.Bool.{cases_eq, ne_eqb, eqb-true}
+use Rattle.std.proofs.Common.{◌≡◌, ◌≢◌, ℕ, suc, ◌+◌, ◌*◌, ◌/◌, ◌%◌, ◌<◌, ◌≤◌, nat_eq, Bool, true, false, List, [], ◌∷◌, length, replicate, get_or, slice_get, Some, None, refl, sym, ap, ◌∙◌, subst, arith, inl, inr}
+use Rattle.std.proofs.lemmas.Bool.{cases_eq, cases_lt, ne_eqb, eqb-true, true≢false}
+use Rattle.std.proofs.lemmas.List.{get_or_past, get_or-replicate, length-replicate}
 use Rattle.std.proofs.lemmas.Option.{same_Some, slice_get-map}
 use Rattle.std.proofs.lemmas.Map.Entries.{lookup_from_place}
 use Rattle.std.specs.Cmp.{nat_eq_equiv}
 use Rattle.std.specs.List.{position_or_len, position}
 use Rattle.std.specs.Option.{option_map}
+use Rattle.std.specs.Prelude.{Option, is_some}
 use Rattle.std.specs.Map.{keys_of}
-use Rattle.indexmap.specs.IndexMap.{IndexMap, get, keys, Updates, IsUnique, with_value_at}
+use Rattle.indexmap.specs.IndexMap.{IndexMap, get, keys, insert_entry, Updates, IsUnique, with_value_at}
 use Rattle.indexmap.proofs.CallerLemmas.{updates-with_value_at, keys-with_value_at}
 use Rattle.indexmap.proofs.MapLemmas.{Found-position}
 use Rattle.fleet_model.specs.declared.geometry.Cell.{Cell}
@@ -20,10 +22,10 @@ use Rattle.fleet_verify.specs.declared.last_visits.TheConstants.{NO_VISIT}
 -- cells at one place of one square are one
 pub same_in_square : (c d : Cell) → IsCell c → IsCell d → square_of c ≡ square_of d → place_in_square c ≡ place_in_square d → c ≡ d
 same_in_square c d cs ds e f =
-    let down : c.y / 4 ≡ d.y / 4 = omega (arith, e, cs.x, ds.x) in
-    let across : c.x / 4 ≡ d.x / 4 = omega (arith, e, down) in
-    let row : c.y % 4 ≡ d.y % 4 = omega (arith, f) in
-    let column : c.x % 4 ≡ d.x % 4 = omega (arith, f, row) in
+    let down : c.y / 8 ≡ d.y / 8 = omega (arith, e, cs.x, ds.x) in
+    let across : c.x / 8 ≡ d.x / 8 = omega (arith, e, down) in
+    let row : c.y % 8 ≡ d.y % 8 = omega (arith, f) in
+    let column : c.x % 8 ≡ d.x % 8 = omega (arith, f, row) in
     let y : c.y ≡ d.y = omega (arith, down, row) in
     let x : c.x ≡ d.x = omega (arith, across, column) in
     λ i. record { x = x i; y = y i }
@@ -68,7 +70,47 @@ first_key k (e ∷ es) l = go (nat_eq k e.0) refl l (first_key k es)
         let more : 1 + position_or_len (nat_eq k) (keys_of es) ≡ suc (position_or_len (nat_eq k) (keys_of es)) = omega arith in
         rw f (ap (λ (i : ℕ). option_map (λ (x : ℕ × List ℕ). x.0) (slice_get (e ∷ es) i)) more ∙ later (let n = rw f at m in omega (arith, n)))
 
+-- a number stands where it is inserted
+first_inserted : (k : ℕ) (v : List ℕ) (es : List (ℕ × List ℕ)) → option_map (λ (e : ℕ × List ℕ). e.0) (slice_get (insert_entry nat_eq es k v) (position_or_len (nat_eq k) (keys_of es))) ≡ Some k
+first_inserted k v [] = refl
+first_inserted k v (e ∷ es) = go (nat_eq k e.0) refl (first_inserted k v es)
+  where
+    Stands : List (ℕ × List ℕ) → Type 0
+    Stands xs = option_map (λ (x : ℕ × List ℕ). x.0) (slice_get (insert_entry nat_eq xs k v) (position_or_len (nat_eq k) (keys_of xs))) ≡ Some k
+
+    go : (b : Bool) → nat_eq k e.0 ≡ b → Stands es → Stands (e ∷ es)
+    go true f later = rw f (ap (λ (n : ℕ). Some n) (sym (eqb-true k e.0 f)))
+    go false f later =
+        let more : 1 + position_or_len (nat_eq k) (keys_of es) ≡ suc (position_or_len (nat_eq k) (keys_of es)) = omega arith in
+        rw f (ap (λ (i : ℕ). option_map (λ (x : ℕ × List ℕ). x.0) (slice_get (e ∷ insert_entry nat_eq es k v) i)) more ∙ later)
+
+no_visits : (cells k : ℕ) → get_or (replicate cells NO_VISIT) k NO_VISIT ≡ NO_VISIT
+no_visits cells k = elim (cases_lt k cells) [
+  | inl lt ↦ get_or-replicate cells k NO_VISIT NO_VISIT lt
+  | inr le ↦ get_or_past (replicate cells NO_VISIT) k NO_VISIT (omega (arith, le, length-replicate cells NO_VISIT))
+]
+
 module _ {S : Type 0} (m : IndexMap ℕ (List ℕ) S) where
+  pub inserted_at : (new : IndexMap ℕ (List ℕ) S) (number slot : ℕ) (square : List ℕ) → slot ≡ position_or_len (nat_eq number) (keys m) → new.entries ≡ insert_entry nat_eq m.entries number square → IsSquareAt new number slot
+  inserted_at new number slot square is entries = rw (is, entries) (first_inserted number square m.entries)
+
+  pub no_square : (number : ℕ) → false ≡ is_some (get nat_eq m number) → get nat_eq m number ≡ None
+  no_square number none = go (get nat_eq m number) none
+    where
+      go : (o : Option (List ℕ)) → false ≡ is_some o → o ≡ None
+      go None e = refl
+      go (Some square) e = absurd (true≢false (sym e))
+
+  -- and its square, in which there are no visits, changes no cell's
+  pub inserted_same : (new : IndexMap ℕ (List ℕ) S) (number cells : ℕ) → Updates nat_eq m new number (Some (replicate cells NO_VISIT)) → get nat_eq m number ≡ None → (c : Cell) → last_in new c ≡ last_in m c
+  inserted_same new number cells updates none c = elim (cases_eq number (square_of c)) [
+    | inr other ↦ ap (λ s. visit_in s (place_in_square c)) (updates.2 (square_of c) (ne_eqb number (square_of c) other))
+    | inl same ↦
+        subst (λ (n : ℕ). visit_in (get nat_eq new n) (place_in_square c) ≡ visit_in (get nat_eq m n) (place_in_square c)) same
+        (ap (λ s. visit_in s (place_in_square c)) updates.1
+        ∙ (ap visit_kept (no_visits cells (place_in_square c)) ∙ sym (ap (λ s. visit_in s (place_in_square c)) none)))
+  ]
+
   pub stands_at : (number slot : ℕ) → position (nat_eq number) (keys m) ≡ Some slot → IsSquareAt m number slot
   stands_at number slot e =
       let found = Found-position (nat_eq number) m.entries slot e in

@@ -1,5 +1,5 @@
 -- Open pairs as questions for chains, with the levels of the actions that enter their second visits.
-use Rattle.std.specs.Prelude.{◌≡◌, ℕ, ◌+◌, ◌*◌, ◌<◌, ◌≤◌, List, get_or, All, Contains}
+use Rattle.std.specs.Prelude.{◌≡◌, ℕ, ◌+◌, ◌*◌, ◌<◌, List, get_or, All, Contains}
 use Rattle.fleet_model.specs.Program.{Program}
 use Rattle.fleet_model.specs.Chain.{Reaches}
 use Rattle.fleet_model.specs.Visit.{entering, leaving}

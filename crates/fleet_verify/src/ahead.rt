@@ -19,7 +19,7 @@ use crate::agents::ends_right;
 use crate::chained::are_chained;
 use crate::last_visits::LastVisits;
 use crate::level_row::{LevelRow, row_of};
-use crate::path::map_cell_after;
+use crate::path::next_cell;
 use crate::unheld_run::Stop;
 use crate::visit_order::{OpenPair, PlacedVisit, begins_visit, is_left_by, open_unless_after};
 use fleet_grid::Grid;
@@ -238,7 +238,7 @@ fn arrive<P: ProgramView>(
     let _agents = program.agents();
     match needs.step {
         Step::Go(_) => {
-            let Some(cell) = map_cell_after(grid, runner.cell, needs.step) else {
+            let Some(cell) = next_cell(runner.cell, needs.step) else {
                 return Err(Stop::OffGround);
             };
             let visit = Visit {

@@ -12,16 +12,16 @@ use indexmap::IndexMap;
 use std::alloc::{AllocError, Global};
 
 /// How many cells a square is wide, and high.
-const SIDE: u32 = 4;
+const SIDE: u32 = 8;
 
 /// How many cells a square has.
-const CELLS: usize = 16;
+const CELLS: usize = 64;
 
 /// How many squares lie side by side at most.
 const ACROSS: u32 = (MAX_COORDINATE + 1) / SIDE;
 
 /// Of how many squares, side by side and one below the other, each has a hint of its own.
-const HINTS_ACROSS: u32 = 128;
+const HINTS_ACROSS: u32 = 64;
 
 /// How many hints there are.
 const HINTS: usize = (HINTS_ACROSS * HINTS_ACROSS) as usize;
@@ -227,9 +227,6 @@ fn look_up_square(
     if let Some(slot) = squares.get_index_of(&number) {
         return Ok(slot);
     }
-    squares.insert(number, [NO_VISIT; CELLS])?;
-    match squares.get_index_of(&number) {
-        Some(slot) => Ok(slot),
-        None => unreachable!(),
-    }
+    let (slot, _) = squares.insert_full(number, [NO_VISIT; CELLS])?;
+    Ok(slot)
 }

@@ -8,7 +8,7 @@ ghost use Rattle.fleet_verify.specs.Faults.{AwaitsRight};
 ghost use Rattle.fleet_verify.specs.Path.{AnswersFirst, IsPosition, IsPathJudged};
 
 use fleet_grid::Grid;
-use fleet_model::{Cell, Dir, Place, ProgramView, Step};
+use fleet_model::{Cell, Dir, MAX_COORDINATE, Place, ProgramView, Step};
 
 /// The judgement of an agent's path.
 #[derive(Clone, Copy)]
@@ -117,9 +117,28 @@ pub fn cell_after(grid: &Grid, cell: Cell, step: Step) -> Option<Cell>
     }
 }
 
+/// How far a coordinate of a cell reaches.
+const FARTHEST: i32 = MAX_COORDINATE as i32;
+
+/// The cell after a step, if cells reach so far, on this map or a larger one.
+#[inline(always)]
+pub fn next_cell(cell: Cell, step: Step) -> Option<Cell>
+    ensures some { IfSome result (λ next. place_of next ≡ stepped (place_of cell) step) }
+{
+    let Place { x, y } = Place::from(cell).after(step);
+    let is_outside = x < 0 || x > FARTHEST || y < 0 || y > FARTHEST;
+    if is_outside {
+        return None;
+    }
+    Some(Cell {
+        x: x as u16,
+        y: y as u16,
+    })
+}
+
 /// The cell after a step, if it is on the map.
 #[inline(always)]
-pub fn map_cell_after(grid: &Grid, cell: Cell, step: Step) -> Option<Cell>
+fn map_cell_after(grid: &Grid, cell: Cell, step: Step) -> Option<Cell>
     ensures some { IfSome result (λ next. place_of next ≡ stepped (place_of cell) step) }
     ensures none { IfNone result (is_passable grid.now (stepped (place_of cell) step) ≡ false) }
 {

@@ -1,8 +1,6 @@
-use Rattle.std.proofs.Common.{◌≡◌, ◌+◌, ◌∙◌, ℕ, sym, ◌++◌, ◌∷◌, [], ap, Some, subst, arith}
-use Rattle.std.specs.Prelude.{IsTrue}
+use Rattle.std.proofs.Common.{◌+◌, ◌∙◌, sym, ◌++◌, ◌∷◌, [], ap, Some, arith}
 use Rattle.std.proofs.lemmas.List.{map-append}
 use Rattle.std.proofs.lemmas.List.Elements.{All-push}
-use Rattle.fleet_model.specs.declared.geometry.Place.{Place}
 use Rattle.fleet_model.specs.Geometry.{is_move, place_of}
 use Rattle.fleet_grid.specs.Ground.{is_passable}
 use Rattle.fleet_verify.specs.declared.visit_order.PlacedVisit.{PlacedVisit}
@@ -11,7 +9,7 @@ use Rattle.fleet_verify.specs.LastVisits.{kept_at}
 use Rattle.fleet_verify.specs.Order.{IsVisitPlaced}
 use Rattle.fleet_verify.proofs.Begin.{begun_kept}
 use Rattle.fleet_verify.proofs.NextLevel.{enters_by, visit_by, leads_on}
-use Rattle.fleet_verify.proofs.Climbing.{runner_count, runner_place, runner_ground, arrival_by}
+use Rattle.fleet_verify.proofs.Climbing.{runner_place, runner_ground, arrival_by}
 use Rattle.fleet_verify.proofs.Ordered.{grouped_on_more, entry_more, entry_none}
 use Rattle.fleet_verify.proofs.ahead.arrive.Goals as goal
 

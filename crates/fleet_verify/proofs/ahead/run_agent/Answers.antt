@@ -1,6 +1,5 @@
-use Rattle.std.proofs.Common.{arith}
 use Rattle.fleet_grid.specs.Ground.{is_passable}
-use Rattle.fleet_verify.proofs.Climbing.{runner_begins, runner_next, runner_there, runner_rows, runner_cells}
+use Rattle.fleet_verify.proofs.Climbing.{runner_begins}
 use Rattle.fleet_verify.proofs.ahead.run_agent.Goals as goal
 
 pub loop-runner-init : goal.loop-runner-init

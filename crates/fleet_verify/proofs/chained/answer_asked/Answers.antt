@@ -1,7 +1,6 @@
-use Rattle.std.proofs.Common.{List, Bool, length, map, subst, sym, ◌∙◌}
+use Rattle.std.proofs.Common.{List, length, subst, sym, ◌∙◌}
 use Rattle.fleet_needs.specs.declared.questions.Question.{Question}
 use Rattle.fleet_needs.specs.Asked.{AreQuestions, AreAnswers}
-use Rattle.fleet_verify.specs.declared.chained.LevelQuestion.{LevelQuestion}
 use Rattle.fleet_verify.proofs.AskedByLevel.{are_questions, asked_each, all_chained}
 use Rattle.fleet_verify.proofs.chained.answer_asked.Goals as goal
 

@@ -1,7 +1,6 @@
-use Rattle.std.proofs.Common.{◌≡◌, ◌+◌, ◌++◌, ◌∷◌, [], List, length, subst, sym, arith}
+use Rattle.std.proofs.Common.{◌+◌, subst, sym, arith}
 use Rattle.fleet_verify.specs.Chained.{AreAsked}
 use Rattle.fleet_verify.specs.OpenPairs.{AreVisits}
-use Rattle.fleet_verify.specs.declared.chained.LevelQuestion.{LevelQuestion}
 use Rattle.fleet_verify.proofs.AskedByLevel.{asked_none, asked_more}
 use Rattle.fleet_verify.proofs.chained.ask_all.Goals as goal
 

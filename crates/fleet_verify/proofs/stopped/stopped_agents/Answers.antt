@@ -1,4 +1,4 @@
-use Rattle.std.proofs.Common.{◌≡◌, ℕ, cond, arith, rules}
+use Rattle.std.proofs.Common.{◌≡◌, cond, arith, rules}
 use Rattle.fleet_verify.proofs.CriticalPaths.{misses, one_at_most, one_stopped}
 use Rattle.fleet_verify.proofs.stopped.stopped_agents.Goals as goal
 

@@ -1,4 +1,4 @@
-use Rattle.std.proofs.Common.{◌≡◌, ◌≤◌, length, Some, ap, subst, ◌∙◌, arith}
+use Rattle.std.proofs.Common.{◌≡◌, ◌≤◌, length, Some, ap, subst, arith}
 use Rattle.std.specs.Prelude.{slice_get}
 use Rattle.fleet_model.specs.Program.{Program, awaits_of}
 use Rattle.fleet_needs.proofs.Joining.{awaited_action}

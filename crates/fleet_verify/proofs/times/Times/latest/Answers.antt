@@ -1,6 +1,5 @@
 use Rattle.std.proofs.Common.{◌≡◌, ℕ, ◌+◌, length, sym, ap, subst, ◌∙◌, arith, inl, inr}
 use Rattle.std.proofs.lemmas.Bool.{cases_lt}
-use Rattle.fleet_model.specs.declared.program.ActionId.{ActionId}
 use Rattle.fleet_model.specs.Program.{moves}
 use Rattle.fleet_verify.specs.Times.{TimesParts, IsLater, IsLatest}
 use Rattle.fleet_verify.proofs.CriticalPaths.{IsLatestOf, latest_stays, latest_more, arrived_latest, no_moves, some_of, none_of}

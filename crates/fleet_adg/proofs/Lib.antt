@@ -19,3 +19,4 @@ pub mod Short
 pub mod Thinning
 mod RestMade
 mod TasksOf
+mod Joined

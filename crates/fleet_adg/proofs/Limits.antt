@@ -13,6 +13,9 @@ use Rattle.fleet_model.specs.declared.limits.TheConstants.{MAX_HORIZON, MAX_AWAI
 use Rattle.fleet_model.specs.Program.{origin, awaits_of, total_moves, IsCell, AreAwaits, IsWellFormed}
 use Rattle.fleet_model.specs.Machine.{indices}
 use Rattle.fleet_model.proofs.OnePass.{no_awaits}
+use Rattle.fleet_code.specs.declared.format.Version.{Version}
+use Rattle.fleet_code.specs.declared.format.Version.TheVariants.{One, Two}
+use Rattle.fleet_code.specs.Spelling.{most_count}
 use Rattle.fleet_plan.specs.Plan.{Plan, cell_at, cell_of, steps, IsPath, IsWithinLimits}
 use Rattle.fleet_adg.specs.Compiled.{changes, moves_by, entry_awaits, action_in, agent_program, compiled, moves_in_all}
 use Rattle.fleet_adg.proofs.Moves.{changes_in-end, moves_by-yes, moves_by-le, moves_by-mono}
@@ -56,6 +59,16 @@ are_awaits plan deps i x few =
       counts = All-weaker (IsAwaitOf plan i x) (λ w. 1 ≤ w.count) (λ w h. omega (arith, h.step.4)) ws sound;
       few = All-weaker (IsAwaitOf plan i x) (λ w. w.count ≤ MAX_AWAIT) (λ w h. omega (arith, count-le plan i x w h, moves_by-le plan w.agent (steps plan))) ws sound;
     }
+
+within_version : (v : Version) (n : ℕ) → n ≤ MAX_HORIZON → n ≤ most_count v
+within_version One n h = omega (arith, h)
+within_version Two n h = omega (arith, h)
+
+-- both versions have bytes for the counts that are awaited in a step
+pub counts_fit : (v : Version) (plan : Plan) (deps : Deps) (i x : ℕ) → x < MAX_HORIZON → All (λ w. w.count ≤ most_count v) (entry_awaits plan deps i x)
+counts_fit v plan deps i x few =
+    All-weaker (IsAwaitOf plan i x) (λ w. w.count ≤ most_count v)
+    (λ w h. within_version v w.count (omega (arith, few, h.step.1, h.step.4, moves_by-le plan w.agent h.step.0))) (entry_awaits plan deps i x) (entry-sound plan deps i x)
 
 origin_is_cell : IsCell origin
 origin_is_cell = record { x = omega arith; y = omega arith }

@@ -1,18 +1,24 @@
 -- The moves of a step as a row: each of them, and what a fold over those who move makes.
-use Rattle.std.proofs.Common.{◌≡◌, ℕ, ◌+◌, ◌<◌, true, List, length, get_or, sym, ap, subst, ◌∙◌, arith}
+use Rattle.std.proofs.Common.{◌≡◌, ℕ, ◌+◌, ◌<◌, ◌≤◌, ◌==◌, not, filter, All, true, List, length, get_or, sym, ap, subst, ◌∙◌, arith}
 use Rattle.std.specs.List.{fold}
 use Rattle.std.proofs.lemmas.List.{length-map, get_or-map, get_or_default}
 use Rattle.std.proofs.lemmas.List.Elements.{filter_passes, All-get_or, All-filter}
+use Rattle.fleet_model.specs.declared.limits.TheConstants.{MAX_HORIZON}
+use Rattle.fleet_model.specs.declared.geometry.Cell.{Cell}
+use Rattle.fleet_model.specs.declared.program.Await.{Await}
 use Rattle.fleet_model.specs.declared.program.Action.{Action}
 use Rattle.fleet_model.specs.declared.deps.Deps.{Deps}
-use Rattle.fleet_grid.specs.Ground.{Ground}
+use Rattle.fleet_code.specs.declared.format.Version.{Version}
+use Rattle.fleet_code.specs.Spelling.{most_count}
+use Rattle.fleet_grid.specs.Ground.{Ground, cell_index}
 use Rattle.fleet_plan.specs.Plan.{Plan, cell_of}
 use Rattle.fleet_adg.specs.declared.sweep.Move.{Move}
 use Rattle.fleet_adg.specs.declared.leavings.Leavings.{Leavings}
-use Rattle.fleet_adg.specs.Compiled.{changes_in, leavings}
-use Rattle.fleet_adg.specs.Leavings.{AreLeavingsAt}
+use Rattle.fleet_adg.specs.Compiled.{changes_in, leavings, entry_awaits}
+use Rattle.fleet_adg.specs.Leavings.{row_of, AreLeavingsAt}
 use Rattle.fleet_adg.specs.Sweep.{under_way, movers, move_by, moves_in, all_actions_by}
 use Rattle.fleet_adg.proofs.Folds.{fold-filter, note_by, note_by-stays, leaves-still, add_by, add_by-stays, all_actions_by-next}
+use Rattle.fleet_adg.proofs.Limits.{counts_fit}
 use Rattle.fleet_adg.proofs.SweepSteps.{IsNotedBelow, noting_ends, under_way_below}
 
 -- ---- a move of the row
@@ -63,3 +69,13 @@ all_added plan deps t start is =
     ap (λ s. fold (add_by plan deps t) s (movers plan t)) is
     ∙ fold-filter (add_by plan deps t) (λ i. changes_in plan i t) (λ rows i still. add_by-stays plan deps t rows i still) (all_actions_by plan deps t) (under_way plan t)
     ∙ all_actions_by-next plan deps t
+
+-- ---- what an action awaits
+
+-- both versions have bytes for the counts of what is awaited by who enters a cell
+pub awaits_fit : (g : Ground) (plan : Plan) (deps : Deps) (v : Version) (x i : ℕ) (l : Leavings) (to : Cell) → AreLeavingsAt g plan deps (x + 1) l → to ≡ cell_of plan i (x + 1) → to.x < g.width → to.y < g.height → x < MAX_HORIZON
+    → All (λ w. w.count ≤ most_count v) (filter (λ w. not (w.agent == i)) (row_of l (cell_index g to)))
+unfolding entry_awaits
+awaits_fit g plan deps v x i l to h t column row few =
+    let there : row_of l (cell_index g to) ≡ leavings plan deps (cell_of plan i (x + 1)) (x + 1) = h.rows to column row ∙ ap (λ q. leavings plan deps q (x + 1)) t in
+    subst (λ (ws : List Await). All (λ (w : Await). w.count ≤ most_count v) (filter (λ (w : Await). not (w.agent == i)) ws)) (sym there) (counts_fit v plan deps i x few)

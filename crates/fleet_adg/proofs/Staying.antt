@@ -496,6 +496,9 @@ due_without plan deps limits =
     let each : each_has_few plan 0 ≡ true = each_few plan 0 (λ i lt. omega (arith, moves_by-le plan i (steps plan), steps_few plan limits)) in
     rw each (λ t. cond (leb (none t) MAX_MOVES_IN_ALL) (Ok (staying_none plan deps t)) (Err TooLong))
 
+pub due_plainly : (plan : Plan) (deps : Deps) (stays : ℕ) → IsWithinLimits plan → stays ≡ 0 → compiled_staying_if_few plan deps stays ≡ compiled_if_few plan deps
+due_plainly plan deps stays limits none = ap (compiled_staying_if_few plan deps) none ∙ due_without plan deps limits
+
 -- what is compiled without stays is the program of the plan
 pub plain_is : (plan : Plan) (deps : Deps) (p : Program) → IsWithinLimits plan → compiled_staying_if_few plan deps 0 ≡ Ok p → p ≡ compiled plan deps
 plain_is plan deps p limits due = go (leb (moves_in_all plan) MAX_MOVES_IN_ALL) (sym (due_without plan deps limits) ∙ due)
@@ -518,7 +521,7 @@ moves-plain plan deps (Ok p) limits h = never_stays-plain plan deps p (plain_is 
 moves-plain plan deps (Err e) limits h = tt
 
 -- an agent makes at most one move for each step of the plan, and there are few of these
-few_moves : (plan : Plan) (deps : Deps) → IsWithinLimits plan → (i : ℕ) → moves (compiled plan deps) i ≤ MAX_MOVES_V1
+pub few_moves : (plan : Plan) (deps : Deps) → IsWithinLimits plan → (i : ℕ) → moves (compiled plan deps) i ≤ MAX_MOVES_V1
 few_moves plan deps limits i =
     elim (cases_lt i (length plan)) [
       | inl lt ↦ omega (arith, moves-compiled plan deps i lt, moves_by-le plan i (steps plan), steps_few plan limits)

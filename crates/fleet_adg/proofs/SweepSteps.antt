@@ -2,7 +2,7 @@
 use Rattle.std.proofs.Common.{◌≡◌, ◌≢◌, ℕ, zero, suc, ◌+◌, ◌-◌, ◌<◌, ◌≤◌, Bool, true, false, cond, List, [], ◌∷◌, ◌++◌, map, set, take, replicate, filter, filter_map, not, ◌==◌, length, get_or, slice_get, All, Some, Ok, inl, inr, refl, sym, ap, ◌∙◌, subst, arith, add-one}
 use Rattle.std.specs.List.{range_with_len, fold}
 use Rattle.std.proofs.lemmas.Bool.{cases_Bool, cases_lt, cases_eq, lt-ltb, le-ltb, both_ways, false_from_ne_true}
-use Rattle.std.proofs.lemmas.List.{length-set, get_or-set_same, get_or-set_other, get_or-replicate, get_or-drop, get_or_past, get_or_at, length-map, length-replicate, length_push, map_push}
+use Rattle.std.proofs.lemmas.List.{length-set, get_or-set_same, get_or-set_other, get_or-replicate, get_or-drop, get_or_past, get_or_at, length-map, get_or-map, length-replicate, length_push, map_push}
 use Rattle.std.proofs.lemmas.List.Sums.{fold_more}
 use Rattle.std.proofs.lemmas.List.FromFn.{length-map-range_with_len, get_or-map-range_with_len}
 use Rattle.std.proofs.lemmas.Option.{get_or_from_slice_get}
@@ -21,7 +21,9 @@ use Rattle.fleet_grid.specs.Ground.{Ground, IsGround, is_passable, cell_index}
 use Rattle.fleet_plan.specs.Plan.{Plan, cell_of, steps, IsConflictFree}
 use Rattle.fleet_adg.specs.Compiled.{direction, last_below, entry_awaits, changes_in, changes, moves_by, leaves, await_of, last_leaving_by, last_leaving, leavings, action_in, agent_program, compiled, with_stays, compiled_staying, has_few_actions, compiled_staying_if_few}
 use Rattle.fleet_adg.specs.Leavings.{row_of, kind_of, leavings_after, AreLeavingsAt}
-use Rattle.fleet_adg.specs.Sweep.{under_way, actions_by, all_actions_by, agent_from, IsOnMap}
+use Rattle.fleet_code.specs.declared.format.Version.{Version}
+use Rattle.fleet_code.specs.Written.{Written, written}
+use Rattle.fleet_adg.specs.Sweep.{under_way, actions_by, all_actions_by, all_bytes_by, agent_from, IsOnMap}
 use Rattle.fleet_plan.specs.UnderWay.{is_under_way}
 use Rattle.fleet_adg.proofs.Basics.{indices_push}
 use Rattle.fleet_adg.proofs.Moves.{moves_by-yes, moves_by-no, moves_by-le, steps-ge}
@@ -143,15 +145,25 @@ one_leaves g plan deps x agents k i l m p w own column at is b e c kind there ot
     }
 
 -- how many moves an agent has made, by its actions so far
-moved_so_far : (plan : Plan) (deps : Deps) (x i : ℕ) → length (actions_by plan deps x i) ≡ moves_by plan i x
+pub moved_so_far : (plan : Plan) (deps : Deps) (x i : ℕ) → length (actions_by plan deps x i) ≡ moves_by plan i x
 unfolding moves_by
 moved_so_far plan deps x i = package.Rattle.std.proofs.lemmas.List.length-map (changes plan i x) (action_in plan deps i)
 
-pub count_is : (plan : Plan) (deps : Deps) (x i n : ℕ) (actions : List (List Action)) (row : List Action) → actions ≡ all_actions_by plan deps x → i < length plan → row ≡ get_or actions i row → n ≡ length row → changes_in plan i x ≡ true → record { agent = i; count = n + 1 } ≡ await_of plan x i
+pub length-all_bytes_by : (plan : Plan) (deps : Deps) (v : Version) (t : ℕ) → length (all_bytes_by plan deps v t) ≡ length plan
+length-all_bytes_by plan deps v t = length-map (all_actions_by plan deps t) (written v) ∙ length-map-range_with_len (actions_by plan deps t) 0 (length plan)
+
+-- the row of an agent
+pub bytes_at : (plan : Plan) (deps : Deps) (v : Version) (x i : ℕ) (actions : List Written) (row : Written) → actions ≡ all_bytes_by plan deps v x → i < length plan → row ≡ get_or actions i row → row ≡ written v (actions_by plan deps x i)
+bytes_at plan deps v x i actions row e b is =
+    is ∙ ap (λ zs. get_or zs i row) e
+    ∙ get_or-map (written v) (all_actions_by plan deps x) i [] row (omega (arith, length-map-range_with_len (actions_by plan deps x) 0 (length plan)))
+    ∙ ap (written v) (get_or-map-range_with_len (actions_by plan deps x) 0 (length plan) i i [] b (omega arith))
+
+pub count_is : (plan : Plan) (deps : Deps) (v : Version) (x i n : ℕ) (actions : List Written) (row : Written) → actions ≡ all_bytes_by plan deps v x → i < length plan → row ≡ get_or actions i row → n ≡ row.count → changes_in plan i x ≡ true → record { agent = i; count = n + 1 } ≡ await_of plan x i
 unfolding await_of
-count_is plan deps x i n actions row e b is long c =
-    let at : row ≡ actions_by plan deps x i = is ∙ ap (λ zs. get_or zs i row) e ∙ get_or-map-range_with_len (actions_by plan deps x) 0 (length plan) i i row b (omega arith) in
-    let so_far : n ≡ moves_by plan i x = long ∙ ap length at ∙ moved_so_far plan deps x i in
+count_is plan deps v x i n actions row e b is long c =
+    let at = bytes_at plan deps v x i actions row e b is in
+    let so_far : n ≡ moves_by plan i x = long ∙ ap (λ (w : Written). w.count) at ∙ moved_so_far plan deps x i in
     ap (λ (k : ℕ). made i k) (moves_more plan i x n c so_far)
   where
     made : ℕ → ℕ → Await
@@ -161,10 +173,10 @@ pub length-all_actions_by : (plan : Plan) (deps : Deps) (t : ℕ) → length (al
 length-all_actions_by plan deps t = length-map-range_with_len (actions_by plan deps t) 0 (length plan)
 
 -- an agent has made no more moves than there were steps
-pub row_short : (plan : Plan) (deps : Deps) (x i : ℕ) (actions : List (List Action)) (row : List Action) → actions ≡ all_actions_by plan deps x → i < length plan → row ≡ get_or actions i row → length row ≤ x
-row_short plan deps x i actions row e b is =
-    let at : row ≡ actions_by plan deps x i = is ∙ ap (λ zs. get_or zs i row) e ∙ get_or-map-range_with_len (actions_by plan deps x) 0 (length plan) i i row b (omega arith) in
-    omega (arith, ap length at, moved_so_far plan deps x i, moves_by-le plan i x)
+pub row_short : (plan : Plan) (deps : Deps) (v : Version) (x i : ℕ) (actions : List Written) (row : Written) → actions ≡ all_bytes_by plan deps v x → i < length plan → row ≡ get_or actions i row → row.count ≤ x
+row_short plan deps v x i actions row e b is =
+    let at = bytes_at plan deps v x i actions row e b is in
+    omega (arith, ap (λ (w : Written). w.count) at, moved_so_far plan deps x i, moves_by-le plan i x)
 
 -- ---- actions added
 
@@ -186,6 +198,23 @@ length-added plan deps x start (i ∷ agents) = length-added plan deps x (add_by
   | inl c ↦ ap length (add_by-changes plan deps x start i c) ∙ length-set start i (get_or start i [] ++ action_in plan deps i x ∷ [])
   | inr c ↦ ap length (add_by-stays plan deps x start i c)
 ]
+
+set_written : (v : Version) (rows : List (List Action)) (i : ℕ) (row : List Action) → set (map (written v) rows) i (written v row) ≡ map (written v) (set rows i row)
+set_written v [] i row = refl
+set_written v (r ∷ rows) zero row = refl
+set_written v (r ∷ rows) (suc i) row = ap (λ (zs : List Written). written v r ∷ zs) (set_written v rows i row)
+
+-- .. in bytes
+pub bytes_grow : (plan : Plan) (deps : Deps) (v : Version) (x : ℕ) (agents : List ℕ) (k i : ℕ) (start : List (List Action)) (rows : List Written) (row more : Written) (a : Action) → k < length agents → i ≡ get_or agents k i → changes_in plan i x ≡ true → i < length start → row ≡ get_or rows i row → a ≡ action_in plan deps i x → ((before : List Action) → row ≡ written v before → more ≡ written v (before ++ a ∷ [])) → rows ≡ map (written v) (fold (add_by plan deps x) start (take k agents)) → set rows i more ≡ map (written v) (fold (add_by plan deps x) start (take (k + 1) agents))
+bytes_grow plan deps v x agents k i start rows row more a b e c within is this grows h =
+    let inner = fold (add_by plan deps x) start (take k agents) in
+    let inside : i < length inner = omega (arith, length-added plan deps x start (take k agents)) in
+    let own = get_or inner i [] in
+    let at : row ≡ written v own = is ∙ ap (λ zs. get_or zs i row) h ∙ get_or-map (written v) inner i [] row inside in
+    let new : more ≡ written v (own ++ a ∷ []) = grows own at in
+    (λ t. set (h t) i (new t))
+    ∙ set_written v inner i (own ++ a ∷ [])
+    ∙ ap (map (written v)) (row_grows plan deps x agents k i start inner own a b e c inside (package.Rattle.std.proofs.lemmas.List.get_or_default inner i [] own inside) this refl)
 
 -- the action that is made is that of the plan
 pub action_is : (g : Ground) (plan : Plan) (deps : Deps) (x i : ℕ) (l : Leavings) (from to : Cell) (dir : Dir) (awaits : List Await) → AreLeavingsAt g plan deps (x + 1) l → from ≡ cell_of plan i x → to ≡ cell_of plan i (x + 1) → to.x < g.width → to.y < g.height → dir ≡ direction from to → awaits ≡ filter (λ w. not (w.agent == i)) (row_of l (cell_index g to)) → record { step = Go dir; awaits = awaits } ≡ action_in plan deps i x
@@ -219,6 +248,13 @@ actions_begin plan deps = none_of 0 (length plan)
     none_of : (a n : ℕ) → replicate n [] ≡ map (actions_by plan deps 0) (range_with_len a n)
     none_of a zero = refl
     none_of a (suc n) = ap (λ zs. [] ∷ zs) (none_of (a + 1) n)
+
+written_none : (v : Version) (n : ℕ) → replicate n (written v []) ≡ map (written v) (replicate n [])
+written_none v zero = refl
+written_none v (suc n) = ap (λ (zs : List Written). written v [] ∷ zs) (written_none v n)
+
+pub bytes_begin : (plan : Plan) (deps : Deps) (v : Version) → replicate (length plan) (written v []) ≡ all_bytes_by plan deps v 0
+bytes_begin plan deps v = written_none v (length plan) ∙ ap (map (written v)) (actions_begin plan deps)
 
 -- ---- the map
 

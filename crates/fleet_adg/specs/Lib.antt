@@ -1,7 +1,7 @@
 pub mod Compiled
 pub mod Leavings
-pub mod Growing
 pub mod Sweep
 pub mod RefusalWords
 pub mod Thinned
 pub mod Remaining
+pub mod CompiledBytes

@@ -7,6 +7,8 @@ use Rattle.fleet_model.specs.declared.deps.Deps.{Deps}
 use Rattle.fleet_grid.specs.Ground.{Ground}
 use Rattle.fleet_plan.specs.Plan.{Plan, cell_of, steps}
 use Rattle.fleet_plan.specs.UnderWay.{is_under_way}
+use Rattle.fleet_code.specs.declared.format.Version.{Version}
+use Rattle.fleet_code.specs.Written.{Written, written}
 use Rattle.fleet_adg.specs.declared.sweep.Move.{Move}
 use Rattle.fleet_adg.specs.Compiled.{changes_in, changes, action_in}
 
@@ -33,6 +35,10 @@ actions_by plan deps t i = map (action_in plan deps i) (changes plan i t)
 -- the actions of each agent in the steps before time t
 abbrev pub all_actions_by : Plan → Deps → ℕ → List (List Action)
 all_actions_by plan deps t = map (actions_by plan deps t) (indices (length plan))
+
+-- .. as bytes of the version
+abbrev pub all_bytes_by : Plan → Deps → Version → ℕ → List Written
+all_bytes_by plan deps v t = map (written v) (all_actions_by plan deps t)
 
 -- agent i, with these actions of all agents
 unfoldable pub agent_from : Plan → List (List Action) → ℕ → AgentProgram

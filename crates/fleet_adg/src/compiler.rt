@@ -1,24 +1,28 @@
 //! The compiler of plans.
 
-ghost use Rattle.std.specs.Prelude.{◌≡◌, ◌≤◌, ◌↔◌, ◌++◌, ℕ, IfOk, OnOk, length, map, replicate};
-ghost use Rattle.fleet_model.specs.Program.{moves, NeverStays, AreShort};
-ghost use Rattle.fleet_model.specs.declared.limits.TheConstants.{MAX_MOVES_V1};
+ghost use Rattle.std.specs.Prelude.{◌≡◌, ◌≤◌, ◌<◌, ◌+◌, ◌^◌, ◌↔◌, ℕ, All, IfOk, length, sum_by};
+ghost use Rattle.fleet_model.specs.Program.{Program, moves, NeverStays, AreShort};
+ghost use Rattle.fleet_model.specs.declared.limits.TheConstants.{MAX_MOVES_V1, MAX_MOVES_IN_ALL};
 ghost use Rattle.fleet_model.specs.Accepted.{IsAccepted};
 ghost use Rattle.fleet_model.specs.Answer.{IsDueUnless};
 ghost use Rattle.fleet_grid.specs.Ground.{is_passable};
-ghost use Rattle.fleet_model.specs.Machine.{indices};
 ghost use Rattle.fleet_model.specs.declared.deps.Deps.{Deps};
-ghost use Rattle.fleet_adg.specs.Compiled.{moves_in_all, compiled, compiled_if_few, stay, with_stays, compiled_staying, each_has_few, all_have_few, has_few_actions, compiled_staying_if_few};
+ghost use Rattle.fleet_adg.specs.Compiled.{moves_in_all, compiled, compiled_if_few, compiled_staying, each_has_few, all_have_few, has_few_actions, compiled_staying_if_few};
 ghost use Rattle.fleet_verify.specs.Reduced.{RunEqually};
-ghost use Rattle.fleet_adg.specs.Sweep.{agent_from};
+ghost use Rattle.fleet_plan.specs.Plan.{steps};
+ghost use Rattle.fleet_code.specs.declared.format.TheConstants.{HEAD_LEN};
+ghost use Rattle.fleet_code.specs.Offsets.{head_len};
+ghost use Rattle.fleet_code.specs.Spelling.{most_count, spelling, Spells, SpellsIn};
+ghost use Rattle.fleet_code.specs.declared.format.Version.TheVariants.{One};
+ghost use Rattle.fleet_adg.specs.Sweep.{all_bytes_by};
+ghost use Rattle.fleet_adg.specs.CompiledBytes.{AreBytesOf, version_for};
 
 use crate::fault::CompileFault;
-use crate::growing::Growing;
 use crate::sweep::{actions_of, moves_of};
-use fleet_model::{
-    Action, Actions, AgentProgram, Awaits, Deps, MAX_AGENTS, MAX_MOVES, MAX_MOVES_IN_ALL,
-    OutOfMemory, Program, Step,
+use fleet_code::{
+    ActionBytes, HEAD_LEN, Version, awaits_in, begin_program, load, programs_have_bytes,
 };
+use fleet_model::{Deps, MAX_AGENTS, MAX_MOVES, MAX_MOVES_IN_ALL, OutOfMemory, Program};
 use fleet_plan::{Checked, Plan};
 use std::alloc::Global;
 
@@ -69,13 +73,86 @@ pub fn compile_dwell(
     ensures equally { IfOk result (λ p. (other : Deps)
         → RunEqually p (compiled_staying checked.now.plan other dwell)) }
 {
+    // The plan that is read is free of conflict.
+    let _plan = checked.plan();
+    let compiled = compile_bytes(alloc, checked, deps, dwell)?;
+    let program = program_of(alloc, &compiled.bytes)?;
+    Ok(program)
+}
+
+/// The program that the bytes spell.
+fn program_of(alloc: Global, bytes: &[u8]) -> Result<Program, OutOfMemory>
+    ensures { IfOk result (λ q. (p : Program) → Spells bytes.now p → q ≡ p) }
+{
+    match load(alloc, bytes) {
+        Ok(program) => Ok(program),
+        // Bytes that spell a program are refused for want of memory alone.
+        Err(_) => Err(OutOfMemory),
+    }
+}
+
+/// The bytes of a compiled program: how many agents it has, and how many moves and awaits they have together.
+#[derive(Drop)]
+pub struct CompiledBytes {
+    pub bytes: Vec<u8>,
+    pub agents: u16,
+    pub moves: u32,
+    pub awaits: u64,
+}
+
+/// What `encode_shortest` writes of the program of `compile_dwell`, made at once, and the numbers of that program.
+///
+/// It is refused as `TooLong` exactly if `compile_dwell` is.
+#[tactic(auto, using(crate::proofs::Staying::due_plainly))]
+pub fn compile_bytes(
+    alloc: Global,
+    checked: &Checked<'_>,
+    deps: Deps,
+    dwell: u32,
+) -> Result<CompiledBytes, CompileFault>
+    ensures spelled { IfOk result (AreBytesOf (compiled_staying checked.now.plan deps dwell)) }
+    ensures due { IsDueUnless (λ _. compiled_staying checked.now.plan deps dwell) result
+        (compiled_staying_if_few checked.now.plan deps dwell) CompileFault.OutOfMemory }
+    ensures accepted { IfOk result (λ _. IsAccepted (is_passable checked.now.grid)
+        checked.now.instance (compiled_staying checked.now.plan deps dwell)) }
+    // The programs of one plan run equally, whichever leavings they await.
+    ensures equally { IfOk result (λ _. (other : Deps)
+        → RunEqually (compiled_staying checked.now.plan deps dwell)
+        (compiled_staying checked.now.plan other dwell)) }
+    // Without stays it is the program of `compile`, in version 1.
+    ensures plain { dwell ≡ 0 → compiled_staying_if_few checked.now.plan deps dwell
+        ≡ compiled_if_few checked.now.plan deps }
+    ensures first { dwell ≡ 0 → IfOk result (λ c.
+        SpellsIn One c.bytes.items (compiled_staying checked.now.plan deps dwell)) }
+{
     let plan = checked.plan();
     if !has_few_actions(plan, dwell) {
         return Err(CompileFault::TooLong);
     }
-    let actions = actions_of(alloc, checked, deps)?;
-    let agents = agent_programs(alloc, plan, actions, dwell)?;
-    Ok(Program::new(agents))
+    programs_have_bytes();
+    let version = version_for(dwell);
+    let actions = actions_of(alloc, checked, version, deps)?;
+    let moves = actions_in(&actions, dwell);
+    let bytes = join(alloc, plan, version, &actions, dwell)?;
+    let agents = plan.agents();
+    let awaits = awaits_in(version, bytes.len(), agents, moves);
+    Ok(CompiledBytes {
+        bytes,
+        agents,
+        moves,
+        awaits,
+    })
+}
+
+/// The version that is shortest: the first, unless agents stay.
+fn version_for(stays: u32) -> Version
+    ensures { result ≡ version_for stays }
+{
+    if stays == 0 {
+        Version::One
+    } else {
+        Version::Two
+    }
 }
 
 /// Whether no agent has too many actions, nor all agents together, if each stays so often after its moves.
@@ -128,49 +205,52 @@ fn moves_of_all(plan: &Plan) -> u32
     moves
 }
 
-/// The program of each agent, from its actions, after which it stays so often.
-fn agent_programs(
+/// How many actions the agents have together, if each stays so often after these.
+fn actions_in(rows: &[ActionBytes], stays: u32) -> u32
+    requires { sum_by (λ row. row.count + stays) rows.now ≤ MAX_MOVES_IN_ALL }
+    ensures { result ≡ sum_by (λ row. row.count + stays) rows.now }
+{
+    let mut actions = 0;
+    for row in rows {
+        actions += row.count() as u32 + stays;
+    }
+    actions
+}
+
+/// How many bytes the program takes, if each agent stays so often after these actions.
+fn room_for(version: Version, rows: &[ActionBytes], stays: u32) -> usize
+    ensures { HEAD_LEN + sum_by (λ row. length row.bytes + stays + head_len version) rows.now < 2 ^ 64
+        → result ≡ HEAD_LEN
+        + sum_by (λ row. length row.bytes + stays + head_len version) rows.now }
+{
+    let mut room = HEAD_LEN;
+    for row in rows {
+        room = room.saturating_add(row.agent_len(version, stays));
+    }
+    room
+}
+
+/// The bytes of the program whose agents have these actions, after which each stays so often.
+fn join(
     alloc: Global,
     plan: &Plan,
-    actions: Vec<Growing>,
+    version: Version,
+    rows: &[ActionBytes],
     stays: u32,
-) -> Result<Vec<AgentProgram>, OutOfMemory>
-    requires { length actions.items ≡ length plan.now }
-    ensures { IfOk result (λ agents. agents.items
-        ≡ map (with_stays stays) (map (agent_from plan.now actions.items)
-        (indices (length plan.now)))) }
+) -> Result<Vec<u8>, OutOfMemory>
+    requires agents { length rows.now ≡ length plan.now }
+    requires few { All (λ row. row.count + stays ≤ most_count version) rows.now }
+    ensures { IfOk result (λ bytes. (deps : Deps)
+        → rows.now ≡ all_bytes_by plan.now deps version (steps plan.now)
+        → bytes.items ≡ spelling version (compiled_staying plan.now deps stays)) }
 {
-    let mut agents = Vec::with_capacity(alloc, actions.len())?;
+    let room = room_for(version, rows, stays);
+    let mut out = begin_program(alloc, version, plan.agents(), room)?;
     let end = plan.steps();
-    for list in actions {
-        let i = agents.len() as u16;
+    for i in 0..plan.agents() {
         let start = plan.cell(i, 0);
         let goal = plan.cell(i, end);
-        let own = staying_actions(alloc, list, stays)?;
-        agents.push(AgentProgram::new(start, goal, own))?;
+        rows[usize::from(i)].put_agent(&mut out, version, start, goal, stays)?;
     }
-    Ok(agents)
-}
-
-/// The actions, and then so many stays.
-fn staying_actions(alloc: Global, list: Growing, stays: u32) -> Result<Actions, OutOfMemory>
-    ensures { IfOk result (λ actions. actions ≡ list ++ replicate stays stay) }
-{
-    let mut actions = list.into_actions()?;
-    add_stays(alloc, &mut actions, stays)?;
-    Ok(actions)
-}
-
-/// Adds so many stays that await nobody.
-fn add_stays(alloc: Global, actions: &mut Actions, stays: u32) -> Result<(), OutOfMemory>
-    ensures { OnOk result (actions.new ≡ actions.old ++ replicate stays stay) }
-{
-    actions.reserve_exact(stays as usize, 0)?;
-    for _ in 0..stays {
-        actions.push(Action {
-            step: Step::Dwell,
-            awaits: Awaits::new(alloc),
-        })?;
-    }
-    Ok(())
+    Ok(out)
 }

@@ -1,13 +1,17 @@
 //! The leavings of the cells of a map so far.
 
-ghost use Rattle.std.specs.Prelude.{◌≡◌, ◌≢◌, ℕ, [], ◌∷◌, ◌++◌, OnOk, IfOk, not, ◌==◌, filter, option_map, option_to_list};
+ghost use Rattle.std.specs.Prelude.{◌≡◌, ◌≢◌, ◌≤◌, ℕ, List, All, [], ◌∷◌, ◌++◌, OnOk, IfOk, not, ◌==◌, filter, option_map, option_to_list};
+ghost use Rattle.fleet_model.specs.declared.geometry.Step.TheVariants.{Go};
+ghost use Rattle.fleet_model.specs.declared.program.Action.{Action};
+ghost use Rattle.fleet_code.specs.Spelling.{most_count};
+ghost use Rattle.fleet_code.specs.Written.{written};
 ghost use Rattle.fleet_grid.specs.Lists.{list_at, key_of_number};
 ghost use Rattle.fleet_adg.specs.Leavings.{await_for, row_of, kind_of, leavings_after, with_leaving};
 
-use crate::growing::{Entry, Growing};
 use crate::row::note;
+use fleet_code::{ActionBytes, Version};
 use fleet_grid::{Key, Lists, Table};
-use fleet_model::{Await, Deps, OutOfMemory, Step};
+use fleet_model::{Await, Deps, Dir, OutOfMemory, Step};
 use std::alloc::{AllocError, Global};
 
 /// A move by which a cell was left: `number` of `agent`, from 1 on. There may be one for each cell of a map, so it is
@@ -28,6 +32,14 @@ impl Leaving {
             count: u32::from(self.number),
         }
     }
+}
+
+/// The entering of the cell at a place by an agent, in this direction.
+#[derive(Clone, Copy)]
+pub(crate) struct Entry {
+    pub(crate) place: usize,
+    pub(crate) agent: u16,
+    pub(crate) dir: Dir,
 }
 
 /// For each place of a map the leavings that an action that enters it would await. It takes memory for the parts of the
@@ -68,32 +80,35 @@ impl Leavings {
         }
     }
 
-    /// Adds the action of agent `own` that enters the cell at `place` by this step, with what it awaits, to its
-    /// actions. `awaits` is room to list that in.
+    /// Adds the action by which an agent enters a cell, with what it awaits, to its actions. `awaits` is room to list
+    /// that in.
     pub(crate) fn add_action(
         &self,
-        place: usize,
-        own: u16,
-        step: Step,
+        entry: Entry,
+        version: Version,
         awaits: &mut Vec<Await>,
-        actions: &mut Growing,
+        actions: &mut ActionBytes,
     ) -> Result<(), OutOfMemory>
-        ensures { OnOk result (actions.new ≡ actions.old
-            ++ record {
-              step = step;
-              awaits = filter (λ w. not (w.agent == own)) (row_of self.now place);
-            } ∷ []) }
+        requires { All (λ w. w.count ≤ most_count version)
+            (filter (λ w. not (w.agent == entry.agent)) (row_of self.now entry.place)) }
+        ensures { OnOk result ((before : List Action) → actions.old ≡ written version before
+            → actions.new ≡ written version (before ++ record {
+              step = Go entry.dir;
+              awaits = filter (λ w. not (w.agent == entry.agent)) (row_of self.now entry.place);
+            } ∷ [])) }
     {
+        let step = Step::Go(entry.dir);
         match self {
             Leavings::All(rows) => {
-                list_others(rows.list(Key::of_number(place)), own, awaits)?;
-                actions.push_any(step, awaits)
+                list_others(rows.list(Key::of_number(entry.place)), entry.agent, awaits)?;
+                actions.push(version, awaits, step)?;
             }
-            Leavings::Last(last) => {
-                let awaited = by_another(last.get(place), own);
-                actions.push(Entry { step, awaited })
-            }
+            Leavings::Last(last) => match by_another(last.get(entry.place), entry.agent) {
+                Some(leaving) => actions.push(version, &[leaving.as_await()], step)?,
+                None => actions.push(version, &[], step)?,
+            },
         }
+        Ok(())
     }
 }
 

@@ -1,16 +1,15 @@
 //! Programs made from plans.
 //!
 //! `sweep` goes once over the steps of a plan. It lists the moves of a step, goes over them first as leavings of cells
-//! and then as enterings, and adds to each agent's actions (`growing`: those in rows, and the last few close by).
+//! and then as enterings, and adds to each agent's actions, which are bytes from the first on.
 //! `leavings` has who left each cell so far: the last leaving alone for `Deps::Last`, a row for each cell, in order of
-//! agent, for `Deps::All`. `compiler` makes the program of it, with the stays of `compile_dwell`. `remaining` makes the
-//! rest of a program from where its agents stand in a run. `thinner` copies an accepted program without the awaits that
-//! `fleet_needs` finds implied. `laws` are the laws of compiled programs.
+//! agent, for `Deps::All`. `compiler` joins these bytes, with the stays of `compile_dwell`, and reads the program from
+//! them. `remaining` makes the rest of a program from where its agents stand in a run. `thinner` copies an accepted
+//! program without the awaits that `fleet_needs` finds implied. `laws` are the laws of compiled programs.
 #![tactic(auto)]
 
 mod compiler;
 mod fault;
-mod growing;
 mod laws;
 mod leavings;
 mod remaining;
@@ -19,7 +18,7 @@ mod sweep;
 mod thin_fault;
 mod thinner;
 
-pub use compiler::{compile, compile_dwell};
+pub use compiler::{CompiledBytes, compile, compile_bytes, compile_dwell};
 pub use fault::CompileFault;
 pub use fleet_model::Deps;
 pub use laws::{

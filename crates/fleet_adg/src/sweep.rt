@@ -5,12 +5,13 @@ ghost use Rattle.fleet_plan.specs.Plan.{cell_of, steps};
 ghost use Rattle.fleet_model.specs.declared.limits.TheConstants.{MAX_HORIZON};
 ghost use Rattle.fleet_adg.specs.Compiled.{direction, changes_in, moves_by};
 ghost use Rattle.fleet_adg.specs.Leavings.{kind_of, AreLeavingsAt};
-ghost use Rattle.fleet_adg.specs.Sweep.{under_way, moves_in, all_actions_by, IsOnMap};
+ghost use Rattle.fleet_code.specs.Written.{written};
+ghost use Rattle.fleet_adg.specs.Sweep.{under_way, moves_in, all_bytes_by, IsOnMap};
 
-use crate::growing::Growing;
-use crate::leavings::{Leaving, Leavings};
+use crate::leavings::{Entry, Leaving, Leavings};
+use fleet_code::{ActionBytes, Version};
 use fleet_grid::{Grid, cells_have_places_of_their_own};
-use fleet_model::{Await, Cell, Deps, Dir, OutOfMemory, Step, agent_numbers};
+use fleet_model::{Await, Cell, Deps, Dir, OutOfMemory, agent_numbers};
 use fleet_plan::{Checked, Plan};
 use std::alloc::{AllocError, Global};
 
@@ -22,29 +23,31 @@ struct Move {
     to: Cell,
 }
 
-/// A step of a plan on a map: the one after `time`.
+/// A step of a plan on a map: the one after `time`. Its actions are written in the version.
 #[derive(Clone, Copy)]
 struct PlanStep<'a> {
     plan: &'a Plan,
     grid: &'a Grid,
+    version: Version,
     time: u32,
 }
 
-/// The actions of each agent. An agent whose path has ended is not looked at again.
+/// The actions of each agent, in the version. An agent whose path has ended is not looked at again.
 pub(crate) fn actions_of(
     alloc: Global,
     checked: &Checked<'_>,
+    version: Version,
     deps: Deps,
-) -> Result<Vec<Growing>, OutOfMemory>
+) -> Result<Vec<ActionBytes>, OutOfMemory>
     ensures { IfOk result (λ actions. actions.items
-        ≡ all_actions_by checked.now.plan deps (steps checked.now.plan)) }
+        ≡ all_bytes_by checked.now.plan deps version (steps checked.now.plan)) }
 {
     let plan = checked.plan();
     let grid = checked.grid();
     cells_are_on_map(checked);
     let mut leavings = Leavings::none(alloc, deps);
-    let mut actions = empty_lists(alloc, plan, deps)?;
-    sweep(alloc, plan, grid, &mut leavings, &mut actions)?;
+    let mut actions = empty_lists(alloc, plan, version, deps)?;
+    sweep(alloc, plan, grid, version, &mut leavings, &mut actions)?;
     Ok(actions)
 }
 
@@ -53,14 +56,15 @@ fn sweep(
     alloc: Global,
     plan: &Plan,
     grid: &Grid,
+    version: Version,
     leavings: &mut Leavings,
-    actions: &mut [Growing],
+    actions: &mut [ActionBytes],
 ) -> Result<(), OutOfMemory>
     requires on_map { IsOnMap grid.now plan.now }
     requires leavings { AreLeavingsAt grid.now plan.now (kind_of leavings.old) 0 leavings.old }
-    requires actions { actions.old ≡ all_actions_by plan.now (kind_of leavings.old) 0 }
+    requires actions { actions.old ≡ all_bytes_by plan.now (kind_of leavings.old) version 0 }
     ensures { OnOk result (actions.new
-        ≡ all_actions_by plan.now (kind_of leavings.old) (steps plan.now)) }
+        ≡ all_bytes_by plan.now (kind_of leavings.old) version (steps plan.now)) }
 {
     let mut agents = agent_numbers(alloc, plan.agents())?;
     let mut moves = Vec::with_capacity(alloc, agents.len())?;
@@ -68,7 +72,12 @@ fn sweep(
     for time in 0..plan.steps() {
         plan.keep_under_way(&mut agents, time);
         list_moves(plan, time, &agents, &mut moves)?;
-        let at = PlanStep { plan, grid, time };
+        let at = PlanStep {
+            plan,
+            grid,
+            version,
+            time,
+        };
         make_moves(&at, &moves, leavings, &mut awaits, actions)?;
     }
     Ok(())
@@ -80,7 +89,7 @@ fn make_moves(
     moves: &[Move],
     leavings: &mut Leavings,
     awaits: &mut Vec<Await>,
-    actions: &mut [Growing],
+    actions: &mut [ActionBytes],
 ) -> Result<(), OutOfMemory>
     requires on_map { IsOnMap at.now.grid.now at.now.plan.now }
     requires time { at.now.time < MAX_HORIZON }
@@ -88,11 +97,11 @@ fn make_moves(
     requires leavings { AreLeavingsAt at.now.grid.now at.now.plan.now (kind_of leavings.old)
         at.now.time leavings.old }
     requires actions { actions.old
-        ≡ all_actions_by at.now.plan.now (kind_of leavings.old) at.now.time }
+        ≡ all_bytes_by at.now.plan.now (kind_of leavings.old) at.now.version at.now.time }
     ensures leavings { OnOk result (AreLeavingsAt at.now.grid.now at.now.plan.now
         (kind_of leavings.old) (at.now.time + 1) leavings.new) }
     ensures actions { OnOk result (actions.new
-        ≡ all_actions_by at.now.plan.now (kind_of leavings.old) (at.now.time + 1)) }
+        ≡ all_bytes_by at.now.plan.now (kind_of leavings.old) at.now.version (at.now.time + 1)) }
 {
     note_leavings(at, moves, actions, leavings)?;
     add_actions(at, moves, leavings, awaits, actions)
@@ -108,25 +117,25 @@ fn cells_are_on_map(checked: &Checked<'_>)
 }
 
 /// For each agent no action, and room for its moves, and for their awaits if each has at most one.
-fn empty_lists(alloc: Global, plan: &Plan, deps: Deps) -> Result<Vec<Growing>, OutOfMemory>
-    ensures { IfOk result (λ actions. actions.items ≡ replicate (length plan.now) []) }
+fn empty_lists(
+    alloc: Global,
+    plan: &Plan,
+    version: Version,
+    deps: Deps,
+) -> Result<Vec<ActionBytes>, OutOfMemory>
+    ensures { IfOk result (λ actions. actions.items
+        ≡ replicate (length plan.now) (written version [])) }
 {
     let mut lists = Vec::with_capacity(alloc, usize::from(plan.agents()))?;
     for i in 0..plan.agents() {
-        lists.push(empty_list(alloc, moves_of(plan, i) as usize, deps)?)?;
+        let moves = moves_of(plan, i) as usize;
+        let awaits = match deps {
+            Deps::All => 0,
+            Deps::Last => moves,
+        };
+        lists.push(ActionBytes::new(alloc, version, moves, awaits)?)?;
     }
     Ok(lists)
-}
-
-/// No action, and room for so many, and for their awaits if each has at most one.
-fn empty_list(alloc: Global, moves: usize, deps: Deps) -> Result<Growing, OutOfMemory>
-    ensures { IfOk result (λ actions. actions ≡ []) }
-{
-    let awaits = match deps {
-        Deps::All => 0,
-        Deps::Last => moves,
-    };
-    Growing::new(alloc, moves, awaits)
 }
 
 /// How many moves agent `i` makes.
@@ -181,14 +190,14 @@ fn list_moves(
 fn note_leavings(
     at: &PlanStep<'_>,
     moves: &[Move],
-    actions: &[Growing],
+    actions: &[ActionBytes],
     leavings: &mut Leavings,
 ) -> Result<(), OutOfMemory>
     requires on_map { IsOnMap at.now.grid.now at.now.plan.now }
     requires time { at.now.time < MAX_HORIZON }
     requires moves { moves.now ≡ moves_in at.now.plan.now at.now.time }
     requires actions { actions.now
-        ≡ all_actions_by at.now.plan.now (kind_of leavings.old) at.now.time }
+        ≡ all_bytes_by at.now.plan.now (kind_of leavings.old) at.now.version at.now.time }
     requires leavings { AreLeavingsAt at.now.grid.now at.now.plan.now (kind_of leavings.old)
         at.now.time leavings.old }
     ensures { OnOk result (AreLeavingsAt at.now.grid.now at.now.plan.now (kind_of leavings.old)
@@ -198,7 +207,7 @@ fn note_leavings(
     cells_have_places_of_their_own();
     for one in moves {
         let agent = one.agent;
-        let number = actions[usize::from(agent)].len() as u16 + 1;
+        let number = actions[usize::from(agent)].count() as u16 + 1;
         leavings.note(at.grid.cell_index(one.from), Leaving { agent, number })?;
     }
     Ok(())
@@ -210,23 +219,26 @@ fn add_actions(
     moves: &[Move],
     leavings: &Leavings,
     awaits: &mut Vec<Await>,
-    actions: &mut [Growing],
+    actions: &mut [ActionBytes],
 ) -> Result<(), OutOfMemory>
     requires on_map { IsOnMap at.now.grid.now at.now.plan.now }
-    requires time { at.now.time ≤ MAX_HORIZON }
+    requires time { at.now.time < MAX_HORIZON }
     requires moves { moves.now ≡ moves_in at.now.plan.now at.now.time }
     requires leavings { AreLeavingsAt at.now.grid.now at.now.plan.now (kind_of leavings.now)
         (at.now.time + 1) leavings.now }
     requires actions { actions.old
-        ≡ all_actions_by at.now.plan.now (kind_of leavings.now) at.now.time }
+        ≡ all_bytes_by at.now.plan.now (kind_of leavings.now) at.now.version at.now.time }
     ensures { OnOk result (actions.new
-        ≡ all_actions_by at.now.plan.now (kind_of leavings.now) (at.now.time + 1)) }
+        ≡ all_bytes_by at.now.plan.now (kind_of leavings.now) at.now.version (at.now.time + 1)) }
 {
     for one in moves {
-        let agent = one.agent;
-        let place = at.grid.cell_index(one.to);
-        let step = Step::Go(direction(one.from, one.to));
-        leavings.add_action(place, agent, step, awaits, &mut actions[usize::from(agent)])?;
+        let entry = Entry {
+            place: at.grid.cell_index(one.to),
+            agent: one.agent,
+            dir: direction(one.from, one.to),
+        };
+        let own = &mut actions[usize::from(one.agent)];
+        leavings.add_action(entry, at.version, awaits, own)?;
     }
     Ok(())
 }

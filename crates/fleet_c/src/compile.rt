@@ -2,14 +2,14 @@
 
 ghost use Rattle.std.specs.Prelude.{◌≡◌, IfOk, IfErr};
 ghost use Rattle.fleet_model.specs.Program.{Program};
+ghost use Rattle.fleet_code.specs.Spelling.{SpellsShortest};
 ghost use Rattle.fleet_c.specs.Compile.{deps_of, IsProgramOf, CompilesTexts, IsProgramStop, IsCompileStop};
 
 use crate::check::checked_plan;
 use crate::fault::CallFault;
 use crate::problem::{Problem, read_problem};
-use fleet_adg::compile_dwell;
-use fleet_code::encode_shortest;
-use fleet_model::{Deps, Program};
+use fleet_adg::compile_bytes;
+use fleet_model::Deps;
 use std::alloc::Global;
 
 /// What is asked of a program: for how many of the scenario's agents, what its actions await, and for how many actions
@@ -29,21 +29,22 @@ fn deps_of(number: u8) -> Deps
     if number == 0 { Deps::Last } else { Deps::All }
 }
 
-/// The program of the plan for which the text stands.
-fn program_of(
+/// The bytes of the program of the plan for which the text stands.
+fn bytes_of(
     alloc: Global,
     problem: &Problem,
     plan: &[u8],
     wish: &Wish,
-) -> Result<Program, CallFault>
-    ensures compiled { IfOk result (IsProgramOf problem.now.grid problem.now.instance plan.now
-        (deps_of wish.now.deps) wish.now.dwell) }
+) -> Result<Vec<u8>, CallFault>
+    ensures compiled { IfOk result (λ bytes. (program : Program)
+        × IsProgramOf problem.now.grid problem.now.instance plan.now (deps_of wish.now.deps) wish.now.dwell program
+        × SpellsShortest bytes.items program) }
     ensures stop { IfErr result (IsProgramStop problem.now.grid problem.now.instance plan.now
         (deps_of wish.now.deps) wish.now.dwell) }
 {
     let checked = checked_plan(alloc, problem, plan)?;
-    match compile_dwell(alloc, &checked, deps_of(wish.deps), wish.dwell) {
-        Ok(program) => Ok(program),
+    match compile_bytes(alloc, &checked, deps_of(wish.deps), wish.dwell) {
+        Ok(compiled) => Ok(compiled.bytes),
         Err(fault) => Err(CallFault::Compile(fault)),
     }
 }
@@ -62,9 +63,5 @@ pub fn compile_texts(
         (deps_of wish.now.deps) wish.now.dwell) }
 {
     let problem = read_problem(alloc, map, scen, wish.agents)?;
-    let program = program_of(alloc, &problem, plan, wish)?;
-    match encode_shortest(alloc, &program) {
-        Ok(bytes) => Ok(bytes),
-        Err(_) => Err(CallFault::OutOfMemory),
-    }
+    bytes_of(alloc, &problem, plan, wish)
 }

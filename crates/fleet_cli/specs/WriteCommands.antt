@@ -6,10 +6,12 @@ use Rattle.fleet_model.specs.Accepted.{IsAccepted}
 use Rattle.fleet_grid.specs.Ground.{Ground, is_passable}
 use Rattle.fleet_plan.specs.Plan.{Plan, IsConflictFree}
 use Rattle.fleet_adg.specs.Compiled.{compiled_staying_if_few}
+use Rattle.fleet_adg.specs.CompiledBytes.{AreBytesOf}
+use Rattle.fleet_adg.specs.declared.compiler.CompiledBytes.{CompiledBytes}
 use Rattle.fleet_model.specs.declared.deps.Deps.{Deps}
 use Rattle.fleet_adg.specs.declared.fault.CompileFault.TheVariants as c
 use Rattle.fleet_code.specs.Spelling.{SpellsShortest, SpellsIn, Spells}
-use Rattle.fleet_text.specs.Sink.{SinkState, IsUnwritten}
+use Rattle.fleet_text.specs.Sink.{SinkState}
 use Rattle.fleet_cli.specs.Files.{Store}
 use Rattle.fleet_args.specs.declared.commands.CompileRequest.{CompileRequest}
 use Rattle.fleet_cli.specs.declared.named.FileTexts.{FileTexts}
@@ -36,6 +38,12 @@ pub record CompilesTexts (map scen plan : List ℕ) (asked : Option ℕ) (deps :
   pub accepted : IsAccepted (is_passable ground) tasks program
   pub spelled : SpellsShortest bytes program
 
+-- .. as these bytes, whose numbers are those of that program
+pub record CompilesBytes (map scen plan : List ℕ) (asked : Option ℕ) (deps : Deps) (dwell : ℕ) (c : CompiledBytes) : Type 0 where
+  pub program : Program
+  pub made : CompilesTexts map scen plan asked deps dwell program c.bytes.items
+  pub numbers : AreBytesOf program c
+
 -- the first fault of the texts, judged in this order: map, scenario, plan text, plan, program; or memory ran out
 abbrev pub IsCompileFault : (map scen plan : List ℕ) → Option ℕ → Deps → ℕ → Fault → Type 0
 IsCompileFault map scen plan asked deps dwell (f.Compile fault) =
@@ -47,6 +55,11 @@ IsCompileFault map scen plan asked deps dwell fault = IsPlanRefusal map scen pla
 abbrev pub compiled_text : Program → List ℕ → List ℕ
 compiled_text p bytes =
     count_lines ((codes "agents", length p) ∷ (codes "moves", total_moves p) ∷ (codes "awaits", total_awaits p) ∷ (codes "bytes", length bytes) ∷ [])
+
+-- .. as they are told beside the bytes
+abbrev pub compiled_numbers : CompiledBytes → List ℕ
+compiled_numbers c =
+    count_lines ((codes "agents", c.agents) ∷ (codes "moves", c.moves) ∷ (codes "awaits", c.awaits) ∷ (codes "bytes", length c.bytes.items) ∷ [])
 
 -- What the command answers for the texts of its files. The file OUT holds the program's bytes, every other file is as before, and the
 -- program's numbers were printed; or a refusal before anything is written; or OUT could not be written, or the output failed

@@ -3,8 +3,8 @@
 
 ghost use Rattle.std.specs.Prelude.{IfOk, IfErr, ◌≡◌, ℕ};
 ghost use Rattle.fleet_code.specs.Spelling.{Spells};
-ghost use Rattle.fleet_cli.specs.Steps.{AreTextsOf, Accepts, IsProblemRefusal, IsLoadRefusal, IsAcceptRefusal, AreNumbersOf, IsMadeFor, SpellsMade, IsMakingFault, IsMeasure, IsPlannedFor};
-ghost use Rattle.fleet_model.specs.Program.{NeverStays, AreShort, Program};
+ghost use Rattle.fleet_cli.specs.Steps.{AreTextsOf, Accepts, IsProblemRefusal, IsLoadRefusal, IsAcceptRefusal, AreNumbersOf, SpellsMade, IsMakingFault, IsMeasure, IsPlannedFor};
+ghost use Rattle.fleet_model.specs.Program.{Program};
 ghost use Rattle.fleet_model.specs.Accepted.{IsAccepted};
 ghost use Rattle.fleet_grid.specs.Ground.{is_passable};
 ghost use Rattle.fleet_model.specs.Chain.{IsLongestChain};
@@ -14,11 +14,11 @@ ghost use Rattle.fleet_search.specs.Orders.{IsStuckInTries};
 
 use crate::fault::{AutoFault, Fault};
 use crate::named::FileTexts;
-use fleet_adg::{CompileFault, Deps, compile};
+use fleet_adg::{CompileFault, Deps, compile_bytes};
 use fleet_args::{Best, Tries};
-use fleet_code::{CodeView, LoadFault, encode_shortest, view};
+use fleet_code::{CodeView, LoadFault, each_spelling_has_one_program, view};
 use fleet_grid::{Grid, read_map};
-use fleet_model::{OutOfMemory, Program};
+use fleet_model::OutOfMemory;
 use fleet_plan::{Checked, Plan};
 use fleet_scen::{Instance, read_scen};
 use fleet_search::{
@@ -114,14 +114,7 @@ pub(crate) const ONE_TRY: Tries = Tries {
     best: None,
 };
 
-/// A program of a plan, and the numbers of the plan.
-#[derive(Drop)]
-struct MadeProgram {
-    program: Program,
-    numbers: PlanNumbers,
-}
-
-/// The bytes of such a program.
+/// The bytes of the program of a plan, and the numbers of the plan.
 #[derive(Drop)]
 pub struct MadeBytes {
     pub bytes: Vec<u8>,
@@ -140,27 +133,6 @@ fn numbers_of(plan: &Plan, tried: u32) -> PlanNumbers
     }
 }
 
-/// The program of the plan that is made for the map and the instance.
-fn made_program(
-    alloc: Global,
-    grid: &Grid,
-    instance: &Instance,
-    horizon: u16,
-    tries: Tries,
-    deps: Deps,
-) -> Result<MadeProgram, AutoFault>
-    ensures made { IfOk result
-        (λ m. IsMadeFor grid.now instance.now horizon tries deps m.numbers m.program) }
-    ensures short { IfOk result (λ m. AreShort m.program) }
-    ensures moves { IfOk result (λ m. NeverStays m.program) }
-    ensures fault { IfErr result (IsMakingFault grid.now instance.now horizon tries deps) }
-{
-    let Found { checked, tried } = plan_by(alloc, grid, instance, horizon, tries)?;
-    let program = compile(alloc, &checked, deps)?;
-    let numbers = numbers_of(checked.plan(), tried);
-    Ok(MadeProgram { program, numbers })
-}
-
 /// The bytes that spell the program of the plan that is made for the map and the instance, in version 1, and the numbers
 /// of the plan.
 pub fn made_bytes(
@@ -175,11 +147,13 @@ pub fn made_bytes(
         (λ m. SpellsMade grid.now instance.now horizon tries deps m.numbers m.bytes.items) }
     ensures fault { IfErr result (IsMakingFault grid.now instance.now horizon tries deps) }
 {
-    let MadeProgram { program, numbers } = made_program(
-        alloc, grid, instance, horizon, tries, deps,
-    )?;
-    let bytes = encode_shortest(alloc, &program)?;
-    Ok(MadeBytes { bytes, numbers })
+    let Found { checked, tried } = plan_by(alloc, grid, instance, horizon, tries)?;
+    let compiled = compile_bytes(alloc, &checked, deps, 0)?;
+    let numbers = numbers_of(checked.plan(), tried);
+    Ok(MadeBytes {
+        bytes: compiled.bytes,
+        numbers,
+    })
 }
 
 /// The one program that the bytes spell, read in place: refused for want of memory alone.
@@ -231,24 +205,20 @@ struct LongestChain {
     alloc: Global,
 }
 
-/// The number of actions in the longest chain of an accepted program.
+/// The number of actions in the longest chain of the program that the bytes spell, which is accepted.
 fn chain_of(
     alloc: Global,
-    program: Program,
+    bytes: &[u8],
     grid: &Grid,
     instance: &Instance,
 ) -> Result<u32, OutOfMemory>
-    requires { IsAccepted (is_passable grid.now) instance.now program }
-    ensures { IfOk result (IsLongestChain program) }
+    requires { (p : Program) × Spells bytes.now p
+        × IsAccepted (is_passable grid.now) instance.now p }
+    ensures { IfOk result (λ n. (p : Program) → Spells bytes.now p → IsLongestChain p n) }
 {
-    match verify(alloc, program, grid, instance) {
-        Ok(accepted) => Ok(accepted.chain()),
-        Err(refused) => match refused.fault {
-            VerifyFault::OutOfMemory => Err(OutOfMemory),
-            // The program is accepted.
-            _ => unreachable!(),
-        },
-    }
+    each_spelling_has_one_program();
+    let accepted = accept_made(alloc, bytes, grid, instance)?;
+    Ok(accepted.chain())
 }
 
 impl Measure for LongestChain {
@@ -258,8 +228,8 @@ impl Measure for LongestChain {
     ghost is_measure = { λ _ plan n. IsMeasure best.Chain plan n };
 
     fn measure(&self, checked: &Checked<'_>) -> Result<u32, OutOfMemory> {
-        match compile(self.alloc, checked, Deps::Last) {
-            Ok(program) => chain_of(self.alloc, program, checked.grid(), checked.instance()),
+        match compile_bytes(self.alloc, checked, Deps::Last, 0) {
+            Ok(made) => chain_of(self.alloc, &made.bytes, checked.grid(), checked.instance()),
             Err(CompileFault::OutOfMemory) => Err(OutOfMemory),
             Err(CompileFault::TooLong) => Ok(NO_CHAIN),
         }

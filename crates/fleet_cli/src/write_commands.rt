@@ -4,7 +4,7 @@ ghost use Rattle.std.specs.Prelude.{◌≡◌, ℕ, List, IfOk, IfErr, MatchResu
 ghost use Rattle.fleet_text.specs.Sink.{IsWorking};
 ghost use Rattle.fleet_code.specs.Spelling.{SpellsShortest};
 ghost use Rattle.fleet_cli.specs.Output.{WritesOut, IsOutRefusal};
-ghost use Rattle.fleet_cli.specs.WriteCommands.{CompilesTexts, IsCompileFault, compiled_text, AnswersCompile, ThinsTexts, thinned_text, AnswersThin, MigratesBytes, migrated_text, AnswersMigrate};
+ghost use Rattle.fleet_cli.specs.WriteCommands.{CompilesBytes, IsCompileFault, compiled_numbers, AnswersCompile, ThinsTexts, thinned_text, AnswersThin, MigratesBytes, migrated_text, AnswersMigrate};
 ghost use Rattle.fleet_model.specs.Program.{total_awaits};
 ghost use Rattle.fleet_cli.specs.Steps.{IsTextsRefusal, IsLoadRefusal};
 
@@ -13,7 +13,7 @@ use crate::files::Files;
 use crate::named::FileTexts;
 use crate::output::write_out;
 use crate::steps::{accept, read_problem};
-use fleet_adg::{ThinFault, compile_dwell, thin};
+use fleet_adg::{CompiledBytes, ThinFault, compile_bytes, thin};
 use fleet_args::{CompileRequest, MigrateRequest, ThinRequest};
 use fleet_code::{encode_shortest, encode2, load};
 use fleet_model::{OutOfMemory, Program, ProgramView, total_awaits, total_moves};
@@ -21,23 +21,15 @@ use fleet_plan::{check, read_plan};
 use fleet_run::Flush;
 use std::alloc::Global;
 
-/// A program, and the bytes that spell it.
-#[derive(Drop)]
-struct Compiled {
-    program: Program,
-    bytes: Vec<u8>,
-}
-
-/// The program, as it is asked for, of the plan for which the texts stand. The texts are let go once they are
-/// read.
-fn compiled_program<'a>(
+/// The bytes of the program, as it is asked for, of the plan for which the texts stand, and its numbers. The texts are
+/// let go once they are read.
+fn compile_texts<'a>(
     alloc: Global,
     request: &CompileRequest<'_>,
     texts: FileTexts,
-) -> Result<Program, Fault<'a>>
-    ensures compiled { IfOk result
-        (λ p. (bytes : List ℕ) → SpellsShortest bytes p → CompilesTexts texts.map.items texts.scen.items texts.subject.items
-        request.now.agents request.now.deps request.now.dwell p bytes) }
+) -> Result<CompiledBytes, Fault<'a>>
+    ensures compiled { IfOk result (CompilesBytes texts.map.items texts.scen.items texts.subject.items
+        request.now.agents request.now.deps request.now.dwell) }
     ensures fault { IfErr result (IsCompileFault texts.map.items texts.scen.items texts.subject.items
         request.now.agents request.now.deps request.now.dwell) }
 {
@@ -51,55 +43,38 @@ fn compiled_program<'a>(
         Ok(checked) => checked,
         Err(refusal) => return Err(Fault::Check(refusal.fault)),
     };
-    match compile_dwell(alloc, &checked, request.deps, request.dwell) {
-        Ok(program) => Ok(program),
+    match compile_bytes(alloc, &checked, request.deps, request.dwell) {
+        Ok(compiled) => Ok(compiled),
         Err(fault) => Err(Fault::Compile(fault)),
     }
-}
-
-/// The program, and the bytes that spell it. The plan is let go before the bytes are made.
-fn compile_texts<'a>(
-    alloc: Global,
-    request: &CompileRequest<'_>,
-    texts: FileTexts,
-) -> Result<Compiled, Fault<'a>>
-    ensures compiled { IfOk result (λ c. CompilesTexts texts.map.items texts.scen.items texts.subject.items
-        request.now.agents request.now.deps request.now.dwell c.program c.bytes.items) }
-    ensures fault { IfErr result (IsCompileFault texts.map.items texts.scen.items texts.subject.items
-        request.now.agents request.now.deps request.now.dwell) }
-{
-    let program = compiled_program(alloc, request, texts)?;
-    let Ok(bytes) = encode_shortest(alloc, &program) else {
-        return Err(Fault::Memory);
-    };
-    Ok(Compiled { program, bytes })
 }
 
 /// Writes the bytes of the program to the file OUT, and prints its numbers.
 fn write_compiled<'a, F: Files, O: Flush>(
     files: &mut F,
     name: &'a str,
-    program: &Program,
-    bytes: &[u8],
+    compiled: &CompiledBytes,
     out: &mut O,
 ) -> Result<u8, Fault<'a>>
     requires { IsWorking (O.state out.old) }
     ensures { MatchResult result
-        (λ status. WritesOut (F.contents files.old) (F.contents files.new) name.entry.now bytes.now
-        (O.state out.old) (O.state out.new) (compiled_text program.now bytes.now) × (status ≡ 0))
-        (IsOutRefusal (F.contents files.old) (F.contents files.new) name.entry.now bytes.now
-        (O.state out.old) (O.state out.new) (compiled_text program.now bytes.now)) }
+        (λ status. WritesOut (F.contents files.old) (F.contents files.new) name.entry.now
+        compiled.now.bytes.items (O.state out.old) (O.state out.new) (compiled_numbers compiled.now)
+        × (status ≡ 0))
+        (IsOutRefusal (F.contents files.old) (F.contents files.new) name.entry.now
+        compiled.now.bytes.items (O.state out.old) (O.state out.new)
+        (compiled_numbers compiled.now)) }
 {
     write_out(
         files,
         name,
-        bytes,
+        &compiled.bytes,
         out,
         &[
-            ("agents", program.agents() as u64),
-            ("moves", total_moves(program) as u64),
-            ("awaits", total_awaits(program) as u64),
-            ("bytes", bytes.len() as u64),
+            ("agents", compiled.agents as u64),
+            ("moves", compiled.moves as u64),
+            ("awaits", compiled.awaits),
+            ("bytes", compiled.bytes.len() as u64),
         ],
     )
 }
@@ -119,7 +94,7 @@ pub(crate) fn do_compile<'a, F: Files, O: Flush>(
         (O.state out.old) (O.state out.new) result }
 {
     let compiled = compile_texts(alloc, request, texts)?;
-    write_compiled(files, request.out, &compiled.program, &compiled.bytes, out)
+    write_compiled(files, request.out, &compiled, out)
 }
 
 /// The bytes of a thinned program, and how many awaits there were before and are after.

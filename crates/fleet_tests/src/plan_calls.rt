@@ -4,7 +4,9 @@ use crate::fleets::{
     ALL_BYTES, LAST_BYTES, PAIR_BYTES, PAIR_MAP, PAIR_PLAN, PAIR_SCEN, ROW_MAP, ROW_PLAN, ROW_SCEN,
     SQUARE_MAP, SQUARE_SCEN, STAYING_BYTES, problem,
 };
-use fleet_adg::{CompileFault, Deps, ThinFault, compile, compile_dwell, thin};
+use fleet_adg::{
+    CompileFault, CompiledBytes, Deps, ThinFault, compile, compile_bytes, compile_dwell, thin,
+};
 use fleet_code::{EncodeFault, encode, encode2, load};
 use fleet_grid::read_map;
 use fleet_model::{Cell, OutOfMemory};
@@ -139,21 +141,38 @@ fn compile_answer(
     }
 }
 
+/// The same at once, with the program's numbers.
+fn compiled_bytes(
+    alloc: Global,
+    (map, scen, text): (&[u8], &[u8], &[u8]),
+    deps: Deps,
+    dwell: u32,
+) -> Result<CompiledBytes, Fail> {
+    let (grid, instance) = problem(alloc, map, scen)?;
+    let Ok(checked) = check(alloc, read_plan(alloc, text)?, &grid, &instance) else {
+        return Err(Fail::from("refused"));
+    };
+    Ok(compile_bytes(alloc, &checked, deps, dwell)?)
+}
+
 #[test]
 fn plans_are_compiled(rt: HostRuntime) -> Result<(), Fail> {
     let pair = (PAIR_MAP, PAIR_SCEN, PAIR_PLAN);
     let row = (ROW_MAP, ROW_SCEN, ROW_PLAN);
-    for (problem, deps, dwell, due) in [
-        (pair, Deps::All, 0, PAIR_BYTES),
-        (pair, Deps::Last, 0, PAIR_BYTES),
-        (pair, Deps::Last, 2, STAYING_BYTES),
-        (row, Deps::All, 0, ALL_BYTES),
-        (row, Deps::Last, 0, LAST_BYTES),
+    for (problem, deps, dwell, due, numbers) in [
+        (pair, Deps::All, 0, PAIR_BYTES, (2, 4, 2)),
+        (pair, Deps::Last, 0, PAIR_BYTES, (2, 4, 2)),
+        (pair, Deps::Last, 2, STAYING_BYTES, (2, 8, 2)),
+        (row, Deps::All, 0, ALL_BYTES, (3, 6, 5)),
+        (row, Deps::Last, 0, LAST_BYTES, (3, 6, 4)),
     ] {
         assert_eq!(rt;
             compile_answer(rt.alloc(), problem, deps, dwell)?.as_slice(),
             due
         );
+        let made = compiled_bytes(rt.alloc(), problem, deps, dwell)?;
+        assert_eq!(rt; made.bytes.as_slice(), due);
+        assert_eq!(rt; (made.agents, made.moves, made.awaits), numbers);
     }
     let alloc = rt.alloc();
     let (grid, instance) = problem(alloc, PAIR_MAP, PAIR_SCEN)?;

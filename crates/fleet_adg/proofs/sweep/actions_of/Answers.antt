@@ -1,6 +1,6 @@
 use Rattle.std.proofs.Common.{refl, ◌∙◌}
 use Rattle.fleet_adg.specs.Leavings.{kind_of}
-use Rattle.fleet_adg.proofs.SweepSteps.{sweep_begins, actions_begin}
+use Rattle.fleet_adg.proofs.SweepSteps.{sweep_begins, bytes_begin}
 use Rattle.fleet_adg.proofs.sweep.actions_of.Goals as goal
 
 pub sweep-requires-clause-on_map : goal.sweep-requires-clause-on_map
@@ -14,4 +14,4 @@ sweep-requires-clause-leavings c =
 
 pub sweep-requires-clause-actions : goal.sweep-requires-clause-actions
 sweep-requires-clause-actions c =
-    c.deref_mut.ensures.value ∙ (c.in_ok-actions.ensures ∙ actions_begin c.plan-plan.result.now (kind_of c.none-leavings.result))
+    c.deref_mut.ensures.value ∙ (c.in_ok-actions.ensures ∙ bytes_begin c.plan-plan.result.now (kind_of c.none-leavings.result) c.args.version)

@@ -1,24 +1,25 @@
-use Rattle.std.proofs.Common.{◌+◌, ◌<◌, ◌≤◌, ◌++◌, [], ◌∷◌, ◌==◌, not, filter, set, length, get_or, refl, sym, ap, subst, ◌∙◌, arith}
+use Rattle.std.proofs.Common.{◌+◌, ◌<◌, ◌≤◌, ◌++◌, [], ◌∷◌, ◌==◌, not, filter, map, set, length, get_or, refl, sym, ap, subst, ◌∙◌, arith}
 use Rattle.std.specs.List.{fold}
-use Rattle.std.proofs.lemmas.List.{get_or_default, take_all}
+use Rattle.std.proofs.lemmas.List.{take_all}
 use Rattle.fleet_model.specs.declared.geometry.Step.TheVariants.{Go}
 use Rattle.fleet_model.specs.declared.program.Action.{Action}
 use Rattle.fleet_grid.specs.Ground.{cell_index}
 use Rattle.fleet_adg.specs.Leavings.{kind_of, row_of}
-use Rattle.fleet_adg.specs.Sweep.{movers}
+use Rattle.fleet_code.specs.Written.{written}
+use Rattle.fleet_adg.specs.Sweep.{movers, all_actions_by}
 use Rattle.fleet_adg.proofs.Folds.{add_by}
-use Rattle.fleet_adg.proofs.SweepSteps.{length-all_actions_by, row_grows, action_is}
-use Rattle.fleet_adg.proofs.MoveRows.{no_move, move_at, length-moves, all_added}
+use Rattle.fleet_adg.proofs.SweepSteps.{length-all_actions_by, length-all_bytes_by, bytes_grow, action_is}
+use Rattle.fleet_adg.proofs.MoveRows.{awaits_fit, no_move, move_at, length-moves, all_added}
 use Rattle.fleet_adg.proofs.sweep.add_actions.Goals as goal
 
-pub cell_index-place-requires-clause-column : goal.cell_index-place-requires-clause-column
-cell_index-place-requires-clause-column c =
+pub cell_index-requires-clause-column : goal.cell_index-requires-clause-column
+cell_index-requires-clause-column c =
     let plan = c.args.at.now.plan.now in
     let m = move_at plan c.args.at.now.time c.loop-one.one-index c.args.moves.now c.requires.moves c.loop-one-test.true in
     subst (λ q. q.x < c.args.at.now.grid.now.width) (sym m.to) (c.requires.on_map.columns (get_or c.args.moves.now c.loop-one.one-index no_move).agent (c.args.at.now.time + 1) m.below)
 
-pub cell_index-place-requires-clause-row : goal.cell_index-place-requires-clause-row
-cell_index-place-requires-clause-row c =
+pub cell_index-requires-clause-row : goal.cell_index-requires-clause-row
+cell_index-requires-clause-row c =
     let plan = c.args.at.now.plan.now in
     let m = move_at plan c.args.at.now.time c.loop-one.one-index c.args.moves.now c.requires.moves c.loop-one-test.true in
     subst (λ q. q.y < c.args.at.now.grid.now.height) (sym m.to) (c.requires.on_map.rows (get_or c.args.moves.now c.loop-one.one-index no_move).agent (c.args.at.now.time + 1) m.below)
@@ -27,12 +28,28 @@ pub bounds-actions-from : goal.bounds-actions-from
 bounds-actions-from c =
     let plan = c.args.at.now.plan.now in
     let m = move_at plan c.args.at.now.time c.loop-one.one-index c.args.moves.now c.requires.moves c.loop-one-test.true in
-    omega (arith, c.from.ensures, m.below, c.loop-one.auto.actions, ap length c.requires.actions, length-all_actions_by plan (kind_of c.args.leavings.now) c.args.at.now.time)
+    omega (arith, c.from.ensures, m.below, c.loop-one.auto.actions, ap length c.requires.actions, length-all_bytes_by plan (kind_of c.args.leavings.now) c.args.at.now.version c.args.at.now.time)
+
+pub add_action-requires : goal.add_action-requires
+add_action-requires c =
+    let g = c.args.at.now.grid.now in
+    let deps = kind_of c.args.leavings.now in
+    let v = c.args.at.now.version in
+    let x = c.args.at.now.time in
+    let one = get_or c.args.moves.now c.loop-one.one-index no_move in
+    let i = one.agent in
+    let plan = c.args.at.now.plan.now in
+    let m = move_at plan x c.loop-one.one-index c.args.moves.now c.requires.moves c.loop-one-test.true in
+    rw c.cell_index.ensures.value (awaits_fit g plan deps v x i c.args.leavings.now one.to c.requires.leavings m.to
+    (subst (λ q. q.x < g.width) (sym m.to) (c.requires.on_map.columns i (x + 1) m.below))
+    (subst (λ q. q.y < g.height) (sym m.to) (c.requires.on_map.rows i (x + 1) m.below))
+    c.requires.time)
 
 pub loop-one-preserved : goal.loop-one-preserved
 loop-one-preserved c =
     let g = c.args.at.now.grid.now in
     let deps = kind_of c.args.leavings.now in
+    let v = c.args.at.now.version in
     let x = c.args.at.now.time in
     let k = c.loop-one.one-index in
     let one = get_or c.args.moves.now k no_move in
@@ -41,16 +58,16 @@ loop-one-preserved c =
     let awaits = filter (λ w. not (w.agent == i)) (row_of c.args.leavings.now (cell_index g one.to)) in
     let action : Action = record { step = Go c.direction.result; awaits = awaits } in
     let plan = c.args.at.now.plan.now in
-    let m = move_at plan c.args.at.now.time c.loop-one.one-index c.args.moves.now c.requires.moves c.loop-one-test.true in
-    let within : i < length rows = omega (arith, m.below, c.loop-one.auto.actions, ap length c.requires.actions, length-all_actions_by plan deps x) in
+    let m = move_at plan x k c.args.moves.now c.requires.moves c.loop-one-test.true in
+    let within : i < length (all_actions_by plan deps x) = omega (arith, m.below, length-all_actions_by plan deps x) in
     let this = action_is g plan deps x i c.args.leavings.now one.from one.to c.direction.result awaits c.requires.leavings m.from m.to
     (subst (λ q. q.x < g.width) (sym m.to) (c.requires.on_map.columns i (x + 1) m.below))
     (subst (λ q. q.y < g.height) (sym m.to) (c.requires.on_map.rows i (x + 1) m.below))
     c.direction.ensures refl in
     let found = c.index-actions-from.result in
-    let added = rw c.cell_index-place.ensures.value at c.in_ok-add_action.ensures in
-    ap (set rows c.from.result) added ∙ ap (λ n. set rows n (get_or rows n found ++ action ∷ [])) c.from.ensures
-    ∙ row_grows plan deps x (movers plan x) k i c.args.actions.now rows (get_or rows i found) action m.place m.agent m.changes within (get_or_default rows i found (get_or rows i found) within) this c.loop-one.invariant
+    let grows = rw c.cell_index.ensures.value at c.in_ok-add_action.ensures in
+    ap (λ n. set rows n c.add_action.new.actions) c.from.ensures
+    ∙ bytes_grow plan deps v x (movers plan x) k i (all_actions_by plan deps x) rows found c.add_action.new.actions action m.place m.agent m.changes within (c.index-actions-from.is ∙ ap (λ n. get_or rows n found) c.from.ensures) this (λ before was. grows before (sym c.index-actions-from.is ∙ was)) c.loop-one.invariant
 
 pub returns : goal.returns
 returns c =
@@ -59,5 +76,5 @@ returns c =
     let x = c.args.at.now.time in
     let over : length (movers plan x) ≤ c.loop-one.one-index = omega (arith, length-moves plan x c.args.moves.now c.requires.moves, c.loop-one-test.false) in
     c.loop-one.invariant
-    ∙ ap (fold (add_by plan deps x) c.args.actions.now) (take_all c.loop-one.one-index (movers plan x) over)
-    ∙ all_added plan deps x c.args.actions.now c.requires.actions
+    ∙ ap (map (written c.args.at.now.version)) (ap (fold (add_by plan deps x) (all_actions_by plan deps x)) (take_all c.loop-one.one-index (movers plan x) over)
+    ∙ all_added plan deps x (all_actions_by plan deps x) refl)

@@ -2,7 +2,7 @@ use Rattle.std.proofs.Common.{◌+◌, ◌<◌, ◌≤◌, length, get_or, sym, 
 use Rattle.std.proofs.lemmas.List.{take_all}
 use Rattle.fleet_adg.specs.Leavings.{kind_of}
 use Rattle.fleet_adg.specs.Sweep.{movers}
-use Rattle.fleet_adg.proofs.SweepSteps.{IsNotedBelow, row_short, count_is, length-all_actions_by, noting_begins, one_leaves}
+use Rattle.fleet_adg.proofs.SweepSteps.{IsNotedBelow, row_short, count_is, length-all_bytes_by, noting_begins, one_leaves}
 use Rattle.fleet_adg.proofs.MoveRows.{no_move, move_at, length-moves, all_noted}
 use Rattle.fleet_adg.proofs.sweep.note_leavings.Goals as goal
 
@@ -13,28 +13,21 @@ pub bounds-actions-from : goal.bounds-actions-from
 bounds-actions-from c =
     let plan = c.args.at.now.plan.now in
     let m = move_at plan c.args.at.now.time c.loop-one.one-index c.args.moves.now c.requires.moves c.loop-one-test.true in
-    omega (arith, c.from.ensures, m.below, ap length c.requires.actions, length-all_actions_by plan (kind_of c.args.leavings.now) c.args.at.now.time)
-
-pub len-requires : goal.len-requires
-len-requires c =
-    let plan = c.args.at.now.plan.now in
-    let m = move_at plan c.args.at.now.time c.loop-one.one-index c.args.moves.now c.requires.moves c.loop-one-test.true in
-    let short = row_short plan (kind_of c.args.leavings.now) c.args.at.now.time c.from.result c.args.actions.now c.index-actions-from.result c.requires.actions (omega (arith, c.from.ensures, m.below)) c.index-actions-from.is in
-    omega (arith, short, c.requires.time)
+    omega (arith, c.from.ensures, m.below, ap length c.requires.actions, length-all_bytes_by plan (kind_of c.args.leavings.now) c.args.at.now.version c.args.at.now.time)
 
 pub overflow_cast-number : goal.overflow_cast-number
 overflow_cast-number c =
     let plan = c.args.at.now.plan.now in
     let m = move_at plan c.args.at.now.time c.loop-one.one-index c.args.moves.now c.requires.moves c.loop-one-test.true in
-    let short = row_short plan (kind_of c.args.leavings.now) c.args.at.now.time c.from.result c.args.actions.now c.index-actions-from.result c.requires.actions (omega (arith, c.from.ensures, m.below)) c.index-actions-from.is in
-    omega (arith, short, c.len.ensures, c.requires.time)
+    let short = row_short plan (kind_of c.args.leavings.now) c.args.at.now.version c.args.at.now.time c.from.result c.args.actions.now c.index-actions-from.result c.requires.actions (omega (arith, c.from.ensures, m.below)) c.index-actions-from.is in
+    omega (arith, short, c.count.ensures, c.requires.time)
 
 pub overflow_add-number : goal.overflow_add-number
 overflow_add-number c =
     let plan = c.args.at.now.plan.now in
     let m = move_at plan c.args.at.now.time c.loop-one.one-index c.args.moves.now c.requires.moves c.loop-one-test.true in
-    let short = row_short plan (kind_of c.args.leavings.now) c.args.at.now.time c.from.result c.args.actions.now c.index-actions-from.result c.requires.actions (omega (arith, c.from.ensures, m.below)) c.index-actions-from.is in
-    omega (arith, short, c.len.ensures, c.requires.time)
+    let short = row_short plan (kind_of c.args.leavings.now) c.args.at.now.version c.args.at.now.time c.from.result c.args.actions.now c.index-actions-from.result c.requires.actions (omega (arith, c.from.ensures, m.below)) c.index-actions-from.is in
+    omega (arith, short, c.count.ensures, c.requires.time)
 
 pub cell_index-requires-clause-column : goal.cell_index-requires-clause-column
 cell_index-requires-clause-column c =
@@ -58,10 +51,10 @@ loop-one-preserved c =
     let i = one.agent in
     let plan = c.args.at.now.plan.now in
     let m = move_at plan c.args.at.now.time c.loop-one.one-index c.args.moves.now c.requires.moves c.loop-one-test.true in
-    one_leaves g plan deps x (movers plan x) k i c.loop-one.leavings c.note.new.self one.from (record { agent = i; count = c.len.result + 1 }) (c.cells_have_places_of_their_own.ensures g)
+    one_leaves g plan deps x (movers plan x) k i c.loop-one.leavings c.note.new.self one.from (record { agent = i; count = c.count.result + 1 }) (c.cells_have_places_of_their_own.ensures g)
     (subst (λ q. q.x < g.width) (sym m.from) (c.requires.on_map.columns i x m.below))
     m.from
-    (count_is plan deps x i c.len.result c.args.actions.now c.index-actions-from.result c.requires.actions m.below (c.index-actions-from.is ∙ ap (λ n. get_or c.args.actions.now n c.index-actions-from.result) c.from.ensures) c.len.ensures m.changes)
+    (count_is plan deps c.args.at.now.version x i c.count.result c.args.actions.now c.index-actions-from.result c.requires.actions m.below (c.index-actions-from.is ∙ ap (λ n. get_or c.args.actions.now n c.index-actions-from.result) c.from.ensures) c.count.ensures m.changes)
     m.place m.agent m.changes
     c.in_ok-note.ensures.kind
     (rw c.cell_index.ensures.value at c.in_ok-note.ensures.here)

@@ -1,7 +1,7 @@
 use Rattle.std.proofs.Common.{◌+◌, ◌<◌, All, length, filter, sym, ap, subst, ◌∙◌, arith}
 use Rattle.fleet_model.specs.Machine.{indices}
 use Rattle.fleet_adg.specs.Leavings.{AreLeavingsAt}
-use Rattle.fleet_adg.specs.Sweep.{all_actions_by}
+use Rattle.fleet_adg.specs.Sweep.{all_bytes_by}
 use Rattle.fleet_plan.specs.UnderWay.{is_under_way}
 use Rattle.fleet_adg.proofs.Limits.{steps_few}
 use Rattle.fleet_adg.proofs.SweepSteps.{agents_below, under_way_below, under_way-next}
@@ -37,5 +37,5 @@ loop-time-preserved c =
       agents = ap (filter (is_under_way plan (t + 1))) agents ∙ under_way-next plan t;
       below = subst (All (λ i. i < length plan)) (sym agents) (under_way_below plan t);
       leavings = subst (λ d. AreLeavingsAt c.args.grid.now plan d (t + 1) c.make_moves.new.leavings) kind made.leavings;
-      actions = made.actions ∙ ap (λ d. all_actions_by plan d (t + 1)) kind;
+      actions = made.actions ∙ ap (λ d. all_bytes_by plan d c.args.version (t + 1)) kind;
     }

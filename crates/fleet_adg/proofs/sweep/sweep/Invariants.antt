@@ -1,6 +1,6 @@
 use Rattle.std.proofs.Common.{◌≡◌, ◌<◌, All, length, filter}
 use Rattle.fleet_adg.specs.Leavings.{kind_of, AreLeavingsAt}
-use Rattle.fleet_adg.specs.Sweep.{under_way, all_actions_by}
+use Rattle.fleet_adg.specs.Sweep.{under_way, all_bytes_by}
 use Rattle.fleet_plan.specs.UnderWay.{is_under_way}
 use Rattle.fleet_adg.proofs.sweep.sweep.Given as goal
 
@@ -9,5 +9,5 @@ invariant-loop-time l = record {
   agents : filter (is_under_way l.plan l.time) l.agents.items ≡ under_way l.plan l.time;
   below : All (λ i. i < length l.plan) l.agents.items;
   leavings : AreLeavingsAt l.grid l.plan (kind_of l.fn.leavings) l.time l.leavings;
-  actions : l.actions ≡ all_actions_by l.plan (kind_of l.fn.leavings) l.time;
+  actions : l.actions ≡ all_bytes_by l.plan (kind_of l.fn.leavings) l.version l.time;
 }

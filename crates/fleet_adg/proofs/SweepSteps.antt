@@ -23,7 +23,7 @@ use Rattle.fleet_adg.specs.Compiled.{direction, last_below, entry_awaits, change
 use Rattle.fleet_adg.specs.Leavings.{row_of, kind_of, leavings_after, AreLeavingsAt}
 use Rattle.fleet_code.specs.declared.format.Version.{Version}
 use Rattle.fleet_code.specs.Written.{Written, written}
-use Rattle.fleet_adg.specs.Sweep.{under_way, actions_by, all_actions_by, all_bytes_by, agent_from, IsOnMap}
+use Rattle.fleet_adg.specs.Sweep.{under_way, movers, actions_by, all_actions_by, all_bytes_by, agent_from, IsOnMap}
 use Rattle.fleet_plan.specs.UnderWay.{is_under_way}
 use Rattle.fleet_adg.proofs.Basics.{indices_push}
 use Rattle.fleet_adg.proofs.Moves.{moves_by-yes, moves_by-no, moves_by-le, steps-ge}
@@ -64,14 +64,11 @@ filter-filter p q h (x ∷ xs) = elim (cases_Bool (p x)) [
 ]
 
 -- who goes on after time t + 1 went on after time t
-pub under_way-next : (plan : Plan) (t : ℕ) → filter (is_under_way plan (t + 1)) (under_way plan t) ≡ under_way plan (t + 1)
-under_way-next plan t = filter-filter (is_under_way plan t) (is_under_way plan (t + 1)) (λ i h. earlier i h) (indices (length plan))
-  where
-    earlier : (i : ℕ) → is_under_way plan (t + 1) i ≡ true → is_under_way plan t i ≡ true
-    earlier i h = elim (cases_lt t (length (get_or plan i []) - 1)) [
-      | inl l ↦ lt-ltb t (length (get_or plan i []) - 1) l
-      | inr l ↦ absurd (both_ways (is_under_way plan (t + 1) i) (le-ltb (t + 1) (length (get_or plan i []) - 1) (omega arith)) h)
-    ]
+earlier : (plan : Plan) (t i : ℕ) → is_under_way plan (t + 1) i ≡ true → is_under_way plan t i ≡ true
+earlier plan t i h = elim (cases_lt t (length (get_or plan i []) - 1)) [
+  | inl l ↦ lt-ltb t (length (get_or plan i []) - 1) l
+  | inr l ↦ absurd (both_ways (is_under_way plan (t + 1) i) (le-ltb (t + 1) (length (get_or plan i []) - 1) (omega arith)) h)
+]
 
 all_range : (a n : ℕ) → All (λ i. i < a + n) (range_with_len a n)
 all_range a zero k d l = absurd (omega arith)
@@ -87,8 +84,26 @@ agents_below plan = λ k d l. let h = all_range 0 (length plan) k d l in omega a
 pub under_way_below : (plan : Plan) (t : ℕ) → All (λ i. i < length plan) (under_way plan t)
 under_way_below plan t = all_filter (λ i. i < length plan) (is_under_way plan t) (indices (length plan)) (agents_below plan)
 
-pub agent_at : (plan : Plan) (t : ℕ) (agents : List ℕ) (k : ℕ) → agents ≡ under_way plan t → k < length agents → get_or agents k 0 < length plan
-agent_at plan t agents k e l = let all = subst (All (λ i. i < length plan)) (sym e) (under_way_below plan t) in all k 0 l
+-- a row that has those whose paths go on, in order, has those who move
+pub movers_among : (plan : Plan) (t : ℕ) (agents : List ℕ) → filter (is_under_way plan t) agents ≡ under_way plan t → filter (λ i. changes_in plan i t) agents ≡ movers plan t
+movers_among plan t agents e = sym (filter-filter (is_under_way plan t) (λ i. changes_in plan i t) (λ i moves. go i (is_under_way plan t i) refl moves) agents) ∙ ap (filter (λ i. changes_in plan i t)) e
+  where
+    go : (i : ℕ) (b : Bool) → is_under_way plan t i ≡ b → changes_in plan i t ≡ true → is_under_way plan t i ≡ true
+    go i true e moves = e
+    go i false e moves = absurd (let stays = still plan t i e in cc)
+
+-- those whose paths go on are the same in the part of a row that has them
+pub under_way_again : (plan : Plan) (t : ℕ) (agents : List ℕ) → filter (is_under_way plan t) (filter (is_under_way plan t) agents) ≡ filter (is_under_way plan t) agents
+under_way_again plan t agents = filter-filter (is_under_way plan t) (is_under_way plan t) (λ i h. h) agents
+
+pub under_way_later : (plan : Plan) (t : ℕ) (agents : List ℕ) → filter (is_under_way plan t) agents ≡ under_way plan t → filter (is_under_way plan (t + 1)) agents ≡ under_way plan (t + 1)
+under_way_later plan t agents e =
+    sym (filter-filter (is_under_way plan t) (is_under_way plan (t + 1)) (earlier plan t) agents)
+    ∙ ap (filter (is_under_way plan (t + 1))) e
+    ∙ filter-filter (is_under_way plan t) (is_under_way plan (t + 1)) (earlier plan t) (indices (length plan))
+
+pub below_kept : (plan : Plan) (t : ℕ) (agents : List ℕ) → All (λ i. i < length plan) agents → All (λ i. i < length plan) (filter (is_under_way plan t) agents)
+below_kept plan t agents all = all_filter (λ i. i < length plan) (is_under_way plan t) agents all
 
 -- ---- leavings noted
 

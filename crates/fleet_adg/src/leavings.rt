@@ -12,7 +12,7 @@ use crate::row::note;
 use fleet_code::{ActionBytes, Version};
 use fleet_grid::{Key, Lists, Table};
 use fleet_model::{Await, Deps, Dir, OutOfMemory, Step};
-use std::alloc::{AllocError, Global};
+use std::alloc::Global;
 
 /// A move by which a cell was left: `number` of `agent`, from 1 on. There may be one for each cell of a map, so it is
 /// small.
@@ -80,13 +80,11 @@ impl Leavings {
         }
     }
 
-    /// Adds the action by which an agent enters a cell, with what it awaits, to its actions. `awaits` is room to list
-    /// that in.
+    /// Adds the action by which an agent enters a cell, with what it awaits, to its actions.
     pub(crate) fn add_action(
         &self,
         entry: Entry,
         version: Version,
-        awaits: &mut Vec<Await>,
         actions: &mut ActionBytes,
     ) -> Result<(), OutOfMemory>
         requires { All (λ w. w.count ≤ most_count version)
@@ -97,15 +95,16 @@ impl Leavings {
               awaits = filter (λ w. not (w.agent == entry.agent)) (row_of self.now entry.place);
             } ∷ [])) }
     {
-        let step = Step::Go(entry.dir);
+        let Entry { place, agent, dir } = entry;
+        let step = Step::Go(dir);
         match self {
             Leavings::All(rows) => {
-                list_others(rows.list(Key::of_number(entry.place)), entry.agent, awaits)?;
-                actions.push(version, awaits, step)?;
+                let row = rows.list(Key::of_number(place));
+                actions.push_awaiting_others(version, row, agent, step)?;
             }
-            Leavings::Last(last) => match by_another(last.get(entry.place), entry.agent) {
-                Some(leaving) => actions.push(version, &[leaving.as_await()], step)?,
-                None => actions.push(version, &[], step)?,
+            Leavings::Last(last) => match by_another(last.get(place), agent) {
+                Some(leaving) => actions.push_awaiting(version, leaving.as_await(), step)?,
+                None => actions.push_free(step)?,
             },
         }
         Ok(())
@@ -113,6 +112,7 @@ impl Leavings {
 }
 
 /// Notes a leaving of the cell at `place` in the row of that.
+#[inline(never)]
 fn note_in(rows: &mut Lists<Await>, place: usize, leaving: Await) -> Result<(), OutOfMemory>
     ensures here { OnOk result (list_at rows.new (key_of_number place)
         ≡ with_leaving (list_at rows.old (key_of_number place)) leaving) }
@@ -132,17 +132,4 @@ fn by_another(leaving: Option<Leaving>, own: u16) -> Option<Leaving>
         Some(last) if last.agent != own => leaving,
         _ => None,
     }
-}
-
-/// Lists the leavings of a row that are not by agent `own`.
-fn list_others(row: &[Await], own: u16, awaits: &mut Vec<Await>) -> Result<(), AllocError>
-    ensures { OnOk result (awaits.new.items ≡ filter (λ w. not (w.agent == own)) row.now) }
-{
-    awaits.clear();
-    for leaving in row {
-        if leaving.agent != own {
-            awaits.push(*leaving)?;
-        }
-    }
-    Ok(())
 }

@@ -1,7 +1,8 @@
 //! One sweep over the steps of a plan: in each step all leavings of cells, and then all enterings.
 
-ghost use Rattle.std.specs.Prelude.{◌≡◌, ◌≤◌, ◌<◌, ◌+◌, is_some, IfSome, OnOk, IfOk, length, replicate, []};
+ghost use Rattle.std.specs.Prelude.{◌≡◌, ◌≤◌, ◌<◌, ◌+◌, is_some, IfSome, OnOk, IfOk, All, filter, length, replicate, []};
 ghost use Rattle.fleet_plan.specs.Plan.{cell_of, steps};
+ghost use Rattle.fleet_plan.specs.UnderWay.{is_under_way};
 ghost use Rattle.fleet_model.specs.declared.limits.TheConstants.{MAX_HORIZON};
 ghost use Rattle.fleet_adg.specs.Compiled.{direction, changes_in, moves_by};
 ghost use Rattle.fleet_adg.specs.Leavings.{kind_of, AreLeavingsAt};
@@ -11,7 +12,7 @@ ghost use Rattle.fleet_adg.specs.Sweep.{under_way, moves_in, all_bytes_by, IsOnM
 use crate::leavings::{Entry, Leaving, Leavings};
 use fleet_code::{ActionBytes, Version};
 use fleet_grid::{Grid, cells_have_places_of_their_own};
-use fleet_model::{Await, Cell, Deps, Dir, OutOfMemory, agent_numbers};
+use fleet_model::{Cell, Deps, Dir, OutOfMemory, agent_numbers};
 use fleet_plan::{Checked, Plan};
 use std::alloc::{AllocError, Global};
 
@@ -68,9 +69,8 @@ fn sweep(
 {
     let mut agents = agent_numbers(alloc, plan.agents())?;
     let mut moves = Vec::with_capacity(alloc, agents.len())?;
-    let mut awaits = Vec::new(alloc);
     for time in 0..plan.steps() {
-        plan.keep_under_way(&mut agents, time);
+        drop_arrived(plan, &mut agents, time);
         list_moves(plan, time, &agents, &mut moves)?;
         let at = PlanStep {
             plan,
@@ -78,17 +78,34 @@ fn sweep(
             version,
             time,
         };
-        make_moves(&at, &moves, leavings, &mut awaits, actions)?;
+        make_moves(&at, &moves, leavings, actions)?;
     }
     Ok(())
 }
 
-/// Notes the leavings of cells in a step, and then adds its moves, with what they await, for which `awaits` is room.
+/// Every how many steps agents that have arrived are dropped.
+const DROPPED_EACH: u32 = 8;
+
+/// Drops the agents whose paths end by `time`, in the first step and in each eighth one: one that is still looked at
+/// makes no move.
+#[tactic(auto, using(crate::proofs::SweepSteps::under_way_again, crate::proofs::SweepSteps::below_kept))]
+fn drop_arrived(plan: &Plan, agents: &mut Vec<u16>, time: u32)
+    requires { All (λ i. i < length plan.now) agents.old.items }
+    ensures below { All (λ i. i < length plan.now) agents.new.items }
+    ensures same { filter (is_under_way plan.now time) agents.new.items
+        ≡ filter (is_under_way plan.now time) agents.old.items }
+{
+    let is_due = time % DROPPED_EACH == 0;
+    if is_due {
+        plan.keep_under_way(agents, time);
+    }
+}
+
+/// Notes the leavings of cells in a step, and then adds its moves, with what they await.
 fn make_moves(
     at: &PlanStep<'_>,
     moves: &[Move],
     leavings: &mut Leavings,
-    awaits: &mut Vec<Await>,
     actions: &mut [ActionBytes],
 ) -> Result<(), OutOfMemory>
     requires on_map { IsOnMap at.now.grid.now at.now.plan.now }
@@ -104,7 +121,7 @@ fn make_moves(
         ≡ all_bytes_by at.now.plan.now (kind_of leavings.old) at.now.version (at.now.time + 1)) }
 {
     note_leavings(at, moves, actions, leavings)?;
-    add_actions(at, moves, leavings, awaits, actions)
+    add_actions(at, moves, leavings, actions)
 }
 
 /// Every cell of a plan lies on the map that it was checked for. It does nothing.
@@ -174,7 +191,8 @@ fn list_moves(
     moves: &mut Vec<Move>,
 ) -> Result<(), AllocError>
     requires time { time ≤ MAX_HORIZON }
-    requires agents { agents.now ≡ under_way plan.now time }
+    requires below { All (λ i. i < length plan.now) agents.now }
+    requires agents { filter (is_under_way plan.now time) agents.now ≡ under_way plan.now time }
     ensures { OnOk result (moves.new.items ≡ moves_in plan.now time) }
 {
     moves.clear();
@@ -186,7 +204,8 @@ fn list_moves(
     Ok(())
 }
 
-/// Notes the leavings of cells in a step.
+/// Notes the leavings of cells in a step. Out of line the loop keeps its numbers in registers, and so does the next.
+#[inline(never)]
 fn note_leavings(
     at: &PlanStep<'_>,
     moves: &[Move],
@@ -213,12 +232,12 @@ fn note_leavings(
     Ok(())
 }
 
-/// Adds the moves of a step, with what they await, for which `awaits` is room.
+/// Adds the moves of a step, with what they await.
+#[inline(never)]
 fn add_actions(
     at: &PlanStep<'_>,
     moves: &[Move],
     leavings: &Leavings,
-    awaits: &mut Vec<Await>,
     actions: &mut [ActionBytes],
 ) -> Result<(), OutOfMemory>
     requires on_map { IsOnMap at.now.grid.now at.now.plan.now }
@@ -238,7 +257,7 @@ fn add_actions(
             dir: direction(one.from, one.to),
         };
         let own = &mut actions[usize::from(one.agent)];
-        leavings.add_action(entry, at.version, awaits, own)?;
+        leavings.add_action(entry, at.version, own)?;
     }
     Ok(())
 }

@@ -1,14 +1,15 @@
 //! The actions of an agent as bytes, while they are found, and the bytes of a program that is made of them.
 
-ghost use Rattle.std.specs.Prelude.{◌≡◌, ◌≤◌, ◌+◌, ◌++◌, [], ◌∷◌, List, length, replicate, OnOk, IfOk};
+ghost use Rattle.std.specs.Prelude.{◌≡◌, ◌≤◌, ◌+◌, ◌++◌, [], ◌∷◌, ◌==◌, not, filter, List, All, length, replicate, OnOk, IfOk};
 ghost use Rattle.fleet_model.specs.declared.geometry.Step.TheVariants.{Dwell};
 ghost use Rattle.fleet_model.specs.declared.program.Action.{Action};
 ghost use Rattle.fleet_model.specs.Program.{Program, total_moves, total_awaits};
 ghost use Rattle.fleet_code.specs.Offsets.{head_len};
-ghost use Rattle.fleet_code.specs.Spelling.{opcode, magic, two_bytes, most_count, agent as agent_bytes, spelling, IsSpellable};
+ghost use Rattle.fleet_code.specs.Spelling.{opcode, magic, two_bytes, most_count, agent as agent_bytes, spelling};
 ghost use Rattle.fleet_code.specs.Written.{written};
+ghost use Rattle.fleet_code.specs.declared.format.Version.{Version};
 
-use crate::encoder::{put_action, put_cell, put_count, put_head};
+use crate::encoder::{put_awaiting, put_awaits_of_others, put_cell, put_count, put_head};
 use crate::format::{HEAD_LEN, Version, opcode_of};
 use fleet_model::{Await, Cell, Step};
 use std::alloc::{AllocError, Global};
@@ -59,17 +60,60 @@ impl ActionBytes {
         self.count
     }
 
-    /// Adds an action at the end, if those before it are of the same version. After an `Err` the actions are lost.
-    pub fn push(&mut self, version: Version, awaits: &[Await], step: Step) -> Result<(), AllocError>
-        requires { IsSpellable version (record { step = step; awaits = awaits.now }) }
+    /// Adds an action at the end that awaits nobody, which is one byte in each version.
+    #[inline(always)]
+    pub fn push_free(&mut self, step: Step) -> Result<(), AllocError>
+        ensures { OnOk result ((version : Version) (actions : List Action)
+            → self.old ≡ written version actions
+            → self.new ≡ written version
+            (actions ++ record { step = step; awaits = [] } ∷ [])) }
+    {
+        self.bytes.push(opcode_of(step))?;
+        self.count += 1;
+        Ok(())
+    }
+
+    /// Adds one that awaits one other, if those before it are of the same version.
+    #[inline(always)]
+    pub fn push_awaiting(
+        &mut self,
+        version: Version,
+        one: Await,
+        step: Step,
+    ) -> Result<(), AllocError>
+        requires { one.count ≤ most_count version }
         ensures { OnOk result ((actions : List Action) → self.old ≡ written version actions
             → self.new ≡ written version
-            (actions ++ record { step = step; awaits = awaits.now } ∷ [])) }
+            (actions ++ record { step = step; awaits = one ∷ [] } ∷ [])) }
+    {
+        put_awaiting(&mut self.bytes, version, one, step)?;
+        self.count += 1;
+        Ok(())
+    }
+
+    /// Adds one of agent `own` that awaits those of a row that are of others, if those before it are of the same
+    /// version. After an `Err` the actions are lost.
+    #[inline(never)]
+    pub fn push_awaiting_others(
+        &mut self,
+        version: Version,
+        row: &[Await],
+        own: u16,
+        step: Step,
+    ) -> Result<(), AllocError>
+        requires { All (λ w. w.count ≤ most_count version)
+            (filter (λ w. not (w.agent == own)) row.now) }
+        ensures { OnOk result ((actions : List Action) → self.old ≡ written version actions
+            → self.new ≡ written version (actions ++ record {
+              step = step;
+              awaits = filter (λ w. not (w.agent == own)) row.now;
+            } ∷ [])) }
     {
         // If memory is refused, the bytes are of no use.
         let before = self.count;
         self.count = 0;
-        put_action(&mut self.bytes, version, awaits, step)?;
+        put_awaits_of_others(&mut self.bytes, version, row, own)?;
+        self.bytes.push(opcode_of(step))?;
         self.count = before + 1;
         Ok(())
     }

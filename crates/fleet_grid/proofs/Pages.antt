@@ -58,14 +58,7 @@ page-kept_if_failed (Err e) old new reached number page written same within read
 
 -- ---- one more at the end
 
--- a blank value is read as none
-pub blank-after : {V : Type 0} (page : List V) (blank : V) (k : ℕ) → get_or (page ++ blank ∷ []) k blank ≡ get_or page k blank
-blank-after [] blank zero = refl
-blank-after [] blank (suc k) = refl
-blank-after (x ∷ page) blank zero = refl
-blank-after (x ∷ page) blank (suc k) = blank-after page blank k
-
--- so is a page with no value
+-- a page with no value is read as none
 pub page-after : {V : Type 0} (pages : List (Vec V Global)) (page : Vec V Global) (k : ℕ) → page.items ≡ [] → page_in (pages ++ page ∷ []) k ≡ page_in pages k
 page-after [] page zero e = e
 page-after [] page (suc k) e = refl

@@ -115,8 +115,5 @@ fn fill<V: Copy>(page: &mut Vec<V>, blank: V) -> Result<(), AllocError>
         → get_or page.new.items place blank ≡ get_or page.old.items place blank }
 {
     page.reserve_exact(PAGE - page.len().min(PAGE))?;
-    for _more in page.len()..PAGE {
-        page.push(blank)?;
-    }
-    Ok(())
+    page.resize(page.len().max(PAGE), blank)
 }

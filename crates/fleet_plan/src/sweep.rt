@@ -243,7 +243,7 @@ fn enter_row(table: &mut Table<u16>, agents: &[u16], places: &[usize]) -> Result
 }
 
 /// Enters an agent in its place, unless another one that is entered there stands there. Answers whether none does.
-#[inline]
+#[inline(always)]
 fn enter_one(table: &mut Table<u16>, i: u16, places: &[usize]) -> Result<bool, AllocError>
     requires { i < length places.now }
     ensures here { IfOk result (λ alone. IsTrue alone → HasIn table.new places.now i) }

@@ -6,7 +6,7 @@ use Rattle.fleet_plan.specs.Plan.{Plan, cell_of}
 use Rattle.fleet_adg.specs.declared.sweep.Move.{Move}
 use Rattle.fleet_adg.specs.Compiled.{changes_in}
 use Rattle.fleet_adg.specs.Sweep.{move_by}
-use Rattle.fleet_adg.proofs.SweepSteps.{agent_at}
+use Rattle.fleet_adg.proofs.SweepSteps.{movers_among}
 use Rattle.fleet_adg.proofs.sweep.list_moves.Goals as goal
 use Rattle.fleet_adg.proofs.sweep.list_moves.Goals.{in-Some+in_ok-push, in_default}
 
@@ -27,13 +27,16 @@ module _ (plan : Plan) (t k : ℕ) (agents : List ℕ) (moves : List Move) (insi
       rw (take_more agents k 0 inside, filter-append, change, append-nil) so_far
 
 pub move_in-requires-clause-agent : goal.move_in-requires-clause-agent
-move_in-requires-clause-agent c = agent_at c.args.plan.now c.args.time c.args.agents.now c.loop-i.i-index c.requires.agents c.loop-i-test.true
+move_in-requires-clause-agent c = c.requires.below c.loop-i.i-index 0 c.loop-i-test.true
 
 pub loop-i-init : goal.loop-i-init
 loop-i-init c = c.clear.ensures.items
 
 pub returns : goal.returns
-returns c = c.loop-i.invariant ∙ ap (moves_of c.args.plan.now c.args.time) (take_all c.loop-i.i-index c.args.agents.now c.loop-i-test.false ∙ c.requires.agents)
+returns c =
+    let plan = c.args.plan.now in
+    let t = c.args.time in
+    c.loop-i.invariant ∙ ap (moves_of plan t) (take_all c.loop-i.i-index c.args.agents.now c.loop-i-test.false) ∙ ap (map (move_by plan t)) (movers_among plan t c.args.agents.now c.requires.agents)
 
 pub loop-i-preserved : goal.loop-i-preserved
 loop-i-preserved c =

@@ -4,7 +4,7 @@ use Rattle.fleet_adg.specs.Leavings.{AreLeavingsAt}
 use Rattle.fleet_adg.specs.Sweep.{all_bytes_by}
 use Rattle.fleet_plan.specs.UnderWay.{is_under_way}
 use Rattle.fleet_adg.proofs.Limits.{steps_few}
-use Rattle.fleet_adg.proofs.SweepSteps.{agents_below, under_way_below, under_way-next}
+use Rattle.fleet_adg.proofs.SweepSteps.{agents_below, under_way_later}
 use Rattle.fleet_adg.proofs.sweep.sweep.Goals as goal
 
 pub loop-time-init : goal.loop-time-init
@@ -18,6 +18,9 @@ loop-time-init c =
       actions = c.requires.actions;
     }
 
+pub list_moves-requires-clause-agents : goal.list_moves-requires-clause-agents
+list_moves-requires-clause-agents c = rw c.deref.ensures.value (c.drop_arrived.ensures.same ∙ c.loop-time.invariant.agents)
+
 pub list_moves-requires-clause-time : goal.list_moves-requires-clause-time
 list_moves-requires-clause-time c =
     omega (arith, c.loop-time-test.true, c.steps-time-end.ensures.time, steps_few c.args.plan.now c.steps-time-end.ensures.limits)
@@ -30,12 +33,11 @@ pub loop-time-preserved : goal.loop-time-preserved
 loop-time-preserved c =
     let plan = c.args.plan.now in
     let t = c.loop-time.time in
-    let agents = c.keep_under_way.ensures ∙ c.loop-time.invariant.agents in
     let kind = c.loop-time.invariant.leavings.kind in
     let made = c.in_ok-make_moves.ensures in
     record {
-      agents = ap (filter (is_under_way plan (t + 1))) agents ∙ under_way-next plan t;
-      below = subst (All (λ i. i < length plan)) (sym agents) (under_way_below plan t);
+      agents = under_way_later plan t c.drop_arrived.new.agents.items (c.drop_arrived.ensures.same ∙ c.loop-time.invariant.agents);
+      below = c.drop_arrived.ensures.below;
       leavings = subst (λ d. AreLeavingsAt c.args.grid.now plan d (t + 1) c.make_moves.new.leavings) kind made.leavings;
       actions = made.actions ∙ ap (λ d. all_bytes_by plan d c.args.version (t + 1)) kind;
     }

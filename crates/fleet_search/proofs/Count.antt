@@ -1,7 +1,7 @@
 -- How many states there are to be reached.
 use Rattle.std.proofs.Common.{◌≡◌, ℕ, ◌+◌, ◌*◌, ◌<◌, ◌≤◌, List, length, Option, arith}
 use Rattle.std.proofs.lemmas.Nat.{mul-add-lt, same_from_place}
-use Rattle.fleet_search.specs.declared.state.State.{State}
+use Rattle.fleet_search.specs.declared.frontier.State.{State}
 use Rattle.fleet_search.specs.declared.frontier.Query.{Query}
 use Rattle.fleet_search.specs.Labels.{Times}
 use Rattle.fleet_search.specs.declared.frontier.Node.{Node}

@@ -1,9 +1,9 @@
 -- Labels of safe intervals.
-use Rattle.std.proofs.Common.{◌≡◌, ◌≢◌, ℕ, zero, suc, ◌+◌, ◌≤◌, ◌==◌, ◌⊎◌, cond, inl, inr, refl, sym, ap, ◌∙◌, arith, Some, None, Option}
+use Rattle.std.proofs.Common.{◌≡◌, ◌≢◌, ℕ, ◌+◌, ◌≤◌, ◌==◌, ◌⊎◌, cond, inl, inr, sym, ap, ◌∙◌, arith, Some, None, Option}
 use Rattle.std.proofs.lemmas.Bool.{cases_eq, eq-eqb, eqb-true, false_from_ne_true}
 use Rattle.fleet_search.specs.declared.labels.IntervalLabel.{IntervalLabel}
 use Rattle.fleet_search.specs.declared.labels.Labels.{Labels}
-use Rattle.fleet_search.specs.Labels.{no_interval_label, later_in, interval_label, earliest_in, AreLabels, IsLabelPut, IsLabelSet}
+use Rattle.fleet_search.specs.Labels.{interval_label, earliest_in, AreLabels, IsLabelPut, IsLabelSet}
 
 -- what a label says to a search
 abbrev said : ℕ → IntervalLabel → Option ℕ

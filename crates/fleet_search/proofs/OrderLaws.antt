@@ -1,5 +1,5 @@
 -- Orders in which each agent is once, and what is planned in them.
-use Rattle.std.proofs.Common.{◌≡◌, ◌≢◌, ℕ, zero, suc, ◌+◌, ◌-◌, ◌<◌, ◌≤◌, Bool, false, List, [], ◌∷◌, ◌++◌, length, map, take, drop, get_or, All, Contains, IsPermutation, insert, remove, eqb, Some, inl, inr, refl, sym, ap, ◌∙◌, subst, arith, add-one, take-append-drop, append_assoc, map-id, zero-add, suc-add, take_at, ext_get_or, set, ◌⊎◌, get_or-set_same, get_or-set_other}
+use Rattle.std.proofs.Common.{◌≡◌, ◌≢◌, ℕ, zero, suc, ◌+◌, ◌-◌, ◌<◌, ◌≤◌, Bool, false, List, [], ◌∷◌, ◌++◌, length, map, take, drop, get_or, All, Contains, IsPermutation, insert, remove, eqb, Some, inl, inr, refl, sym, ap, ◌∙◌, subst, arith, add-one, take-append-drop, append_assoc, zero-add, suc-add, take_at, ext_get_or, set, ◌⊎◌, get_or-set_same, get_or-set_other}
 use Rattle.std.specs.Prelude.{slice_get, option_map}
 use Rattle.std.specs.List.{range_with_len, AllByRecursion, IsDistinct}
 use Rattle.std.proofs.lemmas.Bool.{cases_eq, eqb-false, ne_eqb}

@@ -11,7 +11,7 @@ use Rattle.fleet_model.specs.declared.geometry.Dir.TheVariants.{North, East, Sou
 use Rattle.fleet_model.specs.Geometry.{place_of, moved}
 use Rattle.fleet_model.specs.declared.limits.TheConstants.{MAX_HORIZON}
 use Rattle.fleet_grid.specs.Ground.{is_passable, cell_index}
-use Rattle.fleet_search.specs.declared.state.State.{State}
+use Rattle.fleet_search.specs.declared.frontier.State.{State}
 use Rattle.fleet_search.specs.declared.frontier.Link.{Link}
 use Rattle.fleet_search.specs.declared.frontier.Query.{Query}
 use Rattle.fleet_search.specs.declared.frontier.Node.{Node}

@@ -9,7 +9,7 @@ use Rattle.fleet_plan.specs.Plan.{cell_at}
 use Rattle.fleet_search.specs.declared.frontier.Query.{Query}
 use Rattle.fleet_search.specs.Labels.{Times}
 use Rattle.fleet_search.specs.declared.frontier.Node.{Node}
-use Rattle.fleet_search.specs.declared.state.State.{State}
+use Rattle.fleet_search.specs.declared.frontier.State.{State}
 use Rattle.fleet_grid.specs.Ground.{is_passable}
 use Rattle.fleet_search.specs.Reserved.{IsUnoccupied, IsFreeOn}
 use Rattle.fleet_search.specs.Search.{IsStep, state_in, parent_in, IsReachedFrom, IsFrontier, IsTrail}

@@ -1,5 +1,5 @@
 -- Labels of safe intervals.
-use Rattle.std.specs.Prelude.{◌≡◌, ◌≢◌, ℕ, zero, suc, ◌≤◌, ◌==◌, ◌⊎◌, cond, List, [], ◌∷◌, length, map, get_or, Option, None, Some}
+use Rattle.std.specs.Prelude.{◌≡◌, ◌≢◌, ℕ, zero, suc, ◌≤◌, ◌==◌, ◌⊎◌, cond, List, get_or, Option, None, Some}
 use Rattle.fleet_grid.specs.Table.{value_in}
 use Rattle.fleet_grid.specs.Lists.{list_at, key_of_number}
 use Rattle.fleet_search.specs.declared.labels.IntervalLabel.{IntervalLabel}

@@ -4,7 +4,7 @@
 //! An agent that comes to a cell may wait there for as long as nobody else comes. So of the times in a safe interval,
 //! between the occupancies of a cell by others, only the earliest counts (safe intervals: Phillips & Likhachev 2011).
 
-ghost use Rattle.std.specs.Prelude.{◌≡◌, ◌+◌, ◌-◌, ◌<◌, ◌≤◌, ◌↔◌, ℕ, IsTrue, IfSome, IfNone, IfOk, OnOk, Some, None, [], length, get_or};
+ghost use Rattle.std.specs.Prelude.{◌≡◌, ◌+◌, ◌-◌, ◌<◌, ◌≤◌, ◌↔◌, ℕ, IsTrue, IfSome, IfNone, IfOk, OnOk, Some, None, [], length, get_or, ◌≢◌, ◌++◌, ◌∷◌, OnErr};
 ghost use Rattle.fleet_model.specs.Geometry.{place_of, moved};
 ghost use Rattle.fleet_grid.specs.Ground.{is_passable};
 ghost use Rattle.fleet_model.specs.declared.geometry.Cell.{Cell};
@@ -13,7 +13,7 @@ ghost use Rattle.fleet_search.specs.Reserved.{IsUnoccupied};
 ghost use Rattle.fleet_search.specs.Way.{StepFits};
 ghost use Rattle.fleet_search.specs.Intervals.{IsInInterval};
 ghost use Rattle.fleet_search.specs.Labels.{earliest_in, IsSeen};
-ghost use Rattle.fleet_search.specs.Rows.{bucket_of};
+ghost use Rattle.fleet_search.specs.Rows.{bucket_of, lists_of, bucket_in, IsPut};
 ghost use Rattle.fleet_search.specs.Frontier.{IsAdded, IsNodeTaken, IsBucketDone};
 ghost use Rattle.fleet_search.specs.Search.{heuristic_of, no_node, occupancies_on, IsMeasured, IsGoalState, IsBucket, WasOpen, IsExpansion, ExpandsOn, IsFrontierOf, Grows, IsPosed, IsSearched, IsTrailOf, IsFreeUntil, IsFoundAt, IsFoundIn, IsFoundFrom, IsNeighbour, HasEnded, IsSuperseded};
 ghost use Rattle.fleet_search.specs.Links.{place_in};
@@ -25,13 +25,18 @@ use crate::intervals::{
 use crate::labels::Arrivals;
 use crate::reservation_table::ReservationTable;
 use crate::reservations::Reservations;
-use crate::rows::{clear_rows, put_in_row, take_from_row};
-use crate::state::State;
-use fleet_grid::Grid;
+use fleet_grid::{Grid, extend_to};
 use fleet_model::{Cell, Dir, OutOfMemory};
 use fleet_plan::Path;
 use std::alloc::Global;
 use std::marker::Model;
+
+/// A cell at a time, which is no later than a horizon may be.
+#[derive(Clone, Copy)]
+pub struct State {
+    pub time: u16,
+    pub cell: Cell,
+}
 
 /// The query of a search: for a path from `start` to `goal` that arrives by the horizon, and not before
 /// `goal_free_from`.
@@ -526,5 +531,52 @@ impl Link {
         ensures { result ≡ place_in self }
     {
         u32::from(self.high) * 65536 + u32::from(self.low)
+    }
+}
+
+/// Puts the number last in the row. A refusal changes no row.
+pub fn put_in_row(
+    alloc: Global,
+    rows: &mut Vec<Vec<u32>>,
+    key: u32,
+    number: u32,
+) -> Result<(), OutOfMemory>
+    requires { key < 4294967295 }
+    ensures ok { OnOk result
+        (IsPut (lists_of rows.old.items) (lists_of rows.new.items) key number) }
+    ensures err { OnErr result ((k : ℕ) → bucket_in rows.new.items k ≡ bucket_in rows.old.items k) }
+{
+    let key = key as usize;
+    extend_to(alloc, rows, key)?;
+    rows[key].push(number)?;
+    Ok(())
+}
+
+/// Takes off the last number of the row, if it has one.
+pub fn take_from_row(rows: &mut Vec<Vec<u32>>, key: u32) -> Option<u32>
+    ensures some { IfSome result (λ m. bucket_in rows.old.items key
+        ≡ bucket_in rows.new.items key ++ m ∷ []) }
+    ensures none { IfNone result (bucket_in rows.new.items key ≡ []) }
+    ensures others { (k : ℕ) → k ≢ key → bucket_in rows.new.items k ≡ bucket_in rows.old.items k }
+    ensures kept { IfNone result (bucket_in rows.old.items key ≡ []) }
+{
+    let key = key as usize;
+    let is_past = key >= rows.len();
+    if is_past {
+        return None;
+    }
+    rows[key].pop()
+}
+
+/// How many rows `clear_rows` keeps at most.
+const KEPT_ROWS: usize = 8_192;
+
+/// Takes all numbers out of the rows, and drops the rows after the first `KEPT_ROWS`.
+pub fn clear_rows(rows: &mut Vec<Vec<u32>>)
+    ensures { (k : ℕ) → bucket_in rows.new.items k ≡ [] }
+{
+    rows.truncate(KEPT_ROWS);
+    for row in rows.iter_mut() {
+        row.clear();
     }
 }

@@ -8,14 +8,13 @@
 //!
 //! `distances` are the heuristic: they label cells backward from a goal, as far as the delay of the last search lets
 //! expect that they are asked for. `labels` has the earliest time of a search in each safe interval: that of a cell's
-//! first one in a table, those of the later ones in lists. `frontier` expands nodes over states (`state`: a cell at a
-//! time; with each node the one from which it was reached, in 4 bytes that align it to 2), and `earliest_path` is one
-//! search from its query to its path, which reads the reservation table and changes nothing in it. `orders` goes from
-//! one agent to the next, in one order of the agents after another with the same tables, keeps the paths that are still
-//! the earliest, and puts the paths by the agents' numbers at the end. `planner` is that with one order, and `best`
+//! first one in a table, those of the later ones in lists. `frontier` expands nodes over states (a cell at a time; with
+//! each node the one from which it was reached, in 4 bytes that align it to 2), from an open list in buckets, and
+//! `earliest_path` is one search from its query to its path, which reads the reservation table and changes nothing in
+//! it. `orders` goes from one agent to the next, in one order of the agents or in one after another with the same
+//! tables, keeps the paths that are still the earliest, and puts the paths by the agents' numbers at the end. `best`
 //! tries all orders, and keeps the first of the plans with the least `Measure`: a trait, so that a crate above can
-//! compare plans by what it makes of them. `bound` searches for each agent alone. `rows` has rows of numbers by their
-//! keys: the buckets of the open list.
+//! compare plans by what it makes of them. `bound` searches for each agent alone.
 #![tactic(auto)]
 
 mod alone;
@@ -28,11 +27,8 @@ mod intervals;
 mod labels;
 mod laws;
 mod orders;
-mod planner;
 mod reservation_table;
 mod reservations;
-mod rows;
-mod state;
 
 pub use alone::bound;
 pub use best::{Measure, Measured, SumOfCosts, best_in_orders};
@@ -42,6 +38,5 @@ pub use laws::{
     fits_by_steps, one_try_takes_the_first_order, paths_that_fit_are_conflict_free,
     prioritised_plans_are_conflict_free,
 };
-pub use orders::{Found, first_in_orders, plan_in_orders};
-pub use planner::plan;
+pub use orders::{Found, first_in_orders, plan, plan_in_orders};
 pub use reservations::Reservations;

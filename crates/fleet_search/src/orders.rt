@@ -1,4 +1,5 @@
-//! Plans made agent by agent in several orders: an agent that is left without a path comes first in the next one.
+//! Plans made agent by agent, in the order of their numbers, or in several orders: an agent that is left without a path comes
+//! first in the next one.
 
 ghost use Rattle.std.specs.Prelude.{◌≡◌, ◌+◌, ◌<◌, ◌≤◌, ◌↔◌, ◌⊎◌, ◌++◌, ◌∷◌, ℕ, [], true, length, get_or, max, IfOk, IfErr, OnOk, IsTrue};
 ghost use Rattle.fleet_plan.specs.Plan.{IsConflictFree};
@@ -6,6 +7,7 @@ ghost use Rattle.fleet_grid.specs.Ground.{is_passable};
 ghost use Rattle.fleet_search.specs.Way.{Fits};
 ghost use Rattle.fleet_search.specs.Orders.{agent_numbers, to_front, paths_by, IsMadeInOrder, IsMadeInTries, IsMadeInTry, IsStuckInTries};
 ghost use Rattle.fleet_search.specs.Attempts.{AreTables, ArePathsKept, IsPathAdded, IsMadeAfterFirst, IsOrderOf, AreReservedInOrder, IsAttempt, IsOldPath};
+ghost use Rattle.fleet_search.specs.InTurn.{IsPrioritisedPlan, HasNoPathFor};
 
 use crate::distances::Distances;
 use crate::earliest_path::earliest_over;
@@ -438,4 +440,28 @@ pub fn plan_in_orders<'g>(
 {
     let found = first_in_orders(alloc, grid, instance, horizon, tries)?;
     Ok(found.checked)
+}
+
+/// Plans the agents in the order of their numbers: each goes by a path that is earliest past those of the agents before
+/// it (Silver 2005). The starts of later agents are not kept free for them, and another order of agents may find a plan
+/// where this one finds none.
+///
+/// Errors: `NoPath` with the first agent that is left without a path that arrives by the horizon, a time in steps;
+/// `OutOfMemory`.
+pub fn plan<'g>(
+    alloc: Global,
+    grid: &'g Grid,
+    instance: &'g Instance,
+    horizon: u16,
+) -> Result<Checked<'g>, PlanStop>
+    ensures made { IfOk result (λ checked. IsPrioritisedPlan (is_passable grid.now) instance.now
+        horizon (length instance.now) checked.plan) }
+    ensures free { IfOk result (λ checked.
+        IsConflictFree (is_passable grid.now) instance.now checked.plan) }
+    ensures grid { IfOk result (λ checked. checked.grid ≡ grid.now) }
+    ensures instance { IfOk result (λ checked. checked.instance ≡ instance.now) }
+    ensures no_path { IfErr result (λ e. (agent : ℕ) → e ≡ PlanStop.NoPath agent
+        → HasNoPathFor (is_passable grid.now) instance.now horizon agent) }
+{
+    plan_in_orders(alloc, grid, instance, horizon, 1)
 }

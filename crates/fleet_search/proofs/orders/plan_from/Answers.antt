@@ -5,7 +5,7 @@ use Rattle.std.proofs.lemmas.List.Sorted.{IsPermutation-refl}
 use Rattle.std.proofs.lemmas.List.{get_or_default}
 use Rattle.std.proofs.lemmas.Result.{err_from_is_err_and}
 use Rattle.fleet_grid.specs.Ground.{is_passable}
-use Rattle.fleet_search.specs.Orders.{tasks_by, paths_by, agent_numbers, to_front, IsOrderAfter, IsMadeInTries, IsStuckInOrder, IsStuckInTries}
+use Rattle.fleet_search.specs.Orders.{tasks_by, paths_by, agent_numbers, to_front, IsOrderAfter, IsStuckInOrder, IsStuckInTries}
 use Rattle.fleet_search.specs.InTurn.{IsPrioritisedPlan}
 use Rattle.fleet_search.proofs.InTurnLaws.{same_agent}
 use Rattle.fleet_search.proofs.KeptPaths.{none_made, made_after_raise}

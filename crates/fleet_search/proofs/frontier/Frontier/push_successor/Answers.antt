@@ -3,7 +3,7 @@ use Rattle.fleet_search.proofs.Spread.{on_map}
 use Rattle.std.proofs.lemmas.Bool.{both_ways}
 use Rattle.fleet_model.specs.Geometry.{place_of}
 use Rattle.fleet_grid.specs.Ground.{is_passable}
-use Rattle.fleet_search.specs.declared.state.State.{State}
+use Rattle.fleet_search.specs.declared.frontier.State.{State}
 use Rattle.fleet_search.specs.Intervals.{IsInInterval}
 use Rattle.fleet_search.specs.Labels.{earliest_in, IsSeen, IsLabelSet}
 use Rattle.fleet_search.specs.Search.{heuristic_of, occupancies_on, IsStep, IsMove, earliest_of}

@@ -1,6 +1,6 @@
 use Rattle.std.proofs.Common.{◌∙◌, arith}
 use Rattle.fleet_search.proofs.RowLaws.{no_numbers, row-past, row-read, row-set, row-other, is_taken, none_is_taken}
-use Rattle.fleet_search.proofs.rows.take_from_row.Goals as goal
+use Rattle.fleet_search.proofs.frontier.take_from_row.Goals as goal
 
 pub returns-then-is_past-clause-none : goal.returns-then-is_past-clause-none
 returns-then-is_past-clause-none c = row-past c.args.rows.now.items c.args.key (omega arith)

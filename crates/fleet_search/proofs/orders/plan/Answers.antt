@@ -1,7 +1,7 @@
 use Rattle.std.proofs.lemmas.Result.{IfOk-weaker, IfErr-weaker}
 use Rattle.fleet_grid.specs.Ground.{is_passable}
 use Rattle.fleet_search.proofs.OrderLaws.{one_try-made, one_try-stuck}
-use Rattle.fleet_search.proofs.planner.plan.Goals as goal
+use Rattle.fleet_search.proofs.orders.plan.Goals as goal
 
 pub returns-clause-made : goal.returns-clause-made
 returns-clause-made c = IfOk-weaker c.plan_in_orders.result _ _ (λ checked. one_try-made (is_passable c.args.grid.now) c.args.instance.now c.args.horizon checked.plan) c.plan_in_orders.ensures.made

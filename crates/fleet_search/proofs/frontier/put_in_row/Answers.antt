@@ -1,7 +1,7 @@
 use Rattle.std.proofs.Common.{◌∙◌}
 use Rattle.std.proofs.lemmas.Result.{err_from_is_err_and}
 use Rattle.fleet_search.proofs.RowLaws.{is_put, row-kept, same-rows}
-use Rattle.fleet_search.proofs.rows.put_in_row.Goals as goal
+use Rattle.fleet_search.proofs.frontier.put_in_row.Goals as goal
 
 pub returns-in_err-extend_to-clause-err : goal.returns-in_err-extend_to-clause-err
 returns-in_err-extend_to-clause-err c =

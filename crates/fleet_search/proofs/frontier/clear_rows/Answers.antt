@@ -4,7 +4,7 @@ use Rattle.std.proofs.lemmas.List.{with_items_is}
 use Rattle.std.specs.Prelude.{set}
 use Rattle.fleet_search.specs.Rows.{bucket_in}
 use Rattle.fleet_search.proofs.RowLaws.{row-past, row-set, row-other}
-use Rattle.fleet_search.proofs.rows.clear_rows.Goals as goal
+use Rattle.fleet_search.proofs.frontier.clear_rows.Goals as goal
 
 pub loop-row-preserved : goal.loop-row-preserved
 loop-row-preserved c = λ k h.

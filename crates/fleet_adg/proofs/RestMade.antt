@@ -22,7 +22,7 @@ use Rattle.fleet_model.proofs.Tick.{length-run}
 use Rattle.fleet_grid.specs.Ground.{Ground, is_passable, IsGround, IsNoNumber}
 use Rattle.fleet_grid.proofs.StoredLaws.{no_cell}
 use Rattle.fleet_verify.specs.Rest.{StandOn, cell_at, natural, rest_await, rest_awaits, rest_action}
-use Rattle.fleet_verify.proofs.Done.{count_within}
+use Rattle.fleet_verify.proofs.Finish.{count_within}
 use Rattle.fleet_verify.proofs.FreeRun.{runs_on_ground}
 use Rattle.fleet_adg.specs.Remaining.{IsOnWay, IsCellNumber}
 

@@ -22,7 +22,7 @@ use Rattle.fleet_needs.proofs.AwaitOrder.{await_below}
 use Rattle.fleet_adg.proofs.Short.{short_in_range, short_moves}
 use Rattle.fleet_verify.specs.Reduced.{IsThinned}
 use Rattle.fleet_verify.proofs.SameChains.{same_moves as moves_there, thinned_range}
-use Rattle.fleet_verify.proofs.BreakingCounts.{push_rises}
+use Rattle.fleet_verify.proofs.BreakingHolds.{push_rises}
 use Rattle.fleet_adg.specs.Thinned.{AreUnimplied, IsThinnedAction, AreThinnedActions, IsThinnedAgent, AreThinnedAgents}
 
 -- what stands in a list with one more at its end

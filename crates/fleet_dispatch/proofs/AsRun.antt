@@ -12,9 +12,8 @@ use Rattle.fleet_model.specs.Machine.{Configuration, Holds, indices, is_among, i
 use Rattle.fleet_model.specs.Claims.{holds_of, is_new}
 use Rattle.fleet_machine.specs.Confirmed.{AreAllReady}
 use Rattle.fleet_model.proofs.Tick.{length-run}
-use Rattle.fleet_verify.proofs.Counts.{count_opening, count_past, run_place}
+use Rattle.fleet_verify.proofs.RunCounts.{count_opening, count_past, run_place, agents_held}
 use Rattle.fleet_verify.proofs.Claimed.{reports_hold}
-use Rattle.fleet_verify.proofs.Reached.{agents_held}
 use Rattle.fleet_verify.proofs.Waiting.{IsReadyTo, ready_says, ready_from, Moves, StaysBehind, step}
 use Rattle.fleet_dispatch.specs.declared.form.ReportForm.{ReportForm}
 use Rattle.fleet_dispatch.specs.Report.{Words, Counts, count_of, counts_after}

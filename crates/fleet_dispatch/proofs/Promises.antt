@@ -22,7 +22,7 @@ use Rattle.fleet_model.specs.Schedule.{Schedule, IsBy, HasEndedBy, MayBeOnAt}
 use Rattle.fleet_model.specs.Dispatch.{IsCarriedOut}
 use Rattle.fleet_model.proofs.Tick.{fails_at}
 use Rattle.fleet_verify.proofs.CriticalPaths.{never_stuck}
-use Rattle.fleet_verify.proofs.RunEnds.{sum_rises, sum_of_moves}
+use Rattle.fleet_verify.proofs.RunCounts.{sum_rises, sum_of_moves}
 use Rattle.fleet_dispatch.specs.declared.report.Reported.{Reported}
 use Rattle.fleet_dispatch.specs.Report.{Words, Counts, count_of, said_of, raised, counts_after, Line, words_in}
 use Rattle.fleet_dispatch.specs.Ahead.{told_to, told_at, is_all_done}

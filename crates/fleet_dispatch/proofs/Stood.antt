@@ -10,7 +10,7 @@ use Rattle.fleet_model.specs.declared.standing.Standing.{Standing}
 use Rattle.fleet_model.specs.Program.{Program, moves, awaits_of, path}
 use Rattle.fleet_model.specs.Machine.{Configuration, standing_at, count_at, is_ready, tick, opening, indices, IsReached}
 use Rattle.fleet_model.proofs.Tick.{length-run, standing_at_tick, standing_at_opening, free_moves, other_stays, unready_waits}
-use Rattle.fleet_verify.proofs.Reached.{start_reached, tick_reached}
+use Rattle.fleet_verify.proofs.RunCounts.{start_reached, tick_reached}
 use Rattle.fleet_verify.proofs.UnderWay.{on_path}
 use Rattle.fleet_dispatch.specs.Report.{Words, Counts, count_of}
 use Rattle.fleet_dispatch.specs.Dispatch.{AreTaken, counts_by, configuration_at}

@@ -21,10 +21,8 @@ use Rattle.fleet_model.specs.Breaking.{IsNeededFor, IsHeldBack, IsPrepared, AreB
 use Rattle.fleet_verify.specs.Needed.{AreNeeded}
 use Rattle.fleet_example.specs.Meetings.{MeetBy}
 use Rattle.fleet_verify.proofs.Listing.{as_visit}
-use Rattle.fleet_verify.proofs.RisingRows.{those_below, those_rise, those_has, those_keep}
+use Rattle.fleet_verify.proofs.BreakingHolds.{those_below, those_rise, those_has, those_keep, moves_within, IsBegun, grown, prepared_by_counts, meeting_start}
 use Rattle.fleet_verify.proofs.Looking.{looking_end}
-use Rattle.fleet_verify.proofs.BreakingExists.{moves_within, IsBegun, grown, prepared_by_counts}
-use Rattle.fleet_verify.proofs.BreakingCounts.{meeting_start}
 
 -- ---- what is needed
 

@@ -16,7 +16,7 @@ use Rattle.fleet_model.specs.Visit.{IsVisitOf, ListsVisits, Adjacent, ComesAfter
 use Rattle.fleet_model.specs.Accepted.{IsRight, IsAcceptedBy}
 use Rattle.fleet_model.proofs.Cells.{is_same_place-true}
 use Rattle.fleet_verify.specs.Listing.{entry_level}
-use Rattle.fleet_verify.proofs.Listing.{after_reaches, await_chain, adjacent_chains, sorted_passes, unordered_refuses}
+use Rattle.fleet_verify.proofs.Listing.{awaits_accepted, after_reaches, await_chain, adjacent_chains, sorted_passes, unordered_refuses}
 use Rattle.fleet_model.specs.Visit.{AreUnordered}
 use Rattle.fleet_example.specs.Programs.{HasNoOrder, IsRefusedAt}
 use Rattle.fleet_example.proofs.Computed.{at_all_positions, at_position, weighed, is_numbered, numbered_is, is_chain, chain_is, task_of, is_right, right_is}
@@ -118,6 +118,10 @@ accepted_is After passable k after p is e =
 
 pub accepted_by_await : (passable : Place → Bool) (k : ℕ) (p : Program) → is_accepted passable k (comes_by_await p) p ≡ true → IsAcceptedBy ComesAfterByAwait passable (map task_of p) p
 accepted_by_await passable k p e = accepted_is ComesAfterByAwait passable k (comes_by_await p) p (comes_is p) e
+
+-- and so is it accepted
+pub accepted_if_awaited : (passable : Place → Bool) (k : ℕ) (p : Program) → is_accepted passable k (comes_by_await p) p ≡ true → IsAcceptedBy ComesAfterByChain passable (map task_of p) p
+accepted_if_awaited passable k p e = awaits_accepted passable (map task_of p) p (accepted_by_await passable k p e)
 
 -- if one chain orders all visits that follow one another
 pub accepted_by_chain : (passable : Place → Bool) (k : ℕ) (cs : List ActionId) (p : Program) → is_accepted passable k (comes_by_chain cs p) p ≡ true → IsAcceptedBy ComesAfterByChain passable (map task_of p) p

@@ -2,13 +2,12 @@
 use Rattle.std.proofs.Common.{◌≡◌, ◌<◌, ◌≤◌, ◌&&◌, not, ℕ, ℤ, pos, negsuc, ◌+◌, Bool, true, false, cond, List, [], ◌∷◌, ◌++◌, ◌||◌, zero, suc, Some, None, map, length, get_or, slice_get, set, replicate, refl, ap, sym, ◌∙◌, subst, rules, arith, add-one, below_more, get_or-set_same, get_or-set_other, length-set, length-append, ◌≢◌}
 use Rattle.std.specs.List.{filter, list_any}
 use Rattle.std.proofs.lemmas.Bool.{cases_lt}
-use Rattle.std.proofs.lemmas.List.Elements.{filter-append}
 use Rattle.std.proofs.lemmas.List.FromFn.{fill_by_all}
 use Rattle.std.proofs.Math.Bool.{or-true, or-false}
 use Rattle.fleet_model.specs.declared.standing.Standing.{Standing}
 use Rattle.fleet_model.specs.Program.{Program, actions_of}
 use Rattle.fleet_model.specs.Machine.{Configuration, standing_at, next_action, finished_one, is_ready, is_moving, standing_after, indices, tick}
-use Rattle.fleet_machine.proofs.Indices.{indices_more, any_more}
+use Rattle.fleet_machine.proofs.Indices.{any_more, filter_more}
 use Rattle.fleet_machine.specs.Machine.{flag_of, moving_flags}
 
 -- where an agent that moves stands afterwards
@@ -19,13 +18,6 @@ after_move p held old rows i flag here =
 
 pub stays : (p : Program) (held : ℕ → Bool) (old : Configuration) (i : ℕ) → is_moving p held old i ≡ false → standing_at old i ≡ standing_after p held old i
 stays p held old i flag = rw flag refl
-
-pub filter_more : (test : ℕ → Bool) (i : ℕ) → length (filter test (indices (i + 1))) ≡ length (filter test (indices i)) + (cond (test i) 1 0)
-filter_more test i = rw (indices_more i, filter-append, length-append) (last (test i))
-  where
-    last : (b : Bool) → length (filter test (indices i)) + length (cond b (i ∷ []) []) ≡ length (filter test (indices i)) + (cond b 1 0)
-    last true = refl
-    last false = refl
 
 -- ---- from one agent to the next
 

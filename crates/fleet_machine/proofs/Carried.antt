@@ -9,8 +9,8 @@ use Rattle.fleet_model.specs.Machine.{Configuration, standing_at, count_at, is_r
 use Rattle.fleet_model.proofs.Tick.{ready_left}
 use Rattle.fleet_machine.specs.AgentSet.{AreNoneFrom, IsNextFrom}
 use Rattle.fleet_machine.specs.Confirmed.{all_but, AreAllReady}
-use Rattle.fleet_machine.specs.declared.mark.Mark.{Mark}
-use Rattle.fleet_machine.specs.Machine.{MachineState, Runs, flag_of, mark_of, passed, after_next, marks_after, moving_flags}
+use Rattle.fleet_machine.specs.declared.steps.Mark.{Mark}
+use Rattle.fleet_machine.specs.Machine.{MachineState, flag_of, mark_of, passed, after_next, marks_after, moving_flags}
 use Rattle.fleet_machine.proofs.Marks.{ArePassedTo, none_passed, all_stay, all_passed}
 use Rattle.fleet_machine.proofs.Marks.{one_moves as mark_moves}
 use Rattle.fleet_machine.specs.Waking.{advanced_one, carried_all, after_moves}

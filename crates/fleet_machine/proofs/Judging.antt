@@ -7,11 +7,11 @@ use Rattle.fleet_model.specs.Program.{Program, moves}
 use Rattle.fleet_model.specs.Machine.{count_at, is_ready, is_finished, indices}
 use Rattle.fleet_machine.specs.AgentSet.{AreNoneFrom, IsNextFrom}
 use Rattle.fleet_machine.specs.WaitLists.{home_of}
-use Rattle.fleet_machine.specs.Machine.{MachineState, Runs, HasRows, IsJudged, IsRead, HasReadAll, flag_of, list_of, unread, mark_of, is_left}
+use Rattle.fleet_machine.specs.Machine.{MachineState, Runs, HasRows, IsJudged, IsRead, flag_of, list_of, unread, mark_of, is_left}
 use Rattle.fleet_machine.specs.Waking.{IsPlaced, IsAsBefore}
-use Rattle.fleet_machine.proofs.Advanced.{onward, filter_more}
+use Rattle.fleet_machine.proofs.Advanced.{onward}
 use Rattle.fleet_machine.proofs.Waiting.{lowered_le, long_lowered, home_if_lacked, home_if_lower}
-use Rattle.fleet_machine.proofs.Indices.{any_at, none_more, all_more}
+use Rattle.fleet_machine.proofs.Indices.{any_at, none_more, all_more, filter_more}
 use Rattle.fleet_machine.proofs.Opened.{not_finished_if}
 
 module _ (p : Program) (before after : MachineState) (i : ℕ) (rows : HasRows (length p) before) (agent : i < length p) (placed : IsPlaced p before after i) where

@@ -18,5 +18,3 @@ mod Carried
 pub mod Ticking
 mod Woken
 pub mod Opened
-pub mod Kept
-pub mod Resting

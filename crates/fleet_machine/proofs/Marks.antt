@@ -1,15 +1,14 @@
 -- How far agents have read.
 use Rattle.std.proofs.Common.{◌≡◌, ◌≢◌, ◌<◌, ◌≤◌, ℕ, ◌+◌, ◌&&◌, not, Bool, true, false, List, zero, suc, replicate, length, set, get_or, take, refl, ap, sym, ◌∙◌, subst, inl, inr, arith, below_more, get_or-set_same, get_or-set_other, length-set}
-use Rattle.std.specs.List.{list_all}
 use Rattle.std.proofs.lemmas.Bool.{cases_Bool, lt-ltb, ltb-true}
 use Rattle.std.proofs.lemmas.List.{set-get_or}
 use Rattle.std.proofs.lemmas.List.FromFn.{fill_by_all, get_or-map-range_with_len, length-map-range_with_len}
 use Rattle.fleet_model.specs.declared.standing.Standing.{Standing}
 use Rattle.fleet_model.specs.Program.{Program, IsWellFormed, moves, awaits_of, awaits_before}
-use Rattle.fleet_model.specs.Machine.{Configuration, standing_at, count_at, is_met, is_ready, is_moving, tick}
+use Rattle.fleet_model.specs.Machine.{Configuration, count_at, is_met, is_ready, is_moving, tick}
 use Rattle.fleet_model.proofs.Tick.{standing_at_tick, other_stays, ready_left}
 use Rattle.fleet_model.proofs.Totals.{actions_more, actions_fit}
-use Rattle.fleet_machine.specs.declared.mark.Mark.{Mark}
+use Rattle.fleet_machine.specs.declared.steps.Mark.{Mark}
 use Rattle.fleet_machine.specs.Machine.{MachineState, Runs, IsRead, IsReadToStep, unread, mark_of, flag_of, is_left, passed, mark_after, marks_after}
 use Rattle.fleet_machine.proofs.Advanced.{onward}
 use Rattle.fleet_machine.proofs.Ready.{has_next}

@@ -1,12 +1,11 @@
 -- The steps of a tick, one after another.
-use Rattle.std.proofs.Common.{◌≡◌, ◌<◌, ◌≤◌, ◌+◌, ◌||◌, ◌&&◌, not, ℕ, Bool, true, false, List, [], length, filter, set, slice_get, Option, Some, None, refl, ap, sym, ◌∙◌, subst, inl, inr, ◌⊎◌, arith, cond, add-one, add-zero}
+use Rattle.std.proofs.Common.{◌≡◌, ◌<◌, ◌≤◌, ◌+◌, ◌||◌, ◌&&◌, not, ℕ, Bool, true, false, List, [], length, filter, set, slice_get, Option, Some, None, refl, ap, sym, ◌∙◌, subst, inl, inr, ◌⊎◌, arith, cond, add-one}
 use Rattle.std.specs.Prelude.{nat_le, ◌==◌}
 use Rattle.std.proofs.lemmas.Bool.{cases_lt, cases_Bool, lt-ltb, le-leb, leb-true, or_parts, true≢false}
 use Rattle.std.proofs.lemmas.List.{get_or_past}
 use Rattle.std.proofs.lemmas.List.Folds.{list_any_at}
 use Rattle.std.proofs.lemmas.List.FromFn.{get_or-map-range_with_len, length-map-range_with_len}
 use Rattle.std.proofs.lemmas.Option.{slice_get_past, slice_get_within, get_or_from_slice_get}
-use Rattle.std.proofs.Math.Bool.{or-true, or-false}
 use Rattle.fleet_model.specs.declared.program.Await.{Await}
 use Rattle.fleet_model.specs.declared.standing.Standing.{Standing}
 use Rattle.fleet_model.specs.Program.{Program, IsWellFormed, moves, actions_of, awaits_of}
@@ -15,10 +14,11 @@ use Rattle.fleet_model.proofs.Tick.{length-tick, standing_at_tick, other_stays}
 use Rattle.fleet_machine.specs.AgentSet.{AreNoneFrom, IsNextFrom}
 use Rattle.fleet_machine.specs.Looked.{ready_in, awaits_moving, awaiting_in, LooksAt}
 use Rattle.fleet_machine.specs.WaitLists.{home_of}
-use Rattle.fleet_machine.specs.declared.mark.Mark.{Mark}
+use Rattle.fleet_machine.specs.declared.steps.Mark.{Mark}
 use Rattle.fleet_machine.specs.Machine.{MachineState, Runs, HasRows, IsHome, IsJudged, IsRead, Lacks, flag_of, list_of, agent_of, mark_of, is_left, is_reached, least_of, passed, after_next, marks_after, moving_flags}
 use Rattle.fleet_machine.specs.Waking.{is_on, if_not_on, is_woken_by, advanced_one, held_back, after_moves, IsWoken, IsCarriedOut, IsAsBefore}
-use Rattle.fleet_machine.proofs.Advanced.{onward, filter_more, IsAdvanced, one_moves, one_held, all_wait, all_advanced, all_flagged}
+use Rattle.fleet_machine.proofs.Indices.{filter_more}
+use Rattle.fleet_machine.proofs.Advanced.{onward, IsAdvanced, one_moves, one_held, all_wait, all_advanced, all_flagged}
 use Rattle.fleet_machine.proofs.Lasting.{ready_lasts, count_rises}
 use Rattle.fleet_machine.proofs.Waiting.{agent_of_list}
 use Rattle.fleet_machine.proofs.Waking.{eqb-refl}

@@ -1,15 +1,15 @@
 -- Agents that are taken off lists while others move.
-use Rattle.std.proofs.Common.{◌≡◌, ◌≢◌, ◌<◌, ◌≤◌, ◌+◌, ◌&&◌, ◌||◌, ℕ, Bool, true, false, List, length, set, Option, Some, None, refl, ap, sym, ◌∙◌, subst, inl, inr, arith, get_or-set_same, get_or-set_other, length-set}
-use Rattle.std.specs.Prelude.{nat_lt, ◌==◌}
+use Rattle.std.proofs.Common.{◌≡◌, ◌≢◌, ◌<◌, ◌≤◌, ◌+◌, ◌&&◌, ◌||◌, ℕ, Bool, true, false, List, length, set, None, refl, ap, sym, ◌∙◌, subst, inl, inr, arith, get_or-set_same, get_or-set_other, length-set}
+use Rattle.std.specs.Prelude.{◌==◌}
 use Rattle.std.proofs.lemmas.Bool.{cases_eq, cases_lt, lt-ltb, le-ltb}
 use Rattle.std.proofs.Math.Bool.{or-false}
 use Rattle.fleet_model.specs.declared.standing.Standing.{Standing}
 use Rattle.fleet_model.specs.Program.{Program}
-use Rattle.fleet_model.specs.Machine.{Configuration, count_at}
+use Rattle.fleet_model.specs.Machine.{count_at}
 use Rattle.fleet_machine.specs.AgentSet.{AreNoneFrom, IsNextFrom}
 use Rattle.fleet_machine.specs.WaitLists.{home_of}
 use Rattle.fleet_machine.specs.Machine.{MachineState, flag_of, mark_of, agent_of, is_reached, passed, after_next}
-use Rattle.fleet_machine.specs.Waking.{is_on, if_not_on, is_woken_by, advanced_one, held_back, IsWoken}
+use Rattle.fleet_machine.specs.Waking.{is_on, is_woken_by, advanced_one, held_back, IsWoken}
 use Rattle.fleet_machine.proofs.Waking.{below, reached_below, same_lists, more_woken, none_woken, none_reached, all_reached, one_more_reached}
 use Rattle.fleet_machine.proofs.Ticking.{unwoken}
 

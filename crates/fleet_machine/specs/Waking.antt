@@ -1,10 +1,10 @@
 -- Steps of a tick.
-use Rattle.std.specs.Prelude.{◌≡◌, ℕ, ◌+◌, ◌<◌, ◌≤◌, Bool, true, false, ◌||◌, ◌&&◌, length, set, option_map, Option, Some, None, if◌then◌else◌}
+use Rattle.std.specs.Prelude.{◌≡◌, ℕ, ◌+◌, ◌<◌, ◌≤◌, Bool, false, ◌||◌, ◌&&◌, length, set, option_map, Option, Some, None, if◌then◌else◌}
 use Rattle.fleet_model.specs.declared.program.Await.{Await}
 use Rattle.fleet_model.specs.Program.{Program}
 use Rattle.fleet_model.specs.Machine.{is_ready, tick, moved_in}
 use Rattle.fleet_machine.specs.WaitLists.{home_of}
-use Rattle.fleet_machine.specs.declared.mark.Mark.{Mark}
+use Rattle.fleet_machine.specs.declared.steps.Mark.{Mark}
 use Rattle.fleet_machine.specs.Machine.{MachineState, Runs, flag_of, mark_of, is_left, IsLacked, IsRead, HasReadAll, is_reached, least_of, list_of, agent_of, lowered, passed, after_next, marks_after, moving_flags}
 use Rattle.fleet_machine.specs.Looked.{awaiting_in}
 use Rattle.fleet_machine.specs.Confirmed.{all_but}

@@ -9,7 +9,7 @@
 //! of the counts to which those came that it moved, if a list's least count is reached, and then judges anew, once
 //! each, those that it moved and those that it took off: who is ready stays in no list, and who lacks a count goes into
 //! the list of that count. Who is ready and held is ready after the tick too, since no count falls. Each agent has a
-//! `mark`: how many awaits stand before its next action, and how many of that action's are known to be met. It is
+//! mark (`steps`): how many awaits stand before its next action, and how many of that action's are known to be met. It is
 //! judged by reading on from there, and who is ready has read up to its step. So an agent that is woken moves in the
 //! next tick at the earliest, and nobody is judged twice in one. `tick` has the holds of a tick as flags, and looks at
 //! all that are ready; `carry_out` has the flags of those that move, and looks at these alone. Flags are looked at by
@@ -19,7 +19,6 @@
 
 mod agent_set;
 mod machine;
-mod mark;
 mod steps;
 mod wait_lists;
 

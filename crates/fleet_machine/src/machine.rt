@@ -15,8 +15,7 @@ ghost use Rattle.fleet_machine.specs.Waking.{IsWoken, is_woken_by, advanced_one,
 ghost use Rattle.fleet_machine.specs.WaitLists.{home_of};
 
 use crate::agent_set::{AgentSet, next_flag};
-use crate::mark::Mark;
-use crate::steps::{after_step, look_count, starts};
+use crate::steps::{Mark, after_step, look_count, starts};
 use crate::wait_lists::{LISTS_EACH, WaitLists, list_of};
 use fleet_model::{Await, Instruction, MAX_AGENTS, ProgramView, Standing, Step};
 use std::alloc::{AllocError, Global};
@@ -544,7 +543,7 @@ impl Machine {
     }
 
     /// Agent `i` stands there now, with so many actions finished.
-    #[tactic(auto, using(crate::proofs::Kept::near_set))]
+    #[tactic(auto, using(crate::proofs::Ready::near_set))]
     fn set_agent(&mut self, i: u16, standing: Standing)
         requires agent { i < length self.old.configuration }
         requires near { IsNear standing }

@@ -1,12 +1,35 @@
-//! Where agents start, where a step takes them, and how many a tick looks at.
+//! How far agents have read their programs, where they start, where a step takes them, and how many a tick looks at.
 
 ghost use Rattle.std.specs.Prelude.{◌≡◌, ◌+◌, ◌-◌, ◌<◌, ◌≤◌, IfOk};
 ghost use Rattle.fleet_model.specs.Geometry.{place_of, stepped};
 ghost use Rattle.fleet_model.specs.Machine.{opening};
 ghost use Rattle.fleet_machine.specs.Near.{IsNear, AreNear};
+ghost use Rattle.fleet_machine.specs.Machine.{unread};
 
 use fleet_model::{Cell, MAX_AGENTS, MAX_MOVES, Place, ProgramView, Standing, Step};
 use std::alloc::{AllocError, Global};
+
+/// How many awaits stand before an agent's next action, and how many of that action's own are known to be met, from the
+/// first one on. Who has read all of them has read the step too.
+#[derive(Clone, Copy)]
+pub struct Mark {
+    pub before: u32,
+    pub met: u16,
+    pub step: Step,
+}
+
+impl Mark {
+    /// Nothing is read yet.
+    pub fn unread() -> Mark
+        ensures { result ≡ unread }
+    {
+        Mark {
+            before: 0,
+            met: 0,
+            step: Step::Dwell,
+        }
+    }
+}
 
 /// An agent at its start.
 pub fn at_start(cell: Cell) -> Standing
@@ -20,7 +43,7 @@ pub fn at_start(cell: Cell) -> Standing
 }
 
 /// Where an agent stands after a step, and how many actions it has finished then.
-#[tactic(auto, using(crate::proofs::Kept::near_place, crate::proofs::Kept::near_moved))]
+#[tactic(auto, using(crate::proofs::Ready::near_place, crate::proofs::Ready::near_moved))]
 pub fn after_step(standing: Standing, step: Step) -> Standing
     requires few { standing.count < MAX_MOVES }
     requires near { IsNear standing }

@@ -16,8 +16,8 @@ use Rattle.fleet_needs.specs.JoinPass.{IsMade}
 use Rattle.fleet_needs.specs.Joins.{AreOwn, IsRow}
 use Rattle.fleet_needs.specs.Schedule.{AreCounts, HasRows, IsSchedule}
 use Rattle.fleet_needs.specs.Answering.{AreAnsweredTo, IsNextAnswered, IsAsked, IsAnswering}
-use Rattle.fleet_needs.specs.declared.answering.Answering.{Answering}
-use Rattle.fleet_needs.specs.declared.slots.Columns.{Columns}
+use Rattle.fleet_needs.specs.declared.questions.Answering.{Answering}
+use Rattle.fleet_needs.specs.declared.schedule.Columns.{Columns}
 use Rattle.fleet_needs.specs.declared.joins.Join.{Join}
 use Rattle.fleet_needs.specs.declared.questions.Question.{Question}
 use Rattle.fleet_needs.specs.declared.schedule.Schedule.{Schedule}

@@ -10,9 +10,9 @@ use Rattle.std.proofs.lemmas.List.Sums.{sum_by-take-le}
 use Rattle.fleet_model.specs.declared.program.ActionId.{ActionId}
 use Rattle.fleet_model.specs.declared.program.Action.{Action}
 use Rattle.fleet_model.specs.declared.program.Await.{Await}
-use Rattle.fleet_model.specs.Program.{Program, moves, actions_of, awaits_of, agent_awaits, total_moves, total_awaits}
+use Rattle.fleet_model.specs.Program.{Program, IsWellFormed, moves, actions_of, awaits_of, agent_awaits, total_moves, total_awaits}
 use Rattle.fleet_model.specs.Chain.{IsAction}
-use Rattle.fleet_model.proofs.Totals.{awaits_more, actions_more}
+use Rattle.fleet_model.proofs.Totals.{awaits_more, actions_more, total_awaits_fit}
 use Rattle.fleet_needs.specs.Places.{ArePlaces, action_place}
 use Rattle.fleet_needs.proofs.Placed.{before_next, rising_to}
 use Rattle.fleet_needs.specs.Implied.{first_await}
@@ -74,6 +74,10 @@ module _ (p : Program) where
       let up : total_awaits (take (a.agent + 1) p) ≤ total_awaits (take (length p) p) = agents_rise p (a.agent + 1) (length p) (let l : a.agent < length p = k.agent in omega arith) in
       let e : total_awaits (take (length p) p) ≡ total_awaits p = ap total_awaits (take_all (length p) p (omega arith)) in
       omega (arith, agent_end a k, up, e)
+
+  -- in a well-formed program 32 bits hold their places
+  pub flag_fits : IsWellFormed p → (a : ActionId) → IsAction p a → first_await p a + length (awaits_of p a.agent a.number) < 4294967296
+  flag_fits formed a k = omega (arith, flag_within a k, total_awaits_fit p formed)
 
   before : (a b : ActionId) → IsAction p a → IsAction p b → (a.agent < b.agent) ⊎ ((a.agent ≡ b.agent) × (a.number < b.number)) → first_await p a + length (awaits_of p a.agent a.number) ≤ first_await p b
   before a b k m (inl l) =

@@ -16,7 +16,7 @@ use Rattle.fleet_needs.specs.Settled.{IsFinishedBy, IsFinishTick, IsDoneMid}
 use Rattle.fleet_needs.specs.declared.await_places.ActionPlaces.{ActionPlaces}
 use Rattle.fleet_needs.specs.declared.critical.TheConstants.{MAX_COST}
 use Rattle.fleet_needs.proofs.Free.{next_action, count, needs_done}
-use Rattle.fleet_needs.proofs.Entries.{finished_here, grows_to}
+use Rattle.fleet_needs.proofs.Ticking.{finished_here, grows_to}
 
 module _ (p : Program) (cost : ActionId → ℕ) where
   -- a chain of more than one action, but for its last

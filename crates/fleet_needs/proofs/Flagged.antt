@@ -11,7 +11,7 @@ use Rattle.fleet_needs.specs.Block.{HasColumn}
 use Rattle.fleet_needs.specs.Columns.{AreColumns}
 use Rattle.fleet_needs.specs.JoinPass.{AreOthers, IsMade}
 use Rattle.fleet_needs.specs.Joins.{HasAllRows}
-use Rattle.fleet_needs.specs.declared.slots.Columns.{Columns}
+use Rattle.fleet_needs.specs.declared.schedule.Columns.{Columns}
 use Rattle.fleet_needs.specs.declared.joins.Join.{Join}
 use Rattle.fleet_needs.specs.declared.schedule.Schedule.{Schedule}
 use Rattle.fleet_needs.proofs.Passing.{same_or_not}

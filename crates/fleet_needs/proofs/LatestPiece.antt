@@ -8,8 +8,8 @@ use Rattle.std.proofs.lemmas.List.{get_or_default}
 use Rattle.std.proofs.lemmas.List.Sorted.{Contains-permutation, IsPermutation-sym}
 use Rattle.fleet_model.specs.Program.{Program}
 use Rattle.fleet_needs.specs.Pieces.{key_of, AreSorted, IsOf, IsLatest, AreLater, AreTold}
-use Rattle.fleet_needs.specs.declared.piece.Piece.{Piece}
-use Rattle.fleet_needs.specs.declared.piece.TheConstants.{AGENTS, NUMBERS}
+use Rattle.fleet_needs.specs.declared.gather.Piece.{Piece}
+use Rattle.fleet_needs.specs.declared.gather.TheConstants.{AGENTS, NUMBERS}
 
 -- numbers of two digits are ordered by the higher one first
 digits : (N p q a b : ℕ) → b < N → p * N + a ≤ q * N + b → p ≤ q

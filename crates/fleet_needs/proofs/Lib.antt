@@ -20,5 +20,4 @@ pub mod JoinLaws
 mod Slotting
 pub mod RowsMade
 mod JoinTick
-mod Entries
 pub mod Costing

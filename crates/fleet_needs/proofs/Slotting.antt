@@ -3,7 +3,7 @@ use Rattle.std.proofs.Common.{◌≡◌, ◌≢◌, ℕ, ◌+◌, ◌-◌, ◌<�
 use Rattle.std.proofs.lemmas.Bool.{cases_lt, cases_eq}
 use Rattle.std.proofs.lemmas.List.{get_or-set_same, get_or-set_other, length-set, length_push, get_or_append_left, get_or_push}
 use Rattle.fleet_needs.specs.Slots.{IsStill, AreStill, AreSlotted, IsTaken}
-use Rattle.fleet_needs.specs.declared.slots.Slots.{Slots}
+use Rattle.fleet_needs.specs.declared.schedule.Slots.{Slots}
 
 pub slotted_none : (lasts : List ℕ) (m : Slots) → m.outs.items ≡ [] → m.owners.items ≡ [] → AreSlotted lasts m
 slotted_none lasts m outs owners = record {

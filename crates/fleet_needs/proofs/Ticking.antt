@@ -1,4 +1,4 @@
--- The tick that finishes each action if nobody is held: noted tick by tick, it rises along chains.
+-- Entries for actions, noted in the ticks that finish these if nobody is held; and these ticks, which rise along chains.
 use Rattle.std.proofs.Common.{◌≡◌, ◌≢◌, ℕ, zero, suc, ◌+◌, ◌-◌, ◌<◌, ◌≤◌, true, List, [], length, set, slice_index, sym, ap, subst, ◌∙◌, arith, inl, inr}
 use Rattle.std.proofs.lemmas.Bool.{cases_lt}
 use Rattle.std.proofs.lemmas.List.{get_or-set_same, get_or-set_other}
@@ -13,29 +13,33 @@ use Rattle.fleet_needs.specs.Settled.{IsFinishedBy, IsDoneMid, IsFinishTick, Are
 use Rattle.fleet_needs.proofs.Free.{count, grows, needs_done, moved, next_action, one_more, apart, none_more, none_started, all_finished}
 use Rattle.fleet_needs.proofs.Placed.{place_apart, place_within}
 
-pub noted_none : (p : Program) (places : ActionPlaces) (ticks : List ℕ) → AreFinishTicks p places (IsFinishedBy p 0) ticks
-noted_none p places ticks a k done = absurd (none_started p a k done)
+-- the entries of these actions are so
+abbrev pub AreEntries : Program → ActionPlaces → (ActionId → ℕ → Type 0) → (ActionId → Type 0) → List ℕ → Type 0
+AreEntries p places Is These entries = (a : ActionId) → IsAction p a → These a → Is a (slice_index entries (place_of_action places a))
+
+pub noted_none : (p : Program) (places : ActionPlaces) (Is : ActionId → ℕ → Type 0) (entries : List ℕ) → AreEntries p places Is (IsFinishedBy p 0) entries
+noted_none p places Is entries a k done = absurd (none_started p a k done)
 
 -- before the first agent of a tick
-pub noted_mid : (p : Program) (places : ActionPlaces) (t : ℕ) (ticks : List ℕ) → AreFinishTicks p places (IsFinishedBy p t) ticks → AreFinishTicks p places (IsDoneMid p t 0) ticks
-noted_mid p places t ticks h a k (inl done) = h a k done
-noted_mid p places t ticks h a k (inr (l, done)) = absurd (omega arith)
+pub noted_mid : (p : Program) (places : ActionPlaces) (Is : ActionId → ℕ → Type 0) (t : ℕ) (entries : List ℕ) → AreEntries p places Is (IsFinishedBy p t) entries → AreEntries p places Is (IsDoneMid p t 0) entries
+noted_mid p places Is t entries h a k (inl done) = h a k done
+noted_mid p places Is t entries h a k (inr (l, done)) = absurd (omega arith)
 
-module _ (p : Program) (places : ActionPlaces) (right : ArePlacesOf p places) (t from : ℕ) where
+module _ (p : Program) (places : ActionPlaces) (right : ArePlacesOf p places) (Is : ActionId → ℕ → Type 0) (t from : ℕ) where
   abbrev firsts : List ℕ
   firsts = places
 
   -- an action that the tick has finished
   pub noted_on : (i : ℕ) → IsNextReady p t from i → (n : ℕ) → n ≡ count p t i + 1 → (x : ℕ) → x + 1 ≡ slice_index firsts i + n → (old : List ℕ) → length old ≡ total_moves p
-      → AreFinishTicks p places (IsDoneMid p t from) old → AreFinishTicks p places (IsDoneMid p t (i + 1)) (set old x (t + 1))
-  noted_on i next n number x at old all before a k done = elim (one_more p t from i next n number a k done) [
+      → (v : ℕ) → Is (record { agent = i; number = n }) v → AreEntries p places Is (IsDoneMid p t from) old → AreEntries p places Is (IsDoneMid p t (i + 1)) (set old x v)
+  noted_on i next n number x at old all v right_here before a k done = elim (one_more p t from i next n number a k done) [
     | inl was ↦
         let ne : action_place firsts a ≢ x = (λ same. place_apart p firsts right a here k is (apart p t from i next n number a was) (same ∙ place)) in
-        subst (IsFinishTick p a) (sym (get_or-set_other old x (action_place firsts a) (t + 1) 0 ne)) (before a k was)
+        subst (Is a) (sym (get_or-set_other old x (action_place firsts a) v 0 ne)) (before a k was)
     | inr same ↦
         let there : action_place firsts a ≡ x = ap (action_place firsts) same ∙ sym place in
-        let entry : slice_index (set old x (t + 1)) (action_place firsts a) ≡ t + 1 = ap (slice_index (set old x (t + 1))) there ∙ get_or-set_same old x (t + 1) 0 within in
-        subst (IsFinishTick p a) (sym entry) (subst (λ (y : ActionId). IsFinishTick p y (t + 1)) (sym same) finished)
+        let entry : slice_index (set old x v) (action_place firsts a) ≡ v = ap (slice_index (set old x v)) there ∙ get_or-set_same old x v 0 within in
+        subst (Is a) (sym entry) (subst (λ (y : ActionId). Is y v) (sym same) right_here)
   ]
     where
       here : ActionId
@@ -50,12 +54,13 @@ module _ (p : Program) (places : ActionPlaces) (right : ArePlacesOf p places) (t
       within : x < length old
       within = (let l = place_within p firsts right here is in omega (arith, l, all, place))
 
-      finished : IsFinishTick p here (t + 1)
-      finished = record { some = omega arith; done = omega (arith, moved p t from i next n number); not_yet = λ done. (let e : t + 1 - 1 ≡ t = omega arith in let l : n ≤ count p t i = subst (λ (s : ℕ). n ≤ count p s i) e done in omega (arith, l, number)) }
-
   -- where nobody else was ready
-  pub noted_all : AreNoneReady p t from → (ticks : List ℕ) → AreFinishTicks p places (IsDoneMid p t from) ticks → AreFinishTicks p places (IsFinishedBy p (t + 1)) ticks
-  noted_all none ticks before a k done = before a k (none_more p t from none a k done)
+  pub noted_all : AreNoneReady p t from → (entries : List ℕ) → AreEntries p places Is (IsDoneMid p t from) entries → AreEntries p places Is (IsFinishedBy p (t + 1)) entries
+  noted_all none entries before a k done = before a k (none_more p t from none a k done)
+
+-- the tick that finishes an action comes after those before it
+pub finished_here : (p : Program) (t from i : ℕ) → IsNextReady p t from i → (n : ℕ) → n ≡ count p t i + 1 → IsFinishTick p (record { agent = i; number = n }) (t + 1)
+finished_here p t from i next n number = record { some = omega arith; done = omega (arith, moved p t from i next n number); not_yet = λ done. (let e : t + 1 - 1 ≡ t = omega arith in let l : n ≤ count p t i = subst (λ (s : ℕ). n ≤ count p s i) e done in omega (arith, l, number)) }
 
 module _ (p : Program) where
   grows_by : (s n i : ℕ) → i < length p → count p s i ≤ count p (s + n) i
@@ -66,7 +71,7 @@ module _ (p : Program) where
       let before = grows_by s n i l in
       rw e (omega (arith, up, before))
 
-  grows_to : (s t i : ℕ) → i < length p → s ≤ t → count p s i ≤ count p t i
+  pub grows_to : (s t i : ℕ) → i < length p → s ≤ t → count p s i ≤ count p t i
   grows_to s t i l le = let e : s + (t - s) ≡ t = omega arith in subst (λ (n : ℕ). count p s i ≤ count p n i) e (grows_by s (t - s) i l)
 
   -- what an action directly needs is finished in an earlier tick

@@ -8,8 +8,8 @@ use Rattle.fleet_needs.specs.Block.{HasColumn, IsAnswer}
 use Rattle.fleet_needs.specs.Columns.{column_of}
 use Rattle.fleet_needs.specs.JoinPass.{IsMade}
 use Rattle.fleet_needs.specs.Schedule.{HasRows}
-use Rattle.fleet_needs.specs.declared.answering.Answering.{Answering}
-use Rattle.fleet_needs.specs.declared.slots.Columns.{Columns}
+use Rattle.fleet_needs.specs.declared.questions.Answering.{Answering}
+use Rattle.fleet_needs.specs.declared.schedule.Columns.{Columns}
 use Rattle.fleet_needs.specs.declared.questions.Question.{Question}
 use Rattle.fleet_needs.specs.declared.schedule.Schedule.{Schedule}
 

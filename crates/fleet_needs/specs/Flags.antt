@@ -8,7 +8,7 @@ use Rattle.fleet_needs.specs.Block.{HasColumn}
 use Rattle.fleet_needs.specs.Columns.{column_of}
 use Rattle.fleet_needs.specs.JoinPass.{IsMade}
 use Rattle.fleet_needs.specs.declared.schedule.Schedule.{Schedule}
-use Rattle.fleet_needs.specs.declared.slots.Columns.{Columns}
+use Rattle.fleet_needs.specs.declared.schedule.Columns.{Columns}
 use Rattle.fleet_needs.specs.Implied.{AreAwaitPlaces, IsImpliedFlag, first_await}
 use Rattle.fleet_needs.specs.Settled.{AreSettled}
 use Rattle.fleet_needs.specs.declared.implied.ImpliedAwaits.{ImpliedAwaits}

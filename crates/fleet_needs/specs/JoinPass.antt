@@ -6,10 +6,10 @@ use Rattle.fleet_needs.specs.Block.{HasColumn}
 use Rattle.fleet_needs.specs.Joins.{IsRow}
 use Rattle.fleet_needs.specs.Rows.{IsJoined, OfOthers}
 use Rattle.fleet_needs.specs.Schedule.{IsNext, AreCounts}
-use Rattle.fleet_needs.specs.declared.slots.Columns.{Columns}
+use Rattle.fleet_needs.specs.declared.schedule.Columns.{Columns}
 use Rattle.fleet_needs.specs.declared.joins.Join.{Join}
 use Rattle.fleet_needs.specs.declared.schedule.Schedule.{Schedule}
-use Rattle.fleet_needs.specs.declared.slot_rows.SlotRows.{SlotRows}
+use Rattle.fleet_needs.specs.declared.join_pass.SlotRows.{SlotRows}
 
 -- the join after n others
 abbrev pub IsNextRow : SlotRows → ℕ → Join → Type 0

@@ -5,8 +5,8 @@ use Rattle.fleet_model.specs.declared.program.ActionId.{ActionId}
 use Rattle.fleet_model.specs.Program.{Program}
 use Rattle.fleet_model.specs.Chain.{IsAction}
 use Rattle.fleet_needs.specs.Rows.{IsColumn}
-use Rattle.fleet_needs.specs.declared.piece.Piece.{Piece}
-use Rattle.fleet_needs.specs.declared.piece.TheConstants.{AGENTS, NUMBERS}
+use Rattle.fleet_needs.specs.declared.gather.Piece.{Piece}
+use Rattle.fleet_needs.specs.declared.gather.TheConstants.{AGENTS, NUMBERS}
 
 -- the count of a piece at action n of its last agent: with each action one more, up to the most
 abbrev pub count_by : Piece → ℕ → ℕ

@@ -9,11 +9,11 @@ use Rattle.fleet_needs.specs.Joins.{AreJoins, IsRow, Takes, StandsFor, HasAllRow
 use Rattle.fleet_needs.specs.Rows.{IsColumn}
 use Rattle.fleet_needs.specs.Slots.{IsStill}
 use Rattle.fleet_needs.specs.declared.counts.Counts.{Counts}
-use Rattle.fleet_needs.specs.declared.slots.Columns.{Columns}
+use Rattle.fleet_needs.specs.declared.schedule.Columns.{Columns}
 use Rattle.fleet_needs.specs.declared.joins.Join.{Join}
 use Rattle.fleet_needs.specs.declared.questions.Question.{Question}
 use Rattle.fleet_needs.specs.declared.schedule.Schedule.{Schedule}
-use Rattle.fleet_needs.specs.declared.slot_rows.SlotRows.{SlotRows}
+use Rattle.fleet_needs.specs.declared.join_pass.SlotRows.{SlotRows}
 
 -- the rows of a program: each action that awaits something has one, and each row is still in its slot whenever it is
 -- taken

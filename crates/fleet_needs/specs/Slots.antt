@@ -1,6 +1,6 @@
 -- Slots for rows, each of which is kept until it has been taken for the last time.
 use Rattle.std.specs.Prelude.{◌≡◌, ◌≢◌, ℕ, ◌+◌, ◌-◌, ◌<◌, ◌≤◌, ◌⊎◌, List, length, slice_index}
-use Rattle.fleet_needs.specs.declared.slots.Slots.{Slots}
+use Rattle.fleet_needs.specs.declared.schedule.Slots.{Slots}
 
 -- no row after row r, among the first n, was put into its slot
 abbrev pub IsStill : List ℕ → ℕ → ℕ → Type 0

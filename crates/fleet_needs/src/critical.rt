@@ -8,7 +8,7 @@ ghost use Rattle.fleet_model.specs.Machine.{IsFinish};
 ghost use Rattle.fleet_model.specs.Chain.{IsAction};
 ghost use Rattle.fleet_needs.specs.Places.{ArePlacesOf};
 ghost use Rattle.fleet_needs.specs.Order.{IsTicked};
-ghost use Rattle.fleet_needs.specs.declared.finish_ticks.TheConstants.{MAX_TICKS};
+ghost use Rattle.fleet_needs.specs.declared.finish_order.TheConstants.{MAX_TICKS};
 ghost use Rattle.fleet_needs.specs.Settled.{IsFinishedBy};
 ghost use Rattle.fleet_needs.specs.Critical.{AreNotedCosts, IsGreatestNeed, IsGreatestOf, HasEntries, AreCriticalCosts, critical_cost, value_at};
 

@@ -1,7 +1,7 @@
 //! A schedule of rows, made once for all blocks of columns: which rows are made, in which order, of which rows each is
-//! joined, and the slot in which it is kept.
+//! joined, the slot in which it is kept, and the columns of a block.
 
-ghost use Rattle.std.specs.Prelude.{◌≡◌, ◌+◌, ◌<◌, ◌≤◌, ℕ, true, [], All, slice_get, Some, length, IfOk};
+ghost use Rattle.std.specs.Prelude.{◌≡◌, ◌+◌, ◌<◌, ◌≤◌, ℕ, true, [], All, slice_get, Some, length, IfOk, slice_index, OnOk, IsTrue};
 ghost use Rattle.fleet_model.specs.declared.limits.TheConstants.{MAX_AGENTS};
 ghost use Rattle.fleet_model.specs.Program.{AreInRange, moves, total_moves};
 ghost use Rattle.fleet_model.specs.Chain.{IsAction};
@@ -11,12 +11,13 @@ ghost use Rattle.fleet_needs.specs.Joins.{IsWanted};
 ghost use Rattle.fleet_needs.specs.Order.{IsOrder};
 ghost use Rattle.fleet_needs.specs.Places.{ArePlacesOf, place_of_action};
 ghost use Rattle.fleet_needs.specs.Schedule.{IsSchedule, HasRows};
+ghost use Rattle.fleet_needs.specs.Slots.{AreSlotted, IsTaken};
+ghost use Rattle.fleet_needs.specs.Columns.{AreColumns, agents_in, column_of};
 
 use crate::await_places::ActionPlaces;
 use crate::finish_order::FinishOrder;
-use crate::joins::{Course, Join, joins_of};
+use crate::joins::{Course, Join, Joins, joins_of};
 use crate::questions::Question;
-use crate::slots::slots_of;
 use fleet_model::{ActionId, MAX_AGENTS, OutOfMemory, ProgramView, total_moves};
 use std::alloc::Global;
 
@@ -140,4 +141,175 @@ fn place_of<P: ProgramView>(program: &P, places: &ActionPlaces, action: ActionId
 {
     let _ = program.agents();
     places.place(action.agent, action.number)
+}
+
+/// The slots of the first rows, and who has each slot.
+#[derive(Drop)]
+pub(crate) struct Slots {
+    /// For each row, from row 1 on, its slot.
+    pub(crate) outs: Vec<u32>,
+    /// For each slot, the last row so far that was put into it.
+    owners: Vec<u32>,
+    /// Slots whose rows have been taken for the last time.
+    free: Vec<u32>,
+}
+
+/// The slots of all rows.
+pub(crate) fn slots_of(alloc: Global, joins: &Joins) -> Result<Slots, OutOfMemory>
+    ensures slotted { IfOk result (AreSlotted joins.now.lasts.items) }
+    ensures all { IfOk result (λ m. length m.outs.items ≡ length joins.now.joins.items) }
+{
+    let rows = joins.joins.len();
+    let mut slots = Slots {
+        outs: Vec::with_capacity(alloc, rows)?,
+        owners: Vec::new(alloc),
+        free: Vec::new(alloc),
+    };
+    for n in 0..rows {
+        slots.free_taken(joins, n)?;
+        slots.add_row(&joins.lasts)?;
+    }
+    Ok(slots)
+}
+
+impl Slots {
+    /// How many slots there are.
+    pub(crate) fn count(&self) -> u32
+        requires { length self.now.owners.items ≤ u32.MAX }
+        ensures { result ≡ length self.now.owners.items }
+    {
+        self.owners.len() as u32
+    }
+
+    /// Frees the slots of the rows that the join after n others takes for the last time, and of the row before if none
+    /// takes it. This decides when memory is used again, and nothing else.
+    fn free_taken(&mut self, joins: &Joins, n: usize) -> Result<(), OutOfMemory>
+        ensures outs { OnOk result (self.new.outs ≡ self.old.outs) }
+        ensures owners { OnOk result (self.new.owners ≡ self.old.owners) }
+    {
+        let row = (n as u64).saturating_add(1);
+        self.free_if(joins, n as u64, 0)?;
+        if let Some(join) = joins.joins.get(n) {
+            self.free_if(joins, u64::from(join.base), row)?;
+        }
+        for &taken in joins.rows_taken(n) {
+            self.free_if(joins, u64::from(taken), row)?;
+        }
+        Ok(())
+    }
+
+    /// Frees the slot of a row, if this one is the last that is joined of it.
+    fn free_if(&mut self, joins: &Joins, taken: u64, row: u64) -> Result<(), OutOfMemory>
+        ensures outs { OnOk result (self.new.outs ≡ self.old.outs) }
+        ensures owners { OnOk result (self.new.owners ≡ self.old.owners) }
+    {
+        let is_last = match joins.lasts.get(taken as usize) {
+            Some(&last) => u64::from(last) == row,
+            None => false,
+        };
+        if taken > 0 && is_last {
+            if let Some(&slot) = self.outs.get(taken as usize - 1) {
+                self.free.push(slot)?;
+            }
+        }
+        Ok(())
+    }
+
+    /// Gives a slot to the next row.
+    fn add_row(&mut self, lasts: &[u32]) -> Result<(), OutOfMemory>
+        requires { AreSlotted lasts.now self.old }
+        ensures slotted { OnOk result (AreSlotted lasts.now self.new) }
+        ensures more { OnOk result (length self.new.outs.items ≡ length self.old.outs.items + 1) }
+    {
+        let row = self.outs.len() + 1;
+        if row > u32::MAX as usize {
+            return Err(OutOfMemory);
+        }
+        let slot = self.take_slot(lasts, row as u32)?;
+        self.owners[slot as usize] = row as u32;
+        self.outs.push(slot)?;
+        Ok(())
+    }
+
+    /// A slot whose row is taken by none after this one, which is new if no free one is left.
+    fn take_slot(&mut self, lasts: &[u32], row: u32) -> Result<u32, OutOfMemory>
+        ensures outs { IfOk result (λ slot. self.new.outs ≡ self.old.outs) }
+        ensures taken { IfOk result (λ slot. IsTaken lasts.now row slot
+            self.old.owners.items self.new.owners.items) }
+    {
+        if let Some(slot) = self.free.pop() {
+            if self.is_over(lasts, slot, row) {
+                return Ok(slot);
+            }
+        }
+        let slot = self.owners.len();
+        if slot >= u32::MAX as usize {
+            return Err(OutOfMemory);
+        }
+        self.owners.push(0)?;
+        Ok(slot as u32)
+    }
+
+    /// Whether there is such a slot, and no row after this one takes what is in it.
+    fn is_over(&self, lasts: &[u32], slot: u32, row: u32) -> bool
+        ensures within { IsTrue result → slot < length self.now.owners.items }
+        ensures over { IsTrue result → slice_index lasts.now
+            (slice_index self.now.owners.items slot) ≤ row }
+    {
+        if slot as usize >= self.owners.len() {
+            return false;
+        }
+        let owner = self.owners[slot as usize] as usize;
+        owner < lasts.len() && lasts[owner] <= row
+    }
+}
+
+/// Which column of a block belongs to an agent.
+#[derive(Drop)]
+pub struct Columns {
+    of_agent: Vec<Option<u16>>,
+    /// How many columns the block has.
+    pub(crate) width: u16,
+    /// All asked agents below this one, from the first of the block on, have a column.
+    pub end: u16,
+}
+
+impl Columns {
+    /// Columns for the next flagged agents from this one on, as many as there are but at most `most`. `asked` has a
+    /// flag for each agent.
+    pub fn choose(
+        alloc: Global,
+        asked: &[bool],
+        from: u16,
+        most: u16,
+    ) -> Result<Columns, OutOfMemory>
+        requires agents { length asked.now ≤ MAX_AGENTS }
+        requires from { from < length asked.now }
+        requires some { 1 ≤ most }
+        ensures { IfOk result (AreColumns asked.now from) }
+    {
+        let mut of_agent = vec![in alloc; None; asked.len()]?;
+        let mut width = 0;
+        let mut end = from;
+        while usize::from(end) < asked.len() && width < most {
+            if asked[usize::from(end)] {
+                of_agent[usize::from(end)] = Some(width);
+                width += 1;
+            }
+            end += 1;
+        }
+        Ok(Columns {
+            of_agent,
+            width,
+            end,
+        })
+    }
+
+    /// The column of an agent, if it has one.
+    pub fn of(&self, agent: u16) -> Option<u16>
+        requires { agent < agents_in self.now }
+        ensures { result ≡ column_of self.now agent }
+    {
+        self.of_agent[usize::from(agent)]
+    }
 }

@@ -10,8 +10,7 @@ ghost use Rattle.fleet_needs.specs.Order.{IsOrder};
 ghost use Rattle.fleet_needs.specs.Settled.{AreTicks, AreSettled, AreSettledOf, IsActionSettled, IsUpTo};
 
 use crate::await_places::AwaitPlaces;
-use crate::finish_order::FinishOrder;
-use crate::finish_ticks::FinishTicks;
+use crate::finish_order::{FinishOrder, FinishTicks};
 use fleet_model::{ActionId, OutOfMemory, ProgramView};
 use std::alloc::Global;
 

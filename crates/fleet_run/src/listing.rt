@@ -64,29 +64,7 @@ fn put_place<O: TraceOut>(row: &mut Row, out: &mut O, place: Place) -> Result<()
     row.add(out, &text[at..])
 }
 
-/// Adds a space and a word for each await of action `n` of agent `i`.
-fn put_each_await<P: ProgramView, O: TraceOut>(
-    row: &mut Row,
-    out: &mut O,
-    program: &P,
-    i: u16,
-    n: u32,
-) -> Result<(), OutFault>
-    requires working { IsWorking (O.state out.old) }
-    requires agent { i < length (P.program program.now) }
-    requires first { 1 ≤ n }
-    requires last { n ≤ moves (P.program program.now) i }
-    ensures { Gathers (O.state out.old) (O.state out.new) result row.old row.new
-        (next_words (map await_text (awaits_of (P.program program.now) i n))) }
-{
-    for k in 0..program.await_count(i, n) {
-        let one = program.await_at(i, n, k);
-        put_next_word(row, out, Word::Of(one.agent, one.count))?;
-    }
-    Ok(())
-}
-
-/// Adds what action `n` of agent `i` awaits, if it awaits anything.
+/// Adds what action `n` of agent `i` awaits, if it awaits anything: a word, and one for each await.
 fn put_awaits<P: ProgramView, O: TraceOut>(
     row: &mut Row,
     out: &mut O,
@@ -105,7 +83,11 @@ fn put_awaits<P: ProgramView, O: TraceOut>(
         return Ok(());
     }
     put_next_word(row, out, Word::Text("after"))?;
-    put_each_await(row, out, program, i, n)
+    for k in 0..program.await_count(i, n) {
+        let one = program.await_at(i, n, k);
+        put_next_word(row, out, Word::Of(one.agent, one.count))?;
+    }
+    Ok(())
 }
 
 /// Writes the line of action `n` of agent `i`, which leads to this place.

@@ -12,9 +12,8 @@ use Rattle.fleet_model.specs.Program.{Program, moves, awaits_of, IsWellFormed}
 use Rattle.fleet_model.specs.Machine.{count_at, run, is_finished, IsLeast}
 use Rattle.fleet_verify.specs.Faults.{EachAgent, EachAction, EndsRight, StandsRight, AwaitsRight, HasStarts, HasRanges}
 use Rattle.fleet_verify.specs.Walk.{begun_in, AreOnGround}
-use Rattle.fleet_verify.proofs.Counts.{count_opening}
-use Rattle.fleet_verify.proofs.Done.{count_within}
-use Rattle.fleet_verify.proofs.Finish.{done_after, done_first}
+use Rattle.fleet_verify.proofs.RunCounts.{count_opening}
+use Rattle.fleet_verify.proofs.Finish.{count_within, done_after, done_first}
 use Rattle.fleet_verify.proofs.FreeRun.{order_all}
 use Rattle.fleet_verify.proofs.Ranges.{one_in_range}
 use Rattle.fleet_verify.proofs.Waiting.{step}

@@ -15,7 +15,7 @@ use Rattle.fleet_verify.specs.Ahead.{AreCountedUp, level_in}
 use Rattle.fleet_verify.specs.Chained.{IsChained, IsAsked, IsAskedOf, AreAsked, key_of}
 use Rattle.fleet_verify.specs.OpenPairs.{AreVisits, question_of}
 use Rattle.fleet_verify.specs.declared.chained.LevelQuestion.{LevelQuestion}
-use Rattle.fleet_verify.specs.declared.visit_order.OpenPair.{OpenPair}
+use Rattle.fleet_verify.specs.declared.order.OpenPair.{OpenPair}
 use Rattle.fleet_verify.proofs.Decide.{Reaches-dec}
 use Rattle.fleet_verify.proofs.Ordered.{counted_numbering, counted_levels}
 

@@ -20,7 +20,7 @@ use Rattle.fleet_verify.specs.Faults.{StandsRight, EachAction}
 use Rattle.fleet_verify.specs.Chained.{IsChained}
 use Rattle.fleet_verify.specs.OpenPairs.{AreVisits}
 use Rattle.fleet_verify.specs.Order.{visits_of, entries, IsLastVisit, AreAddedBy, AreConsecutive, IsOpenPair}
-use Rattle.fleet_verify.specs.declared.visit_order.OpenPair.{OpenPair}
+use Rattle.fleet_verify.specs.declared.order.OpenPair.{OpenPair}
 use Rattle.fleet_verify.proofs.Judged.{some_cell}
 use Rattle.fleet_verify.proofs.Listing.{await_chain}
 use Rattle.fleet_verify.proofs.Members.{filter_has, filter_from, contains_none, contains_cases}

@@ -23,9 +23,9 @@ use Rattle.fleet_verify.specs.LastVisits.{kept_at}
 use Rattle.fleet_verify.specs.Order.{AreAddedBy}
 use Rattle.fleet_verify.specs.Parts.{IsAcceptedFor}
 use Rattle.fleet_verify.specs.declared.ahead.Ahead.{Ahead}
-use Rattle.fleet_verify.specs.declared.visit_order.OpenPair.{OpenPair}
+use Rattle.fleet_verify.specs.declared.order.OpenPair.{OpenPair}
 use Rattle.fleet_verify.proofs.Begin.{begun_none, begun_more, begun_ground, begun_visits, begun_chained}
-use Rattle.fleet_verify.proofs.Reached.{longest_finishes}
+use Rattle.fleet_verify.proofs.RunCounts.{longest_finishes}
 use Rattle.fleet_verify.proofs.Ordered.{none_ranked, all_counted, all_in_range, counted_numbering, top_longest}
 use Rattle.fleet_verify.proofs.Stays.{accepted_by}
 

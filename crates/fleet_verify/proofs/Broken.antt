@@ -11,7 +11,7 @@ use Rattle.fleet_verify.specs.declared.fault.VerifyFault.{VerifyFault}
 use Rattle.fleet_verify.specs.declared.fault.VerifyFault.TheVariants.{OutOfMemory, OtherFleet, Start, Goal, Step, AwaitRange, Cyclic, Unordered}
 use Rattle.fleet_verify.specs.Broken.{MeetUnordered, IsBrokenBy}
 use Rattle.fleet_verify.specs.Faults.{HasNumbering, IsFault, IsUnordered}
-use Rattle.fleet_verify.proofs.BreakingExists.{breaking_made, breaking_conflict}
+use Rattle.fleet_verify.proofs.BreakingHolds.{breaking_made, breaking_conflict}
 use Rattle.fleet_verify.proofs.Finish.{ring_never}
 use Rattle.fleet_verify.proofs.Listing.{levels_number, as_visit}
 use Rattle.fleet_verify.proofs.Unordered.{neighbours_unordered}

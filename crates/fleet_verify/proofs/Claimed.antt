@@ -12,10 +12,9 @@ use Rattle.fleet_model.specs.Geometry.{stepped}
 use Rattle.fleet_model.specs.Program.{Program, actions_of, path}
 use Rattle.fleet_model.specs.Machine.{Configuration, Holds, is_among, is_held, indices, run, tick, standing_at, place_at, count_at, next_action, is_ready, IsReached}
 use Rattle.fleet_model.specs.Claims.{order_of, Claims, KeepsOrder, MayBeOn, is_new, orders_given, holds_of}
-use Rattle.fleet_verify.proofs.Counts.{tick_free, tick_stays, run_place, count_opening}
+use Rattle.fleet_verify.proofs.RunCounts.{tick_free, tick_stays, run_place, count_opening, reached_tick, agents_held}
 use Rattle.fleet_model.proofs.Tick.{tick_agree}
-use Rattle.fleet_verify.proofs.Reached.{reached_tick, agents_held}
-use Rattle.fleet_verify.proofs.Done.{count_grows, count_grows_to}
+use Rattle.fleet_verify.proofs.Finish.{count_grows, count_grows_to}
 use Rattle.fleet_verify.proofs.Waiting.{ready_says, ready_from}
 
 -- ---- an order is the step of the next action of a ready agent

@@ -15,12 +15,11 @@ use Rattle.fleet_model.specs.Chain.{IsAction, DirectlyNeeds, ChainFrom, Reaches,
 use Rattle.fleet_model.specs.Machine.{indices}
 use Rattle.fleet_model.specs.Schedule.{Schedule, IsSchedule, HasBegunBy, HasEndedBy, NeedsNoStalled}
 use Rattle.fleet_model.proofs.Chains.{chain_last, chain_join, own_reach, Reaches-trans, ends_alone, ends_dearer, need_action, Reaches-need, Reaches-refl}
-use Rattle.fleet_needs.proofs.Passing.{same_or_not}
 use Rattle.fleet_needs.proofs.Costing.{but_last}
 use Rattle.fleet_verify.proofs.Timed.{ends_in_time, needs_unended, by_or_not}
 use Rattle.fleet_verify.specs.Times.{HaveArrivedAt, IsLatest, IsLater, IsAwaitedUntil, IsNeedUntil, LeadsBack, IsPathOfCost, IsCriticalPath, IsFreeTo, AreReached, StopsOthers, is_broken, broken_cost, last_action}
 use Rattle.fleet_verify.proofs.Members.{same_action}
-use Rattle.fleet_verify.proofs.Decide.{IsAction-dec, some-dec, before_in, needs_before}
+use Rattle.fleet_verify.proofs.Decide.{IsAction-dec, action-dec, some-dec, before_in, needs_before}
 
 -- an action has one critical cost
 pub one_cost : (p : Program) (cost : ActionId → ℕ) (b : ActionId) (m n : ℕ) → IsCriticalCost p cost b m → IsCriticalCost p cost b n → m ≡ n
@@ -297,9 +296,9 @@ one_stopped p counts i m e n is =
 pub stops_of : (p : Program) → AreInRange p → (number : ActionId → ℕ) → IsNumbering p number → (breaks counts : List ℕ) → AreReached p breaks counts → StopsOthers p breaks counts
 stops_of p range number numbered breaks counts h = record {
   in_time = λ s is cost in_time b m act l critical. ends_in_time p cost range number numbered s (is_broken breaks) in_time b m act ((h.each b act).0 l) critical;
-  never_ends = λ s is never b act l t ended. beyond b act l (λ a broken r. elim (same_or_not a b) [
-    | inl e ↦ never a broken t (subst (HasEndedBy s t) (sym e) ended)
-    | inr apart ↦ needs_unended p s is t a b r apart (never a broken) (begun s is b act t ended)
+  never_ends = λ s is never b act l t ended. beyond b act l (λ a broken r. elim (action-dec a b) [
+    | yes e ↦ never a broken t (subst (HasEndedBy s t) (sym e) ended)
+    | no apart ↦ needs_unended p s is t a b r apart (never a broken) (begun s is b act t ended)
   ]);
   never_begins = λ s is never b act l whole t begun. beyond b act l (λ a broken r. needs_unended p s is t a b r (λ e. whole (subst (λ x. IsTrue (is_broken breaks x)) e broken)) (never a broken) begun);
 }

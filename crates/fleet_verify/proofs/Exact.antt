@@ -15,12 +15,11 @@ use Rattle.fleet_model.specs.Visit.{AreUnordered}
 use Rattle.fleet_model.specs.Breaking.{AreBreakingHolds}
 use Rattle.fleet_model.specs.Run.{RunsWell}
 use Rattle.fleet_verify.proofs.Decide.{Reaches-dec}
-use Rattle.fleet_verify.proofs.BreakingExists.{breaking_conflict, breaking_made}
+use Rattle.fleet_verify.proofs.BreakingHolds.{breaking_conflict, breaking_made}
 use Rattle.fleet_verify.proofs.Listing.{as_visit, after_reaches}
-use Rattle.fleet_verify.proofs.Finish.{done_after}
-use Rattle.fleet_verify.proofs.Finishing.{run_numbers}
+use Rattle.fleet_verify.proofs.Finish.{done_after, run_numbers}
 use Rattle.fleet_verify.proofs.FreeRun.{runs_free}
-use Rattle.fleet_verify.proofs.RunEnds.{longest_exists, finish_exists}
+use Rattle.fleet_verify.proofs.RunCounts.{longest_exists, finish_exists}
 use Rattle.fleet_verify.proofs.Sorted.{ordered_listing}
 
 -- visits without an order would meet

@@ -1,17 +1,39 @@
--- What finishes under some list of holds has a numbering, and no list of holds finishes a ring.
-use Rattle.std.proofs.Common.{◌≡◌, ℕ, zero, suc, ◌+◌, ◌-◌, ◌<◌, ◌≤◌, Bool, true, false, refl, List, length, get_or, Some, sym, ap, ◌∙◌, subst, arith, inl, inr}
-use Rattle.std.specs.Prelude.{slice_get, nat_le}
-use Rattle.std.proofs.lemmas.Bool.{cases_lt, le-leb}
-use Rattle.std.proofs.lemmas.Option.{slice_get-get_or, slice_get_within, get_or_from_slice_get}
+-- What a run finishes, after which ticks, and that no list of holds finishes a ring.
+use Rattle.std.proofs.Common.{◌≡◌, ℕ, suc, ◌+◌, ◌≤◌, ap, subst, arith, inl, inr, zero, ◌-◌, ◌<◌, Bool, true, false, refl, List, length, get_or, Some, sym, ◌∙◌}
+use Rattle.std.specs.Prelude.{Contains, slice_get, nat_le, ◌⊎◌}
+use Rattle.fleet_model.specs.declared.program.Await.{Await}
 use Rattle.fleet_model.specs.declared.program.ActionId.{ActionId}
-use Rattle.fleet_model.specs.Program.{Program, moves}
-use Rattle.fleet_model.specs.Machine.{Configuration, count_at, Holds, run, is_finished, IsLeast, IsDone}
-use Rattle.fleet_model.specs.Chain.{IsAction, DirectlyNeeds, IsNumbering}
+use Rattle.fleet_model.specs.Program.{Program, moves, awaits_of}
+use Rattle.fleet_model.specs.Machine.{Configuration, count_at, Holds, is_held, run, IsDone, is_finished, IsLeast}
+use Rattle.fleet_model.specs.Chain.{DirectlyNeeds, IsAction, IsNumbering, Reaches}
+use Rattle.fleet_verify.proofs.RunCounts.{counts, readies, run_counts, grows, grows_once, within_moves, count_past, count_opening, finished_all, unfinished_one, first_passing, first_is, chain_before}
+use Rattle.fleet_verify.proofs.Waiting.{IsReadyTo, step}
+use Rattle.std.proofs.lemmas.Bool.{cases_lt, le-leb, leb-true}
+use Rattle.std.proofs.lemmas.Option.{slice_get-get_or, slice_get_within, get_or_from_slice_get}
 use Rattle.fleet_verify.specs.Ring.{IsRing}
-use Rattle.fleet_verify.proofs.Waiting.{step}
-use Rattle.fleet_verify.proofs.Counts.{count_past, count_opening, finished_all, unfinished_one}
-use Rattle.fleet_verify.proofs.Done.{needs_of_ready}
-use Rattle.fleet_verify.proofs.Least.{first_passing, first_is}
+
+-- ---- what is finished in a run: more with each tick, and with an action all that it needs through chains
+
+pub count_grows : (p : Program) (holds : Holds) (t i : ℕ) → count_at (run p holds t) i ≤ count_at (run p holds (suc t)) i
+count_grows p holds t i = grows_once p (is_held holds) (readies p holds) (counts p holds) (run_counts p holds) t i
+
+-- what an action that is ready next needs is finished
+pub needs_of_ready : (p : Program) (c : Configuration) (a b : ActionId) → IsReadyTo p c a.agent → a.number ≡ suc (count_at c a.agent) → DirectlyNeeds p a b → IsDone c b
+needs_of_ready p c a b r e (inl (s, n, f)) =
+    let g : count_at c a.agent ≡ count_at c b.agent = ap (count_at c) s in
+    omega arith
+needs_of_ready p c a b r e (inr h) =
+    let w : Await = record { agent = b.agent; count = b.number } in
+    r.met w (subst (λ n. Contains (awaits_of p a.agent n) w) e h)
+
+pub count_grows_to : (p : Program) (holds : Holds) (t k i : ℕ) → count_at (run p holds t) i ≤ count_at (run p holds (t + k)) i
+count_grows_to p holds t k i = grows p (is_held holds) (readies p holds) (counts p holds) (run_counts p holds) t (t + k) i (omega arith)
+
+-- no agent finishes more actions than it has
+pub count_within : (p : Program) (holds : Holds) (t i : ℕ) → count_at (run p holds t) i ≤ moves p i
+count_within p holds t i = within_moves p (is_held holds) (readies p holds) (counts p holds) (run_counts p holds) t i
+
+-- ---- what finishes under some list of holds has a numbering, and no list of holds finishes a ring
 
 pub finished_says : (p : Program) (c : Configuration) → is_finished p c ≡ true → (a : ActionId) → IsAction p a → IsDone c a
 finished_says p c h a act = omega (arith, act.last, finished_all p c h a.agent act.agent)
@@ -83,3 +105,35 @@ ring_unnumbered p ring r number s zero k a e l = omega (arith, s.positive a (rin
 ring_unnumbered p ring r number s (suc n) k a e l =
     let b = ring_need p ring r k a e in
     ring_unnumbered p ring r number s n b.0 b.1 b.2 (omega (arith, s.rising a b.1 (ring_action p ring r k a e) (ring_action p ring r b.0 b.1 b.2) b.3))
+
+-- ---- the ticks after which the actions of a run are finished
+
+-- if an action is finished, so is all that begins a chain that ends with it
+pub Reaches-done : (p : Program) (holds : Holds) (t : ℕ) (a b : ActionId) → Reaches p a b → IsDone (run p holds t) b → IsDone (run p holds t) a
+Reaches-done p holds t a b (cs, h) d =
+    let r = chain_before p (is_held holds) (readies p holds) (counts p holds) (run_counts p holds) t a cs b h d in
+    omega (arith, r.2, grows p (is_held holds) (readies p holds) (counts p holds) (run_counts p holds) r.0 t a.agent (omega (arith, r.1)))
+
+-- the ticks of a run that finishes are a numbering
+pub run_numbers : (p : Program) (holds : Holds) (f : ℕ) → is_finished p (run p holds f) ≡ true → IsNumbering p (done_after p holds f)
+run_numbers p holds f h = record { positive = λ a k. later a k (done_after p holds f a) (done_first p holds f h a k); rising = λ a b k m n. before a b k m n (done_after p holds f a) (done_first p holds f h a k) }
+  where
+    later : (a : ActionId) → IsAction p a → (n : ℕ) → IsLeast (λ t. nat_le a.number (count_at (run p holds t) a.agent)) n → 1 ≤ n
+    later a k zero l =
+        let e : count_at (run p holds 0) a.agent ≡ 0 = count_opening p holds a.agent in
+        let g : a.number ≤ count_at (run p holds 0) a.agent = leb-true a.number (count_at (run p holds 0) a.agent) l.holds in
+        let i : 1 ≤ a.number = k.first in
+        omega arith
+    later a k (suc n) l = omega arith
+
+    before : (a b : ActionId) → IsAction p a → IsAction p b → DirectlyNeeds p a b → (n : ℕ) → IsLeast (λ t. nat_le a.number (count_at (run p holds t) a.agent)) n → done_after p holds f b < n
+    before a b k m n zero l = absurd (let g : 1 ≤ 0 = later a k zero l in omega arith)
+    before a b k m n (suc t) l =
+        let not_yet : count_at (run p holds t) a.agent < a.number = open_at (cases_lt (count_at (run p holds t) a.agent) a.number) in
+        let there : b.number ≤ count_at (run p holds t) b.agent = newly p holds t a b n not_yet (leb-true a.number (count_at (run p holds (suc t)) a.agent) l.holds) in
+        let low : done_after p holds f b ≤ t = (done_first p holds f h b m).least t (le-leb b.number (count_at (run p holds t) b.agent) there) in
+        omega arith
+      where
+        open_at : (count_at (run p holds t) a.agent < a.number) ⊎ (a.number ≤ count_at (run p holds t) a.agent) → count_at (run p holds t) a.agent < a.number
+        open_at (inl x) = x
+        open_at (inr x) = absurd (let g : suc t ≤ t = l.least t (le-leb a.number (count_at (run p holds t) a.agent) x) in omega arith)

@@ -12,13 +12,11 @@ use Rattle.fleet_model.specs.declared.program.Visit.{Visit}
 use Rattle.fleet_model.specs.Machine.{Configuration, count_at, indices, run, is_held, is_ready, is_finished, IsFinish, IsLeast, Holds}
 use Rattle.fleet_model.specs.Program.{Program, moves, AreInRange, path}
 use Rattle.fleet_model.specs.Chain.{IsAction, IsLevel, EndsChain}
-use Rattle.fleet_verify.proofs.Counts.{counts, readies, run_counts, count_opening, run_place, run_held, held_at_most, finished_all}
-use Rattle.fleet_verify.proofs.RunEnds.{unfinished_ends, ends_in_time}
+use Rattle.fleet_verify.proofs.RunCounts.{counts, readies, run_counts, count_opening, run_place, run_held, held_at_most, finished_all, unfinished_ends, ends_in_time, within_moves}
 use Rattle.fleet_model.specs.Visit.{entering, is_entry, ListsVisits, Adjacent, ComesAfterByChain, IsOrderly}
 use Rattle.fleet_verify.specs.Listing.{AreLevels, entry_level, IsBefore}
 use Rattle.fleet_verify.proofs.Waiting.{step, ready_says, ready_from}
-use Rattle.fleet_verify.proofs.Done.{count_grows, count_grows_to, count_within}
-use Rattle.fleet_verify.proofs.Finish.{done_after, done_first}
+use Rattle.fleet_verify.proofs.Finish.{count_grows, count_grows_to, count_within, done_after, done_first}
 use Rattle.fleet_verify.proofs.Listing.{entry_start, entry_later}
 use Rattle.fleet_verify.specs.Walk.{begun_by, begun_in}
 use Rattle.fleet_verify.proofs.UnderWay.{begun_yes, begun_no}
@@ -26,7 +24,6 @@ use Rattle.std.proofs.lemmas.Option.{slice_get-get_or, slice_get_within, same_So
 use Rattle.fleet_model.specs.declared.geometry.Place.{Place}
 use Rattle.fleet_model.specs.Conflict.{Motion, HasVertexConflict, HasFollowingConflict, HasCycleConflict}
 use Rattle.fleet_model.specs.Run.{motion, IsFree, HasBegun, HasLeft, IsOwnedInTurn}
-use Rattle.fleet_verify.proofs.Finished.{within_moves}
 use Rattle.fleet_verify.proofs.Owned.{all_left_before, no_vertex, no_following}
 
 -- what a tick without holds finishes ends a chain of as many actions as there were ticks, and no longer one

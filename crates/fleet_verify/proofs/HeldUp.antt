@@ -9,8 +9,7 @@ use Rattle.fleet_model.specs.Machine.{Holds, is_held, run, count_at, is_ready, I
 use Rattle.fleet_model.specs.Chain.{IsAction, DirectlyNeeds, IsCriticalCost, IsNumbering}
 use Rattle.fleet_model.specs.Schedule.{Schedule, HasEndedBy, EndInTime, TakeAtLeast}
 use Rattle.fleet_model.specs.RunSchedule.{IsFinishedIn, IsScheduleOf, BeginsWhenDue, is_held_up, held_up_ticks, ticks_taken}
-use Rattle.fleet_verify.proofs.Counts.{counts, readies, run_counts, tick_stays, held_past}
-use Rattle.fleet_verify.proofs.RunEnds.{ready_or_needs}
+use Rattle.fleet_verify.proofs.RunCounts.{counts, readies, run_counts, tick_stays, held_past, ready_or_needs}
 use Rattle.fleet_verify.proofs.Levels.{due_done}
 use Rattle.fleet_verify.proofs.Timed.{no_sooner, critical, ends_in_time}
 use Rattle.fleet_model.proofs.Chains.{need_action}

@@ -11,7 +11,7 @@ use Rattle.fleet_model.specs.Program.{Program, moves, path, IsCell}
 use Rattle.fleet_model.specs.Visit.{IsVisitOf, Adjacent, ComesAfter, IsOrderly}
 use Rattle.fleet_model.specs.Visit.{IsVisit}
 use Rattle.fleet_verify.proofs.Listing.{levels_number}
-use Rattle.fleet_verify.specs.declared.visit_order.PlacedVisit.{PlacedVisit}
+use Rattle.fleet_verify.specs.declared.order.PlacedVisit.{PlacedVisit}
 use Rattle.fleet_verify.specs.declared.fault.VerifyFault.{VerifyFault}
 use Rattle.fleet_verify.specs.declared.fault.VerifyFault.TheVariants.{Unordered}
 use Rattle.fleet_verify.specs.declared.order.OrderViolation.{OrderViolation}

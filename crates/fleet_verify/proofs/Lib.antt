@@ -1,15 +1,10 @@
 pub mod Members
-pub mod Counts
-pub mod Finished
-pub mod Done
-pub mod Least
+pub mod RunCounts
+pub mod Finish
 pub mod Owned
 pub mod Levels
-pub mod Reached
-pub mod RunEnds
 pub mod Neighbours
 pub mod Listing
-pub mod Finish
 pub mod Paths
 pub mod Leaving
 pub mod Ranges
@@ -26,10 +21,8 @@ pub mod Decide
 pub mod Unordered
 pub mod OpenPairs
 pub mod Claimed
-pub mod Finishing
-pub mod RisingRows
+pub mod BreakingHolds
 pub mod Sorted
-pub mod BreakingExists
 pub mod Exact
 pub mod Broken
 pub mod Timed
@@ -44,7 +37,6 @@ pub mod PieceLaws
 pub mod Climbing
 pub mod Rows
 pub mod Looking
-pub mod BreakingCounts
 pub mod SameChains
 pub mod LastVisits
 pub mod Promised

@@ -12,12 +12,12 @@ use Rattle.std.proofs.lemmas.Bool.{cases_eq, cases_lt}
 use Rattle.std.proofs.lemmas.List.{map-append, length_push, get_or_push, get_or_append_left}
 use Rattle.fleet_model.specs.declared.program.Await.{Await}
 use Rattle.fleet_verify.specs.Blocked.{IsBlocked, IsUnmet, want_at, AreWants, down_from}
-use Rattle.fleet_machine.proofs.Indices.{indices_more}
+use Rattle.fleet_machine.proofs.Indices.{indices-more}
 use Rattle.std.proofs.lemmas.List.Sums.{sum_by-le-sum_by}
 use Rattle.std.proofs.lemmas.Option.{same_Some, slice_get-get_or, slice_get_within, get_or_from_slice_get}
 use Rattle.std.proofs.Math.ListN.{length-set}
 use Rattle.fleet_model.specs.Machine.{indices}
-use Rattle.fleet_verify.proofs.RunEnds.{sum_rises, sum_of_moves}
+use Rattle.fleet_verify.proofs.RunCounts.{sum_rises, sum_of_moves}
 use Rattle.fleet_verify.specs.Needed.{IsRaised, IsLooking, looked_sum, AreNeeded}
 
 pub needed_action : (p : Program) (v w : Visit) (a : ActionId) → IsNeededFor p v w a → IsAction p a
@@ -54,7 +54,7 @@ pub wants_all : (p : Program) (counts : List ℕ) (wants : List Await) (n : ℕ)
 wants_all p counts wants n h e = record { all = h.all ∙ e; each = λ i b. h.each i (omega (arith, b.agent)) b }
 
 pub down_more : (agent last n : ℕ) → down_from agent last (n + 1) ≡ down_from agent last n ++ record { agent = agent; number = last - n } ∷ []
-down_more agent last n = rw (indices_more n, map-append) refl
+down_more agent last n = rw (indices-more n, map-append) refl
 
 -- ---- one action's awaits
 

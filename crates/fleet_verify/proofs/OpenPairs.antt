@@ -20,9 +20,9 @@ use Rattle.fleet_scen.specs.Instance.{IsInstance}
 use Rattle.fleet_needs.specs.declared.questions.Question.{Question}
 use Rattle.fleet_needs.specs.Asked.{IsQuestion, IsSoonerAction, AreQuestions, AreAnswers}
 use Rattle.fleet_verify.specs.declared.order.OrderViolation.{OrderViolation}
-use Rattle.fleet_verify.specs.declared.visit_order.OpenPair.{OpenPair}
-use Rattle.fleet_verify.specs.declared.visit_order.PlacedVisit.{PlacedVisit}
-use Rattle.fleet_verify.specs.declared.visit_order.VisitOrder.{VisitOrder}
+use Rattle.fleet_verify.specs.declared.order.OpenPair.{OpenPair}
+use Rattle.fleet_verify.specs.declared.order.PlacedVisit.{PlacedVisit}
+use Rattle.fleet_verify.specs.declared.order.VisitOrder.{VisitOrder}
 use Rattle.fleet_verify.specs.Faults.{HasStarts, IsFirstBreak}
 use Rattle.fleet_verify.specs.Listing.{entry_level, IsBefore}
 use Rattle.fleet_verify.specs.Order.{number_of, visits_of, IsListJudged, AreAllPlaced, AreViolations, AreGrouped, IsOpenPair, AreConsecutive, StandsBefore}

@@ -15,9 +15,9 @@ use Rattle.fleet_model.specs.Geometry.{place_of, is_same_place}
 use Rattle.fleet_model.specs.Program.{Program, IsCell, moves, awaits_of, AreInRange, IsWellFormed}
 use Rattle.fleet_model.specs.Visit.{is_entry, ComesAfterByAwait}
 use Rattle.fleet_model.proofs.Cells.{place_of-injective, is_same_place-true, is_same_place-eq}
-use Rattle.fleet_verify.specs.declared.visit_order.PlacedVisit.{PlacedVisit}
-use Rattle.fleet_verify.specs.declared.visit_order.OpenPair.{OpenPair}
-use Rattle.fleet_verify.specs.declared.visit_order.VisitOrder.{VisitOrder}
+use Rattle.fleet_verify.specs.declared.order.PlacedVisit.{PlacedVisit}
+use Rattle.fleet_verify.specs.declared.order.OpenPair.{OpenPair}
+use Rattle.fleet_verify.specs.declared.order.VisitOrder.{VisitOrder}
 use Rattle.fleet_verify.specs.Order.{number_of, last_of, visits_of, entries, IsOpenNext, IsLastVisit, IsGrouped, IsOpenPair, AreGrouped, AreGroupedBy, AreConsecutive, StandsBefore}
 use Rattle.std.proofs.Math.Seq.{get_or-append_seam}
 use Rattle.fleet_model.specs.declared.program.ActionId.{ActionId}

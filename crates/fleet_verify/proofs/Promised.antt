@@ -15,7 +15,7 @@ use Rattle.fleet_verify.specs.declared.fault.VerifyFault.{VerifyFault}
 use Rattle.fleet_verify.specs.declared.fault.VerifyFault.TheVariants.{OutOfMemory}
 use Rattle.fleet_verify.specs.Faults.{IsFault}
 use Rattle.fleet_verify.specs.Promises.{KeepsSchedule, Promises, IsRefusedRightly}
-use Rattle.fleet_verify.proofs.Counts.{any_below}
+use Rattle.fleet_verify.proofs.RunCounts.{any_below}
 use Rattle.fleet_verify.proofs.Levels.{level_exists, least_due, due_done, chain_done}
 use Rattle.fleet_verify.proofs.Timed.{critical, ends_in_time, no_two_on, at_end, no_sooner, needs_unended}
 use Rattle.fleet_verify.proofs.HeldUp.{finished_on_critical_path}

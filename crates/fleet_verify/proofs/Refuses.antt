@@ -15,7 +15,7 @@ use Rattle.fleet_model.specs.Visit.{ListsVisits, Adjacent, ComesAfter}
 use Rattle.fleet_model.specs.Accepted.{IsAccepted}
 use Rattle.fleet_model.specs.Run.{IsSafe, IsOwnedInTurn, Arrives}
 use Rattle.fleet_verify.proofs.FreeRun.{runs_free, runs_on_ground, runs_owned}
-use Rattle.fleet_verify.proofs.RunEnds.{finish_exists, finish_above, finish_below, finish_stays}
+use Rattle.fleet_verify.proofs.RunCounts.{finish_exists, finish_above, finish_below, finish_stays}
 use Rattle.fleet_verify.specs.Ring.{IsToldRing}
 use Rattle.fleet_verify.proofs.Finish.{ring_unnumbered}
 use Rattle.fleet_verify.proofs.Listing.{sorted_passes, after_reaches, levels_number}

@@ -24,8 +24,7 @@ use Rattle.fleet_verify.specs.Rest.{StandOn, rest_await, rest_awaits, rest_actio
 use Rattle.fleet_verify.proofs.Members.{contains_head, contains_later, contains_cases, contains_none, filter_has, filter_from}
 use Rattle.fleet_model.specs.Conflict.{HasVertexConflict}
 use Rattle.fleet_verify.proofs.UnderWay.{within_moves}
-use Rattle.fleet_verify.proofs.Counts.{finished_all, unfinished_one, run_counts, run_place, count_opening, count_past}
-use Rattle.fleet_verify.proofs.Least.{least_of}
+use Rattle.fleet_verify.proofs.RunCounts.{finished_all, unfinished_one, run_counts, run_place, count_opening, count_past, least_of}
 use Rattle.fleet_verify.proofs.Exact.{accepted_runs, runs_accepted}
 use Rattle.fleet_verify.proofs.Waiting.{IsReadyTo, Moves, StaysBehind, step}
 use Rattle.fleet_model.proofs.OnePass.{AwaitsFrom, any_begins, awaits_are, awaits_from, no_awaits}

@@ -13,11 +13,9 @@ use Rattle.fleet_model.specs.Run.{RunsWell, RunsRight}
 use Rattle.fleet_model.proofs.Chains.{ends_action}
 use Rattle.fleet_model.specs.Schedule.{Schedule, IsSchedule, MayBeOnAt, IsSafeSchedule}
 use Rattle.fleet_model.specs.RunSchedule.{IsFinishedIn}
-use Rattle.fleet_verify.proofs.Counts.{counts, readies, run_counts, run_place, count_opening, run_held}
-use Rattle.fleet_verify.proofs.Finish.{finished_says, done_after}
-use Rattle.fleet_verify.proofs.Finishing.{run_numbers}
+use Rattle.fleet_verify.proofs.RunCounts.{counts, readies, run_counts, run_place, count_opening, run_held, longest_exists, finish_exists, finish_stays, unfinished_ends, ends_in_time}
+use Rattle.fleet_verify.proofs.Finish.{finished_says, done_after, run_numbers}
 use Rattle.fleet_verify.proofs.FreeRun.{runs_free, runs_on_ground}
-use Rattle.fleet_verify.proofs.RunEnds.{longest_exists, finish_exists, finish_stays, unfinished_ends, ends_in_time}
 use Rattle.fleet_verify.proofs.Arrived.{ranges_hold}
 use Rattle.fleet_verify.proofs.Stays.{ranges_all}
 use Rattle.fleet_verify.proofs.Exact.{accepted_runs, runs_accepted}

@@ -21,10 +21,9 @@ use Rattle.fleet_model.specs.declared.task.Task.{Task}
 use Rattle.fleet_model.specs.declared.program.Await.{Await}
 use Rattle.fleet_model.specs.Accepted.{IsAcceptedBy}
 use Rattle.fleet_model.proofs.Chains.{chain_first, chain_rises, ends_by, ends_long, Reaches-need, chain_join, chain_last, Reaches-first, Reaches-last, Reaches-trans, Reaches-refl}
-use Rattle.fleet_verify.proofs.Counts.{counts, readies, run_counts}
-use Rattle.fleet_verify.proofs.Finished.{chain_due}
+use Rattle.fleet_verify.proofs.RunCounts.{counts, readies, run_counts, chain_due}
 use Rattle.fleet_verify.proofs.Waiting.{ready_says, ready_from}
-use Rattle.fleet_verify.proofs.BreakingExists.{moves_within}
+use Rattle.fleet_verify.proofs.BreakingHolds.{moves_within}
 use Rattle.fleet_verify.proofs.Members.{same_action, contains_none}
 use Rattle.fleet_needs.specs.Implied.{IsImplied}
 use Rattle.fleet_verify.proofs.Decide.{some-dec, action-dec, before_in, needs_before, Reaches-dec}

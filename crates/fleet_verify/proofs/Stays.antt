@@ -18,18 +18,18 @@ use Rattle.fleet_model.specs.Chain.{IsLongestChain, IsNumbering}
 use Rattle.fleet_model.specs.Visit.{is_entry, IsVisitOf, ListsVisits, ComesAfter, IsOrderly}
 use Rattle.fleet_model.specs.Accepted.{IsAccepted}
 use Rattle.fleet_model.specs.Program.{AreInRange}
-use Rattle.fleet_verify.proofs.RunEnds.{unheld_is_longest}
+use Rattle.fleet_verify.proofs.RunCounts.{unheld_is_longest}
 use Rattle.fleet_model.specs.Visit.{IsVisit}
 use Rattle.fleet_verify.specs.Listing.{IsBefore, IsSortedListing}
 use Rattle.fleet_verify.proofs.Members.{contains_head, contains_later, contains_cases, contains_none, filter_has, filter_from}
 use Rattle.fleet_verify.proofs.Listing.{levels_number}
 use Rattle.fleet_verify.proofs.Neighbours.{adjacent_from}
-use Rattle.fleet_verify.specs.declared.visit_order.PlacedVisit.{PlacedVisit}
+use Rattle.fleet_verify.specs.declared.order.PlacedVisit.{PlacedVisit}
 use Rattle.fleet_verify.specs.Walk.{begun_in, IsRunOnGround, HasArrived}
 use Rattle.fleet_verify.specs.declared.unheld_run.UnheldRun.{UnheldRun}
 use Rattle.fleet_verify.proofs.Arrived.{all_right}
 use Rattle.fleet_verify.specs.Order.{visits_of, entries, AreAllPlaced, IsVisitPlaced, AreAdded, AreAllAdded}
-use Rattle.fleet_verify.specs.declared.visit_order.VisitOrder.{VisitOrder}
+use Rattle.fleet_verify.specs.declared.order.VisitOrder.{VisitOrder}
 use Rattle.fleet_verify.specs.Faults.{HasStarts, HasRanges, AwaitsRight, EachAction}
 use Rattle.fleet_model.proofs.Cells.{is_same_place-true, is_same_place-eq}
 use Rattle.fleet_verify.proofs.FreeRun.{level, levels_are, order_all, IsOrder}

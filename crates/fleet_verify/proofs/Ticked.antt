@@ -14,13 +14,10 @@ use Rattle.fleet_model.specs.Chain.{IsAction}
 use Rattle.fleet_model.proofs.Tick.{ready_left, path_more}
 use Rattle.fleet_model.specs.Schedule.{Schedule, IsBy, HasBegunBy, HasEndedBy, IsSchedule, MayBeOnAt}
 use Rattle.fleet_model.specs.RunSchedule.{IsFinishedIn, IsScheduleOf, BeginsWhenDue, TakesOneTick}
-use Rattle.fleet_verify.proofs.Counts.{counts, readies, run_counts, run_place, count_opening, count_past, any_below, finished_all}
-use Rattle.fleet_verify.proofs.Finished.{grows}
-use Rattle.fleet_verify.proofs.Done.{count_within, needs_of_ready}
+use Rattle.fleet_verify.proofs.RunCounts.{counts, readies, run_counts, run_place, count_opening, count_past, any_below, finished_all, grows, first_passing, first_is, run_ends}
+use Rattle.fleet_verify.proofs.Finish.{count_within, needs_of_ready}
 use Rattle.fleet_verify.proofs.Claimed.{order_says, ready_lasts, still_claims}
 use Rattle.fleet_verify.proofs.Waiting.{ready_says, ready_from}
-use Rattle.fleet_verify.proofs.Least.{first_passing, first_is}
-use Rattle.fleet_verify.proofs.RunEnds.{run_ends}
 use Rattle.fleet_verify.proofs.Timed.{by_later}
 use Rattle.fleet_model.proofs.Chains.{need_action}
 

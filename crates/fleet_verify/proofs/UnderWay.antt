@@ -13,7 +13,7 @@ use Rattle.fleet_model.specs.declared.program.Visit.{Visit}
 use Rattle.fleet_model.specs.Geometry.{place_of, stepped}
 use Rattle.fleet_model.specs.Machine.{indices, Configuration, count_at, run, tick, moved_in, is_held, is_moving, is_ready, is_over, is_finished, place_at, IsLeast, IsReached}
 use Rattle.fleet_model.specs.Program.{Program, moves, step_of, path, total_moves}
-use Rattle.fleet_machine.proofs.Indices.{indices_more}
+use Rattle.fleet_machine.proofs.Indices.{indices-more, some_counted, none_counts}
 use Rattle.fleet_verify.specs.Faults.{EachAction, StandsRight}
 use Rattle.fleet_verify.specs.Walk.{positions_of, begun_by, begun_in, moved_to, IsEnded}
 use Rattle.fleet_verify.proofs.Paths.{path_step}
@@ -21,10 +21,9 @@ use Rattle.std.proofs.lemmas.List.FromFn.{get_or-map-range_with_len}
 use Rattle.std.proofs.Math.Bool.{and-true}
 use Rattle.fleet_model.proofs.Tick.{tick_agree}
 use Rattle.fleet_machine.specs.Machine.{MachineState, Runs, flag_of, moving_flags}
-use Rattle.fleet_machine.proofs.Resting.{some_counted, none_counts, rests_if}
-use Rattle.fleet_verify.proofs.Counts.{finished_all, any_below, held_past, tick_free, run_place}
-use Rattle.fleet_verify.proofs.RunEnds.{run_ends, some_ready}
-use Rattle.fleet_verify.proofs.Done.{count_within}
+use Rattle.fleet_machine.proofs.Ready.{rests_if}
+use Rattle.fleet_verify.proofs.RunCounts.{finished_all, any_below, held_past, tick_free, run_place, run_ends, some_ready}
+use Rattle.fleet_verify.proofs.Finish.{count_within}
 use Rattle.fleet_verify.proofs.Waiting.{ready_says}
 
 abbrev visit_of : ℕ → ℕ → Visit
@@ -32,10 +31,10 @@ visit_of i n = record { agent = i; position = n }
 
 -- one agent more
 pub positions_yes : (moving : ℕ → Bool) (position : ℕ → ℕ) (n : ℕ) → moving n ≡ true → positions_of moving position (n + 1) ≡ positions_of moving position n ++ visit_of n (position n) ∷ []
-positions_yes moving position n e = rw (indices_more n, filter-append, map-append, e) refl
+positions_yes moving position n e = rw (indices-more n, filter-append, map-append, e) refl
 
 pub positions_no : (moving : ℕ → Bool) (position : ℕ → ℕ) (n : ℕ) → moving n ≡ false → positions_of moving position (n + 1) ≡ positions_of moving position n
-positions_no moving position n e = rw (indices_more n, filter-append, map-append, e) append-nil
+positions_no moving position n e = rw (indices-more n, filter-append, map-append, e) append-nil
   where
     append-nil : map (λ i. visit_of i (position i)) (filter moving (indices n)) ++ [] ≡ map (λ i. visit_of i (position i)) (filter moving (indices n))
     append-nil = Rattle.std.proofs.lemmas.List.append-nil _
@@ -106,7 +105,7 @@ abbrev pub starts_of : ℕ → List Visit
 starts_of n = map (λ i. record { agent = i; position = 0 }) (indices n)
 
 pub starts_more : (n : ℕ) → starts_of n ++ record { agent = n; position = 0 } ∷ [] ≡ starts_of (n + 1)
-starts_more n = sym (ap (map (λ i. record { agent = i; position = 0 })) (indices_more n) ∙ map-append (λ (i : ℕ). record { agent = i; position = 0 }) (indices n) (n ∷ []))
+starts_more n = sym (ap (map (λ i. record { agent = i; position = 0 })) (indices-more n) ∙ map-append (λ (i : ℕ). record { agent = i; position = 0 }) (indices n) (n ∷ []))
 
 -- the starts are the visits that begin before the first tick
 pub opened_visits : (p : Program) → starts_of (length p) ≡ begun_in p 0

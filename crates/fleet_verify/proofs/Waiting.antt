@@ -6,7 +6,7 @@ use Rattle.fleet_model.specs.declared.program.Await.{Await}
 use Rattle.fleet_model.specs.Program.{Program, moves, awaits_of, IsWellFormed, AreInRange}
 use Rattle.fleet_model.specs.Machine.{Configuration, count_at, is_ready, Holds, is_held, run, indices, is_finished, is_stuck}
 use Rattle.fleet_model.proofs.Tick.{ready_left, ready_met, unready_waits}
-use Rattle.fleet_verify.proofs.Counts.{tick_free, tick_stays, unfinished_one}
+use Rattle.fleet_verify.proofs.RunCounts.{tick_free, tick_stays, unfinished_one}
 use Rattle.std.proofs.lemmas.List.{take_more, map-append, get_or_append_left, get_or-append_right, length-append, get_or-reverse, length-reverse, get_or_default}
 use Rattle.std.proofs.lemmas.Option.{slice_get-get_or, slice_get_within, get_or_from_slice_get, same_Some}
 use Rattle.std.proofs.lemmas.Bool.{cases_lt, cases_eq, lt-ltb, le-ltb, and_parts, not-true}

@@ -16,8 +16,8 @@ use Rattle.fleet_verify.specs.Faults.{StandsRight, EndsRight}
 use Rattle.fleet_verify.specs.LastVisits.{kept_at}
 use Rattle.fleet_verify.specs.Order.{AreAddedBy}
 use Rattle.fleet_verify.specs.Rows.{IsCountedUp}
-use Rattle.fleet_verify.specs.declared.visit_order.OpenPair.{OpenPair}
-use Rattle.fleet_verify.specs.declared.visit_order.PlacedVisit.{PlacedVisit}
+use Rattle.fleet_verify.specs.declared.order.OpenPair.{OpenPair}
+use Rattle.fleet_verify.specs.declared.order.PlacedVisit.{PlacedVisit}
 use Rattle.fleet_verify.specs.declared.ahead.Ahead.{Ahead}
 
 -- ---- levels

@@ -8,7 +8,7 @@ use Rattle.fleet_verify.specs.Ahead.{level_in}
 use Rattle.fleet_verify.specs.OpenPairs.{question_of}
 use Rattle.fleet_verify.specs.declared.chained.LevelQuestion.{LevelQuestion}
 use Rattle.fleet_verify.specs.declared.chained.TheConstants.{AGENTS}
-use Rattle.fleet_verify.specs.declared.visit_order.OpenPair.{OpenPair}
+use Rattle.fleet_verify.specs.declared.order.OpenPair.{OpenPair}
 
 -- a chain begins with the action that leaves the first visit and ends with the one that enters the second
 abbrev pub IsChained : Program → OpenPair → Type 0

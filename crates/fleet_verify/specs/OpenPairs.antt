@@ -8,7 +8,7 @@ use Rattle.fleet_model.specs.Visit.{IsVisit, entering, leaving}
 use Rattle.fleet_needs.specs.declared.questions.Question.{Question}
 use Rattle.fleet_verify.specs.Order.{number_of}
 use Rattle.fleet_verify.specs.declared.order.OrderViolation.{OrderViolation}
-use Rattle.fleet_verify.specs.declared.visit_order.OpenPair.{OpenPair}
+use Rattle.fleet_verify.specs.declared.order.OpenPair.{OpenPair}
 
 -- both are visits of the program
 pub record AreVisits (p : Program) (o : OpenPair) : Type 0 where

@@ -12,9 +12,9 @@ use Rattle.fleet_model.specs.Visit.{is_entry, IsVisit, Adjacent, ComesAfterByAwa
 use Rattle.fleet_verify.specs.Faults.{IsOrderlyAt, IsFirstBreak}
 use Rattle.fleet_verify.specs.Listing.{AreLevels, IsBefore, IsSortedListing}
 use Rattle.fleet_verify.specs.declared.order.OrderViolation.{OrderViolation}
-use Rattle.fleet_verify.specs.declared.visit_order.OpenPair.{OpenPair}
-use Rattle.fleet_verify.specs.declared.visit_order.PlacedVisit.{PlacedVisit}
-use Rattle.fleet_verify.specs.declared.visit_order.VisitOrder.{VisitOrder}
+use Rattle.fleet_verify.specs.declared.order.OpenPair.{OpenPair}
+use Rattle.fleet_verify.specs.declared.order.PlacedVisit.{PlacedVisit}
+use Rattle.fleet_verify.specs.declared.order.VisitOrder.{VisitOrder}
 use Rattle.indexmap.specs.IndexMap.{get}
 
 -- the number of a cell, which no other cell has

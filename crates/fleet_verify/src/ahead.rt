@@ -19,9 +19,9 @@ use crate::agents::ends_right;
 use crate::chained::are_chained;
 use crate::last_visits::LastVisits;
 use crate::level_row::{LevelRow, row_of};
+use crate::order::{OpenPair, PlacedVisit, begins_visit, is_left_by, open_unless_after};
 use crate::path::next_cell;
 use crate::unheld_run::Stop;
-use crate::visit_order::{OpenPair, PlacedVisit, begins_visit, is_left_by, open_unless_after};
 use fleet_grid::Grid;
 use fleet_model::{
     Await, Cell, Instruction, MAX_AGENTS, OutOfMemory, Place, ProgramView, Step, Visit, total_moves,

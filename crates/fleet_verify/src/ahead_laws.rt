@@ -4,7 +4,7 @@
 ghost use Rattle.std.specs.Prelude.{◌≡◌, ℕ, ◌+◌, ◌<◌, Bool, List, Option, length, []};
 ghost use Rattle.fleet_model.specs.declared.geometry.Place.{Place};
 ghost use Rattle.fleet_model.specs.Visit.{ComesAfter, IsOrderly};
-ghost use Rattle.fleet_verify.specs.declared.visit_order.OpenPair.{OpenPair};
+ghost use Rattle.fleet_verify.specs.declared.order.OpenPair.{OpenPair};
 ghost use Rattle.fleet_model.specs.declared.geometry.Cell.{Cell};
 ghost use Rattle.fleet_model.specs.declared.program.Visit.{Visit};
 ghost use Rattle.fleet_model.specs.declared.program.ActionId.{ActionId};

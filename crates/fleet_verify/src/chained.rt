@@ -8,8 +8,7 @@ ghost use Rattle.fleet_verify.specs.OpenPairs.{AreVisits, question_of};
 ghost use Rattle.fleet_verify.specs.Chained.{IsChained, IsAskedOf, AreAsked, IsAsked, key_of};
 
 use crate::level_row::{LevelRow, row_of};
-use crate::order::leaving;
-use crate::visit_order::OpenPair;
+use crate::order::{OpenPair, leaving};
 use fleet_model::{ActionId, OutOfMemory, ProgramView};
 use fleet_needs::{Question, answer_questions};
 use std::alloc::Global;

@@ -6,7 +6,7 @@ ghost use Rattle.fleet_model.specs.Program.{Program};
 ghost use Rattle.fleet_model.specs.Chain.{IsAction};
 ghost use Rattle.fleet_verify.specs.Reach.{IsReachOf, IsGreatest};
 
-use crate::accepted::Accepted;
+use crate::verifier::Accepted;
 use fleet_model::{ActionId, OutOfMemory, ProgramView};
 use fleet_needs::Pieces;
 use std::alloc::Global;

@@ -3,9 +3,9 @@
 ghost use Rattle.std.specs.Prelude.{◌≡◌, length, IfOk};
 ghost use Rattle.fleet_verify.specs.Times.{AreReached, StopsOthers, stopped_agents};
 
-use crate::accepted::Accepted;
 use crate::schedules::schedules_end_in_time;
 use crate::times::Times;
+use crate::verifier::Accepted;
 use fleet_model::{ActionId, OutOfMemory, ProgramView};
 use fleet_needs::ActionCosts;
 use std::alloc::Global;

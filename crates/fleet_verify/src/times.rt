@@ -7,7 +7,7 @@ ghost use Rattle.fleet_model.specs.Program.{moves, AreInRange};
 ghost use Rattle.fleet_model.specs.Chain.{IsAction, IsCriticalCost};
 ghost use Rattle.fleet_verify.specs.Times.{ArrivesAt, EachArrivesAt, HaveArrivedAt, IsCriticalPath, IsLatest, IsLater, LeadsBack, IsAwaitedUntil, IsNeedUntil, IsFreeTo};
 
-use crate::accepted::Accepted;
+use crate::verifier::Accepted;
 use fleet_model::{ActionId, OutOfMemory, ProgramView};
 use fleet_needs::{ActionCosts, CriticalCosts};
 use std::alloc::Global;

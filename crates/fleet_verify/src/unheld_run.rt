@@ -11,7 +11,7 @@ ghost use Rattle.fleet_verify.specs.Faults.{StandsRight};
 ghost use Rattle.fleet_verify.specs.Order.{AreAdded};
 ghost use Rattle.fleet_verify.specs.Walk.{begun_in, moved_to, position_in, AreOnGround, IsStop, IsAtStart, IsRunOnGround};
 
-use crate::visit_order::{PlacedVisit, VisitOrder};
+use crate::order::{PlacedVisit, VisitOrder};
 use fleet_grid::Grid;
 use fleet_machine::Machine;
 use fleet_model::{

@@ -5,7 +5,7 @@ use Rattle.fleet_grid.specs.Ground.{is_passable}
 use Rattle.fleet_verify.specs.Parts.{IsAcceptedFor}
 use Rattle.fleet_verify.specs.Reduced.{IsThinned}
 use Rattle.fleet_verify.proofs.SameChains.{thinned_reduced, thinned_again, reduced_chains, thinned_range, thinned_least, longest_over, accepted_over, run_over}
-use Rattle.fleet_verify.proofs.Reached.{longest_finishes}
+use Rattle.fleet_verify.proofs.RunCounts.{longest_finishes}
 use Rattle.fleet_adg.proofs.Thinning.{thinned_of, thinned_formed, moves_of, thinned_short}
 use Rattle.fleet_adg.proofs.thinner.thin.Goals as goal
 

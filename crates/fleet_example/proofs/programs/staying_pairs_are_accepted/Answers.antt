@@ -1,12 +1,11 @@
 use Rattle.std.proofs.Common.{[], ◌∷◌, refl}
-use Rattle.fleet_verify.proofs.Listing.{awaits_accepted}
 use Rattle.fleet_example.specs.Programs.{late_pair, staying_pair, pair_tasks, is_on_open_map, nth_action}
 use Rattle.fleet_example.proofs.Computed.{longest_by}
-use Rattle.fleet_example.proofs.ComputedOrder.{accepted_by_await}
+use Rattle.fleet_example.proofs.ComputedOrder.{accepted_by_await, accepted_if_awaited}
 use Rattle.fleet_example.proofs.programs.staying_pairs_are_accepted.Goals as goal
 
 pub returns-clause-before : goal.returns-clause-before
-returns-clause-before c = awaits_accepted (is_on_open_map 4 1) pair_tasks late_pair (accepted_by_await (is_on_open_map 4 1) 2 late_pair refl)
+returns-clause-before c = accepted_if_awaited (is_on_open_map 4 1) 2 late_pair refl
 
 pub returns-clause-before_longest : goal.returns-clause-before_longest
 returns-clause-before_longest c = longest_by 2 late_pair (nth_action 0 1) (nth_action 0 2 ∷ nth_action 0 3 ∷ nth_action 1 2 ∷ []) (nth_action 1 2) refl

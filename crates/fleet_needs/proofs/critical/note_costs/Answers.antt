@@ -3,7 +3,7 @@ use Rattle.fleet_model.specs.declared.limits.TheConstants.{MAX_AGENTS}
 use Rattle.fleet_needs.specs.Settled.{IsFinishedBy}
 use Rattle.fleet_needs.specs.Critical.{IsNotedCost, AreNotedCosts}
 use Rattle.fleet_needs.proofs.Free.{none_flagged, ticked, length_flagged}
-use Rattle.fleet_needs.proofs.Entries.{noted_none}
+use Rattle.fleet_needs.proofs.Ticking.{noted_none}
 use Rattle.fleet_needs.proofs.critical.note_costs.Goals as goal
 
 pub loop-t-init : goal.loop-t-init

@@ -3,7 +3,7 @@ use Rattle.fleet_needs.specs.Critical.{IsNotedCost, value_at}
 use Rattle.fleet_needs.proofs.Costing.{needs_cost, noted_here}
 use Rattle.fleet_needs.proofs.Free.{next_ready, none_ready, machine_number, next_action}
 use Rattle.fleet_needs.proofs.Placed.{place_within}
-use Rattle.fleet_needs.proofs.Entries.{noted_mid, noted_on, noted_all}
+use Rattle.fleet_needs.proofs.Ticking.{noted_mid, noted_on, noted_all}
 use Rattle.fleet_needs.proofs.critical.note_tick.Goals as goal
 
 pub greatest_need-needed-requires-clause-action : goal.greatest_need-needed-requires-clause-action

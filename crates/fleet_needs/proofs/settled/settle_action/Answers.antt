@@ -4,9 +4,8 @@ use Rattle.std.proofs.lemmas.Option.{slice_get_within, same_Some}
 use Rattle.std.proofs.lemmas.List.{get_or-set_same, get_or-set_other}
 use Rattle.fleet_model.specs.declared.program.Await.{Await}
 use Rattle.fleet_model.specs.Program.{awaits_of}
-use Rattle.fleet_model.proofs.Totals.{total_awaits_fit}
 use Rattle.fleet_needs.specs.Settled.{IsSettled, AreMoreAsked}
-use Rattle.fleet_needs.proofs.AwaitOrder.{flag_within}
+use Rattle.fleet_needs.proofs.AwaitOrder.{flag_within, flag_fits}
 use Rattle.fleet_needs.proofs.Joining.{awaited_action}
 use Rattle.fleet_needs.proofs.Settling.{settled_more, told_by, asked_more}
 use Rattle.fleet_needs.proofs.settled.settle_action.Goals as goal
@@ -14,9 +13,8 @@ use Rattle.fleet_needs.proofs.settled.settle_action.Goals.{in-Some, in-None}
 
 pub overflow_add-flags : goal.overflow_add-flags
 overflow_add-flags g c =
-    let all = flag_within (g.P.ProgramView.program c.args.program.now) c.args.action c.requires.action in
-    let fits = total_awaits_fit (g.P.ProgramView.program c.args.program.now) c.agents-is_quiet.ensures.well_formed in
-    omega (arith, all, fits, c.from.ensures, c.first-first.ensures, c.loop-k-test.true, c.await_count-k-end.ensures)
+    let fits = flag_fits (g.P.ProgramView.program c.args.program.now) c.agents-is_quiet.ensures.well_formed c.args.action c.requires.action in
+    omega (arith, fits, c.from.ensures, c.first-first.ensures, c.loop-k-test.true, c.await_count-k-end.ensures)
 
 pub bounds-flags-first : goal.bounds-flags-first
 bounds-flags-first g c =

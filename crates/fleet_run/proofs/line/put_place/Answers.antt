@@ -1,8 +1,8 @@
-use Rattle.std.proofs.Common.{◌≡◌, ◌+◌, arith, ap, length, sym, subst, List, ℕ}
+use Rattle.std.proofs.Common.{◌≡◌, ◌+◌, arith, sym, subst, List, ℕ}
 use Rattle.std.specs.Prelude.{get_or}
 use Rattle.fleet_model.specs.declared.geometry.Place.{Place}
 use Rattle.fleet_run.specs.Text.{place_text}
-use Rattle.fleet_run.specs.Line.{IsLineKept, IsWrittenOver, IsResized}
+use Rattle.fleet_run.specs.Line.{IsWrittenOver, IsResized}
 use Rattle.fleet_run.proofs.Lines.{in_order, text_beside, really_over, not_over, overwritten}
 use Rattle.fleet_run.proofs.Resized.{resized_by}
 use Rattle.fleet_run.proofs.line.put_place.Goals as goal

@@ -1,4 +1,4 @@
-use Rattle.std.proofs.Common.{◌≡◌, arith}
+use Rattle.std.proofs.Common.{arith}
 use Rattle.fleet_run.proofs.line.resize_to.Goals as goal
 
 pub shift_begins-requires-clause-room : goal.shift_begins-requires-clause-room

@@ -1,9 +1,8 @@
 use Rattle.std.proofs.Common.{rules, arith, ◌+◌, sym, ◌∙◌}
 use Rattle.fleet_model.specs.Program.{moves}
-use Rattle.fleet_text.proofs.SinkLemmas.{takes_err}
 use Rattle.fleet_verify.proofs.Paths.{in_reach, step_from}
 use Rattle.fleet_run.specs.Listing.{action_line}
-use Rattle.fleet_run.proofs.Rehearsed.{one_text_more, stops_in_text}
+use Rattle.fleet_run.proofs.Rehearsed.{one_text_more, refused_in_text}
 use Rattle.fleet_run.proofs.listing.put_actions.Goals as goal
 
 pub after-place-requires : goal.after-place-requires
@@ -18,9 +17,8 @@ put_action-requires-clause-place g c =
 pub returns-in_err-put_action : goal.returns-in_err-put_action
 returns-in_err-put_action g c =
     let p = g.P.ProgramView.program c.args.program.now in
-    takes_err _ _ _ _ (search rules)
-    (stops_in_text (λ n. action_line p c.args.i (n + 1)) _ _ _ c.loop-n.n c.loop-n.invariant.written
-    (moves p c.args.i) (omega (arith, c.moves-n-end.ensures)) c.in_err-put_action.ensures)
+    refused_in_text (λ n. action_line p c.args.i (n + 1)) _ _ _ c.loop-n.n c.loop-n.invariant.written _
+    (moves p c.args.i) (omega (arith, c.moves-n-end.ensures)) (search rules) c.in_err-put_action.ensures
 
 pub loop-n-preserved : goal.loop-n-preserved
 loop-n-preserved g c =

@@ -1,6 +1,5 @@
-use Rattle.std.proofs.Common.{rules, arith}
-use Rattle.fleet_text.proofs.SinkLemmas.{gathers_err}
-use Rattle.fleet_text.proofs.SinkLemmas.{passed_element, stops_within_element}
+use Rattle.std.proofs.Common.{rules}
+use Rattle.fleet_text.proofs.SinkLemmas.{gathers_err, passed_element, stops_within_element}
 use Rattle.fleet_run.specs.TimesText.{action_text}
 use Rattle.fleet_run.proofs.times_text.put_actions.Goals as goal
 

@@ -1,14 +1,12 @@
 use Rattle.std.proofs.Common.{rules, length, slice_index, arith}
-use Rattle.fleet_text.proofs.SinkLemmas.{takes_err}
 use Rattle.fleet_run.specs.TimesText.{agent_line}
-use Rattle.fleet_run.proofs.Rehearsed.{one_text_more, stops_in_text}
+use Rattle.fleet_run.proofs.Rehearsed.{one_text_more, refused_in_text}
 use Rattle.fleet_run.proofs.times_text.put_counts.Goals as goal
 
 pub returns-in_err-put_line : goal.returns-in_err-put_line
 returns-in_err-put_line g c =
-    takes_err _ _ _ _ (search rules)
-    (stops_in_text (λ i. agent_line i (slice_index c.args.counts.now i)) _ _ _ c.loop-i.i c.loop-i.invariant.written
-    (length c.args.counts.now) (omega arith) (rw c.from.ensures at c.in_err-put_line.ensures))
+    refused_in_text (λ i. agent_line i (slice_index c.args.counts.now i)) _ _ _ c.loop-i.i c.loop-i.invariant.written _
+    (length c.args.counts.now) (omega arith) (search rules) (rw c.from.ensures at c.in_err-put_line.ensures)
 
 pub loop-i-preserved : goal.loop-i-preserved
 loop-i-preserved g c = record {

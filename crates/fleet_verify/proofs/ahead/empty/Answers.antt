@@ -1,7 +1,7 @@
 use Rattle.std.proofs.Common.{[], List, Option, refl, sym, subst, arith}
 use Rattle.fleet_model.specs.declared.program.Visit.{Visit}
 use Rattle.fleet_verify.specs.Order.{AreAddedBy, IsGrouped}
-use Rattle.fleet_verify.specs.declared.visit_order.OpenPair.{OpenPair}
+use Rattle.fleet_verify.specs.declared.order.OpenPair.{OpenPair}
 use Rattle.fleet_verify.specs.LastVisits.{kept_at}
 use Rattle.fleet_verify.proofs.Ordered.{grouped_none}
 use Rattle.fleet_verify.proofs.ahead.empty.Goals as goal

@@ -1,4 +1,4 @@
-use Rattle.fleet_verify.proofs.BreakingCounts.{advanced_more}
+use Rattle.fleet_verify.proofs.BreakingHolds.{advanced_more}
 use Rattle.fleet_verify.proofs.breaking.advance.Goals as goal
 
 pub loop-i-preserved : goal.loop-i-preserved

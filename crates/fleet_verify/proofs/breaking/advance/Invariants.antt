@@ -1,4 +1,4 @@
-use Rattle.fleet_verify.proofs.BreakingCounts.{AreAdvancedBelow}
+use Rattle.fleet_verify.proofs.BreakingHolds.{AreAdvancedBelow}
 use Rattle.fleet_verify.proofs.breaking.advance.Given as goal
 
 abbrev pub invariant-loop-i : goal.invariant-loop-i

@@ -1,7 +1,6 @@
 use Rattle.std.proofs.Common.{◌≡◌, ◌+◌, ◌<◌, ◌++◌, ◌∷◌, [], length, sym, ap, ◌∙◌, subst, arith}
 use Rattle.fleet_verify.specs.Breaking.{IsHeldBy}
-use Rattle.fleet_verify.proofs.BreakingExists.{moves_within}
-use Rattle.fleet_verify.proofs.BreakingCounts.{IsRowBelow, row_more, row_same}
+use Rattle.fleet_verify.proofs.BreakingHolds.{moves_within, IsRowBelow, row_more, row_same}
 use Rattle.fleet_verify.proofs.breaking.held_agents.Goals as goal
 use Rattle.fleet_verify.proofs.breaking.held_agents.Goals.{then-is_held+in_ok-push, else-is_held}
 

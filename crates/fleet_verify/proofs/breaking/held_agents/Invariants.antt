@@ -1,5 +1,5 @@
 use Rattle.fleet_verify.specs.Breaking.{IsHeldBy}
-use Rattle.fleet_verify.proofs.BreakingCounts.{IsRowBelow}
+use Rattle.fleet_verify.proofs.BreakingHolds.{IsRowBelow}
 use Rattle.fleet_verify.proofs.breaking.held_agents.Given as goal
 
 abbrev pub invariant-loop-i : goal.invariant-loop-i

@@ -1,6 +1,6 @@
 use Rattle.std.proofs.Common.{◌≡◌, ◌≤◌, [], ◌∷◌, ◌++◌, slice_index, map, refl, ap, ◌∙◌, subst, arith}
 use Rattle.std.proofs.lemmas.List.{map_push}
-use Rattle.fleet_verify.proofs.BreakingCounts.{start_counts, meeting_arrived, meeting_last, meeting_step}
+use Rattle.fleet_verify.proofs.BreakingHolds.{start_counts, meeting_arrived, meeting_last, meeting_step}
 use Rattle.fleet_verify.proofs.breaking.holds_by.Goals as goal
 
 pub loop-t-init : goal.loop-t-init

@@ -1,7 +1,7 @@
 use Rattle.std.proofs.Common.{◌≡◌, length, map}
 use Rattle.fleet_model.specs.Machine.{run}
 use Rattle.fleet_verify.specs.Walk.{AreCounts}
-use Rattle.fleet_verify.proofs.BreakingExists.{IsBegun}
+use Rattle.fleet_verify.proofs.BreakingHolds.{IsBegun}
 use Rattle.fleet_verify.proofs.breaking.holds_by.Given as goal
 
 abbrev pub invariant-loop-t : goal.invariant-loop-t

@@ -1,5 +1,5 @@
 use Rattle.fleet_verify.proofs.Listing.{levels_number, as_visit}
-use Rattle.fleet_verify.proofs.BreakingExists.{breaking_made, breaking_unique, breaking_short}
+use Rattle.fleet_verify.proofs.BreakingHolds.{breaking_made, breaking_unique, breaking_short}
 use Rattle.fleet_verify.proofs.exactness.breaking_holds_are_one_list.Goals as goal
 
 pub returns : goal.returns

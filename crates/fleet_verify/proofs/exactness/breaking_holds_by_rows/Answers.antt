@@ -1,5 +1,5 @@
 use Rattle.fleet_verify.proofs.Listing.{as_visit}
-use Rattle.fleet_verify.proofs.BreakingExists.{held_by_rows, prepared_by_counts}
+use Rattle.fleet_verify.proofs.BreakingHolds.{held_by_rows, prepared_by_counts}
 use Rattle.fleet_verify.proofs.exactness.breaking_holds_by_rows.Goals as goal
 
 pub returns : goal.returns

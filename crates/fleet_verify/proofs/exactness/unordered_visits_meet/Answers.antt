@@ -1,5 +1,5 @@
 use Rattle.fleet_verify.proofs.Listing.{as_visit}
-use Rattle.fleet_verify.proofs.BreakingExists.{breaking_made, breaking_conflict}
+use Rattle.fleet_verify.proofs.BreakingHolds.{breaking_made, breaking_conflict}
 use Rattle.fleet_verify.proofs.exactness.unordered_visits_meet.Goals as goal
 
 pub returns : goal.returns

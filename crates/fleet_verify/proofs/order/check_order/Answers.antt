@@ -3,7 +3,7 @@ use Rattle.std.proofs.lemmas.Result.{err_from_is_err_and}
 use Rattle.std.specs.Prelude.{nat_eq, All}
 use Rattle.std.proofs.lemmas.Bool.{eqb-true}
 use Rattle.fleet_needs.specs.Asked.{AreQuestions}
-use Rattle.fleet_verify.specs.declared.visit_order.OpenPair.{OpenPair}
+use Rattle.fleet_verify.specs.declared.order.OpenPair.{OpenPair}
 use Rattle.fleet_verify.specs.OpenPairs.{AreVisits, question_of, HasNoChain, AnswersFirstBad}
 use Rattle.indexmap.specs.IndexMap.{get}
 use Rattle.fleet_verify.specs.Order.{number_of}

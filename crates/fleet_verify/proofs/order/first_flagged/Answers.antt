@@ -3,7 +3,7 @@ use Rattle.std.specs.Prelude.{nat_eq}
 use Rattle.std.proofs.lemmas.Option.{slice_get-get_or}
 use Rattle.indexmap.specs.IndexMap.{get}
 use Rattle.fleet_model.specs.declared.program.Visit.{Visit}
-use Rattle.fleet_verify.specs.declared.visit_order.OpenPair.{OpenPair}
+use Rattle.fleet_verify.specs.declared.order.OpenPair.{OpenPair}
 use Rattle.fleet_verify.specs.OpenPairs.{IsFlagged}
 use Rattle.fleet_verify.proofs.OpenPairs.{first_next, first_skip}
 use Rattle.fleet_verify.proofs.order.first_flagged.Goals.{then-has_no_chain+in_ok-keep_first, else-has_no_chain}

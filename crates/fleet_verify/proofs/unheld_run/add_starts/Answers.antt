@@ -7,7 +7,7 @@ use Rattle.fleet_grid.specs.Ground.{is_passable}
 use Rattle.fleet_verify.specs.Faults.{StandsRight}
 use Rattle.fleet_verify.specs.Order.{AreAdded}
 use Rattle.fleet_verify.specs.Walk.{AreOnGround}
-use Rattle.fleet_verify.proofs.Counts.{count_opening}
+use Rattle.fleet_verify.proofs.RunCounts.{count_opening}
 use Rattle.fleet_verify.proofs.UnderWay.{starts_of, starts_more, opened_visits}
 use Rattle.fleet_verify.proofs.unheld_run.add_starts.Goals as goal
 

@@ -1,8 +1,8 @@
-use Rattle.std.proofs.Common.{◌<◌, ◌+◌, ◌≡◌, length, ap, sym, subst, arith}
+use Rattle.std.proofs.Common.{ap, subst, arith}
 use Rattle.fleet_machine.specs.AgentSet.{IsNextFrom, AreNoneFrom}
 use Rattle.fleet_machine.specs.Machine.{MachineState, flag_of}
 use Rattle.fleet_machine.specs.Waking.{IsWoken, is_woken_by}
-use Rattle.fleet_machine.proofs.Ticking.{IsAdvancedTo, unwoken, few_ready, all_counted, any_held, all_ready, all_moved, none_to_move, ready_agent, next_is_ready, next_to_move, one_advanced, one_held_back, nowhere_if_ready}
+use Rattle.fleet_machine.proofs.Ticking.{unwoken, few_ready, all_counted, any_held, all_ready, all_moved, none_to_move, ready_agent, next_is_ready, next_to_move, one_advanced, one_held_back, nowhere_if_ready}
 use Rattle.fleet_machine.proofs.Woken.{all_woken_below, one_wakes, held_wakes_none}
 use Rattle.fleet_machine.proofs.machine.Machine.advance.Goals.{then-held-i, else-held-i}
 use Rattle.fleet_machine.proofs.machine.Machine.advance.Goals as goal

@@ -1,9 +1,5 @@
-use Rattle.std.proofs.Common.{ℕ, ◌*◌, length, arith, sym, ◌∙◌, ap, subst}
-use Rattle.std.proofs.lemmas.List.FromFn.{length-map-range_with_len}
-use Rattle.fleet_model.specs.Machine.{is_moving}
+use Rattle.std.proofs.Common.{length, ◌∙◌, ap}
 use Rattle.fleet_model.proofs.Tick.{length-tick}
-use Rattle.fleet_machine.specs.Machine.{MachineState}
-use Rattle.fleet_machine.specs.Waking.{IsWoken, is_woken_by}
 use Rattle.fleet_machine.proofs.Ticking.{configuration_woken, rows_woken, read_woken, flagged_woken, nowhere_if_due, settled}
 use Rattle.fleet_machine.proofs.machine.Machine.judge_woken.Goals as goal
 

@@ -2,7 +2,6 @@ use Rattle.std.proofs.Common.{◌<◌, ◌≡◌, length, ap, sym, subst, arith}
 use Rattle.fleet_machine.specs.AgentSet.{IsNextFrom, AreNoneFrom}
 use Rattle.fleet_machine.specs.Machine.{MachineState}
 use Rattle.fleet_machine.specs.Waking.{IsWoken, is_woken_by}
-use Rattle.fleet_machine.proofs.Waking.{reached_below}
 use Rattle.fleet_machine.proofs.Ticking.{unwoken}
 use Rattle.fleet_machine.proofs.Woken.{none_woken_at_first, all_woken_below, one_wakes}
 use Rattle.fleet_machine.proofs.Carried.{IsCarriedTo, none_carried_yet, left_if_next, one_on, all_on}

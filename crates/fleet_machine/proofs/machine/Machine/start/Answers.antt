@@ -3,7 +3,7 @@ use Rattle.std.proofs.lemmas.List.{length-replicate}
 use Rattle.fleet_machine.specs.WaitLists.{WaitState, home_of}
 use Rattle.fleet_model.specs.declared.standing.Standing.{Standing}
 use Rattle.fleet_model.specs.Machine.{Configuration, count_at}
-use Rattle.fleet_machine.specs.declared.mark.Mark.{Mark}
+use Rattle.fleet_machine.specs.declared.steps.Mark.{Mark}
 use Rattle.fleet_machine.specs.Machine.{MachineState, mark_of, flag_of}
 use Rattle.fleet_machine.proofs.Marks.{mark_of_nobody, read_nothing, all_flags}
 use Rattle.fleet_machine.proofs.Opened.{home_of_nobody}

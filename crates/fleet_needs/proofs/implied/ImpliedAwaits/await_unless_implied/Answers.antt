@@ -1,15 +1,13 @@
 use Rattle.std.proofs.Common.{◌≡◌, ◌+◌, ℕ, false, get_or, sym, ap, ◌∙◌, arith}
-use Rattle.fleet_model.proofs.Totals.{total_awaits_fit}
 use Rattle.fleet_needs.specs.Implied.{first_await}
-use Rattle.fleet_needs.proofs.AwaitOrder.{flag_within}
+use Rattle.fleet_needs.proofs.AwaitOrder.{flag_within, flag_fits}
 use Rattle.fleet_needs.proofs.implied.ImpliedAwaits.await_unless_implied.Goals as goal
 
 pub overflow_add-place : goal.overflow_add-place
 overflow_add-place g c =
     let p = g.P.ProgramView.program c.args.program.now in
-    let all = flag_within p c.args.action c.requires.action in
-    let fits = total_awaits_fit p c.agents.ensures.well_formed in
-    omega (arith, all, fits, c.requires.place, c.from.ensures, c.first.ensures)
+    let fits = flag_fits p c.agents.ensures.well_formed c.args.action c.requires.action in
+    omega (arith, fits, c.requires.place, c.from.ensures, c.first.ensures)
 
 pub is_flagged-is_implied-requires : goal.is_flagged-is_implied-requires
 is_flagged-is_implied-requires g c =

@@ -7,8 +7,7 @@ use Rattle.fleet_model.specs.Program.{Program, IsWellFormed, moves}
 use Rattle.fleet_model.specs.Machine.{Configuration, standing_at, count_at}
 use Rattle.fleet_model.specs.Claims.{order_of}
 use Rattle.fleet_machine.specs.Near.{IsNear}
-use Rattle.fleet_machine.proofs.Kept.{few_if_left, near_place}
-use Rattle.fleet_machine.proofs.Ready.{no_action_left}
+use Rattle.fleet_machine.proofs.Ready.{few_if_left, near_place, no_action_left}
 use Rattle.fleet_run.proofs.fleet.Fleet.sent_to.Goals as goal
 
 -- an agent with an order has an action left

@@ -1,4 +1,3 @@
-use Rattle.fleet_model.specs.Machine.{IsReached}
 use Rattle.fleet_run.proofs.fleet.Fleet.standings.Goals as goal
 
 pub returns-clause-reached : goal.returns-clause-reached

@@ -1,4 +1,4 @@
-use Rattle.fleet_verify.proofs.Reached.{greatest_is}
+use Rattle.fleet_verify.proofs.RunCounts.{greatest_is}
 use Rattle.fleet_verify.proofs.reach.Reach.greatest.Goals as goal
 
 pub returns : goal.returns

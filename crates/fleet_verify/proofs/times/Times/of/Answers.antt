@@ -1,6 +1,6 @@
 use Rattle.std.proofs.Common.{[], sym, subst}
 use Rattle.fleet_model.specs.Machine.{IsFinish}
-use Rattle.fleet_verify.proofs.Reached.{longest_finishes}
+use Rattle.fleet_verify.proofs.RunCounts.{longest_finishes}
 use Rattle.fleet_verify.proofs.times.Times.of.Goals as goal
 
 pub of-requires-clause-range : goal.of-requires-clause-range

@@ -1,0 +1,12 @@
+use Rattle.std.proofs.Common.{◌≤◌, ◌-◌, length}
+use Rattle.fleet_needs.specs.Kernels.{AreCovered}
+use Rattle.fleet_needs.proofs.counts.row_covers.Given as goal
+
+abbrev pub invariant-loop-from : goal.invariant-loop-from
+invariant-loop-from l = record {
+  within : l.from ≤ length l.row;
+  covered : AreCovered l.row l.other 0 l.from;
+}
+
+abbrev pub decreases-loop-from : goal.decreases-loop-from
+decreases-loop-from l = length l.row - l.from

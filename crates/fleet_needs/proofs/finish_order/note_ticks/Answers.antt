@@ -1,0 +1,21 @@
+use Rattle.std.proofs.Common.{◌≡◌, ℕ, length, replicate, sym, subst, ap, ◌∙◌, arith}
+use Rattle.fleet_needs.specs.Order.{AreMid}
+use Rattle.fleet_needs.specs.Settled.{IsFinishedBy, IsFinishTick, AreFinishTicks}
+use Rattle.fleet_needs.proofs.Counting.{mid_first}
+use Rattle.fleet_needs.proofs.Ticking.{noted_none}
+use Rattle.fleet_needs.proofs.finish_order.note_ticks.Goals as goal
+
+pub loop-t-init : goal.loop-t-init
+loop-t-init g c =
+    let p = g.P.ProgramView.program c.args.program.now in
+    let zeros : c.in_ok-counts.counts.items ≡ replicate (length p) 0 = c.in_ok-counts.ensures.items_if_clones_equal (λ y same. same) ∙ ap (λ (n : ℕ). replicate n 0) (c.from.ensures ∙ c.agents.ensures.count) in
+    record {
+      counts = subst (AreMid p 0 0) (sym zeros) (mid_first p);
+      noted = noted_none p c.args.places.now (IsFinishTick p) c.args.entries.now;
+    }
+
+pub returns : goal.returns
+returns g c =
+    let p = g.P.ProgramView.program c.args.program.now in
+    let all : c.loop-t.t ≡ c.args.ticks = omega (arith, c.loop-t-test.false, c.loop-t.auto.t-end) in
+    subst (λ (n : ℕ). AreFinishTicks p c.args.places.now (IsFinishedBy p n) c.loop-t.entries) all c.loop-t.invariant.noted

@@ -1,9 +1,0 @@
-use Rattle.std.proofs.Common.{◌≡◌, ◌≤◌, ℕ, get_or}
-use Rattle.fleet_needs.specs.Kernels.{AreJoined}
-use Rattle.fleet_needs.proofs.kernels.join_rows.Given as goal
-
-abbrev pub invariant-loop-k : goal.invariant-loop-k
-invariant-loop-k l = record {
-  joined : AreJoined l.fn.row l.other l.row 0 l.k;
-  rest : (k : ℕ) → l.k ≤ k → get_or l.row k 0 ≡ get_or l.fn.row k 0;
-}

@@ -1,0 +1,12 @@
+use Rattle.std.proofs.Common.{map, take}
+use Rattle.fleet_model.specs.Program.{awaits_of}
+use Rattle.fleet_text.specs.Row.{PassesOn}
+use Rattle.fleet_text.specs.Words.{next_words}
+use Rattle.fleet_run.specs.Listing.{await_text}
+use Rattle.fleet_run.proofs.listing.put_awaits.Given as goal
+
+abbrev pub invariant-loop-k : goal.invariant-loop-k
+invariant-loop-k g l = record {
+  written : PassesOn (g.O.TraceOut.state l.initial.out) (g.O.TraceOut.state l.out) l.initial.row l.row
+      (next_words (map await_text (take l.k (awaits_of (g.P.ProgramView.program l.program) l.i l.n))));
+}

@@ -55,24 +55,10 @@ fn thinned_agents<P: ProgramView>(
     let count = program.agents();
     let mut agents = Vec::with_capacity(alloc, usize::from(count))?;
     for i in 0..count {
-        agents.push(thinned_agent(alloc, program, implied, i)?)?;
+        let actions = thinned_actions(alloc, program, implied, i)?;
+        agents.push(AgentProgram::new(program.start(i), program.goal(i), actions))?;
     }
     Ok(agents)
-}
-
-/// Agent `i` of the program, without its implied awaits.
-fn thinned_agent<P: ProgramView>(
-    alloc: Global,
-    program: &P,
-    implied: &ImpliedAwaits,
-    i: u16,
-) -> Result<AgentProgram, OutOfMemory>
-    requires implied { AreImplied (P.program program.now) implied.now }
-    requires agent { i < length (P.program program.now) }
-    ensures { IfOk result (IsThinnedAgent (P.program program.now) i) }
-{
-    let actions = thinned_actions(alloc, program, implied, i)?;
-    Ok(AgentProgram::new(program.start(i), program.goal(i), actions))
 }
 
 /// The actions of agent `i` of the program, without their implied awaits.

@@ -1,11 +1,12 @@
 use Rattle.std.proofs.Common.{◌≡◌, ◌≤◌, Some, option_map, length}
 use Rattle.fleet_text.specs.Text.{digits_front, number_front, at_most}
+use Rattle.fleet_dispatch.specs.declared.number.TheConstants.{TOO_LONG}
 use Rattle.fleet_dispatch.proofs.number.number_front.Given as goal
 
 abbrev pub invariant-loop-rest : goal.invariant-loop-rest
 invariant-loop-rest l = record {
-  small : l.number ≤ 4294967296;
-  so_far : Some (at_most 4294967296 (digits_front l.number l.rest)) ≡ option_map (at_most 4294967296) (number_front l.fn.text);
+  small : l.number ≤ TOO_LONG;
+  so_far : Some (at_most TOO_LONG (digits_front l.number l.rest)) ≡ option_map (at_most TOO_LONG) (number_front l.fn.text);
 }
 
 abbrev pub decreases-loop-rest : goal.decreases-loop-rest

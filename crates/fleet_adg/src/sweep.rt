@@ -1,6 +1,7 @@
 //! One sweep over the steps of a plan: in each step all leavings of cells, and then all enterings.
 
-ghost use Rattle.std.specs.Prelude.{◌≡◌, ◌≤◌, ◌<◌, ◌+◌, is_some, IfSome, OnOk, IfOk, All, filter, length, replicate, []};
+ghost use Rattle.std.specs.Prelude.{◌≡◌, ◌≤◌, ◌<◌, ◌+◌, not, is_some, IfSome, OnOk, IfOk, All, filter, length, replicate, []};
+ghost use Rattle.fleet_model.specs.Geometry.{is_same_cell};
 ghost use Rattle.fleet_plan.specs.Plan.{cell_of, steps};
 ghost use Rattle.fleet_plan.specs.UnderWay.{is_under_way};
 ghost use Rattle.fleet_model.specs.declared.limits.TheConstants.{MAX_HORIZON};
@@ -170,7 +171,16 @@ pub(crate) fn moves_of(plan: &Plan, i: u16) -> u32
     moves
 }
 
+/// Whether these are two cells.
+#[inline(always)]
+fn differ(from: Cell, to: Cell) -> bool
+    ensures { result ≡ not (is_same_cell from to) }
+{
+    from != to
+}
+
 /// The cells that agent `i` leaves and enters in the step after `time`, if it changes its cell.
+#[tactic(auto, unfolding(crate::specs::Compiled::changes_in))]
 fn move_in(plan: &Plan, i: u16, time: u32) -> Option<(Cell, Cell)>
     requires agent { i < length plan.now }
     requires time { time ≤ MAX_HORIZON }
@@ -180,7 +190,8 @@ fn move_in(plan: &Plan, i: u16, time: u32) -> Option<(Cell, Cell)>
 {
     let from = plan.cell(i, time);
     let to = plan.cell(i, time + 1);
-    if from == to { None } else { Some((from, to)) }
+    let is_move = differ(from, to);
+    if is_move { Some((from, to)) } else { None }
 }
 
 /// Lists the moves in the step after `time`, in order of agent.

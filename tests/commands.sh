@@ -59,6 +59,10 @@ rehearse p q: error: unexpected argument 'q' found
 rehearse p --agents 1: error: unexpected argument '--agents' found
 rehearse p --holds a --holds b: error: the argument '--holds <FILE>' cannot be used multiple times
 list p --holds h: error: unexpected argument '--holds' found
+times m s p --broken: error: a value is required for '--broken <ACTIONS>' but none was supplied
+times m s p --costs a --costs b: error: the argument '--costs <FILE>' cannot be used multiple times
+rest m s p l a: error: the following required arguments were not provided:
+rest m s p l a b --map-out: error: a value is required for '--map-out <FILE>' but none was supplied
 dispatch m s p --ahead 0: error: invalid value '0' for '--ahead <K>': 0 is not in 1..=255
 dispatch m s p --ahead 256: error: invalid value '256' for '--ahead <K>': 256 is not in 1..=255
 dispatch m s p --unnumbered=1: error: unexpected value '1' for '--unnumbered' found; no more were expected

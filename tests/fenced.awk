@@ -10,7 +10,7 @@
 # not fleet, the status is 0.
 
 function is_refusal(line) {
-    return line ~ /^(map|scen|text|check|search|hex|load|compile|verify|run|dispatch) [0-9]+ [A-Z]/ || line == "memory" || line ~ /^file /
+    return line ~ /^(map|scen|text|check|search|hex|load|compile|verify|run|dispatch|times) [0-9]+ [A-Z]/ || line == "memory" || line ~ /^file /
 }
 
 function status_of(line) {

@@ -64,6 +64,7 @@ there="printf 'type t\nheight 1\nwidth 2\nmap\n..\n' > two.map && printf 'versio
 check '1,000,000 moves in version 2 are accepted' 0 'accepted\nagents 1\nmoves 1000000\nawaits 0\nchain 1000000\n' '' \
     "$there && { printf 'MPF2\0\1\0\0\0\0\0\0\0\0\0\17\102\100'; east_and_back 1000000; } > way && fleet verify two.map two.scen way"
 check '.. and run' 0 'agents 1\nticks 1000000\nchain 1000000\nheld 0\n' '' 'fleet run two.map two.scen way | tail -n 4'
+check '.. and timed' 0 '0: 1000000\nagents 1\nmoves 1000000\narrival 1000000\n' '' 'fleet times two.map two.scen way | sed -n 1,4p'
 check '.. and stay as they are' 0 'bytes 1000018\n' '' 'fleet migrate way again && cmp way again'
 check '65,535 moves in version 1' 0 'agents 1\nticks 65535\nchain 65535\nheld 0\n' '' \
     "printf 'version 1\n0 m 2 1 0 0 1 0 0\n' > odd.scen && { printf 'MPF1\0\1\0\0\0\0\0\1\0\0\377\377'; east_and_back 65535; } > odd && fleet run two.map odd.scen odd | tail -n 4"

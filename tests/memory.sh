@@ -119,6 +119,7 @@ check 'a program with implied awaits' 0 '' '' "fleet compile examples/corridor.m
 check 'agents that find paths in the second order' 0 '' '' "printf 'type t\\nheight 2\\nwidth 3\\nmap\\n...\\n@.@\\n' > mouth.map && printf 'version 1\\n0 m 3 2 1 1 1 0 1\\n0 m 3 2 0 0 2 0 2\\n' > mouth.scen"
 check 'agents of which the last finds no path' 0 '' '' "printf 'type t\\nheight 2\\nwidth 2\\nmap\\n..\\n..\\n' > square.map && printf 'version 1\\n0 m 2 2 0 0 1 0 1\\n0 m 2 2 1 0 1 1 1\\n0 m 2 2 1 1 0 1 1\\n0 m 2 2 0 1 0 0 1\\n' > square.scen"
 check 'a program in version 2' 0 'bytes 48\n' '' 'fleet migrate examples/pair.program pair2'
+check 'costs, and a log' 0 '' '' "printf '0 2\n1:2 3\n' > costs && printf '0:1\n' > log"
 if ${CC:-cc} -shared -fPIC -o "$REFUSER" "$root/tests/refuse.c" -ldl 2> /dev/null; then
     while read -r words; do
         check "each growth refused: $words" 0 'each\n' '' "growths fleet $words"
@@ -153,6 +154,10 @@ auto mouth.map mouth.scen --tries 2
 auto mouth.map mouth.scen --tries 3 --best chain --numbers
 thin $on examples/pair.program out
 thin examples/corridor.map examples/corridor.scen all out
+times $on examples/pair.program
+times $on examples/pair.program --costs costs
+times $on examples/pair.program --broken 0:1
+times $on examples/pair.program --broken 0:3
 instance $on --agents 3
 verify examples/corridor.map examples/corridor.scen examples/pair.program
 EOF

@@ -35,6 +35,13 @@ check 'starts and goals are distinct' 0 '16 16\n' '' \
 check 'a study of no option' 2 '' 'study: --dwel is no option\n' 'sh tools/study.sh examples/pair.map examples/pair.scen --dwel 3'
 check 'a study of a plan that does not plan' 2 '' 'study: --tries 3 is of no use with a plan\n' 'sh tools/study.sh examples/pair.map examples/pair.scen --tries 3 --plan examples/pair.plan'
 
+# Times and rests of random programs, beside a plain count.
+if python3 --version > "$work/out" 2>&1; then
+    check 'times and rests' 0 'rests: 40 cases compared\n' '' "python3 '$root/tests/rests.py' '$fleet' 40"
+else
+    skip 'times and rests: no python3'
+fi
+
 # The gateway: simulated vehicles, and messages that come twice, late, in another order or not at all.
 if python3 --version > "$work/out" 2>&1; then
     for seed in 1 2 3; do

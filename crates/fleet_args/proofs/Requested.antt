@@ -206,6 +206,14 @@ module _ (names : OptionNames) (are : AreNames names) (shape : Shape) (negates :
   has a.Ahead place alone = ahead shape negates words none place alone
   has a.Unnumbered place alone = refl
   has a.Resume place alone = refl
+  has a.Costs place alone = refl
+  has a.Broken place alone = refl
+  has a.Reports place alone = text shape negates words none place (codes "reports") alone
+  has a.ScenOut place alone = text shape negates words none place (codes "scen_out") alone
+  has a.ProgramOut place alone = text shape negates words none place (codes "program_out") alone
+  has a.Without place alone = refl
+  has a.MapOut place alone = refl
+  has a.OthersOut place alone = refl
 
   have : (place : ℕ) (xs : List Argument) → AreAt names shape place xs → list_all (has_value (values shape negates words none)) xs ≡ true
   have place [] h = refl

@@ -118,6 +118,14 @@ rule_for names a.Numbers = flag (codes "numbers")
 rule_for names a.Ahead = ahead_rule
 rule_for names a.Unnumbered = flag (codes "unnumbered")
 rule_for names a.Resume = option (codes "resume")
+rule_for names a.Costs = option (codes "costs")
+rule_for names a.Broken = option (codes "broken")
+rule_for names a.Reports = word (codes "reports")
+rule_for names a.ScenOut = word (codes "scen_out")
+rule_for names a.ProgramOut = word (codes "program_out")
+rule_for names a.Without = option (codes "without")
+rule_for names a.MapOut = option (codes "map-out")
+rule_for names a.OthersOut = option (codes "others-out")
 
 -- a command without subcommands, by its name and its arguments
 abbrev pub command : Text → List Rule → Shape

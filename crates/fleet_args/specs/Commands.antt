@@ -41,6 +41,8 @@ commands =
     (codes "migrate", a.Program ∷ a.Out ∷ []) ∷
     (codes "list", a.Program ∷ []) ∷
     (codes "dispatch", a.Map ∷ a.Scen ∷ a.Program ∷ a.Agents ∷ a.Ahead ∷ a.Unnumbered ∷ a.Resume ∷ []) ∷
+    (codes "times", a.Map ∷ a.Scen ∷ a.Program ∷ a.Agents ∷ a.Costs ∷ a.Broken ∷ []) ∷
+    (codes "rest", a.Map ∷ a.Scen ∷ a.Program ∷ a.Reports ∷ a.ScenOut ∷ a.ProgramOut ∷ a.Agents ∷ a.Without ∷ a.MapOut ∷ a.OthersOut ∷ []) ∷
     []
 
 -- the shape of a command
@@ -89,3 +91,10 @@ AsksCommand name values (r.List q) = (name ≡ codes "list") × IsText values (c
 AsksCommand name values (r.Dispatch q) =
     (name ≡ codes "dispatch") × AsksProgram values q.map q.scen q.program q.agents × IsNumber values (codes "ahead") q.ahead
     × IsFlag values (codes "unnumbered") q.unnumbered × IsTextIfUsed values (codes "resume") q.resume
+AsksCommand name values (r.Times q) =
+    (name ≡ codes "times") × AsksProgram values q.map q.scen q.program q.agents × IsTextIfUsed values (codes "costs") q.costs
+    × IsTextIfUsed values (codes "broken") q.broken
+AsksCommand name values (r.Rest q) =
+    (name ≡ codes "rest") × AsksProgram values q.map q.scen q.program q.agents × IsText values (codes "reports") q.reports × IsText values (codes "scen_out") q.scen_out
+    × IsText values (codes "program_out") q.program_out × IsTextIfUsed values (codes "without") q.without
+    × IsTextIfUsed values (codes "map-out") q.map_out × IsTextIfUsed values (codes "others-out") q.others_out

@@ -39,6 +39,14 @@ pub(crate) enum Argument {
     Ahead,
     Unnumbered,
     Resume,
+    Costs,
+    Broken,
+    Reports,
+    ScenOut,
+    ProgramOut,
+    Without,
+    MapOut,
+    OthersOut,
 }
 
 /// The values that an argument takes.
@@ -221,6 +229,78 @@ const RESUME: ArgumentText = ArgumentText {
     default: None,
 };
 
+const COSTS: ArgumentText = ArgumentText {
+    name: "costs",
+    value: "FILE",
+    help: "What actions cost: lines A X, each action of agent A, and A:N X, its action N [default: each action costs 1]",
+    is_word: false,
+    values: Values::Text,
+    default: None,
+};
+
+const BROKEN: ArgumentText = ArgumentText {
+    name: "broken",
+    value: "ACTIONS",
+    help: "The actions in which robots break down: words A:N, rising, one space between two [default: all robots go on]",
+    is_word: false,
+    values: Values::Text,
+    default: None,
+};
+
+const REPORTS: ArgumentText = ArgumentText {
+    name: "reports",
+    value: "LOG",
+    help: "The log of a dispatch: its reports, a line for each",
+    is_word: true,
+    values: Values::Text,
+    default: None,
+};
+
+const SCEN_OUT: ArgumentText = ArgumentText {
+    name: "scen_out",
+    value: "SCEN_OUT",
+    help: "The file to which the tasks that are left are written, as a scenario",
+    is_word: true,
+    values: Values::Text,
+    default: None,
+};
+
+const PROGRAM_OUT: ArgumentText = ArgumentText {
+    name: "program_out",
+    value: "PROGRAM_OUT",
+    help: "The file to which the program bytes that are left are written",
+    is_word: true,
+    values: Values::Text,
+    default: None,
+};
+
+const WITHOUT: ArgumentText = ArgumentText {
+    name: "without",
+    value: "CELLS",
+    help: "The agent of a dead robot, and the cells on which it stands: A:X,Y or A:X,Y:X,Y [default: no robot is dead]",
+    is_word: false,
+    values: Values::Text,
+    default: None,
+};
+
+const MAP_OUT: ArgumentText = ArgumentText {
+    name: "map-out",
+    value: "FILE",
+    help: "A file to which the map is written, in which the cells of the dead robot are blocked",
+    is_word: false,
+    values: Values::Text,
+    default: None,
+};
+
+const OTHERS_OUT: ArgumentText = ArgumentText {
+    name: "others-out",
+    value: "FILE",
+    help: "A file to which the tasks of all but the dead robot's agent are written, as a scenario",
+    is_word: false,
+    values: Values::Text,
+    default: None,
+};
+
 /// What this argument is.
 fn text_of(argument: Argument) -> ArgumentText
     ensures { (names : OptionNames) → rule_by names result ≡ rule_for names argument }
@@ -242,6 +322,14 @@ fn text_of(argument: Argument) -> ArgumentText
         Argument::Ahead => AHEAD,
         Argument::Unnumbered => UNNUMBERED,
         Argument::Resume => RESUME,
+        Argument::Costs => COSTS,
+        Argument::Broken => BROKEN,
+        Argument::Reports => REPORTS,
+        Argument::ScenOut => SCEN_OUT,
+        Argument::ProgramOut => PROGRAM_OUT,
+        Argument::Without => WITHOUT,
+        Argument::MapOut => MAP_OUT,
+        Argument::OthersOut => OTHERS_OUT,
     }
 }
 

@@ -142,6 +142,33 @@ pub struct DispatchRequest<'a> {
     pub resume: Option<&'a str>,
 }
 
+/// `fleet times MAP SCEN PROGRAM [--agents K] [--costs FILE] [--broken ACTIONS]`
+#[derive(Clone, Copy)]
+pub struct TimesRequest<'a> {
+    pub map: &'a str,
+    pub scen: &'a str,
+    pub program: &'a str,
+    pub agents: Option<u16>,
+    pub costs: Option<&'a str>,
+    pub broken: Option<&'a str>,
+}
+
+/// `fleet rest MAP SCEN PROGRAM LOG SCEN_OUT PROGRAM_OUT [--agents K] [--without CELLS] [--map-out FILE]
+/// [--others-out FILE]`
+#[derive(Clone, Copy)]
+pub struct RestRequest<'a> {
+    pub map: &'a str,
+    pub scen: &'a str,
+    pub program: &'a str,
+    pub reports: &'a str,
+    pub scen_out: &'a str,
+    pub program_out: &'a str,
+    pub agents: Option<u16>,
+    pub without: Option<&'a str>,
+    pub map_out: Option<&'a str>,
+    pub others_out: Option<&'a str>,
+}
+
 /// A command with its words and options.
 #[derive(Clone, Copy)]
 pub enum Request<'a> {
@@ -157,10 +184,12 @@ pub enum Request<'a> {
     Migrate(MigrateRequest<'a>),
     List(ListRequest<'a>),
     Dispatch(DispatchRequest<'a>),
+    Times(TimesRequest<'a>),
+    Rest(RestRequest<'a>),
 }
 
 /// The commands, in the order of help.
-pub(crate) static COMMANDS: [CommandText; 12] = [
+pub(crate) static COMMANDS: [CommandText; 14] = [
     CommandText {
         name: "instance",
         about: "Prints the size of a map, its passable cells, and each agent's start and goal",
@@ -275,6 +304,34 @@ pub(crate) static COMMANDS: [CommandText; 12] = [
             Argument::Ahead,
             Argument::Unnumbered,
             Argument::Resume,
+        ],
+    },
+    CommandText {
+        name: "times",
+        about: "Tells when each agent of an accepted program arrives at the soonest, or how far it comes if robots break down",
+        arguments: &[
+            Argument::Map,
+            Argument::Scen,
+            Argument::Program,
+            Argument::Agents,
+            Argument::Costs,
+            Argument::Broken,
+        ],
+    },
+    CommandText {
+        name: "rest",
+        about: "Writes what is left of an accepted program after the reports of a log: its tasks and its bytes, and prints its agents, moves, awaits and bytes",
+        arguments: &[
+            Argument::Map,
+            Argument::Scen,
+            Argument::Program,
+            Argument::Reports,
+            Argument::ScenOut,
+            Argument::ProgramOut,
+            Argument::Agents,
+            Argument::Without,
+            Argument::MapOut,
+            Argument::OthersOut,
         ],
     },
 ];
@@ -453,6 +510,40 @@ fn dispatch_in<'a>(matches: &ArgMatches<'a>) -> Request<'a>
     })
 }
 
+/// The request of `times`.
+fn times_in<'a>(matches: &ArgMatches<'a>) -> Request<'a>
+    requires { has_values (codes "times") (values_in matches.now) ≡ true }
+    ensures { AsksCommand (codes "times") (values_in matches.now) result }
+{
+    Request::Times(TimesRequest {
+        map: text(matches, "map"),
+        scen: text(matches, "scen"),
+        program: text(matches, "program"),
+        agents: used_number(matches, "agents"),
+        costs: matches.get_str("costs"),
+        broken: matches.get_str("broken"),
+    })
+}
+
+/// The request of `rest`.
+fn rest_in<'a>(matches: &ArgMatches<'a>) -> Request<'a>
+    requires { has_values (codes "rest") (values_in matches.now) ≡ true }
+    ensures { AsksCommand (codes "rest") (values_in matches.now) result }
+{
+    Request::Rest(RestRequest {
+        map: text(matches, "map"),
+        scen: text(matches, "scen"),
+        program: text(matches, "program"),
+        reports: text(matches, "reports"),
+        scen_out: text(matches, "scen_out"),
+        program_out: text(matches, "program_out"),
+        agents: used_number(matches, "agents"),
+        without: matches.get_str("without"),
+        map_out: matches.get_str("map-out"),
+        others_out: matches.get_str("others-out"),
+    })
+}
+
 /// The request of the command of this name, by its matches.
 pub(crate) fn request_by<'a>(name: &str, matches: &ArgMatches<'a>) -> Request<'a>
     requires { has_values name.now (values_in matches.now) ≡ true }
@@ -471,6 +562,8 @@ pub(crate) fn request_by<'a>(name: &str, matches: &ArgMatches<'a>) -> Request<'a
         "migrate" => migrate_in(matches),
         "list" => list_in(matches),
         "dispatch" => dispatch_in(matches),
+        "times" => times_in(matches),
+        "rest" => rest_in(matches),
         _ => unreachable!(),
     }
 }

@@ -13,7 +13,7 @@ mod request;
 
 pub use commands::{
     AutoRequest, Best, CheckRequest, CompileRequest, DispatchRequest, InstanceRequest, ListRequest,
-    MigrateRequest, PlanRequest, RehearseRequest, Request, RunRequest, ThinRequest, Tries,
-    VerifyRequest,
+    MigrateRequest, PlanRequest, RehearseRequest, Request, RestRequest, RunRequest, ThinRequest,
+    TimesRequest, Tries, VerifyRequest,
 };
 pub use request::{WordStop, read_words};

@@ -52,6 +52,7 @@ read_fault_before old new name (f.Compile x) kept h = absurd h
 read_fault_before old new name (f.Verify x) kept h = absurd h
 read_fault_before old new name (f.Run x) kept h = absurd h
 read_fault_before old new name (f.Dispatch x) kept h = absurd h
+read_fault_before old new name (f.Times x) kept h = absurd h
 
 pub unread_before : (old new : Option Store) (names : List (List ℕ)) (fault : Fault) → AreUnchanged old new → IsUnread new names fault → IsUnread old names fault
 unread_before old new [] fault kept h = absurd h

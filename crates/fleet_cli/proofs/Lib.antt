@@ -4,3 +4,5 @@ pub mod PrintLemmas
 pub mod OutputLemmas
 pub mod CommandLemmas
 pub mod CommandCases
+mod WrittenFiles
+mod DeadLemmas

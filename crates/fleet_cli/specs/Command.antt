@@ -18,6 +18,8 @@ use Rattle.fleet_cli.specs.RunCommands.{RunsHex, AnswersRehearse, AnswersRun, An
 use Rattle.fleet_cli.specs.PrintCommands.{AnswersInstance, AnswersCheck, AnswersPlan, AnswersVerify, AnswersList}
 use Rattle.fleet_cli.specs.WriteCommands.{AnswersCompile, AnswersThin, AnswersMigrate}
 use Rattle.fleet_cli.specs.DispatchCommand.{AnswersDispatch}
+use Rattle.fleet_cli.specs.TimesCommand.{AnswersTimes}
+use Rattle.fleet_cli.specs.RestCommand.{AnswersRest}
 use Rattle.fleet_dispatch.specs.Talk.{Talk}
 use Rattle.fleet_dispatch.specs.declared.form.ReportForm.{ReportForm}
 use Rattle.fleet_cli.specs.declared.fault.Fault.{Fault}
@@ -41,8 +43,10 @@ names_of (r.Thin q) = names_by (Some q.map) (Some q.scen) (Some q.program) None
 names_of (r.Migrate q) = names_by None None (Some q.program) None
 names_of (r.List q) = names_by None None (Some q.program) None
 names_of (r.Dispatch q) = record (names_by (Some q.map) (Some q.scen) (Some q.program) None) { log = q.resume }
+names_of (r.Times q) = names_by (Some q.map) (Some q.scen) (Some q.program) q.costs
+names_of (r.Rest q) = record (names_by (Some q.map) (Some q.scen) (Some q.program) None) { log = Some q.reports }
 
--- What each command answers for the texts of its files: all but `compile`, `thin` and `migrate` leave every file as before, and all but
+-- What each command answers for the texts of its files: all but `compile`, `thin`, `migrate` and `rest` leave every file as before, and all but
 -- `dispatch` leave the input unread; `dispatch` tells robots over the output and hears them by the input
 abbrev pub AnswersRequest : (files after : Option Store) → (unread unwritten : Type 0) → (ReportForm → Talk → Type 0) → Request → FileTexts → (out out' : SinkState) → Result ℕ Fault → Type 0
 AnswersRequest files after unread unwritten talks (r.Instance q) texts out out' result = AnswersInstance q texts out out' result × AreUnchanged files after × unread
@@ -57,6 +61,8 @@ AnswersRequest files after unread unwritten talks (r.Thin q) texts out out' resu
 AnswersRequest files after unread unwritten talks (r.Migrate q) texts out out' result = AnswersMigrate files after q texts out out' result × unread
 AnswersRequest files after unread unwritten talks (r.List q) texts out out' result = AnswersList texts out out' result × AreUnchanged files after × unread
 AnswersRequest files after unread unwritten talks (r.Dispatch q) texts out out' result = AnswersDispatch q texts (unread × unwritten) talks result × AreUnchanged files after
+AnswersRequest files after unread unwritten talks (r.Times q) texts out out' result = AnswersTimes q texts out out' result × AreUnchanged files after × unread
+AnswersRequest files after unread unwritten talks (r.Rest q) texts out out' result = AnswersRest files after q texts out out' result × unread
 
 -- What a request is answered. Its files were read, which leaves every file as before, and this is the answer for their texts; or one of
 -- them was not read, which is the refusal, and nothing was written, and the input not read
@@ -83,7 +89,7 @@ StopsAtWords (w.Help text) out out' err err' status =
     × Receives err err' (line_text (codes "file" ∷ codes "-" ∷ [])))
 
 -- without words the run of the input; else the command that the words ask for, or a stop at words that the command line does not take.
--- Every file is as before, but for the file OUT of `compile`, `thin` and `migrate`. The input is read whole without words, and else
+-- Every file is as before, but for the files OUT of `compile`, `thin`, `migrate` and `rest`. The input is read whole without words, and else
 -- by `dispatch` alone, whose robots report by it
 abbrev pub RunsCommand : List Text → Option (List ℕ) → (files after : Option Store) → (unread unwritten : Type 0) → (ReportForm → Talk → Type 0) → (out out' err err' : SinkState) → ℕ → Type 0
 RunsCommand [] input files after unread unwritten talks out out' err err' status = RunsHex input out out' err err' status × AreUnchanged files after

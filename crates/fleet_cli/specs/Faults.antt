@@ -26,7 +26,7 @@ use Rattle.fleet_code.specs.RefusalWords.{hex_words, is_hex_failure, load_words,
 use Rattle.fleet_adg.specs.RefusalWords.{compile_words, is_compile_failure}
 use Rattle.fleet_verify.specs.RefusalWords.{verify_words, is_verify_failure}
 use Rattle.fleet_run.specs.RefusalWords.{run_words, is_run_failure}
-use Rattle.fleet_dispatch.specs.RefusalWords.{dispatch_words, is_dispatch_failure}
+use Rattle.fleet_dispatch.specs.RefusalWords.{dispatch_words, is_dispatch_failure, times_words, is_times_failure}
 use Rattle.fleet_cli.specs.declared.fault.Fault.{Fault}
 use Rattle.fleet_cli.specs.declared.fault.Fault.TheVariants as f
 
@@ -69,6 +69,7 @@ words_of (f.Compile fault) = compile_words fault
 words_of (f.Verify fault) = verify_words fault
 words_of (f.Run fault) = run_words fault
 words_of (f.Dispatch fault) = dispatch_words fault
+words_of (f.Times fault) = times_words fault
 words_of f.Memory = memory_words
 words_of (f.File name) = codes "file" ∷ name.now ∷ []
 
@@ -89,6 +90,7 @@ is_failure_of (f.Compile fault) = is_compile_failure fault
 is_failure_of (f.Verify fault) = is_verify_failure fault
 is_failure_of (f.Run fault) = is_run_failure fault
 is_failure_of (f.Dispatch fault) = is_dispatch_failure fault
+is_failure_of (f.Times fault) = is_times_failure fault
 is_failure_of f.Memory = true
 is_failure_of (f.File _) = true
 

@@ -9,3 +9,5 @@ pub mod PrintCommands
 pub mod WriteCommands
 pub mod DispatchCommand
 pub mod Command
+pub mod TimesCommand
+pub mod RestCommand

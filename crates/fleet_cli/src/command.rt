@@ -10,7 +10,9 @@ use crate::fault::{Fault, finish, refuse};
 use crate::files::Files;
 use crate::named::{FileNames, FileTexts, read_files};
 use crate::print_commands::{do_check, do_instance, do_list, do_plan, do_verify};
+use crate::rest_command::do_rest;
 use crate::run_commands::{do_auto, do_rehearse, do_run, run_hex};
+use crate::times_command::do_times;
 use crate::write_commands::{do_compile, do_migrate, do_thin};
 use fleet_args::{Request, WordStop, read_words};
 use fleet_dispatch::ReportsTo;
@@ -59,6 +61,14 @@ fn names_of<'a>(request: &Request<'a>) -> FileNames<'a>
             holds: None,
             log: q.resume,
         },
+        Request::Times(q) => names_by(Some(q.map), Some(q.scen), Some(q.program), q.costs),
+        Request::Rest(q) => FileNames {
+            map: Some(q.map),
+            scen: Some(q.scen),
+            subject: Some(q.program),
+            holds: None,
+            log: Some(q.reports),
+        },
     }
 }
 
@@ -92,6 +102,8 @@ fn answer_request<'a, R: ReportsTo<O>, F: Files, O: Flush>(
         Request::Migrate(request) => do_migrate(alloc, request, texts, files, out),
         Request::List(_) => do_list(alloc, texts, out),
         Request::Dispatch(request) => do_dispatch(alloc, request, texts, input, out),
+        Request::Times(request) => do_times(alloc, request, texts, out),
+        Request::Rest(request) => do_rest(alloc, request, texts, files, out),
     }
 }
 

@@ -7,7 +7,7 @@ ghost use Rattle.fleet_cli.specs.Faults.{refusal_line, status_of};
 
 use fleet_adg::CompileFault;
 use fleet_code::{HexFault, LoadFault};
-use fleet_dispatch::DispatchFault;
+use fleet_dispatch::{DispatchFault, TimesFault};
 use fleet_grid::MapFault;
 use fleet_model::OutOfMemory;
 use fleet_plan::{PlanFault, TextFault};
@@ -33,6 +33,7 @@ pub enum Fault<'a> {
     Verify(VerifyFault),
     Run(RunFault),
     Dispatch(DispatchFault),
+    Times(TimesFault),
     Memory,
     File(&'a str),
 }
@@ -76,6 +77,7 @@ impl Refusal for Fault<'_> {
             Fault::Verify(fault) => fault.put(out),
             Fault::Run(fault) => fault.put(out),
             Fault::Dispatch(fault) => fault.put(out),
+            Fault::Times(fault) => fault.put(out),
             Fault::Memory => put_memory(out),
             Fault::File(name) => put_line(out, &[Word::Text("file"), Word::Text(name)]),
         }
@@ -94,6 +96,7 @@ impl Refusal for Fault<'_> {
             Fault::Verify(fault) => fault.is_failure(),
             Fault::Run(fault) => fault.is_failure(),
             Fault::Dispatch(fault) => fault.is_failure(),
+            Fault::Times(fault) => fault.is_failure(),
             Fault::Memory | Fault::File(_) => true,
         }
     }

@@ -10,7 +10,7 @@ use crate::input::FileFault;
 use std::alloc::Global;
 
 /// The files that a command reads, by their names, in this order: the map, the scenario, the plan or the program that it
-/// is about, the holds, and the log of reports.
+/// is about, the holds (of `times` the costs), and the log of reports.
 #[derive(Clone, Copy)]
 pub(crate) struct FileNames<'a> {
     pub(crate) map: Option<&'a str>,

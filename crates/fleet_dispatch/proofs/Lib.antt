@@ -21,3 +21,4 @@ mod WindowLemmas
 mod StreamLemmas
 pub mod Stood
 mod BreakLemmas
+mod CostLemmas

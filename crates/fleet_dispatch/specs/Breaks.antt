@@ -39,3 +39,4 @@ NameNoBreaks p line = (words : Words) → report_of Numbered line ≡ Some words
 abbrev pub IsBreaksFault : Program → List ℕ → TimesFault → Type 0
 IsBreaksFault p line OutOfMemory = ⊤
 IsBreaksFault p line Broken = NameNoBreaks p line
+IsBreaksFault p line _ = ⊥

@@ -17,3 +17,5 @@ pub mod Replay
 pub mod ReplayTalk
 pub mod Standing
 pub mod Breaks
+pub mod Costs
+pub mod DeadRobot

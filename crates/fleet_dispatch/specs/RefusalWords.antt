@@ -30,8 +30,10 @@ is_dispatch_failure _ = false
 abbrev pub times_words : TimesFault → List (List ℕ)
 times_words t.OutOfMemory = memory_words
 times_words t.Broken = named (codes "times") 2 (codes "Broken")
+times_words (t.Cost line) = named_at (codes "times") 3 (codes "Cost") (codes "line") line
+times_words t.Dead = named (codes "times") 4 (codes "Dead")
 
 -- whether memory failed
 abbrev pub is_times_failure : TimesFault → Bool
 is_times_failure t.OutOfMemory = true
-is_times_failure t.Broken = false
+is_times_failure _ = false

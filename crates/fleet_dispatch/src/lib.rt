@@ -17,10 +17,13 @@
 //! the next line in a `window`, the bytes that were read and not yet passed, and reads on only if no LF is among them.
 //! `stream_floor` is the floor that borrows such an input, such an output and a log, and the dispatch over it. `fault` has the
 //! refusals. `led` has the laws: what robots do that carry out the orders is a schedule, k orders ahead or one.
-//! `standing` has where they stand after the reports of a log, and `breaks` reads in which actions they break down.
+//! `standing` has where they stand after the reports of a log, `breaks` reads in which actions they break down, `costs`
+//! what their actions cost, and `dead_robot` which one is dead and where.
 #![tactic(auto)]
 
 mod breaks;
+mod costs;
+mod dead_robot;
 mod dispatch;
 mod fault;
 mod floor;
@@ -45,6 +48,8 @@ mod times_fault;
 mod window;
 
 pub use breaks::breaks_of;
+pub use costs::{CostLine, CostTable, costs_of};
+pub use dead_robot::{DeadRobot, dead_robot_of};
 pub use dispatch::dispatch_accepted;
 pub use fault::DispatchFault;
 pub use floor::{Floor, HearFault};

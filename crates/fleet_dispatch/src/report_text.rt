@@ -21,14 +21,14 @@ pub enum LineKind {
 }
 
 /// Where the first colon is.
-fn colon_in(word: &[u8]) -> Option<usize>
+pub fn colon_in(word: &[u8]) -> Option<usize>
     ensures { result ≡ position is_colon word.now }
 {
     word.iter().position(|b| *b == b':')
 }
 
 /// What a word says that names an agent and the number of its action.
-fn numbered(word: &[u8]) -> Option<Reported>
+pub fn numbered(word: &[u8]) -> Option<Reported>
     ensures { result ≡ word_of ReportForm.Numbered word.now }
 {
     let end = colon_in(word)?;
@@ -41,7 +41,7 @@ fn numbered(word: &[u8]) -> Option<Reported>
 }
 
 /// What a word says that names an agent alone.
-fn unnumbered(word: &[u8]) -> Option<Reported>
+pub fn unnumbered(word: &[u8]) -> Option<Reported>
     ensures { result ≡ word_of ReportForm.Unnumbered word.now }
 {
     let agent = long_number_of(word)?;

@@ -1,7 +1,7 @@
 //! Why no times are told of an accepted program.
 
 use fleet_model::OutOfMemory;
-use fleet_text::{OutFault, Refusal, TraceOut, put_memory, put_named};
+use fleet_text::{OutFault, Refusal, TraceOut, put_memory, put_named, put_named_at};
 use thiserror::Error;
 
 /// Why no times are told of an accepted program.
@@ -12,6 +12,12 @@ pub enum TimesFault {
     /// They have to be words `A:N` in rising order of agent, one space between two, each of which is an action.
     #[error("what is broken is no list of actions of the program")]
     Broken,
+    /// It has to be `A X` or `A:N X`, of an agent or an action of the program, and X from 1 to a billion.
+    #[error("line {line} says no cost of an agent or an action of the program")]
+    Cost { line: u64 },
+    /// It has to be `A:X,Y` or `A:X,Y:X,Y`, an agent of the program and one or two cells of the map.
+    #[error("what is dead is no agent and its cells")]
+    Dead,
 }
 
 impl From<OutOfMemory> for TimesFault {
@@ -36,6 +42,8 @@ impl Refusal for TimesFault {
         match *self {
             TimesFault::OutOfMemory => put_memory(out),
             TimesFault::Broken => put_named(out, "times", 2, "Broken"),
+            TimesFault::Cost { line } => put_named_at(out, "times", 3, "Cost", "line", line),
+            TimesFault::Dead => put_named(out, "times", 4, "Dead"),
         }
     }
 

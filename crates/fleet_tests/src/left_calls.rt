@@ -1,12 +1,15 @@
-//! What is left after a log, robots that break down, and maps and scenarios that are written.
+//! What is left after a log, robots that break down or are dead, what actions cost, and maps and scenarios that are written.
 
 use crate::fleets::{PAIR_BYTES, pair};
 use fleet_adg::tasks_of;
 use fleet_code::view;
-use fleet_dispatch::{DispatchFault, TimesFault, breaks_of, standings_after};
+use fleet_dispatch::{
+    DispatchFault, TimesFault, breaks_of, costs_of, dead_robot_of, standings_after,
+};
 use fleet_grid::{read_map, write_map};
-use fleet_model::{Cell, Place, Task};
+use fleet_model::{ActionId, Cell, Place, Task};
 use fleet_scen::write_scen;
+use fleet_verify::ActionCosts;
 use std::alloc::Global;
 use std::test::Fail;
 
@@ -70,5 +73,39 @@ fn robots_break_down_in_actions(rt: HostRuntime) -> Result<(), Fail> {
         let fault = breaks_of(alloc, &program, line).err();
         assert!(rt; matches!(fault, Some(TimesFault::Broken)));
     }
+    Ok(())
+}
+
+/// What an action of the pair costs by a text.
+fn cost_by(alloc: Global, text: &[u8], agent: u16, number: u32) -> Result<u32, Fail> {
+    let program = view(alloc, PAIR_BYTES)?;
+    match costs_of(alloc, &program, text) {
+        Ok(costs) => Ok(costs.cost(ActionId { agent, number })),
+        Err(_) => Err(Fail::from("refused")),
+    }
+}
+
+#[test]
+fn actions_cost_what_lines_say(rt: HostRuntime) -> Result<(), Fail> {
+    let alloc = rt.alloc();
+    let text = b"1:2 7\n1 5\n0:1 3\n0:1 4";
+    assert_eq!(rt; cost_by(alloc, text, 0, 1)?, 4);
+    assert_eq!(rt; cost_by(alloc, text, 0, 2)?, 1);
+    assert_eq!(rt; cost_by(alloc, text, 1, 1)?, 5);
+    assert_eq!(rt; cost_by(alloc, text, 1, 2)?, 7);
+    let program = view(alloc, PAIR_BYTES)?;
+    let fault = costs_of(alloc, &program, b"0 1\n0:3 1").err();
+    assert!(rt; matches!(fault, Some(TimesFault::Cost { line: 2 })));
+    Ok(())
+}
+
+#[test]
+fn dead_robots_stand_on_cells(rt: HostRuntime) -> Result<(), Fail> {
+    let Some(dead) = dead_robot_of(2, 4, 1, b"1:2,0:3,0") else {
+        return Err(Fail::from("refused"));
+    };
+    assert_eq!(rt; (dead.agent, dead.first.x, dead.second.x), (1, 2, 3));
+    assert!(rt; dead_robot_of(2, 4, 1, b"2:2,0").is_none());
+    assert!(rt; dead_robot_of(2, 4, 1, b"1:4,0").is_none());
     Ok(())
 }

@@ -24,6 +24,7 @@ plan_refuses map scen plan asked (f.Compile x) h = absurd h
 plan_refuses map scen plan asked (f.Verify x) h = absurd h
 plan_refuses map scen plan asked (f.Run x) h = absurd h
 plan_refuses map scen plan asked (f.Dispatch x) h = absurd h
+plan_refuses map scen plan asked (f.Times x) h = absurd h
 plan_refuses map scen plan asked (f.File x) h = absurd h
 
 pub returns-in_err-problem : goal.returns-in_err-problem

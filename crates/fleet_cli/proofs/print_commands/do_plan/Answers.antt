@@ -24,6 +24,7 @@ search_refuses map scen asked horizon tries (f.Compile x) h = absurd h
 search_refuses map scen asked horizon tries (f.Verify x) h = absurd h
 search_refuses map scen asked horizon tries (f.Run x) h = absurd h
 search_refuses map scen asked horizon tries (f.Dispatch x) h = absurd h
+search_refuses map scen asked horizon tries (f.Times x) h = absurd h
 search_refuses map scen asked horizon tries (f.File x) h = absurd h
 
 pub returns-in_err-problem : goal.returns-in_err-problem

@@ -1,17 +1,16 @@
 #!/usr/bin/env python3
-"""Random accepted programs with costs, robots that break down, and runs that are broken off, beside a plain count.
+"""`times` and `rest` of random accepted programs beside a plain count: python3 tests/rests.py FLEET [COUNT [SEED]].
 
-    python3 tests/rests/rests.py write COUNT SEED CASES WANT
-    python3 tests/rests/rests.py compare WANT GOT
-
-The first writes CASES, which `probe` reads from standard input, and to WANT a number for each case: that of the text
-which says when its actions end, how far each agent comes if some break down, and what is left of the program where the
-run was broken off. The second compares these with what the probe printed. What is left is counted here to be accepted
-and to run on as the program does. `tests/rests.sh` does all of it.
+Each of the COUNT (10,000) cases is a map, agents on it, a program that is accepted for them, a log that is broken off
+somewhere, costs, and robots that break down. What is left is counted here to be accepted, and to run on as the program
+does. Status 1 if an answer differs.
 """
 import collections
+import os
 import random
+import subprocess
 import sys
+import tempfile
 
 STEPS = {(0, -1): 0, (1, 0): 1, (0, 1): 2, (-1, 0): 3, (0, 0): 4}
 WORDS = {(0, -1): "north to", (1, 0): "east to", (0, 1): "south to", (-1, 0): "west to", (0, 0): "stays at"}
@@ -180,7 +179,7 @@ def listing(program):
 
 
 def problem(rng):
-    """A map, a scenario and a program that is accepted for them."""
+    """The sizes of a map, its passable cells, and a program that is accepted on it."""
     while True:
         width, height = rng.randint(3, 8), rng.randint(2, 8)
         cells = [(x, y) for y in range(height) for x in range(width)]
@@ -192,43 +191,40 @@ def problem(rng):
         paths = paths_for(rng, free, starts, goals)
         if paths is None:
             continue
-        rows = ["".join(".@"[(x, y) not in free] for x in range(width)) + "\n" for y in range(height)]
-        map_text = "type octile\nheight %d\nwidth %d\nmap\n" % (height, width) + "".join(rows)
-        scen = "version 1\n" + "".join("0 m %d %d %d %d %d %d 0\n" % (width, height, *s, *g) for s, g in zip(starts, goals))
         program = program_of(paths, rng.random() < 0.5, rng.choice([0, 0, 0, 2]))
-        return map_text, scen, thinned(program) if rng.random() < 0.4 else program, free
+        return width, height, free, thinned(program) if rng.random() < 0.4 else program
 
 
-def case(rng, k):
-    """What the probe reads of a case, and the lines of what it has to make of it."""
-    map_text, scen, program, free = problem(rng)
-    count = len(program)
-    costs = [rng.choice([1, 1, 2, 5, 250]) for _ in range(count)]
-    breaks = [rng.randint(1, len(a.actions)) if a.actions and rng.random() < 0.3 else 0 for a in program]
-    holds = [{i for i in range(count) if rng.random() < 0.4} for _ in range(rng.randint(0, 12))]
-    ends = critical(program, lambda action: costs[action[0]])
-    arrivals = [ends[(i, len(agent.actions))] if agent.actions else 0 for i, agent in enumerate(program)]
-    broken = {(i, n) for i, n in enumerate(breaks) if n}
-    reached = [sum(not broken & behind(program, (i, n)) for n in range(1, len(agent.actions) + 1))
-               for i, agent in enumerate(program)]
-    done = run(program, holds, len(holds))[-1]
-    left = rest(program, done)
-    assert is_accepted(program, free) and is_accepted(left, free), k
-    more = [{i for i in range(count) if rng.random() < 0.3} for _ in range(20)]
-    for whole, part in zip(run(program, holds + more, len(holds) + 40)[len(holds):], run(left, more, 40)):
-        assert whole == [a + b for a, b in zip(done, part)], k
-        assert [places(a)[n] for a, n in zip(program, whole)] == [places(a)[n] for a, n in zip(left, part)], k
-    masks = bytes(sum(1 << i for i in held) for held in holds)
-    parts = [map_text.encode(), scen.encode(), bytes_of(program), bytes(costs), bytes(breaks), masks]
-    path = path_of(program, costs, ends)
-    assert sum(costs[i] for i, _ in path) == max(arrivals) and all(a in needs(program, b) for a, b in zip(path, path[1:])), k
-    want = ["case %d" % k, "arrivals " + " ".join(map(str, arrivals)),
-            " ".join(["ends"] + [str(ends[action]) for action in actions_of(program)]), "last %d" % max(arrivals),
-            " ".join(["path"] + ["%d:%d" % action for action in path]), "reached " + " ".join(map(str, reached))] + listing(left)
-    return b"".join(len(part).to_bytes(2, "big") + part for part in parts), want
+def log_of(rng, program):
+    """The lines of a log, and how many actions each agent has carried out after them. Orders are given far ahead."""
+    done, lines = [0] * len(program), []
+    for _ in range(rng.randint(0, 12)):
+        now = list(done)
+        for i, agent in enumerate(program):
+            last = done[i]
+            while last < len(agent.actions) and all(done[j] >= count for j, count in agent.actions[last][1]):
+                last += 1
+            if last > done[i] and rng.random() < 0.4:
+                now[i] = rng.randint(done[i] + 1, last)
+        words = ["%d:%d" % (i, n) for i, n in enumerate(now) if n > done[i]]
+        lines.append(" ".join(words) or "-")
+        done = now
+    return lines, done
 
 
-def path_of(program, costs, ends):
+def costs_of(rng, program):
+    """Lines of costs in any order, and what each action costs by them."""
+    lines = []
+    for i, agent in enumerate(program):
+        lines += [(i, 0)] * rng.choice([0, 1, 1, 2]) + [(i, n + 1) for n in range(len(agent.actions)) if rng.random() < 0.2]
+    rng.shuffle(lines)
+    lines = [(action, rng.choice([1, 2, 5, 250, 1000000000])) for action in lines]
+    said = dict(lines)
+    return ["%d%s %d" % (i, ":%d" % n if n else "", cost) for (i, n), cost in lines], \
+        lambda action: said.get(action, said.get((action[0], 0), 1))
+
+
+def path_of(program, cost, ends):
     """The critical path of the first agent that arrives last: each action's own need before those that it awaits."""
     last = None
     for i, agent in enumerate(program):
@@ -237,38 +233,105 @@ def path_of(program, costs, ends):
     path = []
     while last is not None:
         path.append(last)
-        begin = ends[last] - costs[last[0]]
+        begin = ends[last] - cost(last)
         last = next((need for need in needs(program, last) if ends[need] == begin), None)
     return path[::-1]
 
 
-def number_of(text):
-    """The bytes of a text as one number (FNV-1a, 64 bits)."""
-    number = 14695981039346656037
-    for byte in text.encode():
-        number = ((number ^ byte) * 1099511628211) % 2 ** 64
-    return number
+def times(program, cost):
+    """What `times` prints."""
+    ends = critical(program, cost)
+    arrivals = [ends[(i, len(agent.actions))] if agent.actions else 0 for i, agent in enumerate(program)]
+    path = path_of(program, cost, ends)
+    assert sum(map(cost, path)) == max(arrivals) and all(a in needs(program, b) for a, b in zip(path, path[1:]))
+    return lines_of(arrivals) + ["agents %d" % len(program), "moves %d" % len(actions_of(program)),
+                                 "arrival %d" % max(arrivals), " ".join(["path"] + ["%d:%d" % action for action in path])]
 
 
-def write(count, seed, cases, want):
-    rng = random.Random(seed)
-    with open(cases, "wb") as data, open(want, "w") as numbers:
-        for k in range(count):
-            parts, lines = case(rng, k)
-            data.write(parts)
-            numbers.write("%d %d\n" % (k, number_of("".join(line + "\n" for line in lines))))
+def lines_of(numbers):
+    return ["%d: %d" % line for line in enumerate(numbers)]
 
 
-def compare(want, got):
-    lines = open(want).read().splitlines()
-    found = set(open(got).read().splitlines())
-    wrong = [line for line in lines if line not in found]
-    print("cases", len(lines), "wrong", len(wrong), *[line.split()[0] for line in wrong[:5]])
-    return len(wrong) > 0
+def stopped(program, breaks):
+    """What `times --broken` prints."""
+    broken = {(i, n) for i, n in enumerate(breaks) if n}
+    reached = [sum(not broken & behind(program, (i, n)) for n in range(1, len(agent.actions) + 1))
+               for i, agent in enumerate(program)]
+    few = sum(n < len(agent.actions) for n, agent in zip(reached, program))
+    return lines_of(reached) + ["agents %d" % len(program), "moves %d" % len(actions_of(program)), "stopped %d" % few]
+
+
+def check_rest(rng, program, free, done, left, k):
+    """That what is left is accepted, and runs on as the program does."""
+    assert is_accepted(program, free) and is_accepted(left, free), k
+    holds, counts = [], [0] * len(program)
+    while counts != done:  # a run in which each agent stops where the log left it
+        held = {i for i, n in enumerate(counts) if n == done[i]}
+        holds.append(held)
+        counts = run(program, holds, len(holds))[-1]
+    more = [{i for i in range(len(program)) if rng.random() < 0.3} for _ in range(20)]
+    for whole, part in zip(run(program, holds + more, len(holds) + 40)[len(holds):], run(left, more, 40)):
+        assert whole == [a + b for a, b in zip(done, part)], k
+        assert [places(a)[n] for a, n in zip(program, whole)] == [places(a)[n] for a, n in zip(left, part)], k
+
+
+def scen_of(agents, width, height):
+    lines = ["0\tmap\t%d\t%d\t%d\t%d\t%d\t%d\t0\n" % (width, height, *a.start, *a.goal) for a in agents]
+    return "version 1\n" + "".join(lines)
+
+
+def map_of(cells, width, height):
+    rows = ["".join(".@"[(x, y) not in cells] for x in range(width)) + "\n" for y in range(height)]
+    return "type octile\nheight %d\nwidth %d\nmap\n" % (height, width) + "".join(rows)
+
+
+def case(rng, k, fleet):
+    """The answers that differ."""
+    width, height, free, program = problem(rng)
+    cost_lines, cost = costs_of(rng, program)
+    breaks = [rng.randint(1, len(a.actions)) if a.actions and rng.random() < 0.3 else 0 for a in program]
+    log, done = log_of(rng, program)
+    left = rest(program, done)
+    check_rest(rng, program, free, done, left, k)
+    dead, cells = rng.randrange(len(program)), rng.sample(sorted(free), rng.randint(1, 2))
+    for name, text in (("map", map_of(free, width, height)), ("scen", scen_of(program, width, height)),
+                       ("log", "".join(line + "\n" for line in log)), ("costs", "".join(line + "\n" for line in cost_lines))):
+        with open(name, "w") as file:
+            file.write(text)
+    with open("program", "wb") as file:
+        file.write(bytes_of(program))
+
+    def says(command, *words):
+        ran = subprocess.run([fleet, command, "map", "scen", "program", *words], capture_output=True, text=True)
+        return ran.stdout.splitlines() if not ran.returncode and not ran.stderr else ran.stderr
+    numbers = says("rest", "log", "left.scen", "left.program", "--without",
+                   ":".join(["%d" % dead] + ["%d,%d" % cell for cell in cells]), "--map-out", "left.map", "--others-out", "others.scen")
+    listed = subprocess.run([fleet, "list", "left.program"], capture_output=True, text=True).stdout.splitlines()
+    awaits = sum(len(action[1]) for agent in left for action in agent.actions)
+    answers = [
+        (says("times"), times(program, lambda action: 1)),
+        (says("times", "--costs", "costs"), times(program, cost)),
+        (says("times", "--broken", " ".join("%d:%d" % line for line in enumerate(breaks) if line[1]) or "-"), stopped(program, breaks)),
+        (numbers, ["agents %d" % len(left), "moves %d" % len(actions_of(left)), "awaits %d" % awaits,
+                   "bytes %d" % os.path.getsize("left.program")]),
+        (listed, listing(left)),
+        (open("left.scen").read(), scen_of(left, width, height)),
+        (open("left.map").read(), map_of(free - set(cells), width, height)),
+        (open("others.scen").read(), scen_of([a for i, a in enumerate(left) if i != dead], width, height))]
+    return [(got, due) for got, due in answers if got != due]
+
+
+def main(fleet, count="10000", seed="1"):
+    fleet, rng = os.path.abspath(fleet), random.Random(int(seed))
+    with tempfile.TemporaryDirectory() as room:
+        os.chdir(room)
+        for k in range(int(count)):
+            for got, due in case(rng, k, fleet):
+                print("case %d:" % k, got, "due", due)
+                sys.exit(1)
+        os.chdir("/")
+    print("rests:", count, "cases compared")
 
 
 if __name__ == "__main__":
-    if sys.argv[1] == "write":
-        write(int(sys.argv[2]), int(sys.argv[3]), *sys.argv[4:])
-    else:
-        sys.exit(compare(*sys.argv[2:]))
+    main(*sys.argv[1:])

@@ -1,0 +1,69 @@
+use Rattle.std.proofs.Common.{◌≡◌, ◌<◌, List, ℕ, length, sym, ap, subst, ◌∙◌, Option, None, inl, inr}
+use Rattle.std.proofs.lemmas.Result.{err_from_is_err_and}
+use Rattle.std.specs.Prelude.{IfSome}
+use Rattle.std.proofs.lemmas.List.{length-map}
+use Rattle.std.proofs.lemmas.List.FromFn.{length-range_with_len}
+use Rattle.fleet_model.specs.declared.task.Task.{Task}
+use Rattle.fleet_model.specs.Program.{Program}
+use Rattle.fleet_model.specs.Machine.{indices}
+use Rattle.fleet_model.specs.Accepted.{IsAccepted}
+use Rattle.fleet_grid.specs.Ground.{is_passable}
+use Rattle.fleet_scen.specs.ScenText.{IsScenText}
+use Rattle.fleet_scen.specs.ScenWriting.{scen_text}
+use Rattle.fleet_verify.specs.Rest.{cell_at, rest, rest_tasks}
+use Rattle.fleet_adg.specs.Remaining.{task_of, tasks_of}
+use Rattle.fleet_dispatch.specs.declared.dead_robot.DeadRobot.{DeadRobot}
+use Rattle.fleet_cli.specs.RestCommand.{IsRestOf, AreOthers}
+use Rattle.fleet_cli.proofs.DeadLemmas.{dead_is_one}
+use Rattle.fleet_cli.proofs.rest_command.rest_texts.Goals as goal
+
+pub others_around-requires : goal.others_around-requires
+others_around-requires c =
+    let q = c.in_ok-program.program in
+    let long : length c.in-Ok.tasks.items ≡ length q = ap length c.in-Ok.ensures ∙ (length-map (indices (length q)) (task_of q) ∙ length-range_with_len 0 (length q)) in
+    subst (λ (n : ℕ). IfSome c.in_ok-dead.dead (λ (d : DeadRobot). d.agent < n)) (sym long) (dead_is_one c.in_ok-problem.problem.grid (length q) c.args.request.now.without c.in_ok-dead.dead c.in_ok-dead.ensures.dead)
+
+pub returns-clause-made : goal.returns-clause-made
+returns-clause-made c =
+    let g = c.in_ok-problem.problem.grid in
+    let passable = is_passable g in
+    let p = c.in_ok-accepted.accepted.program.program in
+    let q = c.in_ok-program.program in
+    let left = subst (λ (log : List ℕ). IsRestOf p log q) c.deref.ensures.value c.in_ok-program.ensures.rest in
+    let ok = c.in_ok-accepted.ensures.accepted.accepted_for.accepted in
+    let cells = cell_at left.standings in
+    let made : IsAccepted passable (rest_tasks cells p) (rest cells p left.standings) = c.rests_are_accepted.ensures passable c.in_ok-problem.problem.instance p ok left.standings left.after.reached cells left.cells in
+    let here : IsAccepted passable (rest_tasks cells p) q = subst (IsAccepted passable (rest_tasks cells p)) (sym left.is) made in
+    let same : rest_tasks cells p ≡ tasks_of q = c.accepted_tasks_are_an_instance.ensures.tasks g (rest_tasks cells p) q here in
+    let accepted : IsAccepted passable (tasks_of q) q = subst (λ (tasks : List Task). IsAccepted passable tasks q) same here in
+    let instance = c.accepted_tasks_are_an_instance.ensures.instance g (tasks_of q) q c.agents.ensures.well_formed accepted in
+    let ends = c.accepted_tasks_are_an_instance.ensures.ends g (tasks_of q) q accepted in
+    let written : c.in_ok-scen.scen.items ≡ scen_text g.width g.height (tasks_of q) = c.in_ok-scen.ensures.scen ∙ ap (scen_text g.width g.height) (c.deref-2.ensures.value ∙ c.in-Ok.ensures) in
+    record {
+      accepts = record { ground = g; tasks = c.in_ok-problem.problem.instance; texts = c.in_ok-problem.ensures.read; program = p; chain = c.in_ok-accepted.accepted.chain; accepts = c.in_ok-accepted.ensures.accepted };
+      left = left;
+      tasks = sym same;
+      accepted = accepted;
+      written = written;
+      stands = subst (λ (text : List ℕ). IsScenText text g None (tasks_of q)) (sym written) (c.a_written_scenario_is_read.ensures g (tasks_of q) c.width.ensures.sizes instance ends);
+      spelled = c.in-Ok-encode_shortest.ensures.shortest;
+      robot = c.in_ok-dead.dead;
+      dead = c.in_ok-dead.ensures.dead;
+      around = c.in_ok-map.ensures.map;
+      rest_of_them = subst (λ (tasks : List Task). AreOthers g tasks c.in_ok-dead.dead c.args.request.now.others_out c.in_ok-others.others.items) c.in-Ok.ensures c.in_ok-others.ensures.scen;
+    }
+
+pub returns-in_err-program-clause-fault : goal.returns-in_err-program-clause-fault
+returns-in_err-program-clause-fault c =
+    let e = err_from_is_err_and c.from_residual-in_err-program.result c.from_residual-in_err-program.ensures.1 in
+    let p = c.in_ok-accepted.accepted.program.program in
+    let refused = rw c.deref.ensures.value at c.in_err-program.ensures.fault in
+    rw (e.1, e.2) (inr (record { ground = c.in_ok-problem.problem.grid; tasks = c.in_ok-problem.problem.instance; texts = c.in_ok-problem.ensures.read; program = p; chain = c.in_ok-accepted.accepted.chain; accepts = c.in_ok-accepted.ensures.accepted }, inl refused))
+
+pub returns-in_err-dead-clause-fault : goal.returns-in_err-dead-clause-fault
+returns-in_err-dead-clause-fault c =
+    let e = err_from_is_err_and c.from_residual-in_err-dead.result c.from_residual-in_err-dead.ensures.1 in
+    let p = c.in_ok-accepted.accepted.program.program in
+    let q = c.in_ok-program.program in
+    let left = subst (λ (log : List ℕ). IsRestOf p log q) c.deref.ensures.value c.in_ok-program.ensures.rest in
+    rw (e.1, e.2) (inr (record { ground = c.in_ok-problem.problem.grid; tasks = c.in_ok-problem.problem.instance; texts = c.in_ok-problem.ensures.read; program = p; chain = c.in_ok-accepted.accepted.chain; accepts = c.in_ok-accepted.ensures.accepted }, inr (q, left, c.in_err-dead.ensures.fault)))

@@ -1,0 +1,179 @@
+//! The command `times`: when the agents of an accepted program arrive, or how far each comes if some break down.
+
+ghost use Rattle.std.specs.Prelude.{◌≤◌, IfOk, IfErr};
+ghost use Rattle.fleet_model.specs.declared.program.ActionId.{ActionId};
+ghost use Rattle.fleet_text.specs.Sink.{IsWorking, Delivers};
+ghost use Rattle.fleet_run.specs.TimesText.{times_text, reached_text};
+ghost use Rattle.fleet_cli.specs.TimesCommand.{IsTimetable, HasTimetable, HasReached, IsCostsRefusal, IsBreaksRefusal, TellsTimes, TellsReached, AnswersTimes};
+
+use crate::fault::Fault;
+use crate::named::FileTexts;
+use crate::output::status_after_print;
+use crate::steps::{accept, read_problem};
+use fleet_args::TimesRequest;
+use fleet_dispatch::{breaks_of, costs_of};
+use fleet_model::{ActionId, OutOfMemory, ProgramView, total_moves};
+use fleet_run::{Flush, OutFault, put_reached, put_times};
+use fleet_verify::{Accepted, ActionCosts, OneEach, Times, reached_counts, stopped_agents};
+use std::alloc::Global;
+
+/// Prints when agents arrive, and has the sink hand it on.
+#[tactic(auto, using(crate::proofs::RunLemmas::delivers_after))]
+fn print_times<O: Flush>(
+    out: &mut O,
+    arrivals: &[u64],
+    moves: u32,
+    last: u64,
+    path: &[ActionId],
+) -> Result<(), OutFault>
+    requires { IsWorking (O.state out.old) }
+    ensures { Delivers (O.state out.old) (O.state out.new) result
+        (times_text arrivals.now moves last path.now) }
+{
+    put_times(out, arrivals, moves, last, path)?;
+    out.flush()
+}
+
+/// Prints how far each agent comes, and has the sink hand it on.
+#[tactic(auto, using(crate::proofs::RunLemmas::delivers_after))]
+fn print_reached<O: Flush>(
+    out: &mut O,
+    counts: &[u32],
+    moves: u32,
+    stopped: u16,
+) -> Result<(), OutFault>
+    requires { IsWorking (O.state out.old) }
+    ensures { Delivers (O.state out.old) (O.state out.new) result
+        (reached_text counts.now moves stopped) }
+{
+    put_reached(out, counts, moves, stopped)?;
+    out.flush()
+}
+
+/// When the agents of a program arrive, when all have, and a chain of actions that takes so long.
+#[derive(Drop)]
+struct Timetable {
+    arrivals: Vec<u64>,
+    last: u64,
+    path: Vec<ActionId>,
+}
+
+/// The timetable of an accepted program, whose actions cost so much.
+fn timetable_of<P: ProgramView, C: ActionCosts>(
+    alloc: Global,
+    accepted: &Accepted<'_, P>,
+    costs: &C,
+) -> Result<Timetable, OutOfMemory>
+    requires { (a : ActionId) → 1 ≤ C.cost costs.now a }
+    ensures { IfOk result (λ t. IsTimetable (P.program accepted.now.program) (C.cost costs.now)
+        t.arrivals.items t.last t.path.items) }
+{
+    let times = Times::of(alloc, accepted, costs)?;
+    let arrivals = times.arrivals(alloc)?;
+    let path = times.critical_path(alloc)?;
+    let last = times.last_arrival();
+    Ok(Timetable {
+        arrivals,
+        last,
+        path,
+    })
+}
+
+/// The same by the costs of a text, if one is given, and else with one for each action.
+fn timetable_by<'a, P: ProgramView>(
+    alloc: Global,
+    accepted: &Accepted<'_, P>,
+    costs: Option<&str>,
+    text: &[u8],
+) -> Result<Timetable, Fault<'a>>
+    ensures made { IfOk result (λ t. HasTimetable (P.program accepted.now.program)
+        costs.entry text.now t.arrivals.items t.last t.path.items) }
+    ensures fault { IfErr result
+        (IsCostsRefusal (P.program accepted.now.program) costs.entry text.now) }
+{
+    let made = match costs {
+        None => timetable_of(alloc, accepted, &OneEach),
+        Some(_) => match costs_of(alloc, accepted.program(), text) {
+            Ok(table) => timetable_of(alloc, accepted, &table),
+            Err(fault) => return Err(Fault::Times(fault)),
+        },
+    };
+    match made {
+        Ok(table) => Ok(table),
+        Err(OutOfMemory) => Err(Fault::Memory),
+    }
+}
+
+/// How many actions of each agent are reached if those that the line names are never ended.
+fn reached_by<'a, P: ProgramView>(
+    alloc: Global,
+    accepted: &Accepted<'_, P>,
+    line: &[u8],
+) -> Result<Vec<u32>, Fault<'a>>
+    ensures reached { IfOk result (λ counts. HasReached (P.program accepted.now.program)
+        line.now counts.items) }
+    ensures fault { IfErr result (IsBreaksRefusal (P.program accepted.now.program) line.now) }
+{
+    let breaks = match breaks_of(alloc, accepted.program(), line) {
+        Ok(breaks) => breaks,
+        Err(fault) => return Err(Fault::Times(fault)),
+    };
+    match reached_counts(alloc, accepted, &breaks) {
+        Ok(counts) => Ok(counts),
+        Err(OutOfMemory) => Err(Fault::Memory),
+    }
+}
+
+/// Prints when the agents arrive. Answers 0.
+fn tell_times<'a, P: ProgramView, O: Flush>(
+    alloc: Global,
+    accepted: &Accepted<'_, P>,
+    costs: Option<&str>,
+    text: &[u8],
+    out: &mut O,
+) -> Result<u8, Fault<'a>>
+    requires { IsWorking (O.state out.old) }
+    ensures { TellsTimes (P.program accepted.now.program) costs.entry text.now
+        (O.state out.old) (O.state out.new) result }
+{
+    let table = timetable_by(alloc, accepted, costs, text)?;
+    let moves = total_moves(accepted.program());
+    status_after_print(print_times(out, &table.arrivals, moves, table.last, &table.path))
+}
+
+/// Prints how far each agent comes if the actions that the line names are never ended. Answers 0.
+fn tell_reached<'a, P: ProgramView, O: Flush>(
+    alloc: Global,
+    accepted: &Accepted<'_, P>,
+    line: &[u8],
+    out: &mut O,
+) -> Result<u8, Fault<'a>>
+    requires { IsWorking (O.state out.old) }
+    ensures { TellsReached (P.program accepted.now.program) line.now
+        (O.state out.old) (O.state out.new) result }
+{
+    let counts = reached_by(alloc, accepted, line)?;
+    let program = accepted.program();
+    let stopped = stopped_agents(program, &counts);
+    status_after_print(print_reached(out, &counts, total_moves(program), stopped))
+}
+
+/// The command `times`: prints to `out` when each agent of an accepted program arrives, or, if some robots break down,
+/// how far each still comes. Answers 0.
+#[inline(never)]
+pub(crate) fn do_times<'a, O: Flush>(
+    alloc: Global,
+    request: &TimesRequest<'a>,
+    texts: FileTexts,
+    out: &mut O,
+) -> Result<u8, Fault<'a>>
+    requires { IsWorking (O.state out.old) }
+    ensures { AnswersTimes request.now texts (O.state out.old) (O.state out.new) result }
+{
+    let problem = read_problem(alloc, &texts, request.agents)?;
+    let accepted = accept(alloc, &texts, &problem)?;
+    match request.broken {
+        None => tell_times(alloc, &accepted, request.costs, &texts.holds, out),
+        Some(line) => tell_reached(alloc, &accepted, line.as_bytes(), out),
+    }
+}

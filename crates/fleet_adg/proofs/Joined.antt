@@ -1,6 +1,6 @@
 -- The parts of the agents joined to the bytes of a program.
-use Rattle.std.proofs.Common.{◌≡◌, ℕ, zero, suc, ◌+◌, ◌<◌, ◌≤◌, ◌*◌, true, List, [], ◌∷◌, ◌++◌, map, replicate, length, get_or, All, sum_by, Bool, refl, sym, ap, ◌∙◌, subst, arith, add-one, append_assoc}
-use Rattle.std.specs.Prelude.{Result, Ok, IsTrue, ◌↔◌, ◌==◌, if◌then◌else◌}
+use Rattle.std.proofs.Common.{◌≡◌, ℕ, zero, suc, ◌+◌, ◌<◌, ◌≤◌, true, List, [], ◌∷◌, ◌++◌, map, replicate, length, get_or, All, sum_by, Bool, refl, sym, ap, ◌∙◌, subst, arith, add-one, append_assoc}
+use Rattle.std.specs.Prelude.{Result, Ok, IsTrue, ◌↔◌, if◌then◌else◌}
 use Rattle.std.specs.List.{flat_map}
 use Rattle.std.proofs.lemmas.List.{append-nil, map_push, length-map, length-replicate, length-append, get_or-map}
 use Rattle.std.proofs.lemmas.List.Concat.{flat_map-cons, flat_map-append}
@@ -21,8 +21,8 @@ use Rattle.fleet_code.specs.declared.format.Version.TheVariants.{One, Two}
 use Rattle.fleet_code.specs.Written.{Written, written}
 use Rattle.fleet_code.specs.Spelling.{magic, two_bytes, agent, spelling, most_count, CanSpell, SpellsIn, SpellsShortest}
 use Rattle.fleet_plan.specs.Plan.{Plan, cell_of, steps, IsConflictFree, IsWithinLimits}
-use Rattle.fleet_adg.specs.Compiled.{moves_by, changes, action_in, agent_program, compiled, stay, with_stays, compiled_staying, each_has_few, all_have_few, has_few_actions}
-use Rattle.fleet_adg.specs.Sweep.{actions_by, all_actions_by, all_bytes_by}
+use Rattle.fleet_adg.specs.Compiled.{moves_by, agent_program, compiled, stay, with_stays, compiled_staying, each_has_few, all_have_few, has_few_actions}
+use Rattle.fleet_adg.specs.Sweep.{actions_by, all_bytes_by}
 use Rattle.fleet_adg.specs.CompiledBytes.{version_for}
 use Rattle.fleet_adg.proofs.Basics.{indices_push}
 use Rattle.fleet_adg.proofs.Moves.{moves_by-le}

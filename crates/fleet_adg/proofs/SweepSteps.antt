@@ -1,5 +1,5 @@
 -- The steps of the sweep, as its loops take them.
-use Rattle.std.proofs.Common.{◌≡◌, ◌≢◌, ℕ, zero, suc, ◌+◌, ◌-◌, ◌<◌, ◌≤◌, Bool, true, false, cond, List, [], ◌∷◌, ◌++◌, map, set, take, replicate, filter, filter_map, not, ◌==◌, length, get_or, slice_get, All, Some, Ok, inl, inr, refl, sym, ap, ◌∙◌, subst, arith, add-one}
+use Rattle.std.proofs.Common.{◌≡◌, ◌≢◌, ℕ, zero, suc, ◌+◌, ◌-◌, ◌<◌, ◌≤◌, Bool, true, false, cond, List, [], ◌∷◌, ◌++◌, map, set, take, replicate, filter, filter_map, not, ◌==◌, length, get_or, slice_get, All, Some, inl, inr, refl, sym, ap, ◌∙◌, arith, add-one}
 use Rattle.std.specs.List.{range_with_len, fold}
 use Rattle.std.proofs.lemmas.Bool.{cases_Bool, cases_lt, cases_eq, lt-ltb, le-ltb, both_ways, false_from_ne_true}
 use Rattle.std.proofs.lemmas.List.{length-set, get_or-set_same, get_or-set_other, get_or-replicate, get_or-drop, get_or_past, get_or_at, length-map, get_or-map, length-replicate, length_push, map_push}
@@ -13,19 +13,17 @@ use Rattle.fleet_model.specs.declared.task.Task.{Task}
 use Rattle.fleet_model.specs.Geometry.{place_of}
 use Rattle.fleet_model.specs.declared.program.Await.{Await}
 use Rattle.fleet_model.specs.declared.program.Action.{Action}
-use Rattle.fleet_model.specs.declared.program.AgentProgram.{AgentProgram}
 use Rattle.fleet_model.specs.Machine.{indices}
 use Rattle.fleet_model.specs.declared.deps.Deps.{Deps}
 use Rattle.fleet_adg.specs.declared.leavings.Leavings.{Leavings}
 use Rattle.fleet_grid.specs.Ground.{Ground, IsGround, is_passable, cell_index}
 use Rattle.fleet_plan.specs.Plan.{Plan, cell_of, steps, IsConflictFree}
-use Rattle.fleet_adg.specs.Compiled.{direction, last_below, entry_awaits, changes_in, changes, moves_by, leaves, await_of, last_leaving_by, last_leaving, leavings, action_in, agent_program, compiled, with_stays, compiled_staying, has_few_actions, compiled_staying_if_few}
+use Rattle.fleet_adg.specs.Compiled.{direction, last_below, entry_awaits, changes_in, changes, moves_by, leaves, await_of, last_leaving_by, last_leaving, leavings, action_in}
 use Rattle.fleet_adg.specs.Leavings.{row_of, kind_of, leavings_after, AreLeavingsAt}
 use Rattle.fleet_code.specs.declared.format.Version.{Version}
 use Rattle.fleet_code.specs.Written.{Written, written}
-use Rattle.fleet_adg.specs.Sweep.{under_way, movers, actions_by, all_actions_by, all_bytes_by, agent_from, IsOnMap}
+use Rattle.fleet_adg.specs.Sweep.{under_way, movers, actions_by, all_actions_by, all_bytes_by, IsOnMap}
 use Rattle.fleet_plan.specs.UnderWay.{is_under_way}
-use Rattle.fleet_adg.proofs.Basics.{indices_push}
 use Rattle.fleet_adg.proofs.Moves.{moves_by-yes, moves_by-no, moves_by-le, steps-ge}
 use Rattle.fleet_adg.proofs.Entry.{leaves-parts, leaves-from}
 use Rattle.fleet_adg.proofs.Folds.{still, leaves-still, note_by, note_by-leaves, note_by-stays, leavings-next, add_by, add_by-changes, add_by-stays}
@@ -294,43 +292,3 @@ plan_on_map g tasks plan ground free = record {
 }
 
 -- ---- the program
-
-pub compiled-from : (plan : Plan) (deps : Deps) → map (agent_from plan (all_actions_by plan deps (steps plan))) (indices (length plan)) ≡ compiled plan deps
-unfolding agent_from agent_program compiled
-compiled-from plan deps = each 0 (length plan) (omega arith)
-  where
-    each : (a n : ℕ) → a + n ≤ length plan → map (agent_from plan (all_actions_by plan deps (steps plan))) (range_with_len a n) ≡ map (agent_program plan deps) (range_with_len a n)
-    each a zero h = refl
-    each a (suc n) h = λ t. record { start = cell_of plan a 0; goal = cell_of plan a (steps plan); actions = get_or-map-range_with_len (actions_by plan deps (steps plan)) 0 (length plan) a a [] (omega arith) (omega arith) t } ∷ each (a + 1) n (omega arith) t
-
--- one more agent
-pub agent_more : (plan : Plan) (actions done rest : List (List Action)) (row : List Action) (agents : List AgentProgram) (a : AgentProgram) (n : ℕ) → agents ≡ map (agent_from plan actions) (indices (length done)) → done ++ row ∷ rest ≡ actions → n ≡ length agents → a ≡ record { start = cell_of plan n 0; goal = cell_of plan n (steps plan); actions = row } → agents ++ a ∷ [] ≡ map (agent_from plan actions) (indices (length (done ++ row ∷ [])))
-unfolding agent_from
-agent_more plan actions done rest row agents a n made whole size is =
-    let at : n ≡ length done = size ∙ ap length made ∙ length-map-range_with_len (agent_from plan actions) 0 (length done) in
-    let mine : row ≡ get_or actions n [] = sym (get_or_at done row rest [] n (sym at)) ∙ ap (λ zs. get_or zs n []) whole in
-    let this : a ≡ agent_from plan actions (length done) = is ∙ (λ t. record { start = cell_of plan n 0; goal = cell_of plan n (steps plan); actions = mine t }) ∙ ap (agent_from plan actions) at in
-    (λ t. made t ++ this t ∷ [])
-    ∙ sym (map_push (agent_from plan actions) (indices (length done)) (length done))
-    ∙ ap (map (agent_from plan actions)) (sym (indices_push (length done)) ∙ ap indices (sym (length_push done row ∙ add-one (length done))))
-
--- the same, if each agent stays so often after its actions
-pub staying_more : (stays : ℕ) (plan : Plan) (actions done rest : List (List Action)) (row : List Action) (agents : List AgentProgram) (a : AgentProgram) (n : ℕ) → agents ≡ map (with_stays stays) (map (agent_from plan actions) (indices (length done))) → done ++ row ∷ rest ≡ actions → n ≡ length agents → a ≡ with_stays stays (record { start = cell_of plan n 0; goal = cell_of plan n (steps plan); actions = row }) → agents ++ a ∷ [] ≡ map (with_stays stays) (map (agent_from plan actions) (indices (length (done ++ row ∷ []))))
-staying_more stays plan actions done rest row agents a n made whole size is =
-    let before : List AgentProgram = map (agent_from plan actions) (indices (length done)) in
-    let this : AgentProgram = record { start = cell_of plan n 0; goal = cell_of plan n (steps plan); actions = row } in
-    let more = agent_more plan actions done rest row before this n refl whole (size ∙ ap length made ∙ length-map before (with_stays stays)) refl in
-    (λ t. made t ++ is t ∷ []) ∙ sym (map_push (with_stays stays) before this) ∙ ap (map (with_stays stays)) more
-
-pub agent_there : (actions done rest : List (List Action)) (row : List Action) → done ++ row ∷ rest ≡ actions → length done < length actions
-agent_there actions done rest row e = omega (arith, ap length e, package.Rattle.std.proofs.lemmas.List.length-append done (row ∷ rest))
-
-pub length-agents : (stays : ℕ) (plan : Plan) (actions : List (List Action)) (agents : List AgentProgram) (n : ℕ) → agents ≡ map (with_stays stays) (map (agent_from plan actions) (indices n)) → length agents ≡ n
-length-agents stays plan actions agents n e = ap length e ∙ length-map (map (agent_from plan actions) (indices n)) (with_stays stays) ∙ length-map-range_with_len (agent_from plan actions) 0 n
-
--- the program that is made is the one that is due
-pub program_is : (stays : ℕ) (plan read : Plan) (deps : Deps) (actions : List (List Action)) (agents : List AgentProgram) → read ≡ plan → actions ≡ all_actions_by plan deps (steps plan) → agents ≡ map (with_stays stays) (map (agent_from read actions) (indices (length read))) → agents ≡ compiled_staying plan deps stays
-program_is stays plan read deps actions agents e a h = h ∙ ap (map (with_stays stays)) ((λ t. map (agent_from (e t) (a t)) (indices (length (e t)))) ∙ compiled-from plan deps)
-
-pub few_compile : (plan : Plan) (deps : Deps) (stays : ℕ) (p : List AgentProgram) → has_few_actions plan stays ≡ true → p ≡ compiled_staying plan deps stays → compiled_staying_if_few plan deps stays ≡ Ok p
-few_compile plan deps stays p few e = rw few (ap Ok (sym e))

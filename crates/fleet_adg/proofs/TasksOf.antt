@@ -1,6 +1,6 @@
 -- The tasks of an accepted program.
-use Rattle.std.proofs.Common.{◌≡◌, ◌≢◌, ℕ, ◌+◌, ◌<◌, ◌≤◌, Bool, true, List, [], ◌∷◌, ◌++◌, length, map, get_or, Some, refl, sym, ap, subst, ◌∙◌, arith}
-use Rattle.std.specs.Prelude.{All, AllPairs, IsTrue, slice_get}
+use Rattle.std.proofs.Common.{◌≡◌, ◌≢◌, ℕ, ◌+◌, ◌<◌, List, [], ◌∷◌, ◌++◌, length, map, get_or, sym, ap, subst, ◌∙◌, arith}
+use Rattle.std.specs.Prelude.{All, IsTrue}
 use Rattle.std.proofs.lemmas.List.{ext_get_or}
 use Rattle.std.proofs.lemmas.List.FromFn.{get_or-map-range_with_len, length-map-range_with_len, map-range_with_len_more}
 use Rattle.std.proofs.lemmas.Option.{slice_get-get_or}
@@ -9,8 +9,8 @@ use Rattle.fleet_model.specs.declared.geometry.Place.{Place}
 use Rattle.fleet_model.specs.declared.standing.Standing.{Standing}
 use Rattle.fleet_model.specs.declared.task.Task.{Task}
 use Rattle.fleet_model.specs.Geometry.{place_of}
-use Rattle.fleet_model.specs.Program.{Program, start_of, goal_of, moves, path, IsWellFormed}
-use Rattle.fleet_model.specs.Machine.{run, place_at, indices}
+use Rattle.fleet_model.specs.Program.{Program, start_of, goal_of, moves, IsWellFormed}
+use Rattle.fleet_model.specs.Machine.{indices}
 use Rattle.fleet_model.specs.Accepted.{HasTasks, IsRight}
 use Rattle.fleet_model.specs.Run.{motion, IsSafe}
 use Rattle.fleet_model.proofs.Tick.{standing_at_opening}

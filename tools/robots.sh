@@ -13,6 +13,9 @@ pipes=$(mktemp -d) || exit 2
 trap 'rm -rf "$pipes"' EXIT
 mkfifo "$pipes/reports" "$pipes/orders" "$pipes/line" || exit 2
 : > "$pipes/log"
+# The first dispatch has no log: the report that opens the pipe would count twice.
+: > "$pipes/none"
+past=none
 $fleet instance "$1" "$2" > "$pipes/instance" || exit 2
 
 # Gives on the lines of the reports, and of the Nth only a part.
@@ -32,7 +35,7 @@ give_on() {
 begin() {
     give_on <&3 > "$pipes/line" &
     giver=$!
-    $fleet dispatch "$1" "$2" "$3" --ahead "${AHEAD:-1}" --resume "$pipes/log" < "$pipes/line" &
+    $fleet dispatch "$1" "$2" "$3" --ahead "${AHEAD:-1}" --resume "$pipes/$past" < "$pipes/line" &
     dispatch=$!
 }
 
@@ -50,6 +53,7 @@ begin() {
             wait $giver 2> "$pipes/gone"
             [ $ended -eq 137 ] || [ $ended$is_cut = 11 ] || break
             echo again
+            past=log
             begin "$1" "$2" "$3"
         fi
         echo tick

@@ -82,12 +82,12 @@ done
 echo $order
 EOF
 
-# shallow COMMAND..: with a stack of 72 KB, and no environment on it.
+# shallow COMMAND..: with a stack of 88 KB, and no environment on it.
 cat > "$work/bin/shallow" <<'EOF'
 #!/bin/sh
 program=$(command -v "$1")
 ulimit -c 0
-ulimit -s 72
+ulimit -s 88
 shift
 exec env -i "$program" "$@"
 EOF

@@ -23,9 +23,9 @@ status=0
 judge 'docs/REFUSALS.md has a section for each refusal, and no other' 'sections of docs/REFUSALS.md against crates/*/specs/RefusalWords.antt' 0
 
 cat "$work"/REFUSALS/*.err | sed "$plain" | sort -u > "$work/out"
-grep -v '^run 2 Source$\|^dispatch 6 ReportLimit$\|^dispatch 8 LogWrite$' "$work/want.out" > "$work/want" && mv "$work/want" "$work/want.out"
+grep -v '^run 2 Source$\|^dispatch 6 ReportLimit$' "$work/want.out" > "$work/want" && mv "$work/want" "$work/want.out"
 status=0
-judge 'docs/REFUSALS.md has an example of each refusal but run 2, dispatch 6 and dispatch 8' 'examples of docs/REFUSALS.md' 0
+judge 'docs/REFUSALS.md has an example of each refusal but run 2 and dispatch 6' 'examples of docs/REFUSALS.md' 0
 
 # The program of docs/LIBRARY.md is code that the gate proves.
 awk '/^```$/ { on = 0 } on; /^```rust$/ { on = 1 }' "$root/docs/LIBRARY.md" > "$work/out"

@@ -14,7 +14,7 @@ function is_refusal(line) {
 }
 
 function status_of(line) {
-    return line ~ /^(run [24] |dispatch 5 |memory$|file )/ ? 3 : 1
+    return line ~ /^(run [24] |dispatch [58] |memory$|file )/ ? 3 : 1
 }
 
 function close_example() {

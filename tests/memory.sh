@@ -163,6 +163,7 @@ verify examples/corridor.map examples/corridor.scen examples/pair.program
 EOF
     check 'each growth refused: no words' 0 'each\n' '' 'input=examples/pair.hex growths fleet'
     check 'each growth refused: dispatch' 0 'each\n' '' "printf '%s\n' 0:1 '0:2 1:1' 1:2 > reports && input=reports spare=4 growths fleet dispatch $on examples/pair.program"
+    check '.. which keeps a log' 0 'each\n' '' "input=reports spare=4 growths fleet dispatch $on examples/pair.program --log out"
     check '.. which stops at a report' 0 'each\n' '' "printf '%s\n' 0:1 1:1 1:3 > reports && input=reports spare=4 growths fleet dispatch $on examples/pair.program"
     # The verifier says yes to most programs from a run ahead, for which it makes no machine, and goes through all others
     # again. No contract says which.

@@ -47,6 +47,27 @@ check 'a report that comes byte by byte' 0 'go 1:2 1,0 2,0\narrived\n' '' \
 check 'a dispatch stops at its end' 0 'reports 3\n' '' "printf '%s\\n' 0:1 '0:2 1:1' 1:2 0:1 x | fleet dispatch $pair | tail -n 1"
 check 'a log that is cut anywhere' 0 '17 arrived\n17 reports 3\n' '' \
     "printf '%s\\n' 0:1 '0:2 1:1' 1:2 > all; for n in \$(seq 0 16); do head -c \$n all > log; fleet dispatch $pair --resume log < all; done | grep -E '^(arrived|reports)' | sort | uniq -c | sed 's/^ *//'"
+check '.. and kept on' 0 '17 arrived\n17 reports 3\n' '' \
+    "for n in \$(seq 0 16); do head -c \$n all > log; fleet dispatch $pair --resume log --log log < all; cmp log all; done | grep -vE '^(go|agents|moves)' | sort | uniq -c | sed 's/^ *//'"
+check 'a dispatch that is killed after each report goes on after its log' 0 '0 4\n1 4\n2 4\n3 4\n' '' "
+    printf '%s\n' 0:1 0:2 1:1 1:2 > each
+    exec 5>&2 2> killed
+    for n in 0 1 2 3; do
+        rm -f pipe
+        : > kept
+        mkfifo pipe
+        fleet dispatch $pair --log kept < pipe > told &
+        exec 6> pipe
+        head -n \$n each >&6
+        until [ \$(wc -l < kept) -eq \$n ]; do sleep 0.01; done
+        kill -9 \$!
+        wait
+        exec 6>&-
+        tail -n +\$((n + 1)) each | fleet dispatch $pair --resume kept --log kept > rest 2>&5
+        cmp kept each >&5 && tail -n 1 rest | grep -qx 'reports 4' && echo \$n \$(cat told rest | grep '^go ' | sort -u | wc -l)
+    done"
+check 'a log that is a folder' 3 '' 'file examples\n' "fleet dispatch $pair --log examples < each"
+check 'a log that goes to a pipe' 0 '0:1\n0:2\n1:1\n1:2\n' '' "fleet dispatch $pair --log /dev/stderr < each 2>&1 > told | cat"
 check 'reports are closed' 3 'go 0:1 1,0 2,0\n' 'file -\n' "fleet dispatch $pair <&-"
 check 'reports are a folder' 3 'go 0:1 1,0 2,0\n' 'file -\n' "fleet dispatch $pair < examples"
 

@@ -2,9 +2,9 @@
 #     awk -v reports=PIPE -v log_file=FILE [-v repeats=1] [-v seed=N] [-v trace=FILE] -f tools/robots.awk INSTANCE ORDERS
 # INSTANCE is what `fleet instance` prints: where the robots stand. ORDERS are the lines of `fleet dispatch`, and between them lines `tick`, the
 # clock, and `again` where a dispatch was killed and another one goes on. A move takes a robot some ticks, by chance, of which some robots
-# need more than others. All that end in one tick are one report, which is logged before it is said. A robot claims the cell on which it
-# stands, and from its orders on also those to which they lead, until it has reported. It says at the end how many orders and ticks there
-# were, or else what was wrong. In the trace a line is a tick.
+# need more than others. All that end in one tick are one report; FILE is the log that the dispatch keeps. A robot claims the cell on which
+# it stands, and from its orders on also those to which they lead, until it has reported; it reports anew what it has carried out and is
+# ordered again. At the end stands how many orders and ticks there were, or else what was wrong. In the trace a line is a tick.
 
 function wrong(text) {
     if (!fault) print "wrong: " text
@@ -22,10 +22,8 @@ function release(cell) {
     if (--claims[cell] == 0) delete owner[cell]
 }
 
-# Says a report, which is logged before.
+# Says a report.
 function say(line) {
-    print line >> log_file
-    fflush(log_file)
     print line > reports
     fflush(reports)
 }
@@ -59,7 +57,6 @@ BEGIN {
     now = 0
     # A report of nobody, which opens the pipe.
     say("-")
-    sent = 1
 }
 
 # The robots, on their starts.
@@ -84,7 +81,7 @@ FNR == 1 { note() }
     n = name[2]
     if (n <= told[i]) {
         if (!is_again || $4 != way[i, n]) wrong("action " $2 " is ordered twice")
-        repeated++
+        if (n <= done[i]) anew[i] = 1
         next
     }
     if (n != told[i] + 1) wrong("action " $2 " is ordered out of turn")
@@ -106,12 +103,14 @@ FNR == 1 { note() }
     for (i = 0; i < robots; i++) {
         if ((i in is_moving) && ends[i] <= now) {
             done[i]++
-            line = line (line == "" ? "" : " ") i ":" done[i]
+            anew[i] = 1
             release(here[i])
             here[i] = way[i, done[i]]
             delete is_moving[i]
             begin(i)
         }
+        if (i in anew) line = line (line == "" ? "" : " ") i ":" done[i]
+        delete anew[i]
     }
     note()
     if (repeats && before != "" && rand() < 0.3) say(before)
@@ -119,7 +118,6 @@ FNR == 1 { note() }
         say(line)
         if (repeats && rand() < 0.3) say(line)
         before = line
-        sent++
     }
     next
 }
@@ -132,7 +130,11 @@ FNR == 1 { note() }
 }
 $1 == "agents" { if ($2 != robots) wrong($0); next }
 $1 == "moves" { if ($2 != orders) wrong($0); next }
-$1 == "reports" { if ($2 != sent) wrong($0); next }
+$1 == "reports" {
+    while ((getline line < log_file) > 0) logged++
+    if ($2 != logged) wrong($0)
+    next
+}
 { wrong("what is this: " $0) }
 
 END {

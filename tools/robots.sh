@@ -5,7 +5,7 @@
 # clock ticks every hundredth of a second. Its number of ticks is printed on standard error. TRACE, if it is named, gets the places of the
 # robots in each tick, for tools/film.awk. A robot has up to K orders ahead (1). With REPEATS some reports come twice, or late a second
 # time. With KILL the dispatch is killed after every N ticks; with CUT the pipe that brings it the reports breaks within every Nth line. Then
-# another one goes on after the log of all reports.
+# another one goes on after the log that it keeps; what was under way is lost, and a robot that is ordered again what it did reports anew.
 
 fleet=${FLEET:-fleet}
 here=$(cd "$(dirname "$0")" && pwd) || exit 2
@@ -13,9 +13,6 @@ pipes=$(mktemp -d) || exit 2
 trap 'rm -rf "$pipes"' EXIT
 mkfifo "$pipes/reports" "$pipes/orders" "$pipes/line" || exit 2
 : > "$pipes/log"
-# The first dispatch has no log: the report that opens the pipe would count twice.
-: > "$pipes/none"
-past=none
 $fleet instance "$1" "$2" > "$pipes/instance" || exit 2
 
 # Gives on the lines of the reports, and of the Nth only a part.
@@ -35,7 +32,7 @@ give_on() {
 begin() {
     give_on <&3 > "$pipes/line" &
     giver=$!
-    $fleet dispatch "$1" "$2" "$3" --ahead "${AHEAD:-1}" --resume "$pipes/$past" < "$pipes/line" &
+    $fleet dispatch "$1" "$2" "$3" --ahead "${AHEAD:-1}" --resume "$pipes/log" --log "$pipes/log" < "$pipes/line" &
     dispatch=$!
 }
 
@@ -53,7 +50,6 @@ begin() {
             wait $giver 2> "$pipes/gone"
             [ $ended -eq 137 ] || [ $ended$is_cut = 11 ] || break
             echo again
-            past=log
             begin "$1" "$2" "$3"
         fi
         echo tick

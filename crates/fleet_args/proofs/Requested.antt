@@ -214,6 +214,7 @@ module _ (names : OptionNames) (are : AreNames names) (shape : Shape) (negates :
   has a.Without place alone = refl
   has a.MapOut place alone = refl
   has a.OthersOut place alone = refl
+  has a.Log place alone = refl
 
   have : (place : ℕ) (xs : List Argument) → AreAt names shape place xs → list_all (has_value (values shape negates words none)) xs ≡ true
   have place [] h = refl

@@ -126,6 +126,7 @@ rule_for names a.ProgramOut = word (codes "program_out")
 rule_for names a.Without = option (codes "without")
 rule_for names a.MapOut = option (codes "map-out")
 rule_for names a.OthersOut = option (codes "others-out")
+rule_for names a.Log = option (codes "log")
 
 -- a command without subcommands, by its name and its arguments
 abbrev pub command : Text → List Rule → Shape

@@ -40,7 +40,7 @@ commands =
     (codes "thin", a.Map ∷ a.Scen ∷ a.Program ∷ a.Out ∷ a.Agents ∷ []) ∷
     (codes "migrate", a.Program ∷ a.Out ∷ []) ∷
     (codes "list", a.Program ∷ []) ∷
-    (codes "dispatch", a.Map ∷ a.Scen ∷ a.Program ∷ a.Agents ∷ a.Ahead ∷ a.Unnumbered ∷ a.Resume ∷ []) ∷
+    (codes "dispatch", a.Map ∷ a.Scen ∷ a.Program ∷ a.Agents ∷ a.Ahead ∷ a.Unnumbered ∷ a.Resume ∷ a.Log ∷ []) ∷
     (codes "times", a.Map ∷ a.Scen ∷ a.Program ∷ a.Agents ∷ a.Costs ∷ a.Broken ∷ []) ∷
     (codes "rest", a.Map ∷ a.Scen ∷ a.Program ∷ a.Reports ∷ a.ScenOut ∷ a.ProgramOut ∷ a.Agents ∷ a.Without ∷ a.MapOut ∷ a.OthersOut ∷ []) ∷
     []
@@ -91,6 +91,7 @@ AsksCommand name values (r.List q) = (name ≡ codes "list") × IsText values (c
 AsksCommand name values (r.Dispatch q) =
     (name ≡ codes "dispatch") × AsksProgram values q.map q.scen q.program q.agents × IsNumber values (codes "ahead") q.ahead
     × IsFlag values (codes "unnumbered") q.unnumbered × IsTextIfUsed values (codes "resume") q.resume
+    × IsTextIfUsed values (codes "log") q.log
 AsksCommand name values (r.Times q) =
     (name ≡ codes "times") × AsksProgram values q.map q.scen q.program q.agents × IsTextIfUsed values (codes "costs") q.costs
     × IsTextIfUsed values (codes "broken") q.broken

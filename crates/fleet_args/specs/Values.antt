@@ -140,3 +140,4 @@ has_value values a.ProgramOut = has_text values (codes "program_out")
 has_value values a.Without = true
 has_value values a.MapOut = true
 has_value values a.OthersOut = true
+has_value values a.Log = true

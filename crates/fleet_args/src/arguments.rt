@@ -47,6 +47,7 @@ pub(crate) enum Argument {
     Without,
     MapOut,
     OthersOut,
+    Log,
 }
 
 /// The values that an argument takes.
@@ -301,6 +302,15 @@ const OTHERS_OUT: ArgumentText = ArgumentText {
     default: None,
 };
 
+const LOG: ArgumentText = ArgumentText {
+    name: "log",
+    value: "FILE",
+    help: "Appends each report that is taken to this file, on the disk before anything follows from it",
+    is_word: false,
+    values: Values::Text,
+    default: None,
+};
+
 /// What this argument is.
 fn text_of(argument: Argument) -> ArgumentText
     ensures { (names : OptionNames) → rule_by names result ≡ rule_for names argument }
@@ -330,6 +340,7 @@ fn text_of(argument: Argument) -> ArgumentText
         Argument::Without => WITHOUT,
         Argument::MapOut => MAP_OUT,
         Argument::OthersOut => OTHERS_OUT,
+        Argument::Log => LOG,
     }
 }
 

@@ -130,7 +130,7 @@ pub struct ListRequest<'a> {
     pub program: &'a str,
 }
 
-/// `fleet dispatch MAP SCEN PROGRAM [--agents K] [--ahead K] [--unnumbered] [--resume FILE]`
+/// `fleet dispatch MAP SCEN PROGRAM [--agents K] [--ahead K] [--unnumbered] [--resume FILE] [--log FILE]`
 #[derive(Clone, Copy)]
 pub struct DispatchRequest<'a> {
     pub map: &'a str,
@@ -140,6 +140,7 @@ pub struct DispatchRequest<'a> {
     pub ahead: u16,
     pub unnumbered: bool,
     pub resume: Option<&'a str>,
+    pub log: Option<&'a str>,
 }
 
 /// `fleet times MAP SCEN PROGRAM [--agents K] [--costs FILE] [--broken ACTIONS]`
@@ -304,6 +305,7 @@ pub(crate) static COMMANDS: [CommandText; 14] = [
             Argument::Ahead,
             Argument::Unnumbered,
             Argument::Resume,
+            Argument::Log,
         ],
     },
     CommandText {
@@ -507,6 +509,7 @@ fn dispatch_in<'a>(matches: &ArgMatches<'a>) -> Request<'a>
         ahead: given_number(matches, "ahead"),
         unnumbered: used(matches, "unnumbered"),
         resume: matches.get_str("resume"),
+        log: matches.get_str("log"),
     })
 }
 

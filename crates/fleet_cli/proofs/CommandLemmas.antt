@@ -10,7 +10,7 @@ use Rattle.fleet_dispatch.specs.Talk.{Talk}
 use Rattle.fleet_dispatch.specs.declared.form.ReportForm.{ReportForm}
 use Rattle.fleet_cli.specs.Command.{RunsRequest, StopsAtWords, RunsCommand}
 
-module _ {X : Type 0} (text : X → Text) (input : Option (List ℕ)) (files after : Option Store) (unread unwritten : Type 0) (talks : ReportForm → Talk → Type 0) (out out' err err' : SinkState) (status : ℕ) where
+module _ {X : Type 0} (text : X → Text) (input : Option (List ℕ)) (files after : Option Store) (unread unwritten : Type 0) (talks : (log log' : SinkState) → ReportForm → Talk → Type 0) (out out' err err' : SinkState) (status : ℕ) where
   pub asked : (ws : List X) (request : Request) → (ws ≡ [] → ⊥) → ReadsFleet (map text ws) (Ok request) → RunsRequest files after unread unwritten talks request out out' err err' status
       → RunsCommand (map text ws) input files after unread unwritten talks out out' err err' status
   asked [] request some h r = absurd (some refl)

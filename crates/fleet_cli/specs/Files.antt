@@ -1,5 +1,8 @@
 -- What a store of files holds, if it says so.
-use Rattle.std.specs.Prelude.{◌≡◌, ◌≢◌, ◌<◌, ◌≤◌, ℕ, List, length, Option, Some, None, ⊤}
+use Rattle.std.specs.Prelude.{◌≡◌, ◌≢◌, ◌<◌, ◌≤◌, ℕ, List, [], ◌∷◌, length, take, Option, Some, None, unwrap_or, option_map, Result, Ok, Err, ⊤, if◌then◌else◌}
+use Rattle.std.specs.List.{list_any}
+use Rattle.std.specs.Io.KnownBytes.{Appends}
+use Rattle.fleet_text.specs.Text.{is_lf}
 use Rattle.fleet_cli.specs.declared.input.TheConstants.{MAX_BYTES}
 
 -- the bytes of each file, by its name
@@ -37,3 +40,23 @@ ChangesOnly (Some files) (Some others) name = (n : List ℕ) → n ≢ name → 
 pub record Replaces (old new : Option Store) (name bytes : List ℕ) : Type 0 where
   pub held : HoldsBytes new name bytes
   pub others : ChangesOnly old new name
+
+-- ---- a file that grows
+
+-- the bytes of the named file, if the store says what it holds; none if there is no such file
+abbrev pub bytes_of : Option Store → List ℕ → Option (List ℕ)
+bytes_of files name = option_map (λ (store : Store). unwrap_or (store name) []) files
+
+-- the bytes up to the last LF, and with it
+unfoldable pub whole_lines : List ℕ → List ℕ
+whole_lines [] = []
+whole_lines (b ∷ bytes) = if list_any is_lf (b ∷ bytes) then b ∷ whole_lines bytes else []
+
+-- of the named file its whole lines are left
+abbrev pub HoldsLines : Option Store → Option Store → List ℕ → Type 0
+HoldsLines old new name = bytes_of new name ≡ option_map whole_lines (bytes_of old name)
+
+-- all of the bytes were put behind those of the named file, or a front of them was
+abbrev pub PutsBehind : {T E : Type 0} → Option Store → Option Store → List ℕ → Result T E → List ℕ → Type 0
+PutsBehind old new name (Ok _) bytes = Appends (bytes_of old name) (bytes_of new name) bytes
+PutsBehind old new name (Err _) bytes = (k : ℕ) × (k ≤ length bytes) × Appends (bytes_of old name) (bytes_of new name) (take k bytes)

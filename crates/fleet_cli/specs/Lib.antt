@@ -7,6 +7,8 @@ pub mod Named
 pub mod Output
 pub mod PrintCommands
 pub mod WriteCommands
+pub mod Journal
+pub mod JournalLaws
 pub mod DispatchCommand
 pub mod Command
 pub mod TimesCommand

@@ -2,7 +2,7 @@
 
 ghost use Rattle.std.specs.Prelude.{◌≡◌, map, string_bytes};
 ghost use Rattle.fleet_text.specs.Sink.{IsWorking};
-ghost use Rattle.fleet_dispatch.specs.Talk.{IsSaid};
+ghost use Rattle.fleet_dispatch.specs.Talk.{IsLogged};
 ghost use Rattle.fleet_cli.specs.Command.{names_by, names_of, AnswersRequest, RunsRequest, StopsAtWords, RunsCommand};
 
 use crate::dispatch_command::do_dispatch;
@@ -86,7 +86,7 @@ fn answer_request<'a, R: ReportsTo<O>, F: Files, O: Flush>(
     requires { IsWorking (O.state out.old) }
     ensures { AnswersRequest (F.contents files.old) (F.contents files.new)
         (input.new ≡ input.old) (out.new ≡ out.old)
-        (IsSaid R.talks input.old out.old input.new out.new) request.now texts
+        (IsLogged R.talks input.old out.old input.new out.new) request.now texts
         (O.state out.old) (O.state out.new) result }
 {
     match request {
@@ -101,7 +101,7 @@ fn answer_request<'a, R: ReportsTo<O>, F: Files, O: Flush>(
         Request::Thin(request) => do_thin(alloc, request, texts, files, out),
         Request::Migrate(request) => do_migrate(alloc, request, texts, files, out),
         Request::List(_) => do_list(alloc, texts, out),
-        Request::Dispatch(request) => do_dispatch(alloc, request, texts, input, out),
+        Request::Dispatch(request) => do_dispatch(alloc, request, texts, input, files, out),
         Request::Times(request) => do_times(alloc, request, texts, out),
         Request::Rest(request) => do_rest(alloc, request, texts, files, out),
     }
@@ -121,7 +121,7 @@ pub fn run_request<R: ReportsTo<O>, F: Files, O: Flush, E: TraceOut>(
     requires err_working { IsWorking (E.state err.old) }
     ensures { RunsRequest (F.contents files.old) (F.contents files.new)
         (input.new ≡ input.old) (out.new ≡ out.old)
-        (IsSaid R.talks input.old out.old input.new out.new) request.now
+        (IsLogged R.talks input.old out.old input.new out.new) request.now
         (O.state out.old) (O.state out.new) (E.state err.old) (E.state err.new) result }
 {
     match read_files(alloc, files, names_of(request)) {
@@ -172,7 +172,7 @@ pub fn run_command<R: ReportsTo<O>, F: Files, O: Flush, E: TraceOut>(
     ensures { RunsCommand (map string_bytes words.now) (R.remaining input.old)
         (F.contents files.old) (F.contents files.new)
         (input.new ≡ input.old) (out.new ≡ out.old)
-        (IsSaid R.talks input.old out.old input.new out.new)
+        (IsLogged R.talks input.old out.old input.new out.new)
         (O.state out.old) (O.state out.new)
         (E.state err.old) (E.state err.new)
         result }

@@ -1,10 +1,12 @@
 //! Stores of files, and the disk.
 
-ghost use Rattle.std.specs.Prelude.{◌≡◌, ◌≤◌, Err, IfOk, IfErr, OnOk, length};
-ghost use Rattle.fleet_cli.specs.Files.{Store, HoldsBytes, IsUnreadable, AreUnchanged, ChangesOnly, Replaces};
+ghost use Rattle.std.specs.Prelude.{◌≡◌, ◌≤◌, Err, IfOk, IfErr, OnOk, length, take};
+ghost use Rattle.fleet_cli.specs.Files.{Store, HoldsBytes, IsUnreadable, AreUnchanged, ChangesOnly, Replaces, HoldsLines, PutsBehind, whole_lines};
 
 use crate::input::{FileFault, MAX_BYTES, read_whole};
+use fleet_text::{WriteOut, put_all};
 use std::alloc::Global;
+use std::fs::{OpenFile, OpenOptions};
 use std::{fs, rt};
 
 /// A store of files, each with its bytes under its name.
@@ -37,6 +39,35 @@ pub trait Files {
             (Replaces (contents self.old) (contents self.new) name.now bytes.now) }
         ensures refused { IfErr result (refuses_write self.old name.now) }
         ensures others { ChangesOnly (contents self.old) (contents self.new) name.now };
+
+    /// Cuts off what stands behind the last LF of the file; a file that is not there is begun. After a refusal it may
+    /// hold any bytes.
+    fn cut_to_lines(&mut self, alloc: Global, name: &str) -> Result<(), FileFault>
+        ensures cut { OnOk result
+            (HoldsLines (contents self.old) (contents self.new) name.now) }
+        ensures others { ChangesOnly (contents self.old) (contents self.new) name.now };
+
+    /// Puts the bytes behind those of the file, and stores them before it answers; a file that is not there is begun.
+    fn append(&mut self, name: &str, bytes: &[u8]) -> Result<(), FileFault>
+        ensures grown { PutsBehind (contents self.old) (contents self.new) name.now result
+            bytes.now }
+        ensures others { ChangesOnly (contents self.old) (contents self.new) name.now };
+}
+
+/// How many bytes the whole lines have: those up to the last LF, and with it.
+pub fn lines_end(bytes: &[u8]) -> usize
+    ensures within { result ≤ length bytes.now }
+    ensures lines { take result bytes.now ≡ whole_lines bytes.now }
+{
+    let mut end = bytes.len();
+    while end > 0 {
+        let ends_line = bytes[end - 1] == b'\n';
+        if ends_line {
+            return end;
+        }
+        end -= 1;
+    }
+    0
 }
 
 /// The files of the disk, by their paths.
@@ -69,5 +100,49 @@ impl<'r, R: rt::Files> Files for Disk<'r, R> {
             Ok(()) => Ok(()),
             Err(_) => Err(FileFault::Failed),
         }
+    }
+
+    /// Of what is no file, as a pipe or a terminal, nothing is cut off.
+    fn cut_to_lines(&mut self, alloc: Global, name: &str) -> Result<(), FileFault> {
+        let mut file = open_to_append(self.runtime, name)?;
+        if !is_file(&file) {
+            return Ok(());
+        }
+        let bytes = read_whole(alloc, &mut file)?;
+        let end = lines_end(&bytes);
+        if end < bytes.len() && file.set_len(end as u64).is_err() {
+            return Err(FileFault::Failed);
+        }
+        Ok(())
+    }
+
+    /// What is put behind a file is on the disk when it is answered.
+    fn append(&mut self, name: &str, bytes: &[u8]) -> Result<(), FileFault> {
+        let mut file = open_to_append(self.runtime, name)?;
+        if put_all(&mut WriteOut::new(&mut file), bytes).is_err() {
+            return Err(FileFault::Failed);
+        }
+        if is_file(&file) && file.sync_data().is_err() {
+            return Err(FileFault::Failed);
+        }
+        Ok(())
+    }
+}
+
+/// The file of this path, which is begun if it is not there, to be read, and written behind its bytes.
+fn open_to_append<R: rt::Files>(runtime: &R, name: &str) -> Result<R::File, FileFault> {
+    let mut options = OpenOptions::new();
+    options.read(true).append(true).create(true);
+    match options.open(runtime, name) {
+        Ok(file) => Ok(file),
+        Err(_) => Err(FileFault::Failed),
+    }
+}
+
+/// Whether it is a file with bytes of its own, and no pipe, terminal or other device.
+fn is_file<F: OpenFile>(file: &F) -> bool {
+    match file.metadata() {
+        Ok(metadata) => metadata.is_file(),
+        Err(_) => false,
     }
 }

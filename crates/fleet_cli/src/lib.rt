@@ -1,7 +1,8 @@
 //! The program `fleet`: from its words to its status; its commands, the files and streams that they read and write, and
 //! refusals with their lines and statuses.
 //!
-//! `files` is the store of files, with the disk (`mem_files`: one in memory), and `input` reads an input whole. `fault`
+//! `files` is the store of files, with the disk (`mem_files`: one in memory), `journal` the log of a dispatch in one of
+//! them, and `input` reads an input whole. `fault`
 //! has every refusal of the program with its line and status, those of the fault within, and `finish`, by which every
 //! command ends; `named` reads all files that a command names, before any of them is judged.
 //!
@@ -25,6 +26,7 @@ mod dispatch_command;
 mod fault;
 mod files;
 mod input;
+mod journal;
 mod mem_files;
 mod named;
 mod output;

@@ -1,9 +1,9 @@
 //! Files in memory, for tests.
 
-ghost use Rattle.std.specs.Prelude.{◌≡◌, ◌≢◌, ◌≤◌, ◌<◌, ℕ, List, length, Some, None, Err, OnOk, OnErr, IfOk, IfErr, IfSome, IfNone};
+ghost use Rattle.std.specs.Prelude.{◌≡◌, ◌≢◌, ◌≤◌, ◌<◌, ◌++◌, ℕ, List, [], length, Some, None, Err, OnOk, OnErr, IfOk, IfErr, IfSome, IfNone, unwrap_or};
 ghost use Rattle.fleet_cli.specs.Files.{Replaces};
 
-use crate::files::Files;
+use crate::files::{Files, lines_end};
 use crate::input::{FileFault, MAX_BYTES};
 use fleet_model::OutOfMemory;
 use indexmap::IndexMap;
@@ -51,6 +51,28 @@ impl MemFiles {
             None => None,
         }
     }
+
+    /// A copy of the file's bytes, none if there is no file of this name.
+    fn copy_of(&self, name: &str) -> Result<Vec<u8>, OutOfMemory>
+        ensures { IfOk result (λ bytes. bytes.items ≡ unwrap_or (file_in self.now name.now) []) }
+    {
+        match self.get(name) {
+            Some(bytes) => Ok(Vec::from_slice(self.alloc, bytes)?),
+            None => Ok(Vec::new(self.alloc)),
+        }
+    }
+
+    /// Puts the bytes behind those of the file. A refusal changes nothing.
+    fn extend(&mut self, name: &str, bytes: &[u8]) -> Result<(), OutOfMemory>
+        ensures held { OnOk result (file_in self.new name.now
+            ≡ Some (unwrap_or (file_in self.old name.now) [] ++ bytes.now)) }
+        ensures others { (n : List ℕ) → n ≢ name.now → file_in self.new n ≡ file_in self.old n }
+        ensures refused { OnErr result ((n : List ℕ) → file_in self.new n ≡ file_in self.old n) }
+    {
+        let mut all = self.copy_of(name)?;
+        all.extend_from_slice(bytes)?;
+        self.put(name, &all)
+    }
 }
 
 impl Files for MemFiles {
@@ -91,6 +113,20 @@ impl Files for MemFiles {
             × ((n : List ℕ) → file_in self.new n ≡ file_in self.old n)) }
     {
         match self.put(name, bytes) {
+            Ok(()) => Ok(()),
+            Err(OutOfMemory) => Err(FileFault::OutOfMemory),
+        }
+    }
+
+    fn cut_to_lines(&mut self, _: Global, name: &str) -> Result<(), FileFault> {
+        let Ok(bytes) = self.copy_of(name) else {
+            return Err(FileFault::OutOfMemory);
+        };
+        self.write(name, &bytes[..lines_end(&bytes)])
+    }
+
+    fn append(&mut self, name: &str, bytes: &[u8]) -> Result<(), FileFault> {
+        match self.extend(name, bytes) {
             Ok(()) => Ok(()),
             Err(OutOfMemory) => Err(FileFault::OutOfMemory),
         }

@@ -16,7 +16,7 @@ pub mod AsRun
 pub mod Replaying
 pub mod Spelling
 pub mod Kept
-mod Said
+pub mod Said
 mod WindowLemmas
 mod StreamLemmas
 pub mod Stood

@@ -325,6 +325,14 @@ fn files_are_read_and_written(rt: HostRuntime) -> Result<(), Fail> {
     files.put("other", b"")?;
     assert!(rt; files.get("name") == Some(b"bytes".as_slice()));
     assert_eq!(rt; files.read(alloc, "name")?.as_slice(), b"bytes".as_slice());
+    files.cut_to_lines(alloc, "name")?;
+    assert!(rt; files.get("name") == Some(b"".as_slice()));
+    files.put("log", b"0:1\n1:1\n0")?;
+    files.cut_to_lines(alloc, "log")?;
+    files.append("log", b"0:2\n")?;
+    files.append("new", b"1:1\n")?;
+    assert!(rt; files.get("log") == Some(b"0:1\n1:1\n0:2\n".as_slice()));
+    assert!(rt; files.get("new") == Some(b"1:1\n".as_slice()));
     // No folder of the disk is called so.
     let mut disk = Disk::new(&rt);
     assert!(rt;
@@ -336,6 +344,12 @@ fn files_are_read_and_written(rt: HostRuntime) -> Result<(), Fail> {
     assert!(rt;
         matches!(
             disk.write("no/such/folder", b"").err(),
+            Some(FileFault::Failed)
+        )
+    );
+    assert!(rt;
+        matches!(
+            disk.append("no/such/folder", b"").err(),
             Some(FileFault::Failed)
         )
     );

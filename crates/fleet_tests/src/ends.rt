@@ -42,7 +42,7 @@ impl Write for Counter {
     }
 }
 
-/// Files of which so many reads and writes are done, and none after them.
+/// Files of which so many calls are done, and none after them.
 #[derive(Drop)]
 pub struct FailingFiles {
     pub files: MemFiles,
@@ -68,5 +68,21 @@ impl Files for FailingFiles {
         }
         self.calls -= 1;
         self.files.write(name, bytes)
+    }
+
+    fn cut_to_lines(&mut self, alloc: Global, name: &str) -> Result<(), FileFault> {
+        if self.calls == 0 {
+            return Err(FileFault::Failed);
+        }
+        self.calls -= 1;
+        self.files.cut_to_lines(alloc, name)
+    }
+
+    fn append(&mut self, name: &str, bytes: &[u8]) -> Result<(), FileFault> {
+        if self.calls == 0 {
+            return Err(FileFault::Failed);
+        }
+        self.calls -= 1;
+        self.files.append(name, bytes)
     }
 }

@@ -9,7 +9,10 @@ use crate::fleets::{PAIR_HEX, PAIR_MAP, PAIR_SCEN, PAIR_TEXT, PAIR_TRACE};
 use crate::streams::{FailingSource, ShortReader, ShortWriter};
 use fleet_cli::{FileFault, read_whole};
 use fleet_code::{load, read_hex};
-use fleet_dispatch::{DispatchFault, DispatchReport, Pace, ReportForm, dispatch_over};
+use fleet_dispatch::{
+    DispatchFault, DispatchReport, NoLog, Outset, Pace, ReportForm, ReportLog, SinkLog,
+    dispatch_logged,
+};
 use fleet_grid::{Grid, read_map};
 use fleet_model::{Place, Program, ProgramView};
 use fleet_run::{
@@ -180,12 +183,15 @@ fn flushes_reach_the_writer(rt: HostRuntime) -> Result<(), Fail> {
     Ok(())
 }
 
-/// Why a dispatch of the pair over these ends stopped, if it did.
-fn dispatch_answer(
+/// Why a dispatch of the pair over these ends, which keeps this log, stopped, if it did.
+fn logged_answer<L: ReportLog>(
     alloc: Global,
     mut input: ShortReader<'_>,
     output: &mut ShortWriter,
-) -> Result<Option<DispatchFault>, Fail> {
+    log: &mut L,
+) -> Result<Option<DispatchFault>, Fail>
+    requires { IsWorking (L.state log.old) }
+{
     let (grid, instance, program) = pair(alloc)?;
     let Ok(accepted) = verify(alloc, program, &grid, &instance) else {
         return Err(Fail::from("not accepted"));
@@ -195,7 +201,17 @@ fn dispatch_answer(
         form: ReportForm::Numbered,
         ahead: 1,
     };
-    Ok(dispatch_over(alloc, accepted, pace, b"", &mut input, &mut out).err())
+    let outset = Outset { pace, past: b"" };
+    Ok(dispatch_logged(alloc, accepted, outset, &mut input, &mut out, log).err())
+}
+
+/// .. which keeps none.
+fn dispatch_answer(
+    alloc: Global,
+    input: ShortReader<'_>,
+    output: &mut ShortWriter,
+) -> Result<Option<DispatchFault>, Fail> {
+    logged_answer(alloc, input, output, &mut NoLog)
 }
 
 /// Reports of the pair's robots, and the orders that they are given, which are handed on four times.
@@ -234,6 +250,53 @@ fn orders_fail_after_some_bytes(rt: HostRuntime) -> Result<(), Fail> {
     }
     for flushes in 0..4 {
         assert!(rt; is_cut(rt.alloc(), ORDERS.len(), flushes)?, "{flushes}");
+    }
+    Ok(())
+}
+
+/// How many bytes of the orders are told before the report of this line is logged.
+fn told_before(line: u64) -> usize {
+    match line {
+        1 => 15,
+        2 => 45,
+        3 => 60,
+        _ => 0,
+    }
+}
+
+/// Whether a dispatch whose log fails after so many bytes, or at the flush after so many, stops for that with no order
+/// more, or else goes to its end.
+fn is_unlogged(alloc: Global, room: usize, flushes: usize) -> Result<bool, Fail> {
+    let mut output = writer(alloc, ORDERS.len(), 4, None);
+    let mut kept = writer(alloc, room, flushes, None);
+    let input = ShortReader {
+        rest: REPORTS,
+        failing: None,
+    };
+    let mut log = SinkLog {
+        sink: WriteOut::new(&mut kept),
+    };
+    let fault = logged_answer(alloc, input, &mut output, &mut log)?;
+    let is_stopped = match fault {
+        None => room == REPORTS.len() && flushes == 3 && output.bytes.len() == ORDERS.len(),
+        Some(DispatchFault::LogWrite { line }) => {
+            (room < REPORTS.len() || flushes < 3) && output.bytes.len() == told_before(line)
+        }
+        Some(_) => false,
+    };
+    Ok(is_stopped && REPORTS.starts_with(&kept.bytes) && ORDERS.starts_with(&output.bytes))
+}
+
+#[test]
+fn logs_fail_after_some_bytes(rt: HostRuntime) -> Result<(), Fail> {
+    for room in 0..=REPORTS.len() {
+        assert!(rt; is_unlogged(rt.alloc(), room, 3)?, "{room}");
+    }
+    for flushes in 0..3 {
+        assert!(rt;
+            is_unlogged(rt.alloc(), REPORTS.len(), flushes)?,
+            "{flushes}"
+        );
     }
     Ok(())
 }

@@ -1,34 +1,62 @@
-use Rattle.std.proofs.Common.{List, ℕ, Ok, Err, Result, inl, inr, refl, subst}
+use Rattle.std.proofs.Common.{◌≡◌, ◌∙◌, List, ℕ, Option, Ok, Err, Result, inl, inr, refl, subst, rules}
 use Rattle.std.proofs.lemmas.Result.{err_from_is_err_and}
-use Rattle.fleet_dispatch.specs.Talk.{IsSaid}
-use Rattle.fleet_dispatch.specs.Replay.{DispatchesAfter}
+use Rattle.fleet_dispatch.specs.Talk.{IsLogged}
 use Rattle.fleet_dispatch.specs.Session.{first_course}
-use Rattle.fleet_dispatch.specs.declared.pace.Pace.{Pace}
-use Rattle.fleet_dispatch.specs.declared.run.DispatchReport.{DispatchReport}
-use Rattle.fleet_dispatch.specs.declared.fault.DispatchFault.{DispatchFault}
-use Rattle.fleet_cli.specs.DispatchCommand.{pace_of}
+use Rattle.fleet_dispatch.specs.Replay.{DispatchesAfter}
+use Rattle.fleet_cli.specs.Files.{Store}
+use Rattle.fleet_cli.specs.DispatchCommand.{AnswersDispatch}
+use Rattle.fleet_cli.specs.Steps.{AcceptsTexts}
+use Rattle.fleet_cli.specs.Journal.{IsKeptAfter, log_in}
+use Rattle.fleet_cli.specs.declared.fault.Fault.TheVariants as f
+use Rattle.fleet_cli.proofs.DispatchLemmas.{led, others_on}
+use Rattle.fleet_cli.proofs.FileLemmas.{kept_self}
 use Rattle.fleet_cli.proofs.dispatch_command.do_dispatch.Goals as goal
 
 pub returns-in-Ok : goal.returns-in-Ok
 returns-in-Ok g c =
-    let Told : Pace → List ℕ → Type 0 =
-    λ pace log. DispatchesAfter (first_course c.in_ok-accepted.accepted.program.program pace) log (IsSaid g.R.ReportsTo.talks c.args.input.now c.args.out.now c.dispatch_over.new.input c.dispatch_over.new.orders pace.form) (Ok c.in-Ok.field-0) in
-    let told = subst (Told (pace_of c.args.request.now)) c.deref.ensures.value (subst (λ (pace : Pace). Told pace c.deref.result.now) c.pace_of.ensures c.in-Ok.ensures) in
-    inl (record { ground = c.in_ok-problem.problem.grid; tasks = c.in_ok-problem.problem.instance; texts = c.in_ok-problem.ensures.read; program = c.in_ok-accepted.accepted.program.program; chain = c.in_ok-accepted.accepted.chain; accepts = c.in_ok-accepted.ensures.accepted }, (Ok c.in-Ok.field-0, told, refl))
+    let files = g.F.Files.contents c.args.files.now in
+    let mid = g.F.Files.contents c.begin_log.new.files in
+    let after = g.F.Files.contents c.dispatch_kept.new.files in
+    let r = c.args.request.now in
+    let p = c.in_ok-accepted.accepted.program.program in
+    let talks = IsLogged g.R.ReportsTo.talks c.args.input.now c.args.out.now c.dispatch_kept.new.input c.dispatch_kept.new.out in
+    let past = subst (λ (bytes : List ℕ). DispatchesAfter (first_course p c.pace_of.result) bytes (IsKeptAfter (log_in mid r.log) after r.log talks c.pace_of.result.form) (Ok c.in-Ok.field-0)) c.deref.ensures.value c.in-Ok.ensures.outcome in
+    inl (
+      record { ground = c.in_ok-problem.problem.grid; tasks = c.in_ok-problem.problem.instance; texts = c.in_ok-problem.ensures.read; program = p; chain = c.in_ok-accepted.accepted.chain; accepts = c.in_ok-accepted.ensures.accepted },
+      led files mid after r p c.args.texts.log.items _ talks (Ok c.in-Ok.field-0) (Ok 0) c.pace_of.result c.in_ok-begin_log.ensures.lines c.pace_of.ensures past refl,
+      others_on files mid after r.log c.in_ok-begin_log.ensures.others c.in-Ok.ensures.others,
+    )
 
 pub returns : goal.returns
 returns g c =
-    let Told : Pace → List ℕ → Type 0 =
-    λ pace log. DispatchesAfter (first_course c.in_ok-accepted.accepted.program.program pace) log (IsSaid g.R.ReportsTo.talks c.args.input.now c.args.out.now c.dispatch_over.new.input c.dispatch_over.new.orders pace.form) (Err c.in-Err.fault) in
-    let told = subst (Told (pace_of c.args.request.now)) c.deref.ensures.value (subst (λ (pace : Pace). Told pace c.deref.result.now) c.pace_of.ensures c.in-Err.ensures) in
-    inl (record { ground = c.in_ok-problem.problem.grid; tasks = c.in_ok-problem.problem.instance; texts = c.in_ok-problem.ensures.read; program = c.in_ok-accepted.accepted.program.program; chain = c.in_ok-accepted.accepted.chain; accepts = c.in_ok-accepted.ensures.accepted }, (Err c.in-Err.fault, told, refl))
+    let files = g.F.Files.contents c.args.files.now in
+    let mid = g.F.Files.contents c.begin_log.new.files in
+    let after = g.F.Files.contents c.dispatch_kept.new.files in
+    let r = c.args.request.now in
+    let p = c.in_ok-accepted.accepted.program.program in
+    let talks = IsLogged g.R.ReportsTo.talks c.args.input.now c.args.out.now c.dispatch_kept.new.input c.dispatch_kept.new.out in
+    let past = subst (λ (bytes : List ℕ). DispatchesAfter (first_course p c.pace_of.result) bytes (IsKeptAfter (log_in mid r.log) after r.log talks c.pace_of.result.form) (Err c.in-Err.fault)) c.deref.ensures.value c.in-Err.ensures.outcome in
+    inl (
+      record { ground = c.in_ok-problem.problem.grid; tasks = c.in_ok-problem.problem.instance; texts = c.in_ok-problem.ensures.read; program = p; chain = c.in_ok-accepted.accepted.chain; accepts = c.in_ok-accepted.ensures.accepted },
+      led files mid after r p c.args.texts.log.items _ talks (Err c.in-Err.fault) (Err (f.Dispatch c.in-Err.fault)) c.pace_of.result c.in_ok-begin_log.ensures.lines c.pace_of.ensures past refl,
+      others_on files mid after r.log c.in_ok-begin_log.ensures.others c.in-Err.ensures.others,
+    )
 
 pub returns-in_err-problem : goal.returns-in_err-problem
 returns-in_err-problem g c =
     let e = err_from_is_err_and c.from_residual.result c.from_residual.ensures.1 in
-    rw (e.1, e.2) (inr (_, refl, inl c.in_err-problem.ensures.fault, (refl, refl)))
+    rw (e.1, e.2) (inr (_, refl, inl c.in_err-problem.ensures.fault, kept_self _, (refl, refl)))
 
 pub returns-in_err-accepted : goal.returns-in_err-accepted
 returns-in_err-accepted g c =
     let e = err_from_is_err_and c.from_residual-in_err-accepted.result c.from_residual-in_err-accepted.ensures.1 in
-    rw (e.1, e.2) (inr (_, refl, inr (_, _, c.in_ok-problem.ensures.read, c.in_err-accepted.ensures.fault), (refl, refl)))
+    rw (e.1, e.2) (inr (_, refl, inr (_, _, c.in_ok-problem.ensures.read, c.in_err-accepted.ensures.fault), kept_self _, (refl, refl)))
+
+pub returns-in_err-begin_log : goal.returns-in_err-begin_log
+returns-in_err-begin_log g c =
+    let e = err_from_is_err_and c.from_residual-in_err-begin_log.result c.from_residual-in_err-begin_log.ensures.1 in
+    rw (e.1, e.2) (inl (
+      record { ground = c.in_ok-problem.problem.grid; tasks = c.in_ok-problem.problem.instance; texts = c.in_ok-problem.ensures.read; program = c.in_ok-accepted.accepted.program.program; chain = c.in_ok-accepted.accepted.chain; accepts = c.in_ok-accepted.ensures.accepted },
+      inr (_, refl, c.in_err-begin_log.ensures.fault, (refl, refl)),
+      c.in_err-begin_log.ensures.others,
+    ))

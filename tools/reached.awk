@@ -1,6 +1,6 @@
 # Which definitions of specs/ docs/DEFINITIONS.md has: those that the contracts of the calls of tests/names.txt and of the exports for
-# callers in C name, or docs/PROVED.md; and of those that these reach the ones that three others cite, and all of fleet_model. One that a
-# single other definition cites, or two, stands beside these in its file. tools/definitions.sh gives the files: tests/names.txt,
+# callers in C name, or docs/PROVED.md; and of those that these reach the ones that five others cite, and all of fleet_model. One that a
+# single other definition cites, or a few, stands beside these in its file. tools/definitions.sh gives the files: tests/names.txt,
 # docs/PROVED.md, each crate's src/lib.rt before its other sources, then specs/.
 #     awk -f tools/reached.awk tests/names.txt docs/PROVED.md crates/NAME/src/lib.rt .. crates/NAME/specs/FILE.antt ..
 # Writes a line CRATE.FILE NAME for each.
@@ -141,7 +141,7 @@ END {
     for (i = 1; i <= count; i++) {
         key = order[i]
         split(key, at, SUBSEP)
-        if (wanted[key] && (key in is_named || users[key] > 2 || at[1] ~ /^fleet_model\./)) print at[1], at[2]
+        if (wanted[key] && (key in is_named || users[key] > 4 || at[1] ~ /^fleet_model\./)) print at[1], at[2]
     }
 }
 

@@ -23,7 +23,7 @@ TO = $(DESTDIR)$(PREFIX)
 .PHONY: help lib look test examples edits neutral numbers demo picture definitions transcripts install
 
 help:
-	@echo 'make look                  runs the program on examples in a few minutes, with nothing proved'
+	@echo 'make look                  runs the program on examples within two minutes, with nothing proved'
 	@echo 'make demo                  builds the program (the first time a quarter of an hour) and shows it on examples'
 	@echo 'make lib                   builds libfleet for callers in C, C++, Rust and Python, and its header, in $(LIBRARY)'
 	@echo 'make install PREFIX=DIR    puts the program at DIR/bin/fleet ($(PREFIX) where none is given), and libfleet in DIR/lib'

@@ -18,5 +18,5 @@ cp examples/warehouse.trace "$cases/auto-warehouse.stdout"
 for file in corridor.map corridor.scen corridor.holds warehouse.map warehouse.scen warehouse.holds; do
     set -- "$@" --data "$file=../../examples/$file"
 done
-echo 'Nothing is proved by this: it builds the program as it stands, and runs it with checks, in a few minutes.'
+echo 'Nothing is proved by this: it builds the program as it stands, and runs it with checks, within two minutes.'
 cd crates/fleet && rt try --cases "$cases" "$@" 2> "$work/said" || { status=$?; tail -n 20 "$work/said"; exit $status; }

@@ -3,13 +3,15 @@
 PREFIX ?= /usr/local
 BUILT = crates/fleet/out/fleet
 LOG = crates/fleet/out/build.log
-# How many crates are proved side by side: one for each processor, if each has 3 GB. With JOBS= one after another.
+# How many processes prove a crate: one for each processor, if each has 3 GB. Two crates are proved side by side, where
+# neither uses the other. With JOBS= it is for rt to say.
 JOBS ?= $(shell awk -v n="$$(getconf _NPROCESSORS_ONLN)" '/^MemAvailable/ { m = int($$2 / 3e6) } END { if (m > n) m = n; print m < 1 ? 1 : m }' /proc/meminfo)
 # Another program to try: make examples FLEET=PATH
 FLEET = $(BUILT)
 # The library for callers in C. LIBRARY= leaves it out, and so it is where there is no C compiler.
 LIBRARY = $(shell command -v cc > /dev/null && command -v objcopy > /dev/null && echo crates/fleet_c/out/library)
 ARCHIVE = $(LIBRARY:%=%/libfleet.a)
+PROVE = awk -v jobs=$(JOBS) -f tools/prove.awk crates.txt | $(MAKE) -j 2 -f - fleet_cli
 SOURCES = crates.txt $(shell find crates -path '*/out' -prune -o \( -name '*.rt' -o -name '*.antt' \) -print)
 
 WAREHOUSE = examples/warehouse.map examples/warehouse.scen
@@ -44,12 +46,12 @@ test:
 	rt ci
 	@$(MAKE) --no-print-directory examples JOBS=
 
-# Proves the crates, as many side by side as there are processors and memory for, and then builds the program and has it
-# print its help. What the prover says goes to a file.
+# Proves the crates below the program, each after those that it uses, and then builds the program and has it print its
+# help. What the prover says goes to a file.
 $(BUILT): $(SOURCES)
 	@mkdir -p $(@D)
 	@echo 'Proving the crates and building fleet: half an hour the first time. The lines of the prover go to $(LOG).'
-	@($(if $(JOBS),rt all check --jobs $(JOBS) && )cd crates/fleet && rt run -- --help) > $(LOG) 2>&1 || { tail -n 20 $(LOG); exit 1; }
+	@($(if $(JOBS),$(PROVE) && )cd crates/fleet && rt run -- --help) > $(LOG) 2>&1 || { tail -n 20 $(LOG); exit 1; }
 	@touch $@
 
 lib: $(ARCHIVE)

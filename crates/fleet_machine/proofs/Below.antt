@@ -15,7 +15,7 @@ pub none_if_higher : (word place end : ℕ) → IsLowest word place → end ≤ 
 none_if_higher word place end low le k lt = low.lower k (omega arith)
 
 module _ (word place : ℕ) where
-  above : (j : ℕ) → bit_at (word / 2 ^ place / 2 ^ 1) j ≡ bit_at word (place + (1 + j))
+  pub above : (j : ℕ) → bit_at (word / 2 ^ place / 2 ^ 1) j ≡ bit_at word (place + (1 + j))
   above j = bit_shifted (word / 2 ^ place) 1 j ∙ bit_shifted word place (1 + j)
 
   above_at : (k : ℕ) → place < k → bit_at word k ≡ bit_at (word / 2 ^ place / 2 ^ 1) (k - place - 1)

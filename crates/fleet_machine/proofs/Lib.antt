@@ -6,9 +6,11 @@ pub mod Flags
 mod Marked
 pub mod Copied
 pub mod Below
+pub mod Onward
 pub mod Without
 pub mod Indices
 pub mod Lacking
+pub mod Placed
 pub mod Judging
 pub mod Waking
 pub mod Advanced

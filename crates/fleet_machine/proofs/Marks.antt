@@ -132,10 +132,6 @@ module _ (p : Program) (held : ℕ → Bool) (m : MachineState) (runs : Runs p m
       and_left true b h = refl
       and_left false b h = h
 
--- a flag that is written as it is
-pub left_kept : (flags : List Bool) (i : ℕ) → (true ≡ true → get_or flags i false ≡ true) → flags ≡ set flags i true
-left_kept flags i is = sym (ap (λ (b : Bool). set flags i b) (sym (is refl)) ∙ set-get_or flags i false)
-
 -- who has an action left after a tick had one before
 pub flagged_after : (p : Program) (held : ℕ → Bool) (m : MachineState) → Runs p m → (k : ℕ) → k < length p → is_left p (tick p held m.configuration) k ≡ true → flag_of m.left k ≡ true
 flagged_after p held m runs k agent left =

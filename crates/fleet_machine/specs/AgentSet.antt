@@ -3,6 +3,7 @@ use Rattle.std.specs.Prelude.{◌≡◌, ℕ, ◌+◌, ◌/◌, ◌%◌, ◌<◌
 use Rattle.std.specs.Int.{bit_at}
 use Rattle.fleet_model.specs.declared.limits.TheConstants.{MAX_AGENTS}
 use Rattle.fleet_model.specs.Machine.{indices}
+use Rattle.fleet_machine.specs.declared.cursor.Cursor.{Cursor}
 use Rattle.fleet_machine.specs.Machine.{flag_of}
 
 abbrev pub bit_if : Bool → ℕ
@@ -68,3 +69,9 @@ pub record IsLastBefore (flags : List Bool) (end i : ℕ) : Type 0 where
   pub before : i < end
   pub member : flag_of flags i ≡ true
   pub between : (k : ℕ) → i < k → k < end → flag_of flags k ≡ false
+
+-- the bits of the cursor are the flags from its agent on up to some agent, and none is set from there on
+pub record IsCursorOf (flags : List Bool) (cursor : Cursor) : Type 0 where
+  pub span : ℕ
+  pub here : (k : ℕ) → k < span → flag_of flags (cursor.from + k) ≡ (bit_at cursor.bits k == 1)
+  pub past : (k : ℕ) → span ≤ k → bit_at cursor.bits k ≡ 0

@@ -1,10 +1,11 @@
 //! Sets of agents, a bit for each agent. The next member is found at a look at three words.
 
-ghost use Rattle.std.specs.Prelude.{◌≡◌, ◌≢◌, ◌<◌, ◌≤◌, ◌+◌, ◌^◌, ℕ, length, set, replicate, true, false, not, ◌&&◌, ◌==◌, MatchOption};
+ghost use Rattle.std.specs.Prelude.{◌≡◌, ◌≢◌, ◌<◌, ◌≤◌, ◌+◌, ◌^◌, ℕ, length, set, replicate, true, false, not, ◌&&◌, ◌==◌, MatchOption, IfSome};
 ghost use Rattle.std.specs.Int.{bit_at};
 ghost use Rattle.fleet_machine.specs.Machine.{flag_of};
-ghost use Rattle.fleet_machine.specs.AgentSet.{bit_if, IsLowest, IsHighestBelow, HasNoneBelow, IsNextFrom, IsLastBefore, AreNoneFrom, AreNoneIn, AreMarks};
+ghost use Rattle.fleet_machine.specs.AgentSet.{bit_if, IsLowest, IsHighestBelow, HasNoneBelow, IsNextFrom, IsLastBefore, AreNoneFrom, AreNoneIn, AreMarks, IsCursorOf};
 
+use crate::cursor::Cursor;
 use fleet_model::MAX_AGENTS;
 use std::marker::Model;
 
@@ -320,5 +321,38 @@ impl AgentSet {
             return None;
         };
         Some((WORD * at + place) as u16)
+    }
+
+    /// The first member from the cursor on, which goes on behind it.
+    #[inline(always)]
+    pub fn next_at(&self, cursor: &mut Cursor) -> Option<u16>
+        requires { IsCursorOf self.now cursor.old }
+        ensures next { MatchOption result
+            (AreNoneFrom self.now cursor.old.from) (IsNextFrom self.now cursor.old.from) }
+        ensures behind { IfSome result (λ i. cursor.new.from ≡ i + 1) }
+        ensures cursor { IsCursorOf self.now cursor.new }
+    {
+        let _ = &self.words;
+        match lowest(cursor.bits) {
+            Some(skipped) => Some(cursor.pass(skipped as u16)),
+            None => self.next_apart(cursor),
+        }
+    }
+
+    /// The first member from the cursor on, which goes on behind it, and with the flags that stand in its word.
+    fn next_apart(&self, cursor: &mut Cursor) -> Option<u16>
+        requires { IsCursorOf self.now cursor.old }
+        ensures next { MatchOption result
+            (AreNoneFrom self.now cursor.old.from) (IsNextFrom self.now cursor.old.from) }
+        ensures behind { IfSome result (λ i. cursor.new.from ≡ i + 1) }
+        ensures cursor { IsCursorOf self.now cursor.new }
+    {
+        let i = self.next(cursor.from)?;
+        let word = self.words[i as usize / WORD];
+        *cursor = Cursor {
+            from: i + 1,
+            bits: word >> (i % 64) >> 1,
+        };
+        Some(i)
     }
 }

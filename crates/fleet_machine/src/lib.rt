@@ -18,10 +18,12 @@
 #![tactic(auto)]
 
 mod agent_set;
+mod cursor;
 mod machine;
 mod steps;
 mod wait_lists;
 
 pub use agent_set::AgentSet;
+pub use cursor::Cursor;
 pub use machine::{Machine, Tick};
 pub use wait_lists::WaitLists;

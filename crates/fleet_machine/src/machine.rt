@@ -6,7 +6,7 @@ ghost use Rattle.fleet_model.specs.Geometry.{place_of, stepped};
 ghost use Rattle.fleet_model.specs.Program.{moves, awaits_of, IsWellFormed};
 ghost use Rattle.fleet_model.specs.Machine.{opening, is_finished, next_action, is_ready, is_met, tick, moved_in, is_ready_held, standing_at, count_at, indices};
 ghost use Rattle.fleet_model.specs.Claims.{order_of};
-ghost use Rattle.fleet_machine.specs.AgentSet.{AreNoneFrom, IsNextFrom};
+ghost use Rattle.fleet_machine.specs.AgentSet.{AreNoneFrom, IsNextFrom, IsCursorOf};
 ghost use Rattle.fleet_machine.specs.Confirmed.{all_but, AreAllReady, IsFirstUnready};
 ghost use Rattle.fleet_machine.specs.Looked.{ready_in, awaiting_in, LooksAt};
 ghost use Rattle.fleet_machine.specs.Near.{IsNear, AreNear};
@@ -15,6 +15,7 @@ ghost use Rattle.fleet_machine.specs.Waking.{IsWoken, is_woken_by, advanced_one,
 ghost use Rattle.fleet_machine.specs.WaitLists.{home_of};
 
 use crate::agent_set::{AgentSet, next_flag};
+use crate::cursor::Cursor;
 use crate::steps::{Mark, after_step, look_count, starts};
 use crate::wait_lists::{LISTS_EACH, WaitLists, list_of};
 use fleet_model::{Await, Instruction, MAX_AGENTS, ProgramView, Standing, Step};
@@ -157,7 +158,7 @@ impl Machine {
             (indices (length (P.program program.now))) }
     {
         let _ = program;
-        self.next_ready(0).is_some()
+        self.first_ready().is_some()
     }
 
     /// Whether agent `i` may finish its next action.
@@ -299,12 +300,33 @@ impl Machine {
         self.moving.next(from)
     }
 
-    /// The first agent from this one on that is ready.
-    fn next_ready(&self, from: u16) -> Option<u16>
-        ensures { MatchOption result
-            (AreNoneFrom self.now.ready from) (IsNextFrom self.now.ready from) }
+    /// The first agent from the cursor on that the last tick moved, behind which the cursor goes on.
+    pub fn moved_at(&self, cursor: &mut Cursor) -> Option<u16>
+        requires { IsCursorOf self.now.moving cursor.old }
+        ensures next { MatchOption result (AreNoneFrom self.now.moving cursor.old.from)
+            (IsNextFrom self.now.moving cursor.old.from) }
+        ensures behind { IfSome result (λ i. cursor.new.from ≡ i + 1) }
+        ensures cursor { IsCursorOf self.now.moving cursor.new }
     {
-        self.ready.next(from)
+        self.moving.next_at(cursor)
+    }
+
+    /// The first agent that is ready.
+    fn first_ready(&self) -> Option<u16>
+        ensures { MatchOption result (AreNoneFrom self.now.ready 0) (IsNextFrom self.now.ready 0) }
+    {
+        self.ready.next(0)
+    }
+
+    /// The first agent from the cursor on that is ready.
+    fn next_ready(&self, cursor: &mut Cursor) -> Option<u16>
+        requires { IsCursorOf self.now.ready cursor.old }
+        ensures next { MatchOption result (AreNoneFrom self.now.ready cursor.old.from)
+            (IsNextFrom self.now.ready cursor.old.from) }
+        ensures behind { IfSome result (λ i. cursor.new.from ≡ i + 1) }
+        ensures cursor { IsCursorOf self.now.ready cursor.new }
+    {
+        self.ready.next_at(cursor)
     }
 
     /// The first agent from this one on that has an action left.
@@ -315,12 +337,15 @@ impl Machine {
         self.left.next(from)
     }
 
-    /// The first agent from this one on that is due.
-    fn next_due(&self, from: u16) -> Option<u16>
-        ensures { MatchOption result
-            (AreNoneFrom self.now.due from) (IsNextFrom self.now.due from) }
+    /// The first agent from the cursor on that is due.
+    fn next_due(&self, cursor: &mut Cursor) -> Option<u16>
+        requires { IsCursorOf self.now.due cursor.old }
+        ensures next { MatchOption result (AreNoneFrom self.now.due cursor.old.from)
+            (IsNextFrom self.now.due cursor.old.from) }
+        ensures behind { IfSome result (λ i. cursor.new.from ≡ i + 1) }
+        ensures cursor { IsCursorOf self.now.due cursor.new }
     {
-        self.due.next(from)
+        self.due.next_at(cursor)
     }
 
     /// Agent `i`, which stands in no list, waits for what is awaited.
@@ -343,26 +368,57 @@ impl Machine {
         self.least[list as usize] = least.min(awaited.count);
     }
 
-    /// Flags whether agent `i` is ready. A bit that is known beforehand is written by fewer instructions.
-    fn flag_ready(&mut self, i: u16, is_ready: bool)
-        requires { i < length self.old.ready }
-        ensures { self.new ≡ record self.old { ready = set self.old.ready i is_ready } }
+    /// Agent `i`, which has read so far, is ready. A bit that is set already is not written.
+    #[inline(always)]
+    fn flag_ready(&mut self, i: u16, mark: Mark)
+        requires marks { i < length self.old.marks }
+        requires ready { i < length self.old.ready }
+        ensures { self.new ≡ record self.old {
+          marks = set self.old.marks i mark;
+          ready = set self.old.ready i true;
+        } }
     {
-        if self.ready.contains(i) != is_ready {
-            self.ready.set(i, is_ready);
+        self.set_mark(i, mark);
+        if !self.ready.contains(i) {
+            self.ready.set(i, true);
         }
     }
 
-    /// Flags whether agent `i` has an action left; if it has, it is flagged so already.
-    #[tactic(auto, using(crate::proofs::Marks::left_kept))]
-    fn flag_left(&mut self, i: u16, is_left: bool)
-        requires left { i < length self.old.left }
-        requires flagged { is_left ≡ true → flag_of self.old.left i ≡ true }
-        ensures { self.new ≡ record self.old { left = set self.old.left i is_left } }
+    /// Agent `i`, which has read so far, is not ready, and waits for what is awaited.
+    #[inline(never)]
+    fn wait(&mut self, i: u16, mark: Mark, awaited: Await)
+        requires marks { i < length self.old.marks }
+        requires ready { i < length self.old.ready }
+        requires home { i < length self.old.waiting.homes }
+        requires nowhere { home_of self.old.waiting.homes i ≡ None }
+        requires agent { awaited.agent < MAX_AGENTS }
+        requires list { list_of awaited < self.old.waiting.lists }
+        requires least { list_of awaited < length self.old.least }
+        ensures { self.new ≡ record self.old {
+          marks = set self.old.marks i mark;
+          ready = set self.old.ready i false;
+          waiting = record self.old.waiting {
+            homes = set self.old.waiting.homes i (Some (list_of awaited));
+          };
+          least = lowered self.old.least (Some awaited);
+        } }
     {
-        if is_left {
-            return;
-        }
+        self.set_mark(i, mark);
+        self.ready.set(i, false);
+        self.wait_for(i, awaited);
+    }
+
+    /// Agent `i` has no action left.
+    #[inline(never)]
+    fn rest(&mut self, i: u16)
+        requires ready { i < length self.old.ready }
+        requires left { i < length self.old.left }
+        ensures { self.new ≡ record self.old {
+          ready = set self.old.ready i false;
+          left = set self.old.left i false;
+        } }
+    {
+        self.ready.set(i, false);
         self.left.set(i, false);
     }
 
@@ -372,34 +428,6 @@ impl Machine {
         ensures { self.new ≡ record self.old { marks = set self.old.marks i mark } }
     {
         self.marks[i as usize] = mark;
-    }
-
-    /// Flags whether agent `i`, which stands in no list, has an action left and whether it is ready, and puts it into
-    /// the list of the count that it lacks.
-    #[inline(always)]
-    fn place(&mut self, i: u16, is_left: bool, lacked: Option<Await>)
-        requires ready { i < length self.old.ready }
-        requires left { i < length self.old.left }
-        requires flagged { is_left ≡ true → flag_of self.old.left i ≡ true }
-        requires home { i < length self.old.waiting.homes }
-        requires nowhere { home_of self.old.waiting.homes i ≡ None }
-        requires agent { IfSome lacked (λ w. w.agent < MAX_AGENTS) }
-        requires list { IfSome lacked (λ w. list_of w < self.old.waiting.lists) }
-        requires least { length self.old.least ≡ self.old.waiting.lists }
-        ensures { self.new ≡ record self.old {
-          ready = set self.old.ready i (is_left && is_none lacked);
-          left = set self.old.left i is_left;
-          waiting = record self.old.waiting {
-            homes = set self.old.waiting.homes i (option_map list_of lacked);
-          };
-          least = lowered self.old.least lacked;
-        } }
-    {
-        self.flag_ready(i, is_left && lacked.is_none());
-        self.flag_left(i, is_left);
-        if let Some(awaited) = lacked {
-            self.wait_for(i, awaited);
-        }
     }
 
     /// Flags agent `i` anew, which stands in no list, and puts it into the one in which it belongs.
@@ -415,10 +443,16 @@ impl Machine {
         requires nowhere { home_of self.old.waiting.homes i ≡ None }
         ensures { IsPlaced (P.program program.now) self.old self.new i }
     {
-        let is_left = self.agent(i).count < program.moves(i);
+        let has_finished = self.agent(i).count >= program.moves(i);
+        if has_finished {
+            self.rest(i);
+            return;
+        }
         let (mark, lacked) = self.read_on(program, i);
-        self.set_mark(i, mark);
-        self.place(i, is_left, lacked);
+        match lacked {
+            None => self.flag_ready(i, mark),
+            Some(awaited) => self.wait(i, mark, awaited),
+        }
     }
 
     /// Judges every agent.
@@ -468,11 +502,10 @@ impl Machine {
         ensures count { result
             ≡ length (filter (flag_of self.old.due) (indices (length (P.program program.now)))) }
     {
-        let mut from = 0;
+        let mut cursor = Cursor::new();
         let mut count = 0;
-        while let Some(i) = self.next_due(from) {
+        while let Some(i) = self.next_due(&mut cursor) {
             self.judge(program, i);
-            from = i + 1;
             count += 1;
         }
         count
@@ -660,8 +693,8 @@ impl Machine {
         let mut moved = 0;
         let mut ready = 0;
         let mut ready_held = false;
-        let mut from = 0;
-        while let Some(i) = self.next_ready(from) {
+        let mut cursor = Cursor::new();
+        while let Some(i) = self.next_ready(&mut cursor) {
             if held[i as usize] {
                 self.hold_back(i);
                 ready_held = true;
@@ -670,7 +703,6 @@ impl Machine {
                 moved += 1;
             }
             ready += 1;
-            from = i + 1;
         }
         (Tick { moved, ready_held }, ready)
     }
@@ -747,10 +779,9 @@ impl Machine {
         ensures { IsWoken (is_woken_by (carried_all (P.program program.now) self.old))
             (carried_all (P.program program.now) self.old) self.new }
     {
-        let mut from = 0;
-        while let Some(i) = self.next_moved(from) {
+        let mut cursor = Cursor::new();
+        while let Some(i) = self.moved_at(&mut cursor) {
             self.advance_one(program, i);
-            from = i + 1;
         }
     }
 

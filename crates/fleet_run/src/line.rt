@@ -9,7 +9,7 @@ ghost use Rattle.fleet_run.specs.Line.{AreBytesClose, IsOneDigitOff, IsBeside, I
 ghost use Rattle.fleet_run.specs.Text.{place_text};
 
 use crate::trace::{LINE, PLACE, write_count, write_place};
-use fleet_machine::Machine;
+use fleet_machine::{Cursor, Machine};
 use fleet_model::{MAX_AGENTS, Place, Standing};
 use fleet_text::write_byte;
 
@@ -218,6 +218,7 @@ pub fn write_time(time: u32, row: &mut [u8], begin: usize) -> usize
 
 /// Writes the places of the agents that the last tick moved over those before; all places anew if more than a few are
 /// longer or shorter than before.
+#[tactic(auto, using(fleet_machine::proofs::Onward::no_bits_yet))]
 pub fn write_moved(machine: &Machine, row: &mut [u8], begins: &mut [usize])
     requires agents { length machine.now.configuration ≤ MAX_AGENTS }
     requires before { IsKeptBefore machine.now row.old begins.old }
@@ -226,14 +227,13 @@ pub fn write_moved(machine: &Machine, row: &mut [u8], begins: &mut [usize])
 {
     let rows = machine.agents();
     let mut resized = 0;
-    let mut from = 0;
-    while let Some(i) = machine.next_moved(from) {
+    let mut cursor = Cursor::new();
+    while let Some(i) = machine.moved_at(&mut cursor) {
         resized += put_place(usize::from(i), rows[usize::from(i)].place, row, begins);
         if resized > MOST_RESIZED {
             write_places(rows, row, begins);
             return;
         }
-        from = i + 1;
     }
 }
 

@@ -1,15 +1,17 @@
 use Rattle.std.proofs.Common.{◌≡◌, ◌≤◌, ◌-◌, length}
+use Rattle.fleet_machine.specs.AgentSet.{IsCursorOf}
 use Rattle.fleet_run.proofs.Lines.{IsRewritten}
 use Rattle.fleet_run.proofs.line.write_moved.Given as goal
 
 abbrev pub invariant-loop-i : goal.invariant-loop-i
 invariant-loop-i l = record {
-  from : l.from ≤ 1024;
+  cursor : IsCursorOf l.machine.moving l.cursor;
+  from : l.cursor.from ≤ 1024;
   few : l.resized ≤ 24;
   room : length l.row ≡ 24588;
   begun : length l.begins ≡ 1025;
-  kept : IsRewritten l.machine l.from l.row l.begins;
+  kept : IsRewritten l.machine l.cursor.from l.row l.begins;
 }
 
 abbrev pub decreases-loop-i : goal.decreases-loop-i
-decreases-loop-i l = 1025 - l.from
+decreases-loop-i l = 1025 - l.cursor.from

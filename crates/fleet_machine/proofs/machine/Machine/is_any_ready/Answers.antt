@@ -3,4 +3,4 @@ use Rattle.fleet_machine.proofs.Judging.{any_ready_is}
 use Rattle.fleet_machine.proofs.machine.Machine.is_any_ready.Goals as goal
 
 pub returns : goal.returns
-returns g c = c.is_some.ensures ∙ any_ready_is (g.P.ProgramView.program c.args.program.now) c.args.self.now c.requires.runs c.next_ready.result c.next_ready.ensures
+returns g c = c.is_some.ensures ∙ any_ready_is (g.P.ProgramView.program c.args.program.now) c.args.self.now c.requires.runs c.first_ready.result c.first_ready.ensures

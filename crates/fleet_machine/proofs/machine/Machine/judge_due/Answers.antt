@@ -2,13 +2,14 @@ use Rattle.std.proofs.Common.{◌<◌, length, refl, arith, ap, sym, ◌∙◌}
 use Rattle.fleet_machine.specs.Machine.{MachineState, flag_of, is_left}
 use Rattle.fleet_machine.specs.AgentSet.{IsNextFrom, AreNoneFrom}
 use Rattle.fleet_machine.proofs.Judging.{none_judged, read_so_far, left_so_far, one_judged, some_passed, none_more_counted, one_more_counted, counted_le}
+use Rattle.fleet_machine.proofs.Onward.{no_bits_yet}
 use Rattle.fleet_machine.proofs.machine.Machine.judge_due.Goals as goal
 
 pub overflow_add-count : goal.overflow_add-count
 overflow_add-count g c =
     let due = flag_of c.args.self.now.due in
     let before = c.loop-i.invariant in
-    let few = counted_le due c.loop-i.from in
+    let few = counted_le due c.loop-i.cursor.from in
     omega (arith, before.counted, before.within, c.requires.well_formed.few_agents)
 
 pub loop-i-preserved : goal.loop-i-preserved
@@ -18,13 +19,15 @@ loop-i-preserved g c =
     let due = flag_of old.due in
     let before = c.loop-i.invariant in
     let i = c.in-Some.i in
-    let next : IsNextFrom old.due c.loop-i.from i = rw (ap (λ (m : MachineState). m.due) before.judged.same) at c.in-Some.ensures in
+    let next : IsNextFrom old.due c.loop-i.cursor.from i = rw (ap (λ (m : MachineState). m.due) before.judged.same) at c.in-Some.ensures.next in
     let agent : i < length p = omega (arith, next.agent, c.requires.rows.due) in
-    let here = some_passed p due old c.loop-i.self c.loop-i.from i next.later next.between before.judged in
+    let here = some_passed p due old c.loop-i.self c.loop-i.cursor.from i next.later next.between before.judged in
+    let behind = c.in-Some.ensures.behind in
     record {
-      judged = one_judged p due old c.loop-i.self i here c.judge.new.self next.member agent c.judge.ensures;
-      counted = one_more_counted due i c.loop-i.count next.member (none_more_counted due c.loop-i.from i c.loop-i.count next.later next.between before.counted);
-      within = omega (arith, agent);
+      cursor = rw (ap (λ (m : MachineState). m.due) c.judge.ensures.same) c.in-Some.ensures.cursor;
+      judged = rw behind (one_judged p due old c.loop-i.self i here c.judge.new.self next.member agent c.judge.ensures);
+      counted = rw behind (one_more_counted due i c.loop-i.count next.member (none_more_counted due c.loop-i.cursor.from i c.loop-i.count next.later next.between before.counted));
+      within = omega (arith, agent, behind);
     }
 
 pub returns-clause-count : goal.returns-clause-count
@@ -32,12 +35,12 @@ returns-clause-count g c =
     let p = g.P.ProgramView.program c.args.program.now in
     let old = c.args.self.now in
     let before = c.loop-i.invariant in
-    let none : AreNoneFrom old.due c.loop-i.from = rw (ap (λ (m : MachineState). m.due) before.judged.same) at c.in_default.ensures in
-    none_more_counted (flag_of old.due) c.loop-i.from (length p) c.loop-i.count before.within (λ k later below. none k later) before.counted
+    let none : AreNoneFrom old.due c.loop-i.cursor.from = rw (ap (λ (m : MachineState). m.due) before.judged.same) at c.in_default.ensures.next in
+    none_more_counted (flag_of old.due) c.loop-i.cursor.from (length p) c.loop-i.count before.within (λ k later below. none k later) before.counted
 
 pub loop-i-init : goal.loop-i-init
 loop-i-init g c =
-    record { judged = none_judged (g.P.ProgramView.program c.args.program.now) (flag_of c.args.self.now.due) c.args.self.now c.requires.rows; counted = refl; within = omega arith }
+    rw c.new-cursor.ensures record { cursor = no_bits_yet c.args.self.now.due 0; judged = none_judged (g.P.ProgramView.program c.args.program.now) (flag_of c.args.self.now.due) c.args.self.now c.requires.rows; counted = refl; within = omega arith }
 
 pub judge-requires-clause-read : goal.judge-requires-clause-read
 judge-requires-clause-read g c =
@@ -46,9 +49,9 @@ judge-requires-clause-read g c =
     let due = flag_of old.due in
     let before = c.loop-i.invariant in
     let i = c.in-Some.i in
-    let next : IsNextFrom old.due c.loop-i.from i = rw (ap (λ (m : MachineState). m.due) before.judged.same) at c.in-Some.ensures in
+    let next : IsNextFrom old.due c.loop-i.cursor.from i = rw (ap (λ (m : MachineState). m.due) before.judged.same) at c.in-Some.ensures.next in
     let agent : i < length p = omega (arith, next.agent, c.requires.rows.due) in
-    let here = some_passed p due old c.loop-i.self c.loop-i.from i next.later next.between before.judged in
+    let here = some_passed p due old c.loop-i.self c.loop-i.cursor.from i next.later next.between before.judged in
     read_so_far p due old c.loop-i.self i here (c.requires.read i agent)
 
 pub judge-requires-clause-flagged : goal.judge-requires-clause-flagged
@@ -58,9 +61,9 @@ judge-requires-clause-flagged g c =
     let due = flag_of old.due in
     let before = c.loop-i.invariant in
     let i = c.in-Some.i in
-    let next : IsNextFrom old.due c.loop-i.from i = rw (ap (λ (m : MachineState). m.due) before.judged.same) at c.in-Some.ensures in
+    let next : IsNextFrom old.due c.loop-i.cursor.from i = rw (ap (λ (m : MachineState). m.due) before.judged.same) at c.in-Some.ensures.next in
     let agent : i < length p = omega (arith, next.agent, c.requires.rows.due) in
-    let here = some_passed p due old c.loop-i.self c.loop-i.from i next.later next.between before.judged in
+    let here = some_passed p due old c.loop-i.self c.loop-i.cursor.from i next.later next.between before.judged in
     let config = ap (λ (m : MachineState). m.configuration) before.judged.same in
     left_so_far p due old c.loop-i.self i here _ (λ is. c.requires.flagged i agent (sym (ap (λ rows. is_left p rows i) config) ∙ is))
 
@@ -69,7 +72,7 @@ judge-requires-clause-nowhere g c =
     let old = c.args.self.now in
     let before = c.loop-i.invariant in
     let i = c.in-Some.i in
-    let next : IsNextFrom old.due c.loop-i.from i = rw (ap (λ (m : MachineState). m.due) before.judged.same) at c.in-Some.ensures in
+    let next : IsNextFrom old.due c.loop-i.cursor.from i = rw (ap (λ (m : MachineState). m.due) before.judged.same) at c.in-Some.ensures.next in
     (before.judged.later i next.later).home ∙ c.requires.nowhere i next.member
 
 pub returns-clause-same : goal.returns-clause-same
@@ -85,5 +88,5 @@ returns-clause-judged g c =
     let p = g.P.ProgramView.program c.args.program.now in
     let old = c.args.self.now in
     let before = c.loop-i.invariant in
-    let none : AreNoneFrom old.due c.loop-i.from = rw (ap (λ (m : MachineState). m.due) before.judged.same) at c.in_default.ensures in
-    (some_passed p (flag_of old.due) old c.loop-i.self c.loop-i.from (length p) before.within (λ k later below. none k later) before.judged).judged
+    let none : AreNoneFrom old.due c.loop-i.cursor.from = rw (ap (λ (m : MachineState). m.due) before.judged.same) at c.in_default.ensures.next in
+    (some_passed p (flag_of old.due) old c.loop-i.self c.loop-i.cursor.from (length p) before.within (λ k later below. none k later) before.judged).judged

@@ -1,0 +1,26 @@
+use Rattle.std.proofs.Common.{ap, arith}
+use Rattle.fleet_model.specs.declared.standing.Standing.{Standing}
+use Rattle.fleet_machine.proofs.Placed.{placed_at_end, placed_ready, placed_in_list}
+use Rattle.fleet_machine.proofs.machine.Machine.judge.Goals as goal
+
+pub returns-then-has_finished : goal.returns-then-has_finished
+returns-then-has_finished g c =
+    let p = g.P.ProgramView.program c.args.program.now in
+    let count = ap (λ (s : Standing). s.count) c.agent.ensures.standing in
+    placed_at_end p c.args.self.now c.rest.new.self c.args.i c.requires.nowhere (omega (arith, count, c.if-has_finished.true)) c.requires.read c.rest.ensures
+
+pub returns-in-None : goal.returns-in-None
+returns-in-None g c =
+    let p = g.P.ProgramView.program c.args.program.now in
+    let count = ap (λ (s : Standing). s.count) c.agent.ensures.standing in
+    let on = c.read_on-lacked in
+    placed_ready p c.args.self.now c.flag_ready.new.self c.args.i c.requires.nowhere (omega (arith, count, c.if-has_finished.false)) c.requires.flagged
+    on.result.0 on.ensures.read on.ensures.all on.result.1 c.in-None.is on.ensures.lacked on.ensures.ready c.flag_ready.ensures
+
+pub returns-in-Some : goal.returns-in-Some
+returns-in-Some g c =
+    let p = g.P.ProgramView.program c.args.program.now in
+    let count = ap (λ (s : Standing). s.count) c.agent.ensures.standing in
+    let on = c.read_on-lacked in
+    placed_in_list p c.args.self.now c.wait.new.self c.args.i c.requires.nowhere (omega (arith, count, c.if-has_finished.false)) c.requires.flagged
+    on.result.0 on.ensures.read on.ensures.all on.result.1 c.in-Some.awaited c.in-Some.is on.ensures.lacked on.ensures.ready c.wait.ensures

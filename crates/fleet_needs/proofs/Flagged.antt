@@ -18,7 +18,7 @@ use Rattle.fleet_needs.proofs.Passing.{same_or_not}
 use Rattle.fleet_needs.specs.Implied.{AreAwaitPlaces, IsImpliedFlag, first_await}
 use Rattle.fleet_needs.specs.Settled.{AreSettled}
 use Rattle.fleet_needs.proofs.AwaitOrder.{flag_apart}
-use Rattle.fleet_needs.specs.Flags.{AreFlagged, AreFlaggedFor, AreLeft, AreAllFlagged, AreAwaitFlags, AreFlaggedTo, AreImplied}
+use Rattle.fleet_needs.specs.Flags.{AreFlags, AreFlagged, AreFlaggedFor, AreLeft, AreAllFlagged, AreAwaitFlags, AreFlaggedTo, AreImplied, flags_of}
 use Rattle.fleet_needs.specs.Schedule.{AreColumnsOf, IsSchedule}
 use Rattle.fleet_needs.specs.declared.implied.ImpliedAwaits.{ImpliedAwaits}
 use Rattle.fleet_needs.proofs.Joining.{awaited_action}
@@ -67,6 +67,35 @@ module _ (p : Program) (columns : Columns) (a : ActionId) (first k : ℕ) (one :
         let was : get_or old (first + k) false ≡ get_or old (first + m) false = ap (λ (n : ℕ). get_or old (first + n) false) (sym e) in
         flag ∙ here (subst (λ (v : Await). get_or columns.of_agent.items v.agent None ≡ None) (sym same) none) ∙ was ∙ before m w there none
   ]
+
+-- the flags of the first k awaits of the action are told, and no others
+pub record AreFlaggedFirst (p : Program) (columns : Columns) (a : ActionId) (k : ℕ) (old new : ImpliedAwaits) : Type 0 where
+  pub flags : AreFlags p new
+  pub flagged : (m c : ℕ) (w : Await) → m < k → slice_get (awaits_of p a.agent a.number) m ≡ Some w → HasColumn columns w.agent c → IsImpliedFlag p a w (get_or (flags_of new) (first_await p a + m) false)
+  pub none : (m : ℕ) (w : Await) → slice_get (awaits_of p a.agent a.number) m ≡ Some w → get_or columns.of_agent.items w.agent None ≡ None
+      → get_or (flags_of new) (first_await p a + m) false ≡ get_or (flags_of old) (first_await p a + m) false
+  pub others : (n : ℕ) → (n < first_await p a) ⊎ (first_await p a + k ≤ n) → get_or (flags_of new) n false ≡ get_or (flags_of old) n false
+
+pub flagged_begun : (p : Program) (columns : Columns) (a : ActionId) (m : ImpliedAwaits) → AreFlags p m → AreFlaggedFirst p columns a 0 m m
+flagged_begun p columns a m h = record { flags = h; flagged = λ n c w l at has. absurd (omega arith); none = λ n w at none. refl; others = λ n out. refl }
+
+pub flagged_next : (p : Program) (columns : Columns) (a : ActionId) (k : ℕ) (one : Await) → slice_get (awaits_of p a.agent a.number) k ≡ Some one → (old mid new : ImpliedAwaits) → AreFlaggedFirst p columns a k old mid
+    → new.places ≡ mid.places → length (flags_of new) ≡ length (flags_of mid) → ((n : ℕ) → n ≢ first_await p a + k → get_or (flags_of new) n false ≡ get_or (flags_of mid) n false)
+    → ((c : ℕ) → HasColumn columns one.agent c → IsImpliedFlag p a one (get_or (flags_of new) (first_await p a + k) false))
+    → (get_or columns.of_agent.items one.agent None ≡ None → get_or (flags_of new) (first_await p a + k) false ≡ get_or (flags_of mid) (first_await p a + k) false) → AreFlaggedFirst p columns a (k + 1) old new
+flagged_next p columns a k one at old mid new h places all others here left = record {
+  flags = record { places = subst (AreAwaitPlaces p) (sym places) h.flags.places; all = all ∙ h.flags.all };
+  flagged = flagged_more p columns a (first_await p a) k one at (flags_of mid) (flags_of new) others here h.flagged;
+  none = left_more p columns a (first_await p a) k one at (flags_of mid) (flags_of new) others (flags_of old) left h.none;
+  others = λ n out. others n (λ e. elim out [ inl l ↦ omega arith | inr l ↦ omega arith ]) ∙ h.others n (elim out [ inl l ↦ inl l | inr l ↦ inr (omega arith) ]);
+}
+
+pub flagged_whole : (p : Program) (columns : Columns) (a : ActionId) (k : ℕ) (old new : ImpliedAwaits) → k ≡ length (awaits_of p a.agent a.number) → AreFlaggedFirst p columns a k old new → AreFlagged p columns a (flags_of old) (flags_of new)
+flagged_whole p columns a k old new whole h = record {
+  flagged = λ m c w at has. (let l = slice_get_within (awaits_of p a.agent a.number) m w at in h.flagged m c w (omega (arith, l, whole)) at has);
+  none = h.none;
+  others = λ n out. h.others n (elim out [ inl l ↦ inl l | inr l ↦ inr (omega (arith, whole)) ]);
+}
 
 -- ---- the flags of one action more
 

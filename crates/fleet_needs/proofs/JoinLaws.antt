@@ -11,10 +11,11 @@ use Rattle.fleet_model.specs.Chain.{IsAction, IsLevel, awaited}
 use Rattle.fleet_needs.specs.Order.{IsCounted, IsNextAction}
 use Rattle.fleet_needs.specs.Asked.{IsSoonerAction}
 use Rattle.fleet_needs.specs.Places.{place_of_action}
-use Rattle.fleet_needs.specs.Joins.{IsRow, StandsFor, row_taken, IsJoin, AreJoins, Takes, AreLasts, row_of, IsStanding, AreSound, AreJoinsOf, CanJoin, AreTaken, HasJoined, IsAdded}
+use Rattle.fleet_needs.specs.Joins.{IsRow, StandsFor, need_at, need_of, row_taken, IsJoin, AreJoins, Takes, AreLasts, row_of, IsStanding, AreSound, AreJoinsOf, CanJoin, AreTaken, HasJoined, IsAdded}
 use Rattle.fleet_needs.specs.Joins.{AreRaised}
 use Rattle.fleet_needs.specs.declared.await_places.ActionPlaces.{ActionPlaces}
 use Rattle.fleet_needs.specs.declared.joins.Join.{Join}
+use Rattle.fleet_needs.specs.declared.joins.Need.{Need}
 use Rattle.fleet_needs.specs.declared.joins.Joins.{Joins}
 use Rattle.fleet_needs.proofs.Counting.{counted_back, counted_apart, counted_still, counted_here}
 use Rattle.fleet_needs.proofs.Placed.{place_apart, place_within}
@@ -70,19 +71,20 @@ stands_on p joins r a some none s = record {
 
 -- ---- one row more
 
-module _ (p : Program) (places : ActionPlaces) (a : ActionId) (old new : Joins) (base : ℕ) (can : CanJoin p places old a) (within : base ≤ length old.joins.items)
+module _ (p : Program) (places : ActionPlaces) (a : ActionId) (old new : Joins) (base count : ℕ) (can : CanJoin p places old a) (within : base ≤ length old.joins.items)
     (stands : StandsFor p old.joins.items base a.agent (a.number - 1))
-    (put : new.joins.items ≡ old.joins.items ++ record { action = a; base = base; first = length old.rows.items } ∷ [])
+    (many : count ≡ length (awaits_of p a.agent a.number))
+    (put : new.joins.items ≡ old.joins.items ++ record { action = a; base = base; first = length old.needs.items; count = count } ∷ [])
     (standing : new.standing ≡ old.standing)
-    (all : length new.rows.items ≡ length old.rows.items + length (awaits_of p a.agent a.number))
-    (kept : (n : ℕ) → n < length old.rows.items → slice_index new.rows.items n ≡ slice_index old.rows.items n)
-    (each : (k : ℕ) (w : Await) → slice_get (awaits_of p a.agent a.number) k ≡ Some w → slice_index new.rows.items (length old.rows.items + k) ≡ row_of places old (awaited w))
+    (all : length new.needs.items ≡ length old.needs.items + length (awaits_of p a.agent a.number))
+    (kept : (n : ℕ) → n < length old.needs.items → need_at new.needs.items n ≡ need_at old.needs.items n)
+    (each : (k : ℕ) (w : Await) → slice_get (awaits_of p a.agent a.number) k ≡ Some w → need_at new.needs.items (length old.needs.items + k) ≡ record { row = row_of places old (awaited w); wait = w })
     (room : length new.lasts.items ≡ length old.lasts.items + 1)
     (raised : (r : ℕ) → slice_index old.lasts.items r ≤ slice_index new.lasts.items r)
     (noted : (k : ℕ) (w : Await) → slice_get (awaits_of p a.agent a.number) k ≡ Some w → length old.joins.items + 1 ≤ slice_index new.lasts.items (row_of places old (awaited w)))
     (based : length old.joins.items + 1 ≤ slice_index new.lasts.items base) where
   abbrev one : Join
-  one = record { action = a; base = base; first = length old.rows.items }
+  one = record { action = a; base = base; first = length old.needs.items; count = count }
 
   still : AreKeptIn old.joins.items new.joins.items
   still n j at = ap (λ (xs : List Join). slice_get xs n) put ∙ push_kept old.joins.items one j n at
@@ -93,50 +95,54 @@ module _ (p : Program) (places : ActionPlaces) (a : ActionId) (old new : Joins) 
   parts : (n : ℕ) (j : Join) → slice_get new.joins.items n ≡ Some j → (slice_get old.joins.items n ≡ Some j) ⊎ ((n ≡ length old.joins.items) × (j ≡ one))
   parts n j at = push_cases old.joins.items one j n (ap (λ (xs : List Join). slice_get xs n) (sym put) ∙ at)
 
-  same_taken : (n : ℕ) (j : Join) → slice_get old.joins.items n ≡ Some j → (k : ℕ) → k < length (awaits_of p j.action.agent j.action.number) → row_taken new.rows.items j k ≡ row_taken old.rows.items j k
-  same_taken n j at k l = kept (j.first + k) (let w = (can.sound.joins n j at).within in omega arith)
+  same_need : (n : ℕ) (j : Join) → slice_get old.joins.items n ≡ Some j → (k : ℕ) → k < length (awaits_of p j.action.agent j.action.number) → need_of new.needs.items j k ≡ need_of old.needs.items j k
+  same_need n j at k l = kept (j.first + k) (let w = (can.sound.joins n j at).within in omega arith)
 
-  join_on : (n : ℕ) (j : Join) → (slice_get old.joins.items n ≡ Some j) ⊎ ((n ≡ length old.joins.items) × (j ≡ one)) → IsJoin p new.joins.items new.rows.items n j
+  join_on : (n : ℕ) (j : Join) → (slice_get old.joins.items n ≡ Some j) ⊎ ((n ≡ length old.joins.items) × (j ≡ one)) → IsJoin p new.joins.items new.needs.items n j
   join_on n j (inl at) =
       let was = can.sound.joins n j at in
       record {
         action = was.action;
         base = stands_kept p old.joins.items new.joins.items still j.base j.action.agent (j.action.number - 1) was.base;
         sooner = was.sooner;
+        count = was.count;
         within = (let l = was.within in omega (arith, l, all));
+        waits = λ k w there. ap (λ (x : Need). x.wait) (same_need n j at k (slice_get_within (awaits_of p j.action.agent j.action.number) k w there)) ∙ was.waits k w there;
         awaits = λ k w there.
-            let e : row_taken new.rows.items j k ≡ row_taken old.rows.items j k = same_taken n j at k (slice_get_within (awaits_of p j.action.agent j.action.number) k w there) in
+            let e : row_taken new.needs.items j k ≡ row_taken old.needs.items j k = ap (λ (x : Need). x.row) (same_need n j at k (slice_get_within (awaits_of p j.action.agent j.action.number) k w there)) in
             let before = was.awaits k w there in (
-              (let l : row_taken old.rows.items j k ≤ n = before.0 in omega (arith, e, l)),
+              (let l : row_taken old.needs.items j k ≤ n = before.0 in omega (arith, e, l)),
               stands_kept p old.joins.items new.joins.items still _ w.agent w.count (subst (λ (r : ℕ). StandsFor p old.joins.items r w.agent w.count) (sym e) before.1),
             );
       }
-  join_on n j (inr (e, same)) = subst (IsJoin p new.joins.items new.rows.items n) (sym same) (record {
+  join_on n j (inr (e, same)) = subst (IsJoin p new.joins.items new.needs.items n) (sym same) (record {
     action = can.action;
     base = stands_kept p old.joins.items new.joins.items still base a.agent (a.number - 1) stands;
     sooner = omega (arith, e, within);
+    count = many;
     within = omega (arith, all);
+    waits = λ k w there. ap (λ (x : Need). x.wait) (each k w there);
     awaits = λ k w there.
         let is = (can.awaited k w there).1 in
-        let at : row_taken new.rows.items one k ≡ row_of places old (awaited w) = each k w there in (
+        let at : row_taken new.needs.items one k ≡ row_of places old (awaited w) = ap (λ (x : Need). x.row) (each k w there) in (
           (let l : row_of places old (awaited w) ≤ length old.joins.items = is.within in omega (arith, at, l, e)),
           stands_kept p old.joins.items new.joins.items still _ w.agent w.count (subst (λ (r : ℕ). StandsFor p old.joins.items r w.agent w.count) (sym at) is.stands),
         );
   })
 
-  last_on : (n : ℕ) (j : Join) (r : ℕ) → (slice_get old.joins.items n ≡ Some j) ⊎ ((n ≡ length old.joins.items) × (j ≡ one)) → Takes p new.rows.items j r → n + 1 ≤ slice_index new.lasts.items r
+  last_on : (n : ℕ) (j : Join) (r : ℕ) → (slice_get old.joins.items n ≡ Some j) ⊎ ((n ≡ length old.joins.items) × (j ≡ one)) → Takes p new.needs.items j r → n + 1 ≤ slice_index new.lasts.items r
   last_on n j r (inl at) (inl e) = omega (arith, can.sound.lasts.each n j r at (inl e), raised r)
-  last_on n j r (inl at) (inr (k, l, e)) = omega (arith, can.sound.lasts.each n j r at (inr (k, l, e ∙ same_taken n j at k l)), raised r)
+  last_on n j r (inl at) (inr (k, l, e)) = omega (arith, can.sound.lasts.each n j r at (inr (k, l, e ∙ ap (λ (x : Need). x.row) (same_need n j at k l))), raised r)
   last_on n j r (inr (e, same)) (inl is) =
       let b : r ≡ base = is ∙ ap (λ (x : Join). x.base) same in
       subst (λ (x : ℕ). n + 1 ≤ slice_index new.lasts.items x) (sym b) (omega (arith, e, based))
-  last_on n j r (inr (e, same)) (inr t) = of (subst (λ (x : Join). (k : ℕ) × (k < length (awaits_of p x.action.agent x.action.number)) × (r ≡ row_taken new.rows.items x k)) same t)
+  last_on n j r (inr (e, same)) (inr t) = of (subst (λ (x : Join). (k : ℕ) × (k < length (awaits_of p x.action.agent x.action.number)) × (r ≡ row_taken new.needs.items x k)) same t)
     where
-      of : (k : ℕ) × (k < length (awaits_of p a.agent a.number)) × (r ≡ row_taken new.rows.items one k) → n + 1 ≤ slice_index new.lasts.items r
+      of : (k : ℕ) × (k < length (awaits_of p a.agent a.number)) × (r ≡ row_taken new.needs.items one k) → n + 1 ≤ slice_index new.lasts.items r
       of (k, l, is) =
           let w : Await = get_or (awaits_of p a.agent a.number) k (record { agent = 0; count = 0 }) in
           let there : slice_get (awaits_of p a.agent a.number) k ≡ Some w = slice_get-get_or (awaits_of p a.agent a.number) k (record { agent = 0; count = 0 }) l in
-          let at : r ≡ row_of places old (awaited w) = is ∙ each k w there in
+          let at : r ≡ row_of places old (awaited w) = is ∙ ap (λ (x : Need). x.row) (each k w there) in
           subst (λ (x : ℕ). n + 1 ≤ slice_index new.lasts.items x) (sym at) (omega (arith, e, noted k w there))
 
   long : length new.joins.items ≡ length old.joins.items + 1
@@ -164,16 +170,20 @@ module _ (p : Program) (places : ActionPlaces) (a : ActionId) (old new : Joins) 
     parts = λ n j at. elim (parts n j at) [ inl was ↦ inl was | inr is ↦ inr (is.0, ap (λ (x : Join). x.action) is.1) ];
   }
 
+-- the need of this row by this await
+abbrev pub need_by : Await → ℕ → Need
+need_by w r = record { row = r; wait = w }
+
 -- what is taken by the first k awaits
-pub record AreTakenTo (p : Program) (places : ActionPlaces) (a : ActionId) (old : Joins) (k : ℕ) (rows lasts : List ℕ) : Type 0 where
-  pub all : length rows ≡ length old.rows.items + k
-  pub kept : (n : ℕ) → n < length old.rows.items → slice_index rows n ≡ slice_index old.rows.items n
-  pub each : (m : ℕ) (w : Await) → m < k → slice_get (awaits_of p a.agent a.number) m ≡ Some w → slice_index rows (length old.rows.items + m) ≡ row_of places old (awaited w)
+pub record AreTakenTo (p : Program) (places : ActionPlaces) (a : ActionId) (old : Joins) (k : ℕ) (needs : List Need) (lasts : List ℕ) : Type 0 where
+  pub all : length needs ≡ length old.needs.items + k
+  pub kept : (n : ℕ) → n < length old.needs.items → need_at needs n ≡ need_at old.needs.items n
+  pub each : (m : ℕ) (w : Await) → m < k → slice_get (awaits_of p a.agent a.number) m ≡ Some w → need_at needs (length old.needs.items + m) ≡ record { row = row_of places old (awaited w); wait = w }
   pub raised : AreRaised old.lasts.items lasts
   pub noted : (m : ℕ) (w : Await) → m < k → slice_get (awaits_of p a.agent a.number) m ≡ Some w → length old.joins.items + 1 ≤ slice_index lasts (row_of places old (awaited w))
 
 module _ (p : Program) (places : ActionPlaces) (a : ActionId) (old : Joins) where
-  pub taken_first : AreTakenTo p places a old 0 old.rows.items old.lasts.items
+  pub taken_first : AreTakenTo p places a old 0 old.needs.items old.lasts.items
   taken_first = record {
     all = omega arith;
     kept = λ n l. refl;
@@ -182,17 +192,17 @@ module _ (p : Program) (places : ActionPlaces) (a : ActionId) (old : Joins) wher
     noted = λ m w l at. absurd (omega arith);
   }
 
-  pub taken_on : (k : ℕ) (w : Await) → slice_get (awaits_of p a.agent a.number) k ≡ Some w → (taken : ℕ) → taken ≡ row_of places old (awaited w) → (rows new lasts up : List ℕ) → new ≡ rows ++ taken ∷ []
-      → AreRaised lasts up → length old.joins.items + 1 ≤ slice_index up taken → AreTakenTo p places a old k rows lasts → AreTakenTo p places a old (k + 1) new up
-  taken_on k w at taken is rows new lasts up put raised noted h = record {
+  pub taken_on : (k : ℕ) (w : Await) → slice_get (awaits_of p a.agent a.number) k ≡ Some w → (taken : ℕ) → taken ≡ row_of places old (awaited w) → (needs new : List Need) (lasts up : List ℕ) → new ≡ needs ++ record { row = taken; wait = w } ∷ []
+      → AreRaised lasts up → length old.joins.items + 1 ≤ slice_index up taken → AreTakenTo p places a old k needs lasts → AreTakenTo p places a old (k + 1) new up
+  taken_on k w at taken is needs new lasts up put raised noted h = record {
     all = omega (arith, long, h.all);
     kept = λ n l. before n (omega (arith, h.all)) ∙ h.kept n l;
     each = λ m v l there. elim (cases_lt m k) [
-      | inl less ↦ before (length old.rows.items + m) (omega (arith, h.all)) ∙ h.each m v less there
+      | inl less ↦ before (length old.needs.items + m) (omega (arith, h.all)) ∙ h.each m v less there
       | inr more ↦
           let e : m ≡ k = omega arith in
-          let place : length old.rows.items + m ≡ length rows = omega (arith, h.all) in
-          ap (slice_index new) place ∙ newest ∙ is ∙ ap (λ (x : Await). row_of places old (awaited x)) (same m v e there)
+          let place : length old.needs.items + m ≡ length needs = omega (arith, h.all) in
+          ap (need_at new) place ∙ newest ∙ ap (need_by w) is ∙ ap (λ (x : Await). need_by x (row_of places old (awaited x))) (same m v e there)
     ];
     raised = (raised.0 ∙ h.raised.0, λ r. (let x = h.raised.1 r in let y = raised.1 r in omega arith));
     noted = λ m v l there. elim (cases_lt m k) [
@@ -203,37 +213,37 @@ module _ (p : Program) (places : ActionPlaces) (a : ActionId) (old : Joins) wher
     ];
   }
     where
-      long : length new ≡ length rows + 1
-      long = ap (λ (xs : List ℕ). length xs) put ∙ length_push rows taken
+      long : length new ≡ length needs + 1
+      long = ap (λ (xs : List Need). length xs) put ∙ length_push needs (need_by w taken)
 
-      before : (n : ℕ) → n < length rows → slice_index new n ≡ slice_index rows n
-      before n l = ap (λ (xs : List ℕ). slice_index xs n) put ∙ get_or_append_left rows (taken ∷ []) 0 n l
+      before : (n : ℕ) → n < length needs → need_at new n ≡ need_at needs n
+      before n l = ap (λ (xs : List Need). need_at xs n) put ∙ get_or_append_left needs (need_by w taken ∷ []) (need_by (record { agent = 0; count = 0 }) 0) n l
 
-      newest : slice_index new (length rows) ≡ taken
-      newest = ap (λ (xs : List ℕ). slice_index xs (length rows)) put ∙ get_or_push rows taken 0 (length rows) refl
+      newest : need_at new (length needs) ≡ need_by w taken
+      newest = ap (λ (xs : List Need). need_at xs (length needs)) put ∙ get_or_push needs (need_by w taken) (need_by (record { agent = 0; count = 0 }) 0) (length needs) refl
 
       same : (m : ℕ) (v : Await) → m ≡ k → slice_get (awaits_of p a.agent a.number) m ≡ Some v → w ≡ v
       same m v e there = same_Some w v (sym at ∙ ap (slice_get (awaits_of p a.agent a.number)) (sym e) ∙ there)
 
 -- all of them, then the base, and at last the join itself
-pub joined_by : (p : Program) (places : ActionPlaces) (a : ActionId) (old mid low new : Joins) (base first : ℕ) → CanJoin p places old a → base ≤ length old.joins.items → StandsFor p old.joins.items base a.agent (a.number - 1)
-    → AreTaken p places a old mid → low.joins ≡ mid.joins → low.rows ≡ mid.rows → low.standing ≡ mid.standing → AreRaised mid.lasts.items low.lasts.items → length old.joins.items + 1 ≤ slice_index low.lasts.items base
-    → new.lasts.items ≡ low.lasts.items ++ 0 ∷ [] → first ≡ length old.rows.items → new.joins.items ≡ low.joins.items ++ record { action = a; base = base; first = first } ∷ [] → new.rows ≡ low.rows → new.standing ≡ low.standing
+pub joined_by : (p : Program) (places : ActionPlaces) (a : ActionId) (old mid low new : Joins) (base first count : ℕ) → CanJoin p places old a → base ≤ length old.joins.items → StandsFor p old.joins.items base a.agent (a.number - 1)
+    → AreTaken p places a old mid → low.joins ≡ mid.joins → low.needs ≡ mid.needs → low.standing ≡ mid.standing → AreRaised mid.lasts.items low.lasts.items → length old.joins.items + 1 ≤ slice_index low.lasts.items base
+    → new.lasts.items ≡ low.lasts.items ++ 0 ∷ [] → first ≡ length old.needs.items → count ≡ length (awaits_of p a.agent a.number) → new.joins.items ≡ low.joins.items ++ record { action = a; base = base; first = first; count = count } ∷ [] → new.needs ≡ low.needs → new.standing ≡ low.standing
     → (wanted : Bool) → HasJoined p places a wanted (length old.joins.items + 1) old new
-joined_by p places a old mid low new base first can within stands taken joins rows standing raised based putl at putj same_rows same_standing =
-    joined_on p places a old new base can within stands
-    (putj ∙ ap (λ (n : ℕ). low.joins.items ++ record { action = a; base = base; first = n } ∷ []) at ∙ ap (λ xs. xs.items ++ record { action = a; base = base; first = length old.rows.items } ∷ []) (joins ∙ taken.joins))
+joined_by p places a old mid low new base first count can within stands taken joins needs standing raised based putl at many putj same_needs same_standing =
+    joined_on p places a old new base count can within stands many
+    (putj ∙ ap (λ (n : ℕ). low.joins.items ++ record { action = a; base = base; first = n; count = count } ∷ []) at ∙ ap (λ xs. xs.items ++ record { action = a; base = base; first = length old.needs.items; count = count } ∷ []) (joins ∙ taken.joins))
     (same_standing ∙ standing ∙ taken.standing)
     (ap (λ xs. length xs) list ∙ taken.all)
-    (λ n l. ap (λ xs. slice_index xs n) list ∙ taken.kept n l)
-    (λ k w there. ap (λ xs. slice_index xs (length old.rows.items + k)) list ∙ taken.each k w there)
+    (λ n l. ap (λ (xs : List Need). need_at xs n) list ∙ taken.kept n l)
+    (λ k w there. ap (λ (xs : List Need). need_at xs (length old.needs.items + k)) list ∙ taken.each k w there)
     (ap (λ (xs : List ℕ). length xs) putl ∙ length_push low.lasts.items 0 ∙ ap (λ (n : ℕ). n + 1) (raised.0 ∙ taken.lasts.0))
     (λ r. (let x = taken.lasts.1 r in let y = raised.1 r in let z = up r in omega arith))
     (λ k w there. (let x = taken.noted k w there in let y = raised.1 (row_of places old (awaited w)) in let z = up (row_of places old (awaited w)) in omega arith))
     (let z = up base in omega (arith, z, based))
   where
-    list : new.rows.items ≡ mid.rows.items
-    list = ap (λ xs. xs.items) (same_rows ∙ rows)
+    list : new.needs.items ≡ mid.needs.items
+    list = ap (λ xs. xs.items) (same_needs ∙ needs)
 
     up : (r : ℕ) → slice_index low.lasts.items r ≤ slice_index new.lasts.items r
     up r = elim (cases_lt r (length low.lasts.items)) [
@@ -264,7 +274,7 @@ joined_none p places a wanted m base left can within stands none = record {
 -- ---- the row of the action is noted
 
 module _ (p : Program) (places : ActionPlaces) (a : ActionId) (wanted : Bool) (r : ℕ) (old mid new : Joins) (is : IsAction p a) (h : HasJoined p places a wanted r old mid)
-    (joins : new.joins ≡ mid.joins) (rows : new.rows ≡ mid.rows) (lasts : new.lasts ≡ mid.lasts) (put : new.standing.items ≡ set mid.standing.items (place_of_action places a) r) where
+    (joins : new.joins ≡ mid.joins) (needs : new.needs ≡ mid.needs) (lasts : new.lasts ≡ mid.lasts) (put : new.standing.items ≡ set mid.standing.items (place_of_action places a) r) where
   place_in : place_of_action places a < length mid.standing.items
   place_in = omega (arith, place_within p places h.sound.right a is, h.sound.room)
 
@@ -283,9 +293,9 @@ module _ (p : Program) (places : ActionPlaces) (a : ActionId) (wanted : Bool) (r
   sound_on : AreSound p places new
   sound_on = record {
     right = h.sound.right;
-    joins = subst (λ (xs : List Join). AreJoins p xs new.rows.items) (sym same_joins) (subst (AreJoins p mid.joins.items) (sym (ap (λ xs. xs.items) rows)) h.sound.joins);
-    lasts = subst (λ (xs : List Join). AreLasts p xs new.rows.items new.lasts.items) (sym same_joins)
-        (subst (λ (xs : List ℕ). AreLasts p mid.joins.items xs new.lasts.items) (sym (ap (λ xs. xs.items) rows)) (subst (AreLasts p mid.joins.items mid.rows.items) (sym (ap (λ xs. xs.items) lasts)) h.sound.lasts));
+    joins = subst (λ (xs : List Join). AreJoins p xs new.needs.items) (sym same_joins) (subst (AreJoins p mid.joins.items) (sym (ap (λ xs. xs.items) needs)) h.sound.joins);
+    lasts = subst (λ (xs : List Join). AreLasts p xs new.needs.items new.lasts.items) (sym same_joins)
+        (subst (λ (xs : List Need). AreLasts p mid.joins.items xs new.lasts.items) (sym (ap (λ xs. xs.items) needs)) (subst (AreLasts p mid.joins.items mid.needs.items) (sym (ap (λ xs. xs.items) lasts)) h.sound.lasts));
     room = ap (λ (xs : List ℕ). length xs) put ∙ length-set mid.standing.items (place_of_action places a) r ∙ h.sound.room;
   }
 
@@ -380,9 +390,9 @@ module _ (p : Program) (places : ActionPlaces) (wanted : List Bool) (counts : Li
   }
 
 -- a row that is taken was made before
-pub taken_sooner : (p : Program) (joins : List Join) (rows : List ℕ) (n : ℕ) (j : Join) (r : ℕ) → IsJoin p joins rows n j → Takes p rows j r → r ≤ n
-taken_sooner p joins rows n j r is (inl e) = omega (arith, e, is.sooner)
-taken_sooner p joins rows n j r is (inr (k, l, e)) =
+pub taken_sooner : (p : Program) (joins : List Join) (needs : List Need) (n : ℕ) (j : Join) (r : ℕ) → IsJoin p joins needs n j → Takes p needs j r → r ≤ n
+taken_sooner p joins needs n j r is (inl e) = omega (arith, e, is.sooner)
+taken_sooner p joins needs n j r is (inr (k, l, e)) =
     let w : Await = get_or (awaits_of p j.action.agent j.action.number) k (record { agent = 0; count = 0 }) in
     let there : slice_get (awaits_of p j.action.agent j.action.number) k ≡ Some w = slice_get-get_or (awaits_of p j.action.agent j.action.number) k (record { agent = 0; count = 0 }) l in
     omega (arith, e, (is.awaits k w there).0)

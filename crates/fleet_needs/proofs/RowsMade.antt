@@ -9,7 +9,8 @@ use Rattle.fleet_model.specs.Program.{Program, AreInRange, awaits_of, moves}
 use Rattle.fleet_model.specs.Chain.{IsAction, awaited}
 use Rattle.fleet_needs.specs.Block.{HasColumn}
 use Rattle.fleet_needs.specs.Counts.{counts_of, are_narrow, CanHold, AreAlike}
-use Rattle.fleet_needs.specs.Joins.{AreQuiet, row_taken, IsJoin, AreOwn}
+use Rattle.fleet_needs.specs.Joins.{AreQuiet, need_of, row_taken, IsJoin, AreOwn}
+use Rattle.fleet_needs.specs.declared.joins.Need.{Need}
 use Rattle.fleet_needs.specs.Rows.{IsColumn, IsJoined, OfFirst, OfOthers, OfOthersOrFirst}
 use Rattle.fleet_needs.specs.Schedule.{IsSchedule, AreColumnsOf, AreCounts, AreRowsTo, IsRowFor, IsThere, StandsThere, AreJoinedWith, count_in_slot}
 use Rattle.fleet_needs.specs.JoinPass.{IsNextRow}
@@ -102,7 +103,7 @@ counts_joined p columns i b f old new joined h j k has = (
 -- ---- the rows that the next join takes
 
 module _ (p : Program) (range : AreInRange p) (m : SlotRows) (n : ℕ) (rows : AreRowsTo p m n) (join : Join) (next : IsNextRow m n join) where
-  pub is_join : IsJoin p m.schedule.now.joins.items m.schedule.now.rows.items n join
+  pub is_join : IsJoin p m.schedule.now.joins.items m.schedule.now.needs.items n join
   is_join = rows.schedule.joins n join next
 
   pub next_within : n < length m.schedule.now.joins.items
@@ -114,14 +115,14 @@ module _ (p : Program) (range : AreInRange p) (m : SlotRows) (n : ℕ) (rows : A
   pub base_stands : StandsThere p m join.base join.action.agent (join.action.number - 1)
   base_stands = record { agent = is_join.action.agent; last = (let l : join.action.number ≤ moves p join.action.agent = is_join.action.last in omega arith); stands = is_join.base }
 
-  pub taken_there : (k : ℕ) (w : Await) → slice_get (awaits_of p join.action.agent join.action.number) k ≡ Some w → IsThere m n (row_taken m.schedule.now.rows.items join k)
+  pub taken_there : (k : ℕ) (w : Await) → slice_get (awaits_of p join.action.agent join.action.number) k ≡ Some w → IsThere m n (row_taken m.schedule.now.needs.items join k)
   taken_there k w at = record {
     made = (is_join.awaits k w at).0;
     within = (let l = next_within in omega arith);
-    still = λ some. rows.schedule.still n join (row_taken m.schedule.now.rows.items join k) next (inr (k, slice_get_within (awaits_of p join.action.agent join.action.number) k w at, refl)) some;
+    still = λ some. rows.schedule.still n join (row_taken m.schedule.now.needs.items join k) next (inr (k, slice_get_within (awaits_of p join.action.agent join.action.number) k w at, refl)) some;
   }
 
-  pub taken_stands : (k : ℕ) (w : Await) → slice_get (awaits_of p join.action.agent join.action.number) k ≡ Some w → StandsThere p m (row_taken m.schedule.now.rows.items join k) w.agent w.count
+  pub taken_stands : (k : ℕ) (w : Await) → slice_get (awaits_of p join.action.agent join.action.number) k ≡ Some w → StandsThere p m (row_taken m.schedule.now.needs.items join k) w.agent w.count
   taken_stands k w at =
       let is = awaited_action p range join.action.agent join.action.number k w at in
       record { agent = is.agent; last = is.last; stands = (is_join.awaits k w at).1 }
@@ -132,6 +133,14 @@ module _ (p : Program) (range : AreInRange p) (m : SlotRows) (n : ℕ) (rows : A
 
   pub number_on : join.action.number - 1 + 1 ≡ join.action.number
   number_on = (let f : 1 ≤ join.action.number = is_join.action.first in omega arith)
+
+-- what need k waits for is await k of the action
+pub need_awaits : (p : Program) (m : SlotRows) (join : Join) (n : ℕ) → IsJoin p m.schedule.now.joins.items m.schedule.now.needs.items n join → (k : ℕ) (need : Need) → need ≡ need_of m.schedule.now.needs.items join k
+    → k < length (awaits_of p join.action.agent join.action.number) → slice_get (awaits_of p join.action.agent join.action.number) k ≡ Some need.wait
+need_awaits p m join n is k need read l =
+    let w : Await = get_or (awaits_of p join.action.agent join.action.number) k (record { agent = 0; count = 0 }) in
+    let at : slice_get (awaits_of p join.action.agent join.action.number) k ≡ Some w = slice_get-get_or (awaits_of p join.action.agent join.action.number) k (record { agent = 0; count = 0 }) l in
+    at ∙ ap Some (sym (ap (λ (x : Need). x.wait) read ∙ is.waits k w at))
 
 -- ---- the row of an action, await by await
 

@@ -13,6 +13,15 @@ use Rattle.fleet_needs.specs.Implied.{AreAwaitPlaces, IsImpliedFlag, first_await
 use Rattle.fleet_needs.specs.Settled.{AreSettled}
 use Rattle.fleet_needs.specs.declared.implied.ImpliedAwaits.{ImpliedAwaits}
 
+-- the flags of all awaits, by their places
+abbrev pub flags_of : ImpliedAwaits → List Bool
+flags_of m = m.flags.items
+
+-- there is a flag for each await of the program, at its place
+pub record AreFlags (p : Program) (m : ImpliedAwaits) : Type 0 where
+  pub places : AreAwaitPlaces p m.places
+  pub all : length (flags_of m) ≡ total_awaits p
+
 -- the flags of the action's awaits say whether they are implied, if their agents have a column, and no other flag has
 -- changed
 pub record AreFlagged (p : Program) (columns : Columns) (a : ActionId) (old new : List Bool) : Type 0 where
@@ -37,10 +46,6 @@ AreLeft p columns old new =
 abbrev pub AreAllFlagged : Program → List Bool → Type 0
 AreAllFlagged p flags =
     (a : ActionId) → IsAction p a → (k : ℕ) (w : Await) → slice_get (awaits_of p a.agent a.number) k ≡ Some w → IsImpliedFlag p a w (get_or flags (first_await p a + k) false)
-
--- the flags of all awaits, by their places
-abbrev pub flags_of : ImpliedAwaits → List Bool
-flags_of m = m.flags.items
 
 -- of each await of the program it is known whether it is implied
 pub record AreImplied (p : Program) (m : ImpliedAwaits) : Type 0 where

@@ -8,6 +8,7 @@ use Rattle.fleet_needs.specs.Asked.{IsSoonerAction}
 use Rattle.fleet_needs.specs.Places.{ArePlacesOf, place_of_action}
 use Rattle.fleet_needs.specs.declared.await_places.ActionPlaces.{ActionPlaces}
 use Rattle.fleet_needs.specs.declared.joins.Join.{Join}
+use Rattle.fleet_needs.specs.declared.joins.Need.{Need}
 use Rattle.fleet_needs.specs.declared.joins.Joins.{Joins}
 
 -- agent i awaits nothing after its action q, up to action n
@@ -29,30 +30,40 @@ pub record StandsFor (p : Program) (joins : List Join) (r i n : ℕ) : Type 0 wh
   pub quiet : AreQuiet p i number n
   pub row : ((r ≡ 0) × (number ≡ 0)) ⊎ IsRow joins r (record { agent = i; number = number })
 
+-- need n of these
+abbrev pub need_at : List Need → ℕ → Need
+need_at needs n = get_or needs n (record { row = 0; wait = record { agent = 0; count = 0 } })
+
+-- need k of the join
+abbrev pub need_of : List Need → Join → ℕ → Need
+need_of needs j k = need_at needs (j.first + k)
+
 -- the row that await k of the join takes
-abbrev pub row_taken : List ℕ → Join → ℕ → ℕ
-row_taken rows j k = slice_index rows (j.first + k)
+abbrev pub row_taken : List Need → Join → ℕ → ℕ
+row_taken needs j k = (need_of needs j k).row
 
 -- the join after n others: it is of rows that were made before, which stand for all that its action directly needs
-pub record IsJoin (p : Program) (joins : List Join) (rows : List ℕ) (n : ℕ) (j : Join) : Type 0 where
+pub record IsJoin (p : Program) (joins : List Join) (needs : List Need) (n : ℕ) (j : Join) : Type 0 where
   pub action : IsAction p j.action
   pub base : StandsFor p joins j.base j.action.agent (j.action.number - 1)
   pub sooner : j.base ≤ n
-  pub within : j.first + length (awaits_of p j.action.agent j.action.number) ≤ length rows
+  pub count : j.count ≡ length (awaits_of p j.action.agent j.action.number)
+  pub within : j.first + length (awaits_of p j.action.agent j.action.number) ≤ length needs
+  pub waits : (k : ℕ) (w : Await) → slice_get (awaits_of p j.action.agent j.action.number) k ≡ Some w → (need_of needs j k).wait ≡ w
   pub awaits : (k : ℕ) (w : Await) → slice_get (awaits_of p j.action.agent j.action.number) k ≡ Some w
-      → (row_taken rows j k ≤ n) × StandsFor p joins (row_taken rows j k) w.agent w.count
+      → (row_taken needs j k ≤ n) × StandsFor p joins (row_taken needs j k) w.agent w.count
 
-abbrev pub AreJoins : Program → List Join → List ℕ → Type 0
-AreJoins p joins rows = (n : ℕ) (j : Join) → slice_get joins n ≡ Some j → IsJoin p joins rows n j
+abbrev pub AreJoins : Program → List Join → List Need → Type 0
+AreJoins p joins needs = (n : ℕ) (j : Join) → slice_get joins n ≡ Some j → IsJoin p joins needs n j
 
 -- the join is of row r
-abbrev pub Takes : Program → List ℕ → Join → ℕ → Type 0
-Takes p rows j r = (r ≡ j.base) ⊎ ((k : ℕ) × (k < length (awaits_of p j.action.agent j.action.number)) × (r ≡ row_taken rows j k))
+abbrev pub Takes : Program → List Need → Join → ℕ → Type 0
+Takes p needs j r = (r ≡ j.base) ⊎ ((k : ℕ) × (k < length (awaits_of p j.action.agent j.action.number)) × (r ≡ row_taken needs j k))
 
 -- no row that is joined of a row comes after the last one
-pub record AreLasts (p : Program) (joins : List Join) (rows lasts : List ℕ) : Type 0 where
+pub record AreLasts (p : Program) (joins : List Join) (needs : List Need) (lasts : List ℕ) : Type 0 where
   pub all : length lasts ≡ length joins + 1
-  pub each : (n : ℕ) (j : Join) (r : ℕ) → slice_get joins n ≡ Some j → Takes p rows j r → n + 1 ≤ slice_index lasts r
+  pub each : (n : ℕ) (j : Join) (r : ℕ) → slice_get joins n ≡ Some j → Takes p needs j r → n + 1 ≤ slice_index lasts r
 
 -- the actions that await something have rows
 abbrev pub HasAllRows : Program → List Join → (ActionId → Type 0) → Type 0
@@ -91,9 +102,9 @@ lasts_known m = length m.lasts.items
 abbrev pub last_of : Joins → ℕ → ℕ
 last_of m r = slice_index m.lasts.items r
 
--- how many rows are listed as taken
-abbrev pub takes_listed : Joins → ℕ
-takes_listed m = length m.rows.items
+-- how many needs are listed
+abbrev pub needs_listed : Joins → ℕ
+needs_listed m = length m.needs.items
 
 -- for how many actions there is room
 abbrev pub room_for : Joins → ℕ
@@ -119,8 +130,8 @@ pub record IsStanding (p : Program) (places : ActionPlaces) (m : Joins) (a : Act
 -- the joins so far are right, and there is room to note a row for each action
 pub record AreSound (p : Program) (places : ActionPlaces) (m : Joins) : Type 0 where
   pub right : ArePlacesOf p places
-  pub joins : AreJoins p m.joins.items m.rows.items
-  pub lasts : AreLasts p m.joins.items m.rows.items m.lasts.items
+  pub joins : AreJoins p m.joins.items m.needs.items
+  pub lasts : AreLasts p m.joins.items m.needs.items m.lasts.items
   pub room : length m.standing.items ≡ total_moves p
 
 -- the joins of these actions, which are the first ones of a run without holds
@@ -141,14 +152,14 @@ pub record CanJoin (p : Program) (places : ActionPlaces) (m : Joins) (a : Action
   pub before : (b : ActionId) → IsAction p b → b.agent ≡ a.agent → b.number + 1 ≡ a.number → IsStanding p places m b
   pub awaited : (k : ℕ) (w : Await) → slice_get (awaits_of p a.agent a.number) k ≡ Some w → IsAction p (awaited w) × IsStanding p places m (awaited w)
 
--- the rows that the awaits of the action take have been listed, and no list has lost anything
+-- what the awaits of the action need has been listed, and no list has lost anything
 pub record AreTaken (p : Program) (places : ActionPlaces) (a : ActionId) (old new : Joins) : Type 0 where
   pub joins : new.joins ≡ old.joins
   pub standing : new.standing ≡ old.standing
-  pub all : length new.rows.items ≡ length old.rows.items + length (awaits_of p a.agent a.number)
-  pub kept : (n : ℕ) → n < length old.rows.items → slice_index new.rows.items n ≡ slice_index old.rows.items n
+  pub all : length new.needs.items ≡ length old.needs.items + length (awaits_of p a.agent a.number)
+  pub kept : (n : ℕ) → n < length old.needs.items → need_at new.needs.items n ≡ need_at old.needs.items n
   pub each : (k : ℕ) (w : Await) → slice_get (awaits_of p a.agent a.number) k ≡ Some w
-      → slice_index new.rows.items (length old.rows.items + k) ≡ row_of places old (awaited w)
+      → need_at new.needs.items (length old.needs.items + k) ≡ record { row = row_of places old (awaited w); wait = w }
   pub lasts : AreRaised old.lasts.items new.lasts.items
   pub noted : (k : ℕ) (w : Await) → slice_get (awaits_of p a.agent a.number) k ≡ Some w
       → length old.joins.items + 1 ≤ slice_index new.lasts.items (row_of places old (awaited w))
@@ -178,8 +189,8 @@ pub record IsAdded (p : Program) (places : ActionPlaces) (a : ActionId) (wanted 
 
 -- the joins of all actions of the program, in which no action needs a later one of its agent
 pub record AreJoinsEnd (p : Program) (places : ActionPlaces) (wanted : List Bool) (m : Joins) : Type 0 where
-  pub joins : AreJoins p m.joins.items m.rows.items
-  pub lasts : AreLasts p m.joins.items m.rows.items m.lasts.items
+  pub joins : AreJoins p m.joins.items m.needs.items
+  pub lasts : AreLasts p m.joins.items m.needs.items m.lasts.items
   pub rows : HasAllRows p m.joins.items (IsAction p)
   pub asked : (a : ActionId) → IsAction p a → IsWanted places wanted a → (r : ℕ) × IsRow m.joins.items r a
   pub ordered : AreOrdered p m.joins.items

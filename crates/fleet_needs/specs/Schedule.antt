@@ -18,11 +18,11 @@ use Rattle.fleet_needs.specs.declared.join_pass.SlotRows.{SlotRows}
 -- the rows of a program: each action that awaits something has one, and each row is still in its slot whenever it is
 -- taken
 pub record IsSchedule (p : Program) (s : Schedule) : Type 0 where
-  pub joins : AreJoins p s.joins.items s.rows.items
+  pub joins : AreJoins p s.joins.items s.needs.items
   pub rows : HasAllRows p s.joins.items (IsAction p)
   pub all : length s.outs.items ≡ length s.joins.items
   pub within : (n : ℕ) → n < length s.outs.items → slice_index s.outs.items n < s.slots
-  pub still : (n : ℕ) (j : Join) (r : ℕ) → slice_get s.joins.items n ≡ Some j → Takes p s.rows.items j r → 1 ≤ r → IsStill s.outs.items r n
+  pub still : (n : ℕ) (j : Join) (r : ℕ) → slice_get s.joins.items n ≡ Some j → Takes p s.needs.items j r → 1 ≤ r → IsStill s.outs.items r n
   pub ordered : AreOrdered p s.joins.items
   pub rising : AreRising s.joins.items
   pub own : AreOwn p

@@ -7,10 +7,10 @@ ghost use Rattle.fleet_model.specs.Machine.{IsFinish};
 ghost use Rattle.fleet_model.specs.Chain.{IsAction};
 ghost use Rattle.fleet_needs.specs.Implied.{IsImplied, AreAwaitPlaces};
 ghost use Rattle.fleet_needs.specs.Settled.{AreSettled};
-ghost use Rattle.fleet_needs.specs.Schedule.{IsSchedule};
-ghost use Rattle.fleet_needs.specs.Flags.{AreImplied, flags_of, AreFlagged};
+ghost use Rattle.fleet_needs.specs.Schedule.{IsSchedule, AreRowsTo, IsRowFor};
+ghost use Rattle.fleet_needs.specs.Flags.{AreImplied, flags_of, AreFlags, AreFlagged};
 ghost use Rattle.fleet_needs.specs.Block.{HasColumn};
-ghost use Rattle.fleet_needs.specs.JoinPass.{AreOthers};
+ghost use Rattle.fleet_needs.specs.JoinPass.{AreOthers, IsNextRow};
 ghost use Rattle.fleet_needs.specs.Columns.{agents_in, column_of};
 ghost use Rattle.fleet_needs.specs.Counts.{counts_of};
 
@@ -18,6 +18,7 @@ use crate::await_places::AwaitPlaces;
 use crate::counts::Counts;
 use crate::finish_order::FinishOrder;
 use crate::join_pass::{JoinUse, SlotRows, others_row, use_joins, whole_row};
+use crate::joins::Join;
 use crate::questions::is_any;
 use crate::schedule::{Columns, Schedule};
 use crate::settled::settle_all;
@@ -39,6 +40,18 @@ impl ImpliedAwaits {
         ensures { result ≡ get_or (flags_of self.now) place false }
     {
         self.flags[place]
+    }
+
+    /// Flags the await at a place: whether the agent's count in the row is no less than that of the await.
+    fn flag_await(&mut self, at: usize, awaited: u32, count: u32)
+        requires { at < length (flags_of self.old) }
+        ensures places { self.new.places ≡ self.old.places }
+        ensures all { length (flags_of self.new) ≡ length (flags_of self.old) }
+        ensures flagged { get_or (flags_of self.new) at false ≡ nat_le awaited count }
+        ensures others { (n : ℕ) → n ≢ at
+            → get_or (flags_of self.new) n false ≡ get_or (flags_of self.old) n false }
+    {
+        self.flags[at] = awaited <= count;
     }
 
     /// Await `k` of the action, unless others imply it. Takes no memory.
@@ -163,14 +176,7 @@ impl JoinUse for ImpliedAwaits {
     ) -> Result<(), OutOfMemory> {
         let join = rows.schedule.joins[n];
         others_row(program, rows, n, &join, row);
-        flag_awaits(
-            program,
-            &rows.columns,
-            &self.places,
-            row,
-            join.action,
-            &mut self.flags,
-        );
+        flag_awaits(program, rows, n, &join, row, self);
         whole_row(program, rows, n, &join, row);
         Ok(())
     }
@@ -180,46 +186,46 @@ impl JoinUse for ImpliedAwaits {
     ghost joined = { λ p columns s t u h g a is k w at none. g a is k w at none ∙ h a is k w at none };
 }
 
-/// Flags the awaits of the action whose agents have a column: whether others imply them.
+/// Flags the awaits of a join's action whose agents have a column: whether others imply them.
 pub(crate) fn flag_awaits<P: ProgramView>(
     program: &P,
-    columns: &Columns,
-    places: &AwaitPlaces,
+    rows: &SlotRows<'_>,
+    n: usize,
+    join: &Join,
     row: &Counts,
-    action: ActionId,
-    flags: &mut [bool],
+    implied: &mut ImpliedAwaits,
 )
     requires range { AreInRange (P.program program.now) }
-    requires places { AreAwaitPlaces (P.program program.now) places.now }
-    requires agents { agents_in columns.now ≡ length (P.program program.now) }
-    requires within { (j k : ℕ) → HasColumn columns.now j k → k < length (counts_of row.now) }
-    requires action { IsAction (P.program program.now) action }
-    requires row { AreOthers (P.program program.now) columns.now action (counts_of row.now) }
-    requires flags { length flags.old ≡ total_awaits (P.program program.now) }
-    ensures { AreFlagged (P.program program.now) columns.now action flags.old flags.new }
+    requires rows { AreRowsTo (P.program program.now) rows.now n }
+    requires next { IsNextRow rows.now n join.now }
+    requires row { IsRowFor rows.now row.now }
+    requires others { AreOthers
+        (P.program program.now) rows.now.columns join.now.action (counts_of row.now) }
+    requires flags { AreFlags (P.program program.now) implied.old }
+    ensures flags { AreFlags (P.program program.now) implied.new }
+    ensures flagged { AreFlagged (P.program program.now) rows.now.columns join.now.action
+        (flags_of implied.old) (flags_of implied.new) }
 {
     let _ = program.agents();
-    let ActionId { agent, number } = action;
-    let first = places.first(program, action);
-    for k in 0..program.await_count(agent, number) {
-        let awaited = program.await_at(agent, number, k);
-        flag_await(columns, row, awaited, first + usize::from(k), flags);
+    for k in 0..join.count {
+        let need = rows.schedule.need(join, k);
+        if let Some(count) = count_in(&rows.columns, row, need.wait.agent) {
+            let first = implied.places.first(program, join.action);
+            implied.flag_await(first + usize::from(k), need.wait.count, count);
+        }
     }
 }
 
-/// Flags an await, if its agent has a column: whether the agent's count in the row is no less than that of the await.
-fn flag_await(columns: &Columns, row: &Counts, awaited: Await, place: usize, flags: &mut [bool])
-    requires agent { awaited.agent < agents_in columns.now }
+/// The agent's count in a row, if it has a column.
+fn count_in(columns: &Columns, row: &Counts, agent: u16) -> Option<u32>
+    requires agent { agent < agents_in columns.now }
     requires within { (j k : ℕ) → HasColumn columns.now j k → k < length (counts_of row.now) }
-    requires place { place < length flags.old }
-    ensures flagged { (k : ℕ) → HasColumn columns.now awaited.agent k
-        → get_or flags.new place false ≡ nat_le awaited.count
-        (slice_index (counts_of row.now) k) }
-    ensures none { column_of columns.now awaited.agent ≡ None
-        → get_or flags.new place false ≡ get_or flags.old place false }
-    ensures others { (n : ℕ) → n ≢ place → get_or flags.new n false ≡ get_or flags.old n false }
+    ensures some { (k : ℕ) → HasColumn columns.now agent k
+        → result ≡ Some (slice_index (counts_of row.now) k) }
+    ensures none { column_of columns.now agent ≡ None → result ≡ None }
 {
-    if let Some(k) = columns.of(awaited.agent) {
-        flags[place] = awaited.count <= row.get(usize::from(k));
+    match columns.of(agent) {
+        Some(k) => Some(row.get(usize::from(k))),
+        None => None,
     }
 }

@@ -122,9 +122,9 @@ pub(crate) fn others_row<P: ProgramView>(
 {
     let _ = program.agents();
     rows.begin_row(program, n, join.base, row);
-    for k in 0..program.await_count(join.action.agent, join.action.number) {
-        let taken = rows.schedule.rows[join.first + usize::from(k)];
-        rows.join_row(program, n, taken, row);
+    for k in 0..join.count {
+        let need = rows.schedule.need(join, k);
+        rows.join_row(program, n, need.row, row);
     }
 }
 
@@ -146,9 +146,9 @@ pub(crate) fn whole_row<P: ProgramView>(
     ensures made { IsRowMade (P.program program.now) rows.now n (counts_of row.new) }
 {
     let _ = program.agents();
-    for k in 0..program.await_count(join.action.agent, join.action.number) {
-        let awaited = program.await_at(join.action.agent, join.action.number, k);
-        raise_own(&rows.columns, row, awaited.agent, awaited.count);
+    for k in 0..join.count {
+        let need = rows.schedule.need(join, k);
+        raise_own(&rows.columns, row, need.wait.agent, need.wait.count);
     }
     clear_own(&rows.columns, row, join.action.agent);
 }

@@ -7,11 +7,11 @@ ghost use Rattle.fleet_model.specs.Machine.{IsFinish};
 ghost use Rattle.fleet_model.specs.Chain.{IsAction};
 ghost use Rattle.fleet_needs.specs.Places.{ArePlacesOf, place_of_action};
 ghost use Rattle.fleet_needs.specs.Order.{IsOrder, AreMid, IsCounted};
-ghost use Rattle.fleet_needs.specs.Joins.{AreJoinsOf, AreJoinsEnd, CanJoin, AreTaken, HasJoined, IsAdded, AreRaised, rows_made, lasts_known, last_of, takes_listed, room_for, StandsIn};
+ghost use Rattle.fleet_needs.specs.Joins.{AreJoinsOf, AreJoinsEnd, CanJoin, AreTaken, HasJoined, IsAdded, AreRaised, rows_made, lasts_known, last_of, needs_listed, room_for, StandsIn};
 
 use crate::await_places::ActionPlaces;
 use crate::finish_order::FinishOrder;
-use fleet_model::{ActionId, OutOfMemory, ProgramView, total_moves};
+use fleet_model::{ActionId, Await, OutOfMemory, ProgramView, total_moves};
 use std::alloc::Global;
 
 /// A row that is made: that of an action, joined of the row that stands for the agent's action before and of those that
@@ -20,16 +20,24 @@ use std::alloc::Global;
 pub(crate) struct Join {
     pub(crate) action: ActionId,
     pub(crate) base: u32,
-    /// Where the rows that its awaits take begin in the list of all joins.
-    pub(crate) first: usize,
+    /// Where its needs begin in the list of those of all joins, one for each await.
+    pub(crate) first: u32,
+    pub(crate) count: u16,
+}
+
+/// What a join needs by one await: the row that stands for the action that is waited for.
+#[derive(Clone, Copy)]
+pub(crate) struct Need {
+    pub(crate) row: u32,
+    pub(crate) wait: Await,
 }
 
 /// The joins of a program so far, in the order in which their actions finish.
 #[derive(Drop)]
 pub(crate) struct Joins {
     pub(crate) joins: Vec<Join>,
-    /// For each await of the joins the row that it takes.
-    pub(crate) rows: Vec<u32>,
+    /// For each await of the joins what it needs.
+    pub(crate) needs: Vec<Need>,
     /// For each row, from 0 on, the last row that is joined of it, or 0.
     pub(crate) lasts: Vec<u32>,
     /// For each action, by its place, the row that stands for it.
@@ -117,30 +125,30 @@ impl Joins {
     {
         Ok(Joins {
             joins: Vec::new(alloc),
-            rows: Vec::new(alloc),
+            needs: Vec::new(alloc),
             lasts: vec![in alloc; 0; 1]?,
             standing: vec![in alloc; 0; actions]?,
         })
     }
 
-    /// The rows that the awaits of the join after n others take.
-    pub(crate) fn rows_taken(&self, n: usize) -> &[u32] {
-        let from = self.first_taken(n);
-        let end = self.first_taken(n.saturating_add(1));
+    /// The needs of the join after n others.
+    pub(crate) fn needs_of(&self, n: usize) -> &[Need] {
+        let from = self.first_need(n);
+        let end = self.first_need(n.saturating_add(1));
         if from < end {
-            &self.rows[from..end]
+            &self.needs[from..end]
         } else {
             &[]
         }
     }
 
-    /// Where the rows that the join after n others takes begin, or where those of all joins end.
-    fn first_taken(&self, n: usize) -> usize
-        ensures { result ≤ takes_listed self.now }
+    /// Where the needs of the join after n others begin, or where those of all joins end.
+    fn first_need(&self, n: usize) -> usize
+        ensures { result ≤ needs_listed self.now }
     {
         match self.joins.get(n) {
-            Some(join) => join.first.min(self.rows.len()),
-            None => self.rows.len(),
+            Some(join) => (join.first as usize).min(self.needs.len()),
+            None => self.needs.len(),
         }
     }
 
@@ -226,22 +234,24 @@ impl Joins {
             (P.program program.now) places.now action wanted row self.old self.new) }
     {
         let row = self.joins.len() + 1;
-        if row > u32::MAX as usize {
+        let first = self.needs.len();
+        if row > u32::MAX as usize || first > u32::MAX as usize {
             return Err(OutOfMemory);
         }
-        let first = self.rows.len();
+        let count = program.await_count(action.agent, action.number);
         self.take_awaited(program, places, action, row as u32)?;
         self.raise(base, row as u32);
         self.lasts.push(0)?;
         self.joins.push(Join {
             action,
             base,
-            first,
+            first: first as u32,
+            count,
         })?;
         Ok(row as u32)
     }
 
-    /// Lists the rows that the awaits of the action take, for the row that is next.
+    /// Lists what the awaits of the action need, for the row that is next.
     fn take_awaited<P: ProgramView>(
         &mut self,
         program: &P,
@@ -257,9 +267,9 @@ impl Joins {
     {
         let _ = program.agents();
         for k in 0..program.await_count(action.agent, action.number) {
-            let awaited = program.await_at(action.agent, action.number, k);
-            let taken = self.standing[places.place(awaited.agent, awaited.count)];
-            self.rows.push(taken)?;
+            let wait = program.await_at(action.agent, action.number, k);
+            let taken = self.standing[places.place(wait.agent, wait.count)];
+            self.needs.push(Need { row: taken, wait })?;
             self.raise(taken, row);
         }
         Ok(())
@@ -269,7 +279,7 @@ impl Joins {
     fn raise(&mut self, taken: u32, row: u32)
         requires { taken < lasts_known self.old }
         ensures joins { self.new.joins ≡ self.old.joins }
-        ensures rows { self.new.rows ≡ self.old.rows }
+        ensures needs { self.new.needs ≡ self.old.needs }
         ensures standing { self.new.standing ≡ self.old.standing }
         ensures raised { AreRaised self.old.lasts.items self.new.lasts.items }
         ensures noted { row ≤ last_of self.new taken }
@@ -290,7 +300,7 @@ impl Joins {
         requires places { ArePlacesOf (P.program program.now) places.now }
         requires action { IsAction (P.program program.now) action }
         ensures joins { self.new.joins ≡ self.old.joins }
-        ensures rows { self.new.rows ≡ self.old.rows }
+        ensures needs { self.new.needs ≡ self.old.needs }
         ensures lasts { self.new.lasts ≡ self.old.lasts }
         ensures noted { self.new.standing.items ≡ set
             self.old.standing.items (place_of_action places.now action) row }

@@ -7,7 +7,7 @@ ghost use Rattle.fleet_model.specs.Program.{AreInRange, moves, total_moves};
 ghost use Rattle.fleet_model.specs.Chain.{IsAction};
 ghost use Rattle.fleet_model.specs.Machine.{IsFinish};
 ghost use Rattle.fleet_needs.specs.Asked.{IsQuestion};
-ghost use Rattle.fleet_needs.specs.Joins.{IsWanted};
+ghost use Rattle.fleet_needs.specs.Joins.{IsWanted, need_of};
 ghost use Rattle.fleet_needs.specs.Order.{IsOrder};
 ghost use Rattle.fleet_needs.specs.Places.{ArePlacesOf, place_of_action};
 ghost use Rattle.fleet_needs.specs.Schedule.{IsSchedule, HasRows};
@@ -16,7 +16,7 @@ ghost use Rattle.fleet_needs.specs.Columns.{AreColumns, agents_in, column_of};
 
 use crate::await_places::ActionPlaces;
 use crate::finish_order::FinishOrder;
-use crate::joins::{Course, Join, Joins, joins_of};
+use crate::joins::{Course, Join, Joins, Need, joins_of};
 use crate::questions::Question;
 use fleet_model::{ActionId, MAX_AGENTS, OutOfMemory, ProgramView, total_moves};
 use std::alloc::Global;
@@ -35,8 +35,8 @@ const WHOLE_COLUMNS: u32 = 16;
 #[derive(Drop)]
 pub struct Schedule {
     pub(crate) joins: Vec<Join>,
-    /// For each await of the joins the row that it takes.
-    pub(crate) rows: Vec<u32>,
+    /// For each await of the joins what it needs.
+    pub(crate) needs: Vec<Need>,
     /// For each row, from row 1 on, its slot.
     pub(crate) outs: Vec<u32>,
     /// How many slots there are.
@@ -75,11 +75,19 @@ impl Schedule {
         let count = slots.count();
         Ok(Schedule {
             joins: joins.joins,
-            rows: joins.rows,
+            needs: joins.needs,
             outs: slots.outs,
             slots: count,
             is_narrow: is_narrow(program),
         })
+    }
+
+    /// Need `k` of a join.
+    pub(crate) fn need(&self, join: &Join, k: u16) -> Need
+        requires { join.now.first + k < length self.now.needs.items }
+        ensures { result ≡ need_of self.now.needs.items join.now k }
+    {
+        self.needs[join.first as usize + usize::from(k)]
     }
 
     /// How many columns a block has at most: as many as there is room for in all slots, but at least 8, and no more than
@@ -192,8 +200,8 @@ impl Slots {
         if let Some(join) = joins.joins.get(n) {
             self.free_if(joins, u64::from(join.base), row)?;
         }
-        for &taken in joins.rows_taken(n) {
-            self.free_if(joins, u64::from(taken), row)?;
+        for need in joins.needs_of(n) {
+            self.free_if(joins, u64::from(need.row), row)?;
         }
         Ok(())
     }

@@ -1,65 +1,79 @@
-use Rattle.std.proofs.Common.{◌≡◌, ◌≢◌, ◌+◌, ℕ, false, length, get_or, refl, sym, subst, ap, ◌∙◌, arith, inl, inr}
-use Rattle.std.proofs.lemmas.Option.{slice_get_within}
+use Rattle.std.proofs.Common.{◌≡◌, ◌≢◌, ◌+◌, ℕ, None, Some, Option, false, get_or, nat_le, length, slice_index, refl, sym, subst, ap, ◌∙◌, arith}
+use Rattle.std.proofs.lemmas.Option.{slice_get_within, same_Some, none-some}
 use Rattle.fleet_model.specs.Program.{awaits_of}
 use Rattle.fleet_needs.specs.Counts.{counts_of}
-use Rattle.fleet_needs.specs.Implied.{IsImpliedFlag}
-use Rattle.fleet_needs.proofs.Joining.{awaited_action}
+use Rattle.fleet_needs.specs.Flags.{flags_of}
+use Rattle.fleet_needs.specs.Implied.{IsImpliedFlag, first_await}
+use Rattle.fleet_needs.specs.declared.implied.ImpliedAwaits.{ImpliedAwaits}
 use Rattle.fleet_needs.proofs.AwaitOrder.{flag_within, flag_fits}
-use Rattle.fleet_needs.proofs.Flagged.{flagged_of, flagged_more, left_more}
+use Rattle.fleet_needs.proofs.Flagged.{AreFlaggedFirst, flagged_begun, flagged_next, flagged_of, flagged_whole}
+use Rattle.fleet_needs.proofs.Joining.{awaited_action}
+use Rattle.fleet_needs.proofs.RowsMade.{is_join, need_awaits}
 use Rattle.fleet_needs.proofs.implied.flag_awaits.Goals as goal
+use Rattle.fleet_needs.proofs.implied.flag_awaits.Goals.{in-Some, in_default}
 
 pub loop-k-init : goal.loop-k-init
-loop-k-init g c = record { flagged = λ m n w l at has. absurd (omega arith); none = λ m w at none. refl; others = λ n out. refl }
+loop-k-init g c = record { first = flagged_begun (g.P.ProgramView.program c.args.program.now) c.args.rows.now.columns c.args.join.now.action c.args.implied.now c.requires.flags }
 
-pub flag_await-requires-clause-agent : goal.flag_await-requires-clause-agent
-flag_await-requires-clause-agent g c =
-    let k = awaited_action (g.P.ProgramView.program c.args.program.now) c.requires.range c.args.action.agent c.args.action.number c.loop-k.k c.await_at-awaited.result c.await_at-awaited.ensures in
-    omega (arith, k.agent, c.requires.agents)
-
-pub flag_await-requires-clause-place : goal.flag_await-requires-clause-place
-flag_await-requires-clause-place g c =
+pub count_in-requires-clause-agent : goal.count_in-requires-clause-agent
+count_in-requires-clause-agent g c =
     let p = g.P.ProgramView.program c.args.program.now in
-    let l = slice_get_within (awaits_of p c.args.action.agent c.args.action.number) c.loop-k.k c.await_at-awaited.result c.await_at-awaited.ensures in
-    let all = flag_within p c.args.action c.requires.action in
-    omega (arith, l, all, c.from.ensures, c.first-first.ensures, c.requires.flags, c.loop-k.auto.flags)
+    let a = c.args.join.now.action in
+    let is = is_join p c.requires.range c.args.rows.now c.args.n c.requires.rows c.args.join.now c.requires.next in
+    let at = need_awaits p c.args.rows.now c.args.join.now c.args.n is c.loop-k.k c.need-need.result c.need-need.ensures (omega (arith, c.loop-k-test.true, is.count)) in
+    let k = awaited_action p c.requires.range a.agent a.number c.loop-k.k c.need-need.result.wait at in
+    omega (arith, k.agent, c.requires.rows.columns.agents)
 
-pub loop-k-preserved : goal.loop-k-preserved
-loop-k-preserved g c =
+pub flag_await-requires : goal.flag_await-requires
+flag_await-requires g c =
     let p = g.P.ProgramView.program c.args.program.now in
-    let columns = c.args.columns.now in
-    let a = c.args.action in
-    let k = c.loop-k.k in
-    let w = c.await_at-awaited.result in
-    let first = c.first-first.result in
-    let new = c.flag_await.new.flags in
-    let at : first + c.from.result ≡ first + k = omega (arith, c.from.ensures) in
-    let others : (n : ℕ) → n ≢ first + k → get_or new n false ≡ get_or c.loop-k.flags n false = λ n ne. c.flag_await.ensures.others n (λ e. ne (e ∙ at)) in
-    record {
-      flagged = flagged_more p columns a first k w c.await_at-awaited.ensures c.loop-k.flags new others
-          (λ n has. subst (IsImpliedFlag p a w) (sym (ap (λ (x : ℕ). get_or new x false) (sym at) ∙ c.flag_await.ensures.flagged n has))
-          (flagged_of p c.requires.range c.agents.ensures.well_formed columns a (counts_of c.args.row.now) c.requires.action c.requires.row k n w c.await_at-awaited.ensures has))
-          c.loop-k.invariant.flagged;
-      none = left_more p columns a first k w c.await_at-awaited.ensures c.loop-k.flags new others c.args.flags.now
-          (λ none. ap (λ (x : ℕ). get_or new x false) (sym at) ∙ c.flag_await.ensures.none none ∙ ap (λ (x : ℕ). get_or c.loop-k.flags x false) at)
-          c.loop-k.invariant.none;
-      others = λ n out. others n (λ e. elim out [ inl l ↦ omega arith | inr l ↦ omega arith ]) ∙ c.loop-k.invariant.others n (elim out [ inl l ↦ inl l | inr l ↦ inr (omega arith) ]);
-    }
-
-pub returns : goal.returns
-returns g c =
-    let p = g.P.ProgramView.program c.args.program.now in
-    let a = c.args.action in
-    let whole : c.loop-k.k ≡ length (awaits_of p a.agent a.number) = omega (arith, c.loop-k-test.false, c.await_count-k-end.ensures, c.loop-k.auto.k-end) in
-    record {
-      flagged = λ m n w l has. (let within = slice_get_within (awaits_of p a.agent a.number) m w l in
-          subst (λ (x : ℕ). IsImpliedFlag p a w (get_or c.loop-k.flags (x + m) false)) c.first-first.ensures (c.loop-k.invariant.flagged m n w (omega (arith, within, whole)) l has));
-      none = λ m w l none. subst (λ (x : ℕ). get_or c.loop-k.flags (x + m) false ≡ get_or c.args.flags.now (x + m) false) c.first-first.ensures (c.loop-k.invariant.none m w l none);
-      others = λ n out. c.loop-k.invariant.others n (elim out [ inl l ↦ inl (omega (arith, c.first-first.ensures)) | inr l ↦ inr (omega (arith, c.first-first.ensures, whole)) ]);
-    }
+    let is = is_join p c.requires.range c.args.rows.now c.args.n c.requires.rows c.args.join.now c.requires.next in
+    let all = flag_within p c.args.join.now.action is.action in
+    omega (arith, c.loop-k-test.true, is.count, all, c.from.ensures, c.first-first.ensures, c.loop-k.invariant.first.flags.all)
 
 pub overflow_add-first : goal.overflow_add-first
 overflow_add-first g c =
     let p = g.P.ProgramView.program c.args.program.now in
-    let l = slice_get_within (awaits_of p c.args.action.agent c.args.action.number) c.loop-k.k c.await_at-awaited.result c.await_at-awaited.ensures in
-    let fits = flag_fits p c.agents.ensures.well_formed c.args.action c.requires.action in
-    omega (arith, l, fits, c.from.ensures, c.first-first.ensures)
+    let is = is_join p c.requires.range c.args.rows.now c.args.n c.requires.rows c.args.join.now c.requires.next in
+    let fits = flag_fits p c.agents.ensures.well_formed c.args.join.now.action is.action in
+    omega (arith, c.loop-k-test.true, is.count, fits, c.from.ensures, c.first-first.ensures)
+
+pub loop-k-preserved : goal.loop-k-preserved
+loop-k-preserved g c =
+    let p = g.P.ProgramView.program c.args.program.now in
+    let columns = c.args.rows.now.columns in
+    let a = c.args.join.now.action in
+    let k = c.loop-k.k in
+    let w = c.need-need.result.wait in
+    let row = counts_of c.args.row.now in
+    let is = is_join p c.requires.range c.args.rows.now c.args.n c.requires.rows c.args.join.now c.requires.next in
+    let at = need_awaits p c.args.rows.now c.args.join.now c.args.n is k c.need-need.result c.need-need.ensures (omega (arith, c.loop-k-test.true, is.count)) in
+    let first = first_await p a in
+    elim c.match-count_in.branch [
+      | in-Some t ↦
+          let new : ImpliedAwaits = t.flag_await.new.self in
+          let place : t.first-first.result + t.from.result ≡ first + k = omega (arith, t.first-first.ensures, t.from.ensures) in
+          let others : (n : ℕ) → n ≢ first + k → get_or (flags_of new) n false ≡ get_or (flags_of c.loop-k.implied) n false = λ n ne. t.flag_await.ensures.others n (λ e. ne (e ∙ place)) in
+          let flag : get_or (flags_of new) (first + k) false ≡ nat_le w.count t.in-Some.count = ap (λ (n : ℕ). get_or (flags_of new) n false) (sym place) ∙ t.flag_await.ensures.flagged in
+          record {
+            first = subst (AreFlaggedFirst p columns a (k + 1) c.args.implied.now) (sym t.implied-is)
+                (flagged_next p columns a k w at c.args.implied.now c.loop-k.implied new c.loop-k.invariant.first t.flag_await.ensures.places t.flag_await.ensures.all others
+                (λ n has.
+                let same : t.in-Some.count ≡ slice_index row n = same_Some t.in-Some.count (slice_index row n) (sym t.in-Some.is ∙ c.count_in.ensures.some n has) in
+                subst (IsImpliedFlag p a w) (sym (flag ∙ ap (nat_le w.count) same)) (flagged_of p c.requires.range c.agents.ensures.well_formed columns a row is.action c.requires.others k n w at has))
+                (λ none. absurd (none-some t.in-Some.count (sym (c.count_in.ensures.none none) ∙ t.in-Some.is))));
+          }
+      | in_default t ↦ record {
+        first = subst (AreFlaggedFirst p columns a (k + 1) c.args.implied.now) (sym t.implied-is)
+            (flagged_next p columns a k w at c.args.implied.now c.loop-k.implied c.loop-k.implied c.loop-k.invariant.first refl refl (λ n ne. refl)
+            (λ n has. absurd (none-some (slice_index row n) (sym t.in_default.is ∙ c.count_in.ensures.some n has)))
+            (λ none. refl));
+      }
+    ]
+
+pub returns-clause-flagged : goal.returns-clause-flagged
+returns-clause-flagged g c =
+    let p = g.P.ProgramView.program c.args.program.now in
+    let a = c.args.join.now.action in
+    let is = is_join p c.requires.range c.args.rows.now c.args.n c.requires.rows c.args.join.now c.requires.next in
+    flagged_whole p c.args.rows.now.columns a c.loop-k.k c.args.implied.now c.loop-k.implied (omega (arith, c.loop-k-test.false, is.count, c.loop-k.auto.k-end)) c.loop-k.invariant.first

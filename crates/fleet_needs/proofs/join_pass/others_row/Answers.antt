@@ -4,7 +4,7 @@ use Rattle.fleet_model.specs.Program.{awaits_of}
 use Rattle.fleet_needs.specs.Counts.{counts_of}
 use Rattle.fleet_needs.specs.Joins.{row_taken}
 use Rattle.fleet_needs.specs.Schedule.{IsThere, StandsThere}
-use Rattle.fleet_needs.proofs.Counting.{count_read}
+use Rattle.fleet_needs.specs.declared.joins.Need.{Need}
 use Rattle.fleet_needs.proofs.RowsMade.{AreOthersTo, is_join, base_stands, taken_there, taken_stands, await_at, number_on, others_first, others_next}
 use Rattle.fleet_needs.proofs.join_pass.others_row.Goals as goal
 
@@ -24,10 +24,9 @@ join_row-requires-clause-there g c =
     let m = c.args.rows.now in
     let join = c.args.join.now in
     let is = is_join p c.requires.range m c.args.n c.requires.rows join c.requires.next in
-    let l : c.loop-k.k < length (awaits_of p join.action.agent join.action.number) = omega (arith, c.loop-k-test.true, c.await_count-k-end.ensures) in
+    let l : c.loop-k.k < length (awaits_of p join.action.agent join.action.number) = omega (arith, c.loop-k-test.true, is.count) in
     let w = await_at p c.requires.range m c.args.n c.requires.rows join c.requires.next c.loop-k.k l in
-    let read : c.index-taken.result.now ≡ row_taken m.schedule.now.rows.items join c.loop-k.k =
-    count_read m.schedule.now.rows.items (join.first + c.from.result) (join.first + c.loop-k.k) c.index-taken.result.now (omega (arith, c.from.ensures)) (omega (arith, l, is.within)) c.index-taken.ensures in
+    let read : c.need-need.result.row ≡ row_taken m.schedule.now.needs.items join c.loop-k.k = ap (λ (x : Need). x.row) c.need-need.ensures in
     subst (IsThere m c.args.n) (sym read) (taken_there p c.requires.range m c.args.n c.requires.rows join c.requires.next c.loop-k.k w.0 w.1)
 
 pub loop-k-preserved : goal.loop-k-preserved
@@ -37,10 +36,9 @@ loop-k-preserved g c =
     let join = c.args.join.now in
     let a = join.action in
     let is = is_join p c.requires.range m c.args.n c.requires.rows join c.requires.next in
-    let l : c.loop-k.k < length (awaits_of p join.action.agent join.action.number) = omega (arith, c.loop-k-test.true, c.await_count-k-end.ensures) in
+    let l : c.loop-k.k < length (awaits_of p join.action.agent join.action.number) = omega (arith, c.loop-k-test.true, is.count) in
     let w = await_at p c.requires.range m c.args.n c.requires.rows join c.requires.next c.loop-k.k l in
-    let read : c.index-taken.result.now ≡ row_taken m.schedule.now.rows.items join c.loop-k.k =
-    count_read m.schedule.now.rows.items (join.first + c.from.result) (join.first + c.loop-k.k) c.index-taken.result.now (omega (arith, c.from.ensures)) (omega (arith, l, is.within)) c.index-taken.ensures in
+    let read : c.need-need.result.row ≡ row_taken m.schedule.now.needs.items join c.loop-k.k = ap (λ (x : Need). x.row) c.need-need.ensures in
     let f : a.number - 1 + 1 ≡ a.number = number_on p c.requires.range m c.args.n c.requires.rows join c.requires.next in
     record {
       row = c.join_row.ensures.row;
@@ -55,5 +53,6 @@ returns-clause-others g c =
     let m = c.args.rows.now in
     let a = c.args.join.now.action in
     let f : a.number - 1 + 1 ≡ a.number = number_on p c.requires.range m c.args.n c.requires.rows c.args.join.now c.requires.next in
-    let whole : c.loop-k.k ≡ length (awaits_of p a.agent a.number) = omega (arith, c.loop-k-test.false, c.await_count-k-end.ensures, c.loop-k.auto.k-end) in
+    let is = is_join p c.requires.range m c.args.n c.requires.rows c.args.join.now c.requires.next in
+    let whole : c.loop-k.k ≡ length (awaits_of p a.agent a.number) = omega (arith, c.loop-k-test.false, is.count, c.loop-k.auto.k-end) in
     subst (λ (n : ℕ). AreOthersTo p m.columns a.agent (a.number - 1) n (counts_of c.loop-k.row)) (whole ∙ ap (λ (n : ℕ). length (awaits_of p a.agent n)) (sym f)) c.loop-k.invariant.others

@@ -15,21 +15,21 @@ loop-k-init g c = record { joins = refl; standing = refl; taken = taken_first (g
 
 pub place-requires-clause-agent : goal.place-requires-clause-agent
 place-requires-clause-agent g c =
-    let st = c.requires.can.awaited c.loop-k.k c.await_at-awaited.result c.await_at-awaited.ensures in
+    let st = c.requires.can.awaited c.loop-k.k c.await_at-wait.result c.await_at-wait.ensures in
     omega (arith, st.0.agent, c.requires.can.sound.right.all)
 
 pub index-taken-requires : goal.index-taken-requires
 index-taken-requires g c =
-    let w = c.await_at-awaited.result in
-    let st = c.requires.can.awaited c.loop-k.k w c.await_at-awaited.ensures in
+    let w = c.await_at-wait.result in
+    let st = c.requires.can.awaited c.loop-k.k w c.await_at-wait.ensures in
     let firsts = c.args.places.now in
     let l = place_within (g.P.ProgramView.program c.args.program.now) firsts c.requires.can.sound.right (awaited w) st.0 in
     omega (arith, l, place_is firsts (awaited w) c.place.result c.place.ensures, c.requires.can.sound.room, ap (λ xs. length xs.items) c.loop-k.invariant.standing)
 
 pub raise-requires : goal.raise-requires
 raise-requires g c =
-    let w = c.await_at-awaited.result in
-    let st = c.requires.can.awaited c.loop-k.k w c.await_at-awaited.ensures in
+    let w = c.await_at-wait.result in
+    let st = c.requires.can.awaited c.loop-k.k w c.await_at-wait.ensures in
     let firsts = c.args.places.now in
     let l = place_within (g.P.ProgramView.program c.args.program.now) firsts c.requires.can.sound.right (awaited w) st.0 in
     let at : c.place.result ≡ place_of_action c.args.places.now (awaited w) = place_is firsts (awaited w) c.place.result c.place.ensures in
@@ -42,8 +42,8 @@ raise-requires g c =
 pub loop-k-preserved : goal.loop-k-preserved
 loop-k-preserved g c =
     let p = g.P.ProgramView.program c.args.program.now in
-    let w = c.await_at-awaited.result in
-    let st = c.requires.can.awaited c.loop-k.k w c.await_at-awaited.ensures in
+    let w = c.await_at-wait.result in
+    let st = c.requires.can.awaited c.loop-k.k w c.await_at-wait.ensures in
     let firsts = c.args.places.now in
     let l = place_within p firsts c.requires.can.sound.right (awaited w) st.0 in
     let at : c.place.result ≡ place_of_action c.args.places.now (awaited w) = place_is firsts (awaited w) c.place.result c.place.ensures in
@@ -54,8 +54,8 @@ loop-k-preserved g c =
     record {
       joins = c.raise.ensures.joins ∙ c.loop-k.invariant.joins;
       standing = c.raise.ensures.standing ∙ c.loop-k.invariant.standing;
-      taken = taken_on p c.args.places.now c.args.action c.args.self.now c.loop-k.k w c.await_at-awaited.ensures c.index-taken.result.now read c.loop-k.self.rows.items c.raise.new.self.rows.items c.loop-k.self.lasts.items c.raise.new.self.lasts.items
-          (ap (λ xs. xs.items) c.raise.ensures.rows ∙ c.in_ok-push.ensures.items) c.raise.ensures.raised (omega (arith, c.raise.ensures.noted, c.requires.row)) c.loop-k.invariant.taken;
+      taken = taken_on p c.args.places.now c.args.action c.args.self.now c.loop-k.k w c.await_at-wait.ensures c.index-taken.result.now read c.loop-k.self.needs.items c.raise.new.self.needs.items c.loop-k.self.lasts.items c.raise.new.self.lasts.items
+          (ap (λ xs. xs.items) c.raise.ensures.needs ∙ c.in_ok-push.ensures.items) c.raise.ensures.raised (omega (arith, c.raise.ensures.noted, c.requires.row)) c.loop-k.invariant.taken;
     }
 
 pub returns : goal.returns
@@ -63,8 +63,8 @@ returns g c =
     let p = g.P.ProgramView.program c.args.program.now in
     let a = c.args.action in
     let whole : c.loop-k.k ≡ length (awaits_of p a.agent a.number) = omega (arith, c.loop-k-test.false, c.await_count-k-end.ensures, c.loop-k.auto.k-end) in
-    let t : AreTakenTo p c.args.places.now a c.args.self.now (length (awaits_of p a.agent a.number)) c.loop-k.self.rows.items c.loop-k.self.lasts.items =
-    subst (λ (n : ℕ). AreTakenTo p c.args.places.now a c.args.self.now n c.loop-k.self.rows.items c.loop-k.self.lasts.items) whole c.loop-k.invariant.taken in
+    let t : AreTakenTo p c.args.places.now a c.args.self.now (length (awaits_of p a.agent a.number)) c.loop-k.self.needs.items c.loop-k.self.lasts.items =
+    subst (λ (n : ℕ). AreTakenTo p c.args.places.now a c.args.self.now n c.loop-k.self.needs.items c.loop-k.self.lasts.items) whole c.loop-k.invariant.taken in
     record {
       joins = c.loop-k.invariant.joins;
       standing = c.loop-k.invariant.standing;

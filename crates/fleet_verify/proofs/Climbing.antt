@@ -16,7 +16,7 @@ use Rattle.fleet_verify.specs.declared.ahead.Ahead.{Ahead}
 use Rattle.fleet_verify.specs.declared.ahead.Needs.{Needs}
 use Rattle.fleet_verify.specs.declared.ahead.Runner.{Runner}
 use Rattle.fleet_verify.specs.LastVisits.{kept_at}
-use Rattle.fleet_verify.specs.Ahead.{AddsLevel, IsAhead, IsAheadBy, IsArrival, IsNext, IsRunner, AreNeeds, climbed_in, count_in}
+use Rattle.fleet_verify.specs.Ahead.{AddsLevel, IsAhead, IsAheadBy, IsArrival, IsRunner, AreNeeds, climbed_in, count_in}
 use Rattle.fleet_verify.proofs.NextLevel.{place_at, leads_on}
 use Rattle.fleet_verify.proofs.PieceLaws.{row_last, push_same}
 
@@ -176,12 +176,6 @@ module _ {passable : Place → Bool} {p : Program} {offset : (i finished k : ℕ
 
   pub runner_rows : length a.rows.items ≡ length p
   runner_rows = sym (length-set a.rows.items i (climbed (get_or a.rows.items i []) r.finished)) ∙ h.ahead.rows
-
-  pub runner_cells : length a.cells.items ≡ length p
-  runner_cells = sym (length-set a.cells.items i r.cell) ∙ h.ahead.cells
-
-  pub runner_next : r.finished < moves p i → IsNext p offset a.rows.items i r
-  runner_next left = record { agent = h.agent; begun = h.begun; left = left; level = h.level; at = h.at }
 
 -- an agent that has not run on yet
 pub runner_begins : (passable : Place → Bool) (p : Program) (offset : (i finished k : ℕ) → ℕ) (a : Ahead) (i : ℕ) (r : Runner) → IsAhead passable p a → i < length p → r.finished ≡ count_in a.rows.items i → r.at ≡ offset i r.finished 0

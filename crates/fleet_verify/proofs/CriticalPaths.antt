@@ -48,9 +48,6 @@ pub record IsLatestOf (p : Program) (cost : ActionId → ℕ) (n : ℕ) (latest 
   pub action : (a : ActionId) → latest ≡ Some a → IsAction p a
   pub most : (a : ActionId) → latest ≡ Some a → (j : ℕ) → j < n → 1 ≤ moves p j → (l m : ℕ) → IsCriticalCost p cost (last_action p j) l → IsCriticalCost p cost a m → l ≤ m
 
-pub latest_none : (p : Program) (cost : ActionId → ℕ) → IsLatestOf p cost 0 None
-latest_none p cost = record { none = λ e j l. absurd (omega arith); action = λ a e. absurd cc; most = λ a e j l. absurd (omega arith) }
-
 pub latest_stays : (p : Program) (cost : ActionId → ℕ) (n : ℕ) (latest : Option ActionId) → IsLatestOf p cost n latest → moves p n ≡ 0 → IsLatestOf p cost (n + 1) latest
 latest_stays p cost n latest h zero_moves = record {
   none = λ e j l. elim (cases_lt j n) [ inl s ↦ h.none e j s | inr s ↦ (let same : n ≡ j = omega (arith, s, l) in subst (λ x. moves p x ≡ 0) same zero_moves) ];
@@ -220,9 +217,6 @@ pub record IsWayBack (p : Program) (cost : ActionId → ℕ) (last : ActionId) (
   pub way : path ≡ reverse (action ∷ rest)
   pub critical : IsCriticalCost p cost action end
   pub sum : total ≡ end + sum_by cost rest
-
-pub way_begins : (p : Program) (cost : ActionId → ℕ) (last : ActionId) (end : ℕ) → IsAction p last → IsCriticalCost p cost last end → (path : List ActionId) → path ≡ last ∷ [] → IsWayBack p cost last end path last end
-way_begins p cost last end act critical path is = record { rest = []; chain = (act, refl); way = is; critical = critical; sum = omega arith }
 
 pub way_on : (p : Program) (cost : ActionId → ℕ) (last : ActionId) (total : ℕ) (path : List ActionId) (action : ActionId) (end : ℕ) → IsWayBack p cost last total path action end
     → (before : ActionId) → LeadsBack p cost action before → (e : ℕ) → IsCriticalCost p cost before e → (path' : List ActionId) → path' ≡ path ++ before ∷ [] → IsWayBack p cost last total path' before e

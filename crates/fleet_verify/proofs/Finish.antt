@@ -1,12 +1,12 @@
 -- What a run finishes, after which ticks, and that no list of holds finishes a ring.
-use Rattle.std.proofs.Common.{◌≡◌, ℕ, suc, ◌+◌, ◌≤◌, ap, subst, arith, inl, inr, zero, ◌-◌, ◌<◌, Bool, true, false, refl, List, length, get_or, Some, sym, ◌∙◌}
+use Rattle.std.proofs.Common.{◌≡◌, ℕ, suc, ◌+◌, ◌≤◌, ap, subst, arith, inl, inr, zero, ◌-◌, ◌<◌, true, List, length, get_or, Some, sym, ◌∙◌}
 use Rattle.std.specs.Prelude.{Contains, slice_get, nat_le, ◌⊎◌}
 use Rattle.fleet_model.specs.declared.program.Await.{Await}
 use Rattle.fleet_model.specs.declared.program.ActionId.{ActionId}
 use Rattle.fleet_model.specs.Program.{Program, moves, awaits_of}
 use Rattle.fleet_model.specs.Machine.{Configuration, count_at, Holds, is_held, run, IsDone, is_finished, IsLeast}
 use Rattle.fleet_model.specs.Chain.{DirectlyNeeds, IsAction, IsNumbering, Reaches}
-use Rattle.fleet_verify.proofs.RunCounts.{counts, readies, run_counts, grows, grows_once, within_moves, count_past, count_opening, finished_all, unfinished_one, first_passing, first_is, chain_before}
+use Rattle.fleet_verify.proofs.RunCounts.{counts, readies, run_counts, grows, grows_once, within_moves, count_past, count_opening, finished_all, first_passing, first_is, chain_before}
 use Rattle.fleet_verify.proofs.Waiting.{IsReadyTo, step}
 use Rattle.std.proofs.lemmas.Bool.{cases_lt, le-leb, leb-true}
 use Rattle.std.proofs.lemmas.Option.{slice_get-get_or, slice_get_within, get_or_from_slice_get}
@@ -57,16 +57,6 @@ done_after p holds f a = first_passing (λ t. nat_le a.number (count_at (run p h
 pub done_first : (p : Program) (holds : Holds) (f : ℕ) → is_finished p (run p holds f) ≡ true → (a : ActionId) → IsAction p a → IsLeast (λ t. nat_le a.number (count_at (run p holds t) a.agent)) (done_after p holds f a)
 unfolding done_after
 done_first p holds f h a k = first_is (λ t. nat_le a.number (count_at (run p holds t) a.agent)) f f (omega arith) (le-leb a.number (count_at (run p holds f) a.agent) (finished_says p (run p holds f) h a k))
-
--- all is finished if each action is
-pub finished_from : (p : Program) (c : Configuration) → ((a : ActionId) → IsAction p a → IsDone c a) → is_finished p c ≡ true
-finished_from p c h = go (is_finished p c) refl
-  where
-    go : (b : Bool) → is_finished p c ≡ b → is_finished p c ≡ true
-    go true e = e
-    go false e =
-        let u = unfinished_one p c e in
-        absurd (omega (arith, u.2, h (record { agent = u.0; number = moves p u.0 }) (record { agent = u.1; first = omega (arith, u.2); last = omega arith })))
 
 -- the action of a ring that one of them needs
 ring_need : (p : Program) (ring : List ActionId) → IsRing p ring → (k : ℕ) (a : ActionId) → slice_get ring k ≡ Some a → (j : ℕ) × (b : ActionId) × (slice_get ring j ≡ Some b) × DirectlyNeeds p a b

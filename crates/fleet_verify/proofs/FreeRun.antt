@@ -97,9 +97,6 @@ module _ (p : Program) (f : ℕ) (fin : is_finished p (run p [] f) ≡ true) whe
     pub only : (v : Visit) → Contains visits v → (v.agent < length p) × Begun v
     pub sorted : AllPairs (IsBefore level) visits
 
-  visit : ℕ → ℕ → Visit
-  visit i n = record { agent = i; position = n }
-
   same_visit : (v w : Visit) → v.agent ≡ w.agent → v.position ≡ w.position → v ≡ w
   same_visit v w e g = λ i. record { agent = e i; position = g i }
 

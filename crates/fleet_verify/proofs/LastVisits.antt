@@ -1,5 +1,5 @@
 -- Squares of cells, and the visits that they keep.
-use Rattle.std.proofs.Common.{◌≡◌, ◌≢◌, ℕ, suc, ◌+◌, ◌*◌, ◌/◌, ◌%◌, ◌<◌, ◌≤◌, nat_eq, Bool, true, false, List, [], ◌∷◌, length, replicate, get_or, slice_get, Some, None, refl, sym, ap, ◌∙◌, subst, arith, inl, inr}
+use Rattle.std.proofs.Common.{◌≡◌, ◌≢◌, ℕ, suc, ◌+◌, ◌/◌, ◌%◌, ◌<◌, nat_eq, Bool, true, false, List, [], ◌∷◌, length, replicate, get_or, slice_get, Some, None, refl, sym, ap, ◌∙◌, subst, arith, inl, inr}
 use Rattle.std.proofs.lemmas.Bool.{cases_eq, cases_lt, ne_eqb, eqb-true, true≢false}
 use Rattle.std.proofs.lemmas.List.{get_or_past, get_or-replicate, length-replicate}
 use Rattle.std.proofs.lemmas.Option.{same_Some, slice_get-map}
@@ -13,8 +13,6 @@ use Rattle.indexmap.specs.IndexMap.{IndexMap, get, keys, insert_entry, Updates, 
 use Rattle.indexmap.proofs.CallerLemmas.{updates-with_value_at, keys-with_value_at}
 use Rattle.indexmap.proofs.MapLemmas.{Found-position}
 use Rattle.fleet_model.specs.declared.geometry.Cell.{Cell}
-use Rattle.fleet_model.specs.declared.limits.TheConstants.{MAX_AGENTS, MAX_MOVES}
-use Rattle.fleet_model.specs.declared.program.Visit.{Visit}
 use Rattle.fleet_model.specs.Program.{IsCell}
 use Rattle.fleet_verify.specs.Squares.{square_of, place_in_square, visit_kept, visit_in, last_in, IsSquareAt, IsWritten}
 use Rattle.fleet_verify.specs.declared.last_visits.TheConstants.{NO_VISIT}
@@ -29,13 +27,6 @@ same_in_square c d cs ds e f =
     let y : c.y ≡ d.y = omega (arith, down, row) in
     let x : c.x ≡ d.x = omega (arith, across, column) in
     λ i. record { x = x i; y = y i }
-
--- a visit is kept as its number
-pub kept_visit : (v : Visit) (n : ℕ) → v.agent < MAX_AGENTS → v.position ≤ MAX_MOVES → n ≡ v.position * 1024 + v.agent → visit_kept n ≡ Some v
-kept_visit v n few most is =
-    let agent : n % 1024 ≡ v.agent = omega (arith, is, few) in
-    let position : n / 1024 ≡ v.position = omega (arith, is, few) in
-    rw (ne_eqb n NO_VISIT (λ e. omega (arith, e, is, few, most))) (λ i. Some (record { agent = agent i; position = position i }))
 
 module _ {S : Type 0} (old new : IndexMap ℕ (List ℕ) S) (cell : Cell) (square written : List ℕ) (place n : ℕ)
     (is : place ≡ place_in_square cell) (updates : Updates nat_eq old new (square_of cell) (Some written)) (w : IsWritten square written place n) where
@@ -145,7 +136,3 @@ module _ {S : Type 0} (m : IndexMap ℕ (List ℕ) S) where
   kept_read cell number place n square here is at read =
       ap visit_kept (read ∙ ap (λ k. get_or square k NO_VISIT) at)
       ∙ (ap (λ s. visit_in s (place_in_square cell)) (sym here) ∙ ap (λ k. visit_in (get nat_eq m k) (place_in_square cell)) is)
-
-  -- and where there is no square
-  pub kept_missing : (cell : Cell) (number : ℕ) → get nat_eq m number ≡ None → number ≡ square_of cell → None ≡ last_in m cell
-  kept_missing cell number none is = ap (λ s. visit_in s (place_in_square cell)) (sym none) ∙ ap (λ k. visit_in (get nat_eq m k) (place_in_square cell)) is

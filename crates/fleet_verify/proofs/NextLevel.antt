@@ -1,6 +1,6 @@
 -- The level of the next action, await by await; and the action finished.
 use Rattle.std.proofs.Common.{◌≡◌, ℕ, ◌+◌, ◌-◌, ◌<◌, ◌≤◌, Bool, true, List, [], ◌∷◌, ◌++◌, length, get_or, set, max, slice_index, Option, Some, slice_get, refl, sym, ap, ◌∙◌, subst, arith, inl, inr, ◌⊎◌}
-use Rattle.std.specs.Prelude.{IsTrue, Contains}
+use Rattle.std.specs.Prelude.{IsTrue}
 use Rattle.std.proofs.lemmas.Bool.{cases_eq, cases_lt}
 use Rattle.std.proofs.lemmas.List.{get_or-set_same, get_or-set_other, length-set}
 use Rattle.std.proofs.lemmas.Option.{slice_get-get_or, slice_get_within, get_or_from_slice_get, same_Some}
@@ -11,7 +11,7 @@ use Rattle.fleet_model.specs.declared.program.ActionId.{ActionId}
 use Rattle.fleet_model.specs.declared.program.Await.{Await}
 use Rattle.fleet_model.specs.declared.program.Visit.{Visit}
 use Rattle.fleet_model.specs.Geometry.{place_of, stepped, is_move}
-use Rattle.fleet_model.specs.Visit.{is_entry, leaving, IsVisit, ComesAfterByAwait}
+use Rattle.fleet_model.specs.Visit.{is_entry, IsVisit}
 use Rattle.fleet_model.specs.Program.{Program, origin, awaits_of, step_of, path, moves}
 use Rattle.fleet_model.specs.Chain.{DirectlyNeeds, awaited}
 use Rattle.fleet_verify.specs.Ahead.{IsRanked, IsNextLevel, AddsLevel, IsAheadBy, IsArrival, count_in, level_in}
@@ -152,7 +152,3 @@ pub place_at : (passable : Place → Bool) (p : Program) (rows : List (List ℕ)
 place_at passable p rows cells last pairs i n cell h agent number =
     let many : length cells ≡ length p = sym (length-set cells i cell) ∙ h.cells in
     ap place_of (sym (get_or-set_same cells i cell origin (omega (arith, agent, many)))) ∙ (h.here i agent ∙ ap (path p i) (sym number))
-
--- what an await says of a visit orders the two
-pub latest_orders : (p : Program) (v w : Visit) (a : Await) → Contains (awaits_of p w.agent w.position) a → (a.agent ≡ v.agent) × ((leaving p v).number ≤ a.count) → ComesAfterByAwait p v w
-latest_orders p v w a has (same, left) = inr (a, has, same, left)

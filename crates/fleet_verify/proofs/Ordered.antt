@@ -293,9 +293,6 @@ entry_none p vs v e = rw (filter-append, e) (append-nil (entries p vs))
 
 -- ---- the pairs that are open once a visit is added
 
-pub pairs_first : (R : Visit → Visit → Type 0) (last : Option Visit) (s : PlacedVisit) (pairs : List OpenPair) → last ≡ None → IsOpenNext R last s pairs pairs
-pairs_first R last s pairs none = inl ((λ v at. let e : ◌≡◌ {A = Option Visit} None (Some v) = sym none ∙ at in absurd (cc e)), refl)
-
 pub pairs_after : (R : Visit → Visit → Type 0) (last : Option Visit) (s : PlacedVisit) (pairs : List OpenPair) (v : Visit) → last ≡ Some v → R v s.visit → IsOpenNext R last s pairs pairs
 pairs_after R last s pairs v is after = inl ((λ w at. subst (λ (x : Visit). R x s.visit) (same_Some _ _ (sym is ∙ at)) after), refl)
 

@@ -13,8 +13,8 @@ use Rattle.fleet_model.specs.Program.{Program, origin}
 use Rattle.fleet_model.specs.Chain.{IsLongestChain}
 use Rattle.fleet_model.specs.Visit.{ListsVisits, Adjacent, ComesAfter}
 use Rattle.fleet_model.specs.Accepted.{IsAccepted}
-use Rattle.fleet_model.specs.Run.{IsSafe, IsOwnedInTurn, Arrives}
-use Rattle.fleet_verify.proofs.FreeRun.{runs_free, runs_on_ground, runs_owned}
+use Rattle.fleet_model.specs.Run.{IsOwnedInTurn, Arrives}
+use Rattle.fleet_verify.proofs.FreeRun.{runs_owned}
 use Rattle.fleet_verify.proofs.RunCounts.{finish_exists, finish_above, finish_below, finish_stays}
 use Rattle.fleet_verify.specs.Ring.{IsToldRing}
 use Rattle.fleet_verify.proofs.Finish.{ring_unnumbered}
@@ -67,9 +67,6 @@ module _ (passable : Place → Bool) (tasks : List Task) (p : Program) (a : IsAc
   no_fault (Unordered c v w) n h = no_break (place_of c) v w h.1
 
   -- ---- what is accepted
-
-  pub safe : (holds : Holds) → IsSafe passable p holds
-  safe holds = record { on_ground = runs_on_ground passable p holds a.right.on_ground; free = runs_free p holds a.orderly }
 
   pub owned : (q : Place) → (listing : List Visit) × ListsVisits p q listing × Adjacent (ComesAfter p) listing × ((holds : Holds) (t : ℕ) → IsOwnedInTurn p listing (run p holds t))
   owned q =

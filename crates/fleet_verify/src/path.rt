@@ -8,7 +8,7 @@ ghost use Rattle.fleet_verify.specs.Faults.{AwaitsRight};
 ghost use Rattle.fleet_verify.specs.Path.{AnswersFirst, IsPosition, IsPathJudged};
 
 use fleet_grid::Grid;
-use fleet_model::{Cell, Dir, MAX_COORDINATE, Place, ProgramView, Step};
+use fleet_model::{Cell, MAX_COORDINATE, Place, ProgramView, Step};
 
 /// The judgement of an agent's path.
 #[derive(Clone, Copy)]
@@ -107,7 +107,8 @@ pub fn cell_after(grid: &Grid, cell: Cell, step: Step) -> Option<Cell>
         × IsTrue (is_passable grid.now (place_of next))) }
     ensures none { IfNone result (is_passable grid.now (stepped (place_of cell) step) ≡ false) }
 {
-    let Some(next) = map_cell_after(grid, cell, step) else {
+    let place = Place::from(cell).after(step);
+    let Some(next) = map_cell(grid, place) else {
         return None;
     };
     if grid.passable(next) {
@@ -136,52 +137,9 @@ pub fn next_cell(cell: Cell, step: Step) -> Option<Cell>
     })
 }
 
-/// The cell after a step, if it is on the map.
-#[inline(always)]
-fn map_cell_after(grid: &Grid, cell: Cell, step: Step) -> Option<Cell>
-    ensures some { IfSome result (λ next. place_of next ≡ stepped (place_of cell) step) }
-    ensures none { IfNone result (is_passable grid.now (stepped (place_of cell) step) ≡ false) }
-{
-    let place = Place {
-        x: column_after(cell, step),
-        y: row_after(cell, step),
-    };
-    cell_at(grid, place)
-}
-
-/// The column after a step from the cell.
-#[inline(always)]
-fn column_after(cell: Cell, step: Step) -> i32
-    ensures { result ≡ (stepped (place_of cell) step).x }
-{
-    let x = i32::from(cell.x);
-    match step {
-        Step::Go(Dir::North) => x,
-        Step::Go(Dir::East) => x + 1,
-        Step::Go(Dir::South) => x,
-        Step::Go(Dir::West) => x - 1,
-        Step::Dwell => x,
-    }
-}
-
-/// The row after a step from the cell.
-#[inline(always)]
-fn row_after(cell: Cell, step: Step) -> i32
-    ensures { result ≡ (stepped (place_of cell) step).y }
-{
-    let y = i32::from(cell.y);
-    match step {
-        Step::Go(Dir::North) => y - 1,
-        Step::Go(Dir::East) => y,
-        Step::Go(Dir::South) => y + 1,
-        Step::Go(Dir::West) => y,
-        Step::Dwell => y,
-    }
-}
-
 /// The cell at a place, if it is on the map.
 #[inline(always)]
-fn cell_at(grid: &Grid, place: Place) -> Option<Cell>
+pub fn map_cell(grid: &Grid, place: Place) -> Option<Cell>
     ensures some { IfSome result (λ cell. place_of cell ≡ place) }
     ensures none { IfNone result (is_passable grid.now place ≡ false) }
 {

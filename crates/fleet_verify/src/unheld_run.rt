@@ -12,10 +12,11 @@ ghost use Rattle.fleet_verify.specs.Order.{AreAdded};
 ghost use Rattle.fleet_verify.specs.Walk.{begun_in, moved_to, position_in, AreOnGround, IsStop, IsAtStart, IsRunOnGround};
 
 use crate::order::{PlacedVisit, VisitOrder};
+use crate::path::map_cell;
 use fleet_grid::Grid;
 use fleet_machine::Machine;
 use fleet_model::{
-    Cell, MAX_AGENTS, MAX_COORDINATE, OutOfMemory, Place, ProgramView, Standing, Visit, total_moves,
+    Cell, MAX_AGENTS, OutOfMemory, Place, ProgramView, Standing, Visit, total_moves,
 };
 use std::alloc::Global;
 
@@ -196,16 +197,8 @@ fn cell_at(grid: &Grid, place: Place) -> Option<Cell>
     ensures cell { IfSome result IsCell }
     ensures none { IfNone result (is_passable grid.now place ≡ false) }
 {
-    let Place { x, y } = place;
-    let most = MAX_COORDINATE as i32;
-    if x < 0 || x > most || y < 0 || y > most {
-        // The sizes of a map say that its cells have numbers of two bytes.
-        let _ = grid.width();
+    let Some(cell) = map_cell(grid, place) else {
         return None;
-    }
-    let cell = Cell {
-        x: x as u16,
-        y: y as u16,
     };
     if grid.passable(cell) {
         Some(cell)

@@ -1,8 +1,8 @@
 use Rattle.std.proofs.Common.{inl, inr, arith}
 use Rattle.std.proofs.lemmas.Int.{ints}
 use Rattle.fleet_verify.proofs.Positions.{beyond_map}
-use Rattle.fleet_verify.proofs.path.cell_at.Goals as goal
-use Rattle.fleet_verify.proofs.path.cell_at.Goals.{then-is_left-via-then-is_left, then-is_left-via-else-is_left+then-is_right, then-is_left-via-else-is_left+else-is_right+then-is_above, then-is_left-via-else-is_left+else-is_right+else-is_above+then-is_below}
+use Rattle.fleet_verify.proofs.path.map_cell.Goals as goal
+use Rattle.fleet_verify.proofs.path.map_cell.Goals.{then-is_left-via-then-is_left, then-is_left-via-else-is_left+then-is_right, then-is_left-via-else-is_left+else-is_right+then-is_above, then-is_left-via-else-is_left+else-is_right+else-is_above+then-is_below}
 
 pub returns-then-is_left-clause-none : goal.returns-then-is_left-clause-none
 returns-then-is_left-clause-none c =

@@ -159,7 +159,7 @@ fn advance<P: ProgramView>(
     ensures { IfOk result (λ next.
         AreAdvanced (P.program program.now) counts.now needed.now next.items) }
 {
-    let mut next = Vec::new(alloc);
+    let mut next = Vec::with_capacity(alloc, usize::from(program.agents()))?;
     for i in 0..program.agents() {
         next.push(count_after(program, counts, needed, i))?;
     }

@@ -63,6 +63,10 @@ await_agent p h i n k w e =
     subst (λ x. x.agent < length p) (get_or_from_slice_get (awaits_of p i n) k w w e) ((h.awaits i n).agents k w (slice_get_within (awaits_of p i n) k w e))
 
 -- nobody awaits itself
+pub await_count : (p : Program) → IsWellFormed p → (i n k : ℕ) (w : Await) → slice_get (awaits_of p i n) k ≡ Some w → 1 ≤ w.count
+await_count p h i n k w e =
+    subst (λ (x : Await). 1 ≤ x.count) (get_or_from_slice_get (awaits_of p i n) k w w e) ((h.awaits i n).counts k w (slice_get_within (awaits_of p i n) k w e))
+
 pub await_other : (p : Program) → IsWellFormed p → (i n k : ℕ) (w : Await) → slice_get (awaits_of p i n) k ≡ Some w → w.agent ≢ i
 await_other p h i n k w e =
     subst (λ x. x.agent ≢ i) (get_or_from_slice_get (awaits_of p i n) k w w e) ((h.awaits i n).others k w (slice_get_within (awaits_of p i n) k w e))

@@ -24,7 +24,7 @@ use crate::path::next_cell;
 use crate::unheld_run::Stop;
 use fleet_grid::Grid;
 use fleet_model::{
-    Await, Cell, Instruction, MAX_AGENTS, OutOfMemory, Place, ProgramView, Step, Visit, total_moves,
+    Await, Cell, Instruction, OutOfMemory, Place, ProgramView, Step, Visit, total_moves,
 };
 use fleet_scen::Instance;
 use std::alloc::Global;
@@ -42,8 +42,9 @@ pub struct Ahead {
 
 /// The greater of a level and of that of an awaited action, if that has one.
 #[inline(always)]
-fn greater_level(rows: &Vec<LevelRow>, least: u32, w: Await) -> Option<u32>
-    requires { w.agent < length rows.now.items }
+fn greater_level(rows: &Vec<LevelRow>, least: u64, w: Await) -> Option<u64>
+    requires agent { w.agent < length rows.now.items }
+    requires count { 1 ≤ w.count }
     ensures met { IfSome result (λ _. IsRanked rows.now.items (awaited w)) }
     ensures greater { IfSome result (λ l. l ≡ max least (level_in rows.now.items (awaited w))) }
 {
@@ -76,8 +77,8 @@ pub struct Needs {
     pub after: usize,
 }
 
-/// An action has an instruction for each await, of which there are fewer than agents, and one for its step.
-const MOST_INSTRUCTIONS: u16 = MAX_AGENTS as u16;
+/// No action has a greater level.
+const MOST_LEVEL: u64 = u32::MAX as u64;
 
 /// What the agent's next action says, or an await of it that is not met.
 #[inline(always)]
@@ -101,10 +102,11 @@ fn needs_of<P: ProgramView>(
         level,
         ..
     } = runner;
-    let mut least = level;
+    let mut least = u64::from(level);
     let mut latest = None;
     let mut at = at;
-    for k in 0..MOST_INSTRUCTIONS {
+    let mut k = 0;
+    'instructions: loop {
         let reading = program.read(agent, finished, k, at);
         match reading.instruction {
             Instruction::Await(awaited) => match greater_level(rows, least, awaited) {
@@ -112,18 +114,19 @@ fn needs_of<P: ProgramView>(
                     least = level;
                     latest = Some(awaited);
                     at = reading.after;
+                    k += 1;
                 }
                 None => return Err(awaited),
             },
             Instruction::Step(step) => {
-                if least == u32::MAX {
+                if least >= MOST_LEVEL {
                     return Err(Await {
                         agent,
                         count: finished + 1,
                     });
                 }
                 return Ok(Needs {
-                    level: least + 1,
+                    level: least as u32 + 1,
                     latest,
                     step,
                     after: reading.after,
@@ -131,7 +134,6 @@ fn needs_of<P: ProgramView>(
             }
         }
     }
-    unreachable!()
 }
 
 /// Finishes the agent's next action, whose awaits are met, if it leads to passable ground, and answers how far the agent
@@ -549,6 +551,8 @@ struct Queue {
     first: Vec<u16>,
     /// For each agent the one after it among those that wait for the same one.
     next: Vec<u16>,
+    /// For each agent the count that it waits for.
+    count: Vec<u32>,
     /// For each agent the least count that is waited for.
     least: Vec<u32>,
 }
@@ -564,7 +568,7 @@ impl Model for Queue {
     ghost view = { λ q. q.agents };
 
     ghost invariant = { λ q. (length q.first.items ≡ q.agents) × (length q.next.items ≡ q.agents)
-        × (length q.least.items ≡ q.agents) };
+        × (length q.count.items ≡ q.agents) × (length q.least.items ≡ q.agents) };
 }
 
 impl Queue {
@@ -578,12 +582,14 @@ impl Queue {
         }
         let first = vec![in alloc; NOBODY; usize::from(agents)]?;
         let next = vec![in alloc; NOBODY; usize::from(agents)]?;
+        let count = vec![in alloc; 0; usize::from(agents)]?;
         let least = vec![in alloc; u32::MAX; usize::from(agents)]?;
         Ok(Queue {
             agents,
             work,
             first,
             next,
+            count,
             least,
         })
     }
@@ -609,13 +615,14 @@ impl Queue {
     {
         let other = usize::from(awaited.agent);
         self.next[usize::from(agent)] = self.first[other];
+        self.count[usize::from(agent)] = awaited.count;
         self.first[other] = agent;
         if awaited.count < self.least[other] {
             self.least[other] = awaited.count;
         }
     }
 
-    /// If an agent has finished so many actions that one of those that wait for it may go on, all of them may.
+    /// An agent has finished so many actions: of those that wait for it, each that waits for no more may go on.
     fn wake(&mut self, agent: u16, count: u32) -> Result<(), OutOfMemory>
         requires { agent < self.old }
         ensures { self.new ≡ self.old }
@@ -630,9 +637,31 @@ impl Queue {
             if waiting >= self.agents {
                 return Ok(());
             }
-            self.work.push(waiting)?;
-            waiting = self.next[usize::from(waiting)];
+            let next = self.next[usize::from(waiting)];
+            self.wake_if_reached(waiting, agent, count)?;
+            waiting = next;
         }
+        Ok(())
+    }
+
+    /// One that waited for an agent, which has finished so many actions, may go on, or waits for it again.
+    fn wake_if_reached(&mut self, waiting: u16, agent: u16, count: u32) -> Result<(), OutOfMemory>
+        requires waiting { waiting < self.old }
+        requires agent { agent < self.old }
+        ensures { self.new ≡ self.old }
+    {
+        let awaited = self.count[usize::from(waiting)];
+        if count < awaited {
+            self.wait(
+                waiting,
+                Await {
+                    agent,
+                    count: awaited,
+                },
+            );
+            return Ok(());
+        }
+        self.work.push(waiting)?;
         Ok(())
     }
 }
@@ -717,24 +746,33 @@ fn finished_chain<P: ProgramView>(
     Some(chain)
 }
 
-/// The number of actions of the longest chain, if all has been found right. Chains are asked for at open pairs alone.
+/// The number of actions of the longest chain, if all has been found right. Chains are asked for at open pairs alone,
+/// once the memory of all else is given back.
 fn judge_ahead<P: ProgramView>(
     alloc: Global,
     program: &P,
     grid: &Grid,
     instance: &Instance,
-    ahead: &Ahead,
+    ahead: Ahead,
 ) -> Result<Option<u32>, OutOfMemory>
     requires starts { HasStarts instance.now (P.program program.now) }
-    requires ahead { IsAhead (is_passable grid.now) (P.program program.now) ahead.now }
+    requires ahead { IsAhead (is_passable grid.now) (P.program program.now) ahead }
     ensures { IfOk result (λ found. IfSome found
         (IsAcceptedFor grid.now instance.now (P.program program.now))) }
 {
     let _agents = program.agents();
-    let Some(chain) = finished_chain(program, grid, instance, ahead) else {
+    let Some(chain) = finished_chain(program, grid, instance, &ahead) else {
         return Ok(None);
     };
-    let is_orderly = are_chained(alloc, program, chain, &ahead.rows, &ahead.pairs)?;
+    let Ahead {
+        rows,
+        cells,
+        last,
+        pairs,
+    } = ahead;
+    drop(cells);
+    drop(last);
+    let is_orderly = are_chained(alloc, program, chain, rows, pairs)?;
     if is_orderly {
         return Ok(Some(chain));
     }
@@ -762,7 +800,7 @@ pub fn accepts_ahead<P: ProgramView>(
         (IsAcceptedFor grid.now instance.now (P.program program.now))) }
 {
     match run_all(alloc, program, grid) {
-        Ok(ahead) => judge_ahead(alloc, program, grid, instance, &ahead),
+        Ok(ahead) => judge_ahead(alloc, program, grid, instance, ahead),
         Err(Stop::OffGround) => Ok(None),
         Err(Stop::OutOfMemory) => Err(OutOfMemory),
     }

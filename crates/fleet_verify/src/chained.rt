@@ -44,50 +44,52 @@ pub fn are_chained<P: ProgramView>(
     alloc: Global,
     program: &P,
     ticks: u32,
-    rows: &Vec<LevelRow>,
-    pairs: &Vec<OpenPair>,
+    rows: Vec<LevelRow>,
+    pairs: Vec<OpenPair>,
 ) -> Result<bool, OutOfMemory>
     requires range { AreInRange (P.program program.now) }
     requires finish { IsFinish (P.program program.now) [] ticks }
-    requires rows { length rows.now.items ≡ length (P.program program.now) }
-    requires levels { AreCountedUp (P.program program.now) (level_in rows.now.items) }
-    requires visits { All (AreVisits (P.program program.now)) pairs.now.items }
+    requires rows { length rows.items ≡ length (P.program program.now) }
+    requires levels { AreCountedUp (P.program program.now) (level_in rows.items) }
+    requires visits { All (AreVisits (P.program program.now)) pairs.items }
     ensures { IfOk result (λ yes. yes ≡ true
-        → (k : ℕ) → (o : OpenPair) → k < length pairs.now.items
-        → IsChained (P.program program.now) (get_or pairs.now.items k o)) }
+        → (k : ℕ) → (o : OpenPair) → k < length pairs.items
+        → IsChained (P.program program.now) (get_or pairs.items k o)) }
 {
-    match ask_all(alloc, program, rows, pairs)? {
+    match ask_all(alloc, program, &rows, &pairs)? {
         Some(found) => answer_asked(alloc, program, ticks, rows, pairs, found),
         None => Ok(false),
     }
 }
 
-/// Whether a chain orders each of the open pairs that were asked for.
+/// Whether a chain orders each of the open pairs that were asked for. What is asked takes memory, so all else is given
+/// back before.
 fn answer_asked<P: ProgramView>(
     alloc: Global,
     program: &P,
     ticks: u32,
-    rows: &Vec<LevelRow>,
-    pairs: &Vec<OpenPair>,
+    rows: Vec<LevelRow>,
+    pairs: Vec<OpenPair>,
     found: Vec<LevelQuestion>,
 ) -> Result<bool, OutOfMemory>
     requires range { AreInRange (P.program program.now) }
     requires finish { IsFinish (P.program program.now) [] ticks }
-    requires levels { AreCountedUp (P.program program.now) (level_in rows.now.items) }
-    requires asked { AreAsked (P.program program.now) rows.now.items pairs.now.items
-        (length pairs.now.items) found.items }
+    requires levels { AreCountedUp (P.program program.now) (level_in rows.items) }
+    requires asked { AreAsked (P.program program.now) rows.items pairs.items
+        (length pairs.items) found.items }
     ensures { IfOk result (λ yes. yes ≡ true
-        → (k : ℕ) → (o : OpenPair) → k < length pairs.now.items
-        → IsChained (P.program program.now) (get_or pairs.now.items k o)) }
+        → (k : ℕ) → (o : OpenPair) → k < length pairs.items
+        → IsChained (P.program program.now) (get_or pairs.items k o)) }
 {
     let _agents = program.agents();
-    let _ = rows;
-    let _ = pairs;
+    drop(rows);
+    drop(pairs);
     let asked = sorted(found);
     if !are_rising(&asked) {
         return Ok(false);
     }
     let questions = questions_of(alloc, &asked)?;
+    drop(asked);
     let flags = answer_questions(alloc, program, ticks, &questions)?;
     Ok(is_none(&flags))
 }
@@ -129,7 +131,7 @@ fn ask_all<P: ProgramView>(
         AreAsked (P.program program.now) rows.now.items pairs.now.items (length pairs.now.items)
         asked.items)) }
 {
-    let mut asked = Vec::new(alloc);
+    let mut asked = Vec::with_capacity(alloc, pairs.len())?;
     for k in 0..pairs.len() {
         let Some(question) = ask(program, rows, pair_at(pairs, k)) else {
             return Ok(None);
@@ -155,7 +157,13 @@ fn ask<P: ProgramView>(program: &P, rows: &Vec<LevelRow>, pair: OpenPair) -> Opt
     ensures { IfSome result (IsAskedOf (P.program program.now) rows.now.items pair) }
 {
     let OpenPair { first, second, .. } = pair;
+    if second.position == 0 {
+        return None;
+    }
     let level = row_of(rows, second.agent).level(second.position)?;
+    let Ok(level) = u32::try_from(level) else {
+        return None;
+    };
     let first = leaving(program, first);
     let last = ActionId {
         agent: second.agent,
@@ -208,7 +216,7 @@ fn questions_of(alloc: Global, asked: &Vec<LevelQuestion>) -> Result<Vec<Questio
     ensures { IfOk result (λ questions.
         questions.items ≡ map (λ q. q.question) asked.now.items) }
 {
-    let mut questions = Vec::new(alloc);
+    let mut questions = Vec::with_capacity(alloc, asked.len())?;
     for one in asked {
         questions.push(one.question)?;
     }

@@ -9,11 +9,11 @@ are_chained-requires g c =
     let done = c.in-Some.ensures.2 in
     let wf = c.agents-agents.ensures.well_formed in
     record {
-      range = done_range c.args.grid.now c.args.instance.now p c.args.ahead.now n c.in-Some.chain wf c.requires.starts c.requires.ahead done all;
-      finish = done_finish c.args.grid.now c.args.instance.now p c.args.ahead.now n c.in-Some.chain wf c.requires.starts c.requires.ahead done all;
+      range = done_range c.args.grid.now c.args.instance.now p c.args.ahead n c.in-Some.chain wf c.requires.starts c.requires.ahead done all;
+      finish = done_finish c.args.grid.now c.args.instance.now p c.args.ahead n c.in-Some.chain wf c.requires.starts c.requires.ahead done all;
       rows = c.requires.ahead.rows;
-      levels = done_counted c.args.grid.now c.args.instance.now p c.args.ahead.now n c.in-Some.chain wf c.requires.starts c.requires.ahead done all;
-      visits = done_visits c.args.grid.now c.args.instance.now p c.args.ahead.now n c.in-Some.chain wf c.requires.starts c.requires.ahead done all;
+      levels = done_counted c.args.grid.now c.args.instance.now p c.args.ahead n c.in-Some.chain wf c.requires.starts c.requires.ahead done all;
+      visits = done_visits c.args.grid.now c.args.instance.now p c.args.ahead n c.in-Some.chain wf c.requires.starts c.requires.ahead done all;
     }
 
 pub returns-then-is_orderly : goal.returns-then-is_orderly
@@ -22,5 +22,5 @@ returns-then-is_orderly g c =
     let n = c.in-Some.ensures.0 in
     let all = c.in-Some.ensures.1 in
     let done = c.in-Some.ensures.2 in
-    ahead_accepted c.args.grid.now c.args.instance.now p c.args.ahead.now n c.in-Some.chain c.agents-agents.ensures.well_formed c.requires.starts c.requires.ahead done all
+    ahead_accepted c.args.grid.now c.args.instance.now p c.args.ahead n c.in-Some.chain c.agents-agents.ensures.well_formed c.requires.starts c.requires.ahead done all
     (c.in_ok-is_orderly.ensures c.if-is_orderly.true)

@@ -5,13 +5,13 @@ use Rattle.fleet_model.specs.Program.{awaits_of}
 use Rattle.fleet_model.proofs.Totals.{few_awaits_of}
 use Rattle.fleet_verify.specs.Ahead.{level_in, count_in, climbed_in}
 use Rattle.fleet_verify.specs.Rising.{last_level}
-use Rattle.fleet_verify.proofs.Waiting.{await_agent, await_other}
+use Rattle.fleet_verify.proofs.Waiting.{await_agent, await_count, await_other}
 use Rattle.fleet_verify.proofs.NextLevel.{least_begins, least_max, least_ends}
 use Rattle.fleet_verify.proofs.Climbing.{own_row, own_count, other_row}
 use Rattle.fleet_verify.proofs.ahead.needs_of.Goals as goal
 
-pub loop-k-init : goal.loop-k-init
-loop-k-init g c =
+pub instructions-init : goal.instructions-init
+instructions-init g c =
     let p = g.P.ProgramView.program c.args.program.now in
     let next = c.requires.next in
     let rows = c.args.rows.now.items in
@@ -19,19 +19,23 @@ loop-k-init g c =
     let count = own_count rows c.args.agent c.args.runner.finished lt next.begun in
     record {
       within = omega arith;
-      least = least_begins p (climbed_in rows c.args.agent c.args.runner.finished) c.args.agent (c.args.runner.finished + 1) c.args.runner.level (omega (arith, count))
-          (next.level ∙ ap last_level (sym (own_row rows c.args.agent c.args.runner.finished lt)));
+      least = least_begins p (climbed_in rows c.args.agent c.args.runner.finished) c.args.agent (c.args.runner.finished + 1) c.from-least.result (omega (arith, count))
+          (c.from-least.ensures ∙ next.level ∙ ap last_level (sym (own_row rows c.args.agent c.args.runner.finished lt)));
       latest = tt;
       at = next.at;
     }
 
-pub greater_level-requires : goal.greater_level-requires
-greater_level-requires g c =
+pub greater_level-requires-clause-agent : goal.greater_level-requires-clause-agent
+greater_level-requires-clause-agent g c =
     let p = g.P.ProgramView.program c.args.program.now in
-    omega (arith, c.requires.rows, await_agent p c.agents-agents.ensures.well_formed c.args.agent (c.args.runner.finished + 1) c.loop-k.k c.in-Await.awaited (rw c.in-Await.is at c.read-reading.ensures.instruction))
+    omega (arith, c.requires.rows, await_agent p c.agents-agents.ensures.well_formed c.args.agent (c.args.runner.finished + 1) c.instructions.k c.in-Await.awaited (rw c.in-Await.is at c.read-reading.ensures.instruction))
+
+pub greater_level-requires-clause-count : goal.greater_level-requires-clause-count
+greater_level-requires-clause-count g c =
+    await_count (g.P.ProgramView.program c.args.program.now) c.agents-agents.ensures.well_formed c.args.agent (c.args.runner.finished + 1) c.instructions.k c.in-Await.awaited (rw c.in-Await.is at c.read-reading.ensures.instruction)
 
 pub returns-in-None-clause-waits : goal.returns-in-None-clause-waits
-returns-in-None-clause-waits g c = await_agent (g.P.ProgramView.program c.args.program.now) c.agents-agents.ensures.well_formed c.args.agent (c.args.runner.finished + 1) c.loop-k.k c.in-Await.awaited (rw c.in-Await.is at c.read-reading.ensures.instruction)
+returns-in-None-clause-waits g c = await_agent (g.P.ProgramView.program c.args.program.now) c.agents-agents.ensures.well_formed c.args.agent (c.args.runner.finished + 1) c.instructions.k c.in-Await.awaited (rw c.in-Await.is at c.read-reading.ensures.instruction)
 
 pub returns-in-Step-clause-needs : goal.returns-in-Step-clause-needs
 returns-in-Step-clause-needs g c =
@@ -41,16 +45,16 @@ returns-in-Step-clause-needs g c =
     let lt : c.args.agent < length rows = omega (arith, c.requires.rows, next.agent) in
     let count = own_count rows c.args.agent c.args.runner.finished lt next.begun in
     let said = rw c.in-Step.is at c.read-reading.ensures.instruction in
-    let all : c.loop-k.k ≡ length (awaits_of p c.args.agent (c.args.runner.finished + 1)) = said.0 in
+    let all : c.instructions.k ≡ length (awaits_of p c.args.agent (c.args.runner.finished + 1)) = said.0 in
     record {
-      level = least_ends p (climbed_in rows c.args.agent c.args.runner.finished) c.args.agent (c.args.runner.finished + 1) c.loop-k.k c.loop-k.least c.loop-k.invariant.least (omega (arith, count)) (omega (arith, all));
-      latest = c.loop-k.invariant.latest;
+      level = least_ends p (climbed_in rows c.args.agent c.args.runner.finished) c.args.agent (c.args.runner.finished + 1) c.instructions.k c.instructions.least c.instructions.invariant.least (omega (arith, count)) (omega (arith, all));
+      latest = c.instructions.invariant.latest;
       step = said.1;
       after = rw c.in-Step.is at c.read-reading.ensures.after;
     }
 
-pub loop-k-preserved : goal.loop-k-preserved
-loop-k-preserved g c =
+pub instructions-preserved : goal.instructions-preserved
+instructions-preserved g c =
     let p = g.P.ProgramView.program c.args.program.now in
     let w = c.in-Await.awaited in
     let rows = c.args.rows.now.items in
@@ -58,18 +62,20 @@ loop-k-preserved g c =
     let n = c.args.runner.finished + 1 in
     let found = c.in-Some.ensures in
     let here = rw c.in-Await.is at c.read-reading.ensures.instruction in
-    let within : c.loop-k.k < length (awaits_of p i n) = slice_get_within (awaits_of p i n) c.loop-k.k w here in
-    let same = other_row rows i c.args.runner.finished w.agent (await_other p c.agents-agents.ensures.well_formed i n c.loop-k.k w here) in
+    let within : c.instructions.k < length (awaits_of p i n) = slice_get_within (awaits_of p i n) c.instructions.k w here in
+    let same = other_row rows i c.args.runner.finished w.agent (await_other p c.agents-agents.ensures.well_formed i n c.instructions.k w here) in
     let long : count_in (climbed_in rows i c.args.runner.finished) w.agent ≡ count_in rows w.agent = ap (λ (row : List ℕ). length row) same in
     let level : level_in rows (awaited w) ≡ level_in (climbed_in rows i c.args.runner.finished) (awaited w) = ap (λ (row : List ℕ). slice_index row (w.count - 1)) (sym same) in
     record {
       within = omega (arith, within);
-      least = least_max p (climbed_in rows i c.args.runner.finished) i n c.loop-k.k c.loop-k.least c.loop-k.invariant.least w here found.met.first (omega (arith, found.met.last, long)) (level_in rows (awaited w)) level c.in-Some.level found.greater;
-      latest = (c.loop-k.k, within, get_or_from_slice_get (awaits_of p i n) c.loop-k.k w w here);
+      least = least_max p (climbed_in rows i c.args.runner.finished) i n c.instructions.k c.instructions.least c.instructions.invariant.least w here found.met.first (omega (arith, found.met.last, long)) (level_in rows (awaited w)) level c.in-Some.level found.greater;
+      latest = (c.instructions.k, within, get_or_from_slice_get (awaits_of p i n) c.instructions.k w w here);
       at = rw c.in-Await.is at c.read-reading.ensures.after;
     }
 
-pub unreachable-requires : goal.unreachable-requires
-unreachable-requires g c =
+pub overflow_add-k : goal.overflow_add-k
+overflow_add-k g c =
     let p = g.P.ProgramView.program c.args.program.now in
-    omega (arith, few_awaits_of p c.args.agent (c.args.runner.finished + 1) c.requires.next.agent c.agents-agents.ensures.well_formed, c.loop-k.invariant.within)
+    let n = c.args.runner.finished + 1 in
+    let here = rw c.in-Await.is at c.read-reading.ensures.instruction in
+    omega (arith, few_awaits_of p c.args.agent n c.requires.next.agent c.agents-agents.ensures.well_formed, slice_get_within (awaits_of p c.args.agent n) c.instructions.k c.in-Await.awaited here)

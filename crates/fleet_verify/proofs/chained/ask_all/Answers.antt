@@ -7,7 +7,7 @@ use Rattle.fleet_verify.proofs.chained.ask_all.Goals as goal
 pub loop-k-init : goal.loop-k-init
 loop-k-init g c =
     let p = g.P.ProgramView.program c.args.program.now in
-    subst (AreAsked p c.args.rows.now.items c.args.pairs.now.items 0) (sym c.new-asked.ensures.items) (asked_none p c.args.rows.now.items c.args.pairs.now.items)
+    subst (AreAsked p c.args.rows.now.items c.args.pairs.now.items 0) (sym c.in_ok-asked.ensures.items) (asked_none p c.args.rows.now.items c.args.pairs.now.items)
 
 pub ask-requires-clause-visits : goal.ask-requires-clause-visits
 ask-requires-clause-visits g c =

@@ -16,7 +16,7 @@ use Rattle.fleet_plan.specs.declared.plan_fault.Conflict.TheVariants.{Vertex, Sw
 use Rattle.fleet_plan.specs.Plan.{Plan, cell_of, motion_of, steps, IsPath}
 use Rattle.fleet_plan.specs.FirstFault.{AllAgents, GoesRight, path_of, HasConflict, HasNoConflict, time_of, IsKindUpTo, IsConflictUpTo, IsFirstConflict}
 use Rattle.fleet_plan.specs.Rings.{NamesAgents, ahead_of, walk_of, Leads, IsOnRing, IsLeastOnRing}
-use Rattle.fleet_plan.specs.Sweep.{StandOnMap, StandOnPlaces, Meet, IsFirstMeeting, IsAhead, AreAhead, Exchange, IsFirstExchange, HasNoMeeting, HasNoExchange, IsFirstIn, IsFreeIn, IsEntered, IsAgentSettled, IsSweep, IsSwept}
+use Rattle.fleet_plan.specs.Sweep.{StandOnMap, StandOnPlaces, Meet, IsFirstMeeting, IsAhead, AreAhead, Exchange, IsFirstExchange, HasNoMeeting, HasNoExchange, IsFirstIn, IsFreeIn, IsEntered, IsAgentSettled, IsSweep, IsSwept, SweepRows, HasComeTo}
 use Rattle.fleet_plan.specs.UnderWay.{IsSoForOthers, Covers}
 use Rattle.fleet_plan.proofs.RingLaws.{some_is, none_is_not, shortened, each_ahead, each_reached, ends_with, each_on_ring, ring-reaches}
 use Rattle.fleet_plan.proofs.PathLaws.{at_past}
@@ -415,3 +415,7 @@ swept_on g plan table places next ahead walks row t s all entered settled covers
   settled = settled;
   covers = covers;
 }
+
+-- the rows may be told as slices
+pub come_to_as : (g : Ground) (plan : Plan) (t : ℕ) (rows : SweepRows) (places next : List ℕ) (ahead walks : List (Option ℕ)) → places ≡ rows.places → next ≡ rows.next → ahead ≡ rows.ahead → walks ≡ rows.walks → HasComeTo g plan t rows → HasComeTo g plan t (record { table = rows.table; places = places; next = next; ahead = ahead; walks = walks; agents = rows.agents })
+come_to_as g plan t rows places next ahead walks same_places same_next same_ahead same_walks come = rw (same_places, same_next, same_ahead, same_walks) come

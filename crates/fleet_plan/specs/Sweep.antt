@@ -136,3 +136,31 @@ pub record IsSwept (g : Ground) (plan : Plan) (table : Table ℕ) (places next :
   pub entered : IsEntered table places
   pub settled : (i : ℕ) → i < length next → IsAgentSettled places next ahead walks i
   pub covers : Covers plan t row
+
+-- what a sweep knows: the table, for each agent its place at the time and at the next one, who is ahead of it and whose walk has met it, and last the agents that are looked at
+pub record SweepRows : Type 0 where
+  pub table : Table ℕ
+  pub places : List ℕ
+  pub next : List ℕ
+  pub ahead : List (Option ℕ)
+  pub walks : List (Option ℕ)
+  pub agents : List ℕ
+
+-- each row of agents has an entry for each agent of the plan
+pub record FitsPlan (plan : Plan) (rows : SweepRows) : Type 0 where
+  pub places : length rows.places ≡ length plan
+  pub next : length rows.next ≡ length plan
+  pub ahead : length rows.ahead ≡ length plan
+  pub walks : length rows.walks ≡ length plan
+
+-- nobody is ahead of anybody, no walk has met anybody, and all agents are looked at
+pub record AreFresh (plan : Plan) (rows : SweepRows) : Type 0 where
+  pub fits : FitsPlan plan rows
+  pub nobody : (i : ℕ) → ahead_of rows.ahead i ≡ None
+  pub unwalked : (i : ℕ) → walk_of rows.walks i ≡ None
+  pub covers : Covers plan 0 rows.agents
+
+-- the sweep has come to time t: its rows are those before the step after it
+pub record HasComeTo (g : Ground) (plan : Plan) (t : ℕ) (rows : SweepRows) : Type 0 where
+  pub fits : FitsPlan plan rows
+  pub swept : IsSwept g plan rows.table rows.places rows.next rows.ahead rows.walks rows.agents t

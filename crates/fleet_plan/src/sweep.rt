@@ -6,7 +6,7 @@ ghost use Rattle.fleet_grid.specs.Ground.{is_passable};
 ghost use Rattle.fleet_model.specs.declared.limits.TheConstants.{MAX_AGENTS};
 ghost use Rattle.fleet_plan.specs.FirstFault.{AllAgents, GoesRight, IsFirstConflict, HasNoConflict};
 ghost use Rattle.fleet_plan.specs.Rings.{NamesAgents, ahead_of, walk_of};
-ghost use Rattle.fleet_plan.specs.Sweep.{StandOnMap, StandOnPlaces, IsFirstMeeting, IsEntered, IsAhead, AreAhead, Exchange, IsFirstExchange, HasNone, IsFirstAhead, IsFreeAhead, OthersStandAt, HasIn, Stays, IsUnblocked, AreAgentsSettled, AreOtherAgentsSettled, IsSwept};
+ghost use Rattle.fleet_plan.specs.Sweep.{StandOnMap, StandOnPlaces, IsFirstMeeting, IsEntered, IsAhead, AreAhead, Exchange, IsFirstExchange, HasNone, IsFirstAhead, IsFreeAhead, OthersStandAt, HasIn, Stays, IsUnblocked, AreAgentsSettled, AreOtherAgentsSettled, AreFresh, HasComeTo};
 ghost use Rattle.fleet_plan.specs.UnderWay.{IsSoForOthers, Covers};
 
 use crate::plan::Plan;
@@ -15,6 +15,7 @@ use crate::rings::least_on_ring;
 use fleet_grid::{Grid, Table, cells_have_places_of_their_own};
 use fleet_model::agent_numbers;
 use std::alloc::{AllocError, Global};
+use std::marker::Model;
 
 /// The places in a table of the map's cells on which the agents stand at `time`.
 fn fill_places(plan: &Plan, grid: &Grid, time: u32, places: &mut [usize])
@@ -314,85 +315,108 @@ fn drop_arrived(agents: &mut Vec<u16>, plan: &Plan, time: u32)
     }
 }
 
-/// The first conflict of a plan. The rows have an entry for each agent, and the last one has all agents.
-fn sweep(
-    plan: &Plan,
-    grid: &Grid,
-    table: &mut Table<u16>,
-    places: &mut [usize],
-    next: &mut [usize],
-    ahead: &mut [Option<u16>],
-    walks: &mut [Option<u16>],
-    agents: &mut Vec<u16>,
-) -> Result<Option<Conflict>, AllocError>
-    requires on_map { StandOnMap grid.now plan.now }
-    requires places { length places.old ≡ length plan.now }
-    requires next { length next.old ≡ length plan.now }
-    requires ahead { length ahead.old ≡ length plan.now }
-    requires nobody { (i : ℕ) → ahead_of ahead.old i ≡ None }
-    requires walks { length walks.old ≡ length plan.now }
-    requires unwalked { (i : ℕ) → walk_of walks.old i ≡ None }
-    requires agents { Covers plan.now 0 agents.old.items }
-    ensures some { IfOk result (λ found. IfSome found (IsFirstConflict plan.now)) }
-    ensures none { IfOk result (λ found. IfNone found (HasNoConflict plan.now)) }
-{
-    // Agents in one place are on one cell: a law of the map.
-    cells_have_places_of_their_own();
-    let end = plan.steps() + 1;
-    fill_places(plan, grid, 0, places);
-    next.copy_from_slice(places);
-    if let Some((i, j)) = first_meeting(table, places)? {
-        return Ok(Some(Conflict::Vertex { time: 0, i, j }));
+/// What the sweep knows at a time. All rows but the last have an entry for each agent.
+#[derive(Drop)]
+struct Sweep {
+    /// For each place of the map an agent. An entry counts only if that agent stands there.
+    table: Table<u16>,
+    /// The place of each agent at the time, and at the next one.
+    places: Vec<usize>,
+    next: Vec<usize>,
+    /// Who is ahead of each agent, and whose walk has met it: memory of a step.
+    ahead: Vec<Option<u16>>,
+    walks: Vec<Option<u16>>,
+    /// The agents that are looked at: the others have arrived.
+    agents: Vec<u16>,
+}
+
+impl Model for Sweep {
+    ghost use Rattle.fleet_plan.specs.Sweep.{SweepRows};
+
+    ghost Value = { SweepRows };
+
+    ghost view = { λ s. record {
+      table = s.table;
+      places = s.places.items;
+      next = s.next.items;
+      ahead = s.ahead.items;
+      walks = s.walks.items;
+      agents = s.agents.items;
+    } };
+}
+
+impl Sweep {
+    /// A sweep that has not begun. Takes memory for the agents, and none yet for the map.
+    fn new(alloc: Global, plan: &Plan) -> Result<Sweep, AllocError>
+        ensures { IfOk result (AreFresh plan.now) }
+    {
+        let agents = usize::from(plan.agents());
+        Ok(Sweep {
+            table: Table::new(alloc, 0),
+            places: vec![in alloc; 0usize; agents]?,
+            next: vec![in alloc; 0usize; agents]?,
+            ahead: vec![in alloc; None; agents]?,
+            walks: vec![in alloc; None; agents]?,
+            agents: agents_of(alloc, plan)?,
+        })
     }
-    for time in 0..end {
-        let found = step(plan, grid, time, table, places, next, ahead, walks, agents)?;
+
+    /// The first conflict of a plan. Takes memory for the parts of the map on which the agents stand.
+    fn run(&mut self, plan: &Plan, grid: &Grid) -> Result<Option<Conflict>, AllocError>
+        requires on_map { StandOnMap grid.now plan.now }
+        requires fresh { AreFresh plan.now self.old }
+        ensures some { IfOk result (λ found. IfSome found (IsFirstConflict plan.now)) }
+        ensures none { IfOk result (λ found. IfNone found (HasNoConflict plan.now)) }
+    {
+        // Agents in one place are on one cell: a law of the map.
+        cells_have_places_of_their_own();
+        let end = plan.steps() + 1;
+        let places = self.places.as_mut_slice();
+        fill_places(plan, grid, 0, places);
+        self.next.copy_from_slice(places);
+        if let Some((i, j)) = first_meeting(&mut self.table, places)? {
+            return Ok(Some(Conflict::Vertex { time: 0, i, j }));
+        }
+        for time in 0..end {
+            let found = self.step(plan, grid, time)?;
+            if found.is_some() {
+                return Ok(found);
+            }
+        }
+        Ok(None)
+    }
+
+    /// The first conflict of a plan, if it is in the step after `time`, and the sweep has come to that time. If it is
+    /// not, the sweep has come to the next one.
+    fn step(&mut self, plan: &Plan, grid: &Grid, time: u32) -> Result<Option<Conflict>, AllocError>
+        requires on_map { StandOnMap grid.now plan.now }
+        requires few { length plan.now ≤ MAX_AGENTS }
+        requires time { time < 4294967295 }
+        requires swept { HasComeTo grid.now plan.now time self.old }
+        ensures some { IfOk result (λ found. IfSome found (IsFirstConflict plan.now)) }
+        ensures none { IfOk result (λ found. IfNone found
+            (HasComeTo grid.now plan.now (time + 1) self.new)) }
+    {
+        // Agents in one place are on one cell: a law of the map.
+        cells_have_places_of_their_own();
+        let places = self.places.as_mut_slice();
+        let next = self.next.as_mut_slice();
+        let ahead = self.ahead.as_mut_slice();
+        let walks = self.walks.as_mut_slice();
+        fill_next(plan, grid, time + 1, &self.agents, next);
+        let apart = fill_ahead(&self.table, places, next, &self.agents, ahead);
+        let found = conflict_in(time, apart, &self.agents, ahead, walks);
         if found.is_some() {
             return Ok(found);
         }
+        if let Some((i, j)) = meeting(&mut self.table, &self.agents, next)? {
+            let time = time + 1;
+            return Ok(Some(Conflict::Vertex { time, i, j }));
+        }
+        settle(&self.agents, next, places, ahead, walks);
+        drop_arrived(&mut self.agents, plan, time);
+        Ok(None)
     }
-    Ok(None)
-}
-
-/// The first conflict of a plan, if it is in the step after `time`, and the sweep has come to that time. If it is not,
-/// the sweep has come to the next one.
-fn step(
-    plan: &Plan,
-    grid: &Grid,
-    time: u32,
-    table: &mut Table<u16>,
-    places: &mut [usize],
-    next: &mut [usize],
-    ahead: &mut [Option<u16>],
-    walks: &mut [Option<u16>],
-    agents: &mut Vec<u16>,
-) -> Result<Option<Conflict>, AllocError>
-    requires on_map { StandOnMap grid.now plan.now }
-    requires few { length plan.now ≤ MAX_AGENTS }
-    requires time { time < 4294967295 }
-    requires next { length next.old ≡ length plan.now }
-    requires ahead { length ahead.old ≡ length plan.now }
-    requires walks { length walks.old ≡ length plan.now }
-    requires swept { IsSwept grid.now plan.now
-        table.old places.old next.old ahead.old walks.old agents.old.items time }
-    ensures some { IfOk result (λ found. IfSome found (IsFirstConflict plan.now)) }
-    ensures none { IfOk result (λ found. IfNone found (IsSwept grid.now plan.now
-        table.new places.new next.new ahead.new walks.new agents.new.items (time + 1))) }
-{
-    // Agents in one place are on one cell: a law of the map.
-    cells_have_places_of_their_own();
-    fill_next(plan, grid, time + 1, agents, next);
-    let apart = fill_ahead(table, places, next, agents, ahead);
-    let found = conflict_in(time, apart, agents, ahead, walks);
-    if found.is_some() {
-        return Ok(found);
-    }
-    if let Some((i, j)) = meeting(table, agents, next)? {
-        let time = time + 1;
-        return Ok(Some(Conflict::Vertex { time, i, j }));
-    }
-    settle(agents, next, places, ahead, walks);
-    drop_arrived(agents, plan, time);
-    Ok(None)
 }
 
 /// All agents.
@@ -414,35 +438,8 @@ pub(crate) fn first_conflict(
     ensures some { IfOk result (λ found. IfSome found (IsFirstConflict plan.now)) }
     ensures none { IfOk result (λ found. IfNone found (HasNoConflict plan.now)) }
 {
-    let agents = usize::from(plan.agents());
     // What is asked of a map gives its sizes.
     let _width = grid.width();
-    let mut places = vec![in alloc; 0usize; agents]?;
-    let mut next = vec![in alloc; 0usize; agents]?;
-    let mut under_way = agents_of(alloc, plan)?;
-    conflict_over(alloc, plan, grid, &mut places, &mut next, &mut under_way)
-}
-
-/// The same, with rows for the places of all agents, and with the row of all agents.
-fn conflict_over(
-    alloc: Global,
-    plan: &Plan,
-    grid: &Grid,
-    places: &mut [usize],
-    next: &mut [usize],
-    agents: &mut Vec<u16>,
-) -> Result<Option<Conflict>, AllocError>
-    requires on_map { StandOnMap grid.now plan.now }
-    requires places { length places.old ≡ length plan.now }
-    requires next { length next.old ≡ length plan.now }
-    requires agents { Covers plan.now 0 agents.old.items }
-    ensures some { IfOk result (λ found. IfSome found (IsFirstConflict plan.now)) }
-    ensures none { IfOk result (λ found. IfNone found (HasNoConflict plan.now)) }
-{
-    let mut table = Table::new(alloc, 0);
-    let mut ahead = vec![in alloc; None; places.len()]?;
-    let mut walks = vec![in alloc; None; places.len()]?;
-    sweep(
-        plan, grid, &mut table, places, next, &mut ahead, &mut walks, agents,
-    )
+    let mut sweep = Sweep::new(alloc, plan)?;
+    sweep.run(plan, grid)
 }

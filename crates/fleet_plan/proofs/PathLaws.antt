@@ -14,7 +14,7 @@ use Rattle.fleet_model.specs.Geometry.{place_of, moved}
 use Rattle.fleet_model.specs.Program.{origin}
 use Rattle.fleet_model.proofs.Cells.{cell_from_parts}
 use Rattle.fleet_plan.specs.Plan.{Path, Plan, cell_at, cell_of, last_cell, AreNeighbours}
-use Rattle.fleet_plan.specs.FirstFault.{IsRightAt, GoesOver, path_of}
+use Rattle.fleet_plan.specs.FirstFault.{IsRightAt, GoesOver}
 
 -- ---- equal or neighbouring cells
 
@@ -96,8 +96,5 @@ last_is plan i p n e l =
     let same : get_or plan i [] ≡ p = get_or_from_slice_get plan i p [] e in
     let k : n ≡ length p - 1 = omega arith in
     ap (cell_at p) k ∙ ap (λ (q : Path). cell_at q (length q - 1)) (sym same)
-
-pub path_is : (plan : Plan) (i : ℕ) (p : Path) → slice_get plan i ≡ Some p → p ≡ path_of plan i
-path_is plan i p e = sym (get_or_from_slice_get plan i p [] e)
 
 -- ---- tasks

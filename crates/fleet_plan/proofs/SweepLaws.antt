@@ -97,9 +97,6 @@ abbrev pub HavePlaces : Type 0
 HavePlaces = (g : Ground) (c d : Cell) → c.x < g.width → d.x < g.width → cell_index g c ≡ cell_index g d → c ≡ d
 
 module _ (have : HavePlaces) (g : Ground) (plan : Plan) (on : StandOnMap g plan) (t : ℕ) (places next : List ℕ) (now : StandOnPlaces g plan t places) (then : StandOnPlaces g plan (t + 1) next) where
-  n : ℕ
-  n = length plan
-
   same_place : (i j x y : ℕ) → i < length plan → j < length plan → cell_index g (cell_of plan i x) ≡ cell_index g (cell_of plan j y) → motion_of plan x i ≡ motion_of plan y j
   same_place i j x y li lj e = ap place_of (have g (cell_of plan i x) (cell_of plan j y) ((on i x li).0) ((on j y lj).0) e)
 

@@ -1,6 +1,5 @@
 -- Steps that are counted, those in which an agent moves and those in which it stays, and the time at which it rests.
-use Rattle.std.proofs.Common.{◌≡◌, ℕ, ◌+◌, ◌-◌, ◌<◌, ◌≤◌, Bool, true, false, cond, not, List, [], ◌∷◌, ◌++◌, length, get_or, take, take_all, Some, sum_by, count_by, sym, ap, ◌∙◌, arith, add-one, map-id, refl}
-use Rattle.std.specs.List.{range_with_len, suffix_len}
+use Rattle.std.proofs.Common.{◌≡◌, ℕ, ◌+◌, ◌-◌, ◌<◌, ◌≤◌, Bool, true, false, cond, not, List, [], ◌∷◌, ◌++◌, length, get_or, take, take_all, Some, sum_by, count_by, sym, ap, ◌∙◌, arith, map-id}
 use Rattle.std.proofs.lemmas.List.Sums.{sum_by-cons, sum_by_push, sum_by_more, suffix_len_is}
 use Rattle.std.proofs.lemmas.List.FromFn.{length-range_with_len, map-range_with_len_more}
 use Rattle.fleet_model.specs.Geometry.{is_same_cell}

@@ -1,4 +1,4 @@
-use Rattle.std.proofs.Common.{ℕ, ◌≤◌, rules, arith}
+use Rattle.std.proofs.Common.{◌≤◌, rules, arith}
 use Rattle.fleet_plan.proofs.SweepLaws.{few_steps, swept_all}
 use Rattle.fleet_model.specs.declared.limits.TheConstants.{MAX_HORIZON}
 use Rattle.fleet_plan.proofs.sweep.Sweep.run.Goals as goal

@@ -1,4 +1,4 @@
-use Rattle.std.proofs.Common.{◌≡◌, ◌+◌, length, sym, ap, ◌∙◌, arith}
+use Rattle.std.proofs.Common.{◌≡◌, ◌+◌, length, sym, ◌∙◌, arith}
 use Rattle.fleet_plan.proofs.MeetLaws.{entered_apart, first_in, free_in}
 use Rattle.fleet_plan.proofs.SweepLaws.{found_first, found_none, first_meets, others_there, others_stay, others_alone, others_entered, others_settled, swept_on, come_to_as}
 use Rattle.std.specs.Vec.{with_items}
@@ -58,13 +58,13 @@ returns-clause-none c =
     let fits_walks : length c.settle.new.walks ≡ length c.args.plan.now = omega (arith, c.settle.auto.walks, c.conflict_in-found.auto.walks, has.fits.walks) in
     let v = c.self.inside in
     come_to_as c.args.grid.now c.args.plan.now (c.args.time + 1)
-      (record { table = c.meeting.new.table; places = c.settle.new.places; next = c.fill_next.new.next; ahead = c.settle.new.ahead; walks = c.settle.new.walks; agents = c.drop_arrived.new.agents.items })
-      (with_items v.places c.settle.new.places).items (with_items v.next c.fill_next.new.next).items (with_items v.ahead c.settle.new.ahead).items (with_items v.walks c.settle.new.walks).items
-      (with_items_is v.places c.settle.new.places (omega (arith, c.settle.auto.places, c.as_mut_slice-places.ensures.len, v.places.ok)))
-      (with_items_is v.next c.fill_next.new.next (omega (arith, c.fill_next.auto.next, c.as_mut_slice-next.ensures.len, v.next.ok)))
-      (with_items_is v.ahead c.settle.new.ahead (omega (arith, c.settle.auto.ahead, c.fill_ahead-apart.auto.ahead, c.as_mut_slice-ahead.ensures.len, v.ahead.ok)))
-      (with_items_is v.walks c.settle.new.walks (omega (arith, c.settle.auto.walks, c.conflict_in-found.auto.walks, c.as_mut_slice-walks.ensures.len, v.walks.ok)))
-      (record {
-        fits = record { places = places ∙ c.fill_next.ensures.all; next = c.fill_next.ensures.all; ahead = fits_ahead; walks = fits_walks };
-        swept = swept_on c.args.grid.now c.args.plan.now c.meeting.new.table c.settle.new.places c.fill_next.new.next c.settle.new.ahead c.settle.new.walks c.drop_arrived.new.agents.items (c.args.time + 1) on places (rw c.in_default.is at c.in_ok-i.ensures.none) c.settle.ensures c.drop_arrived.ensures;
-      })
+    (record { table = c.meeting.new.table; places = c.settle.new.places; next = c.fill_next.new.next; ahead = c.settle.new.ahead; walks = c.settle.new.walks; agents = c.drop_arrived.new.agents.items })
+    (with_items v.places c.settle.new.places).items (with_items v.next c.fill_next.new.next).items (with_items v.ahead c.settle.new.ahead).items (with_items v.walks c.settle.new.walks).items
+    (with_items_is v.places c.settle.new.places (omega (arith, c.settle.auto.places, c.as_mut_slice-places.ensures.len, v.places.ok)))
+    (with_items_is v.next c.fill_next.new.next (omega (arith, c.fill_next.auto.next, c.as_mut_slice-next.ensures.len, v.next.ok)))
+    (with_items_is v.ahead c.settle.new.ahead (omega (arith, c.settle.auto.ahead, c.fill_ahead-apart.auto.ahead, c.as_mut_slice-ahead.ensures.len, v.ahead.ok)))
+    (with_items_is v.walks c.settle.new.walks (omega (arith, c.settle.auto.walks, c.conflict_in-found.auto.walks, c.as_mut_slice-walks.ensures.len, v.walks.ok)))
+    (record {
+      fits = record { places = places ∙ c.fill_next.ensures.all; next = c.fill_next.ensures.all; ahead = fits_ahead; walks = fits_walks };
+      swept = swept_on c.args.grid.now c.args.plan.now c.meeting.new.table c.settle.new.places c.fill_next.new.next c.settle.new.ahead c.settle.new.walks c.drop_arrived.new.agents.items (c.args.time + 1) on places (rw c.in_default.is at c.in_ok-i.ensures.none) c.settle.ensures c.drop_arrived.ensures;
+    })

@@ -126,6 +126,8 @@ fn flag_implied<P: ProgramView>(
         return Ok(());
     }
     let schedule = Schedule::of(alloc, program, &order, ticks, &[])?;
+    // The rows need its room.
+    drop(order);
     flag_all(alloc, program, &schedule, &asked, implied)
 }
 

@@ -112,6 +112,9 @@ fn is_wanted(course: &Course<'_>, action: ActionId) -> bool
     ensures { result ≡ get_or course.now.wanted.now
         (place_of_action course.now.places.now action) false }
 {
+    if course.wanted.is_empty() {
+        return false;
+    }
     let place = course.places.place(action.agent, action.number);
     place < course.wanted.len() && course.wanted[place]
 }

@@ -70,6 +70,8 @@ fn answer_rest<P: ProgramView>(
 {
     let order = FinishOrder::of(alloc, program, ticks)?;
     let schedule = Schedule::of(alloc, program, &order, ticks, questions)?;
+    // The rows need its room.
+    drop(order);
     answer_all(alloc, program, &schedule, questions, asked, flags)
 }
 

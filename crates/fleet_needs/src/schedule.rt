@@ -120,7 +120,7 @@ fn is_narrow<P: ProgramView>(program: &P) -> bool
     true
 }
 
-/// For each action, by its place, whether a question ends with it.
+/// For each action, by its place, whether a question ends with it; nothing if there is no question.
 fn wanted_of<P: ProgramView>(
     alloc: Global,
     program: &P,
@@ -132,6 +132,9 @@ fn wanted_of<P: ProgramView>(
     ensures { IfOk result (λ wanted. (k : ℕ) (q : Question) → slice_get questions.now k ≡ Some q
         → IsWanted places.now wanted.items q.last) }
 {
+    if questions.is_empty() {
+        return Ok(Vec::new(alloc));
+    }
     let mut wanted = vec![in alloc; false; total_moves(program) as usize]?;
     for question in questions {
         let place = place_of(program, places, question.last);

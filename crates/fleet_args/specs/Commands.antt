@@ -1,6 +1,5 @@
 -- The commands, each with its arguments and with what it is asked for, and the command line that has them.
-use Rattle.std.specs.Prelude.{◌≡◌, ℕ, Bool, true, false, List, [], ◌∷◌, Option, codes, fold, map}
-use Rattle.std.specs.Borrow.{Bor}
+use Rattle.std.specs.Prelude.{◌≡◌, Bool, true, false, List, [], ◌∷◌, codes, fold, map}
 use Rattle.std.specs.List.{find, list_all}
 use Rattle.std.specs.Option.{option_map_or}
 use Rattle.std.specs.Str.{bytes_eq}
@@ -11,6 +10,8 @@ use Rattle.fleet_args.specs.Arguments.{command, rule_for}
 use Rattle.fleet_args.specs.Values.{Values, IsText, IsTextIfUsed, IsNumberIfUsed, IsNumber, IsCount, IsKind, IsBestIfUsed, IsFlag, has_value}
 use Rattle.fleet_args.specs.declared.arguments.Argument.{Argument}
 use Rattle.fleet_args.specs.declared.arguments.Argument.TheVariants as a
+use Rattle.fleet_args.specs.declared.commands.ProgramFor.{ProgramFor}
+use Rattle.fleet_args.specs.declared.commands.Tasks.{Tasks}
 use Rattle.fleet_args.specs.declared.commands.Tries.{Tries}
 use Rattle.fleet_args.specs.declared.commands.Request.{Request}
 use Rattle.fleet_args.specs.declared.commands.Request.TheVariants as r
@@ -58,12 +59,12 @@ abbrev pub has_values : Text → Values → Bool
 has_values name values = option_map_or (λ c. list_all (has_value values) c.1) (find (λ c. bytes_eq name c.0) commands) false
 
 -- a map, a scenario and how many of its agents are asked for
-abbrev pub AsksInstance : Values → (map scen : Bor Text) → Option ℕ → Type 0
-AsksInstance values map scen agents = IsText values (codes "map") map × IsText values (codes "scen") scen × IsNumberIfUsed values (codes "agents") agents
+abbrev pub AsksTasks : Values → Tasks → Type 0
+AsksTasks values t = IsText values (codes "map") t.map × IsText values (codes "scen") t.scen × IsNumberIfUsed values (codes "agents") t.agents
 
 -- the same with a program
-abbrev pub AsksProgram : Values → (map scen program : Bor Text) → Option ℕ → Type 0
-AsksProgram values map scen program agents = AsksInstance values map scen agents × IsText values (codes "program") program
+abbrev pub AsksProgram : Values → ProgramFor → Type 0
+AsksProgram values p = AsksTasks values p.tasks × IsText values (codes "program") p.program
 
 -- how many orders are tried, and what makes a plan the best
 abbrev pub AsksTries : Values → Tries → Type 0
@@ -71,31 +72,31 @@ AsksTries values tries = IsCount values (codes "tries") tries.count × IsBestIfU
 
 -- the command of this name, with these values of its arguments, asks this
 abbrev pub AsksCommand : Text → Values → Request → Type 0
-AsksCommand name values (r.Instance q) = (name ≡ codes "instance") × AsksInstance values q.map q.scen q.agents
+AsksCommand name values (r.Instance q) = (name ≡ codes "instance") × AsksTasks values q
 AsksCommand name values (r.Check q) =
-    (name ≡ codes "check") × AsksInstance values q.map q.scen q.agents × IsText values (codes "plan") q.plan × IsFlag values (codes "numbers") q.numbers
+    (name ≡ codes "check") × AsksTasks values q.tasks × IsText values (codes "plan") q.plan × IsFlag values (codes "numbers") q.numbers
 AsksCommand name values (r.Plan q) =
-    (name ≡ codes "plan") × AsksInstance values q.map q.scen q.agents × IsNumber values (codes "horizon") q.horizon × AsksTries values q.tries
+    (name ≡ codes "plan") × AsksTasks values q.tasks × IsNumber values (codes "horizon") q.horizon × AsksTries values q.tries
 AsksCommand name values (r.Compile q) =
-    (name ≡ codes "compile") × AsksInstance values q.map q.scen q.agents × IsText values (codes "plan") q.plan × IsText values (codes "out") q.out
+    (name ≡ codes "compile") × AsksTasks values q.tasks × IsText values (codes "plan") q.plan × IsText values (codes "out") q.out
     × IsKind values (codes "deps") q.deps × IsCount values (codes "dwell") q.dwell
-AsksCommand name values (r.Verify q) = (name ≡ codes "verify") × AsksProgram values q.map q.scen q.program q.agents
-AsksCommand name values (r.Run q) = (name ≡ codes "run") × AsksProgram values q.map q.scen q.program q.agents × IsTextIfUsed values (codes "holds") q.holds
+AsksCommand name values (r.Verify q) = (name ≡ codes "verify") × AsksProgram values q
+AsksCommand name values (r.Run q) = (name ≡ codes "run") × AsksProgram values q.subject × IsTextIfUsed values (codes "holds") q.holds
 AsksCommand name values (r.Rehearse q) = (name ≡ codes "rehearse") × IsText values (codes "program") q.program × IsTextIfUsed values (codes "holds") q.holds
 AsksCommand name values (r.Auto q) =
-    (name ≡ codes "auto") × AsksInstance values q.map q.scen q.agents × IsNumber values (codes "horizon") q.horizon × AsksTries values q.tries
+    (name ≡ codes "auto") × AsksTasks values q.tasks × IsNumber values (codes "horizon") q.horizon × AsksTries values q.tries
     × IsKind values (codes "deps") q.deps × IsTextIfUsed values (codes "holds") q.holds × IsFlag values (codes "numbers") q.numbers
-AsksCommand name values (r.Thin q) = (name ≡ codes "thin") × AsksProgram values q.map q.scen q.program q.agents × IsText values (codes "out") q.out
+AsksCommand name values (r.Thin q) = (name ≡ codes "thin") × AsksProgram values q.subject × IsText values (codes "out") q.out
 AsksCommand name values (r.Migrate q) = (name ≡ codes "migrate") × IsText values (codes "program") q.program × IsText values (codes "out") q.out
 AsksCommand name values (r.List q) = (name ≡ codes "list") × IsText values (codes "program") q.program
 AsksCommand name values (r.Dispatch q) =
-    (name ≡ codes "dispatch") × AsksProgram values q.map q.scen q.program q.agents × IsNumber values (codes "ahead") q.ahead
+    (name ≡ codes "dispatch") × AsksProgram values q.subject × IsNumber values (codes "ahead") q.ahead
     × IsFlag values (codes "unnumbered") q.unnumbered × IsTextIfUsed values (codes "resume") q.resume
     × IsTextIfUsed values (codes "log") q.log
 AsksCommand name values (r.Times q) =
-    (name ≡ codes "times") × AsksProgram values q.map q.scen q.program q.agents × IsTextIfUsed values (codes "costs") q.costs
+    (name ≡ codes "times") × AsksProgram values q.subject × IsTextIfUsed values (codes "costs") q.costs
     × IsTextIfUsed values (codes "broken") q.broken
 AsksCommand name values (r.Rest q) =
-    (name ≡ codes "rest") × AsksProgram values q.map q.scen q.program q.agents × IsText values (codes "reports") q.reports × IsText values (codes "scen_out") q.scen_out
+    (name ≡ codes "rest") × AsksProgram values q.subject × IsText values (codes "reports") q.reports × IsText values (codes "scen_out") q.scen_out
     × IsText values (codes "program_out") q.program_out × IsTextIfUsed values (codes "without") q.without
     × IsTextIfUsed values (codes "map-out") q.map_out × IsTextIfUsed values (codes "others-out") q.others_out

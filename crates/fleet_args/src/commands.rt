@@ -1,8 +1,8 @@
 //! The commands: what each is asked for, its words and options, and how they are read from the matches.
 
 ghost use Rattle.std.specs.Prelude.{◌≡◌, codes, true};
-ghost use Rattle.fleet_args.specs.Values.{has_count, reads_best, values_in};
-ghost use Rattle.fleet_args.specs.Commands.{AsksCommand, AsksTries, has_values};
+ghost use Rattle.fleet_args.specs.Values.{has_count, has_text, reads_best, reads_number, values_in};
+ghost use Rattle.fleet_args.specs.Commands.{AsksCommand, AsksProgram, AsksTasks, AsksTries, has_values};
 
 use crate::arguments::{
     Argument, CommandText, given_count, given_deps, given_number, text, used, used_best,
@@ -28,30 +28,33 @@ pub struct Tries {
     pub best: Option<Best>,
 }
 
-/// `fleet instance MAP SCEN [--agents K]`
+/// The tasks of a scenario on a map, the first so many or all: `MAP SCEN [--agents K]`
 #[derive(Clone, Copy)]
-pub struct InstanceRequest<'a> {
+pub struct Tasks<'a> {
     pub map: &'a str,
     pub scen: &'a str,
     pub agents: Option<u16>,
 }
 
+/// A program for such tasks: `MAP SCEN PROGRAM [--agents K]`
+#[derive(Clone, Copy)]
+pub struct ProgramFor<'a> {
+    pub tasks: Tasks<'a>,
+    pub program: &'a str,
+}
+
 /// `fleet check MAP SCEN PLAN [--agents K] [--numbers]`
 #[derive(Clone, Copy)]
 pub struct CheckRequest<'a> {
-    pub map: &'a str,
-    pub scen: &'a str,
+    pub tasks: Tasks<'a>,
     pub plan: &'a str,
-    pub agents: Option<u16>,
     pub numbers: bool,
 }
 
 /// `fleet plan MAP SCEN [--agents K] [--horizon H] [--tries N] [--best BEST]`
 #[derive(Clone, Copy)]
 pub struct PlanRequest<'a> {
-    pub map: &'a str,
-    pub scen: &'a str,
-    pub agents: Option<u16>,
+    pub tasks: Tasks<'a>,
     pub horizon: u16,
     pub tries: Tries,
 }
@@ -59,31 +62,17 @@ pub struct PlanRequest<'a> {
 /// `fleet compile MAP SCEN PLAN OUT [--agents K] [--deps DEPS] [--dwell N]`
 #[derive(Clone, Copy)]
 pub struct CompileRequest<'a> {
-    pub map: &'a str,
-    pub scen: &'a str,
+    pub tasks: Tasks<'a>,
     pub plan: &'a str,
     pub out: &'a str,
-    pub agents: Option<u16>,
     pub deps: Deps,
     pub dwell: u32,
-}
-
-/// `fleet verify MAP SCEN PROGRAM [--agents K]`
-#[derive(Clone, Copy)]
-pub struct VerifyRequest<'a> {
-    pub map: &'a str,
-    pub scen: &'a str,
-    pub program: &'a str,
-    pub agents: Option<u16>,
 }
 
 /// `fleet run MAP SCEN PROGRAM [--agents K] [--holds FILE]`
 #[derive(Clone, Copy)]
 pub struct RunRequest<'a> {
-    pub map: &'a str,
-    pub scen: &'a str,
-    pub program: &'a str,
-    pub agents: Option<u16>,
+    pub subject: ProgramFor<'a>,
     pub holds: Option<&'a str>,
 }
 
@@ -97,9 +86,7 @@ pub struct RehearseRequest<'a> {
 /// `fleet auto MAP SCEN [--agents K] [--horizon H] [--tries N] [--best BEST] [--deps DEPS] [--holds FILE] [--numbers]`
 #[derive(Clone, Copy)]
 pub struct AutoRequest<'a> {
-    pub map: &'a str,
-    pub scen: &'a str,
-    pub agents: Option<u16>,
+    pub tasks: Tasks<'a>,
     pub horizon: u16,
     pub tries: Tries,
     pub deps: Deps,
@@ -110,11 +97,8 @@ pub struct AutoRequest<'a> {
 /// `fleet thin MAP SCEN PROGRAM OUT [--agents K]`
 #[derive(Clone, Copy)]
 pub struct ThinRequest<'a> {
-    pub map: &'a str,
-    pub scen: &'a str,
-    pub program: &'a str,
+    pub subject: ProgramFor<'a>,
     pub out: &'a str,
-    pub agents: Option<u16>,
 }
 
 /// `fleet migrate PROGRAM OUT`
@@ -133,10 +117,7 @@ pub struct ListRequest<'a> {
 /// `fleet dispatch MAP SCEN PROGRAM [--agents K] [--ahead K] [--unnumbered] [--resume FILE] [--log FILE]`
 #[derive(Clone, Copy)]
 pub struct DispatchRequest<'a> {
-    pub map: &'a str,
-    pub scen: &'a str,
-    pub program: &'a str,
-    pub agents: Option<u16>,
+    pub subject: ProgramFor<'a>,
     pub ahead: u16,
     pub unnumbered: bool,
     pub resume: Option<&'a str>,
@@ -146,10 +127,7 @@ pub struct DispatchRequest<'a> {
 /// `fleet times MAP SCEN PROGRAM [--agents K] [--costs FILE] [--broken ACTIONS]`
 #[derive(Clone, Copy)]
 pub struct TimesRequest<'a> {
-    pub map: &'a str,
-    pub scen: &'a str,
-    pub program: &'a str,
-    pub agents: Option<u16>,
+    pub subject: ProgramFor<'a>,
     pub costs: Option<&'a str>,
     pub broken: Option<&'a str>,
 }
@@ -158,13 +136,10 @@ pub struct TimesRequest<'a> {
 /// [--others-out FILE]`
 #[derive(Clone, Copy)]
 pub struct RestRequest<'a> {
-    pub map: &'a str,
-    pub scen: &'a str,
-    pub program: &'a str,
+    pub subject: ProgramFor<'a>,
     pub reports: &'a str,
     pub scen_out: &'a str,
     pub program_out: &'a str,
-    pub agents: Option<u16>,
     pub without: Option<&'a str>,
     pub map_out: Option<&'a str>,
     pub others_out: Option<&'a str>,
@@ -173,11 +148,11 @@ pub struct RestRequest<'a> {
 /// A command with its words and options.
 #[derive(Clone, Copy)]
 pub enum Request<'a> {
-    Instance(InstanceRequest<'a>),
+    Instance(Tasks<'a>),
     Check(CheckRequest<'a>),
     Plan(PlanRequest<'a>),
     Compile(CompileRequest<'a>),
-    Verify(VerifyRequest<'a>),
+    Verify(ProgramFor<'a>),
     Run(RunRequest<'a>),
     Rehearse(RehearseRequest<'a>),
     Auto(AutoRequest<'a>),
@@ -350,16 +325,40 @@ pub(crate) fn tries_in(matches: &ArgMatches<'_>) -> Tries
     }
 }
 
+/// The tasks that the matches of a command ask for.
+fn tasks_in<'a>(matches: &ArgMatches<'a>) -> Tasks<'a>
+    requires map { has_text (values_in matches.now) (codes "map") ≡ true }
+    requires scen { has_text (values_in matches.now) (codes "scen") ≡ true }
+    requires agents { reads_number (values_in matches.now) (codes "agents") ≡ true }
+    ensures { AsksTasks (values_in matches.now) result }
+{
+    Tasks {
+        map: text(matches, "map"),
+        scen: text(matches, "scen"),
+        agents: used_number(matches, "agents"),
+    }
+}
+
+/// The program, and the tasks that it is for, that the matches of a command ask for.
+fn program_in<'a>(matches: &ArgMatches<'a>) -> ProgramFor<'a>
+    requires map { has_text (values_in matches.now) (codes "map") ≡ true }
+    requires scen { has_text (values_in matches.now) (codes "scen") ≡ true }
+    requires agents { reads_number (values_in matches.now) (codes "agents") ≡ true }
+    requires program { has_text (values_in matches.now) (codes "program") ≡ true }
+    ensures { AsksProgram (values_in matches.now) result }
+{
+    ProgramFor {
+        tasks: tasks_in(matches),
+        program: text(matches, "program"),
+    }
+}
+
 /// The request of `instance`.
 fn instance_in<'a>(matches: &ArgMatches<'a>) -> Request<'a>
     requires { has_values (codes "instance") (values_in matches.now) ≡ true }
     ensures { AsksCommand (codes "instance") (values_in matches.now) result }
 {
-    Request::Instance(InstanceRequest {
-        map: text(matches, "map"),
-        scen: text(matches, "scen"),
-        agents: used_number(matches, "agents"),
-    })
+    Request::Instance(tasks_in(matches))
 }
 
 /// The request of `check`.
@@ -368,10 +367,8 @@ fn check_in<'a>(matches: &ArgMatches<'a>) -> Request<'a>
     ensures { AsksCommand (codes "check") (values_in matches.now) result }
 {
     Request::Check(CheckRequest {
-        map: text(matches, "map"),
-        scen: text(matches, "scen"),
+        tasks: tasks_in(matches),
         plan: text(matches, "plan"),
-        agents: used_number(matches, "agents"),
         numbers: used(matches, "numbers"),
     })
 }
@@ -382,9 +379,7 @@ fn plan_in<'a>(matches: &ArgMatches<'a>) -> Request<'a>
     ensures { AsksCommand (codes "plan") (values_in matches.now) result }
 {
     Request::Plan(PlanRequest {
-        map: text(matches, "map"),
-        scen: text(matches, "scen"),
-        agents: used_number(matches, "agents"),
+        tasks: tasks_in(matches),
         horizon: given_number(matches, "horizon"),
         tries: tries_in(matches),
     })
@@ -396,11 +391,9 @@ fn compile_in<'a>(matches: &ArgMatches<'a>) -> Request<'a>
     ensures { AsksCommand (codes "compile") (values_in matches.now) result }
 {
     Request::Compile(CompileRequest {
-        map: text(matches, "map"),
-        scen: text(matches, "scen"),
+        tasks: tasks_in(matches),
         plan: text(matches, "plan"),
         out: text(matches, "out"),
-        agents: used_number(matches, "agents"),
         deps: given_deps(matches, "deps"),
         dwell: given_count(matches, "dwell"),
     })
@@ -411,12 +404,7 @@ fn verify_in<'a>(matches: &ArgMatches<'a>) -> Request<'a>
     requires { has_values (codes "verify") (values_in matches.now) ≡ true }
     ensures { AsksCommand (codes "verify") (values_in matches.now) result }
 {
-    Request::Verify(VerifyRequest {
-        map: text(matches, "map"),
-        scen: text(matches, "scen"),
-        program: text(matches, "program"),
-        agents: used_number(matches, "agents"),
-    })
+    Request::Verify(program_in(matches))
 }
 
 /// The request of `run`.
@@ -425,10 +413,7 @@ fn run_in<'a>(matches: &ArgMatches<'a>) -> Request<'a>
     ensures { AsksCommand (codes "run") (values_in matches.now) result }
 {
     Request::Run(RunRequest {
-        map: text(matches, "map"),
-        scen: text(matches, "scen"),
-        program: text(matches, "program"),
-        agents: used_number(matches, "agents"),
+        subject: program_in(matches),
         holds: matches.get_str("holds"),
     })
 }
@@ -450,9 +435,7 @@ fn auto_in<'a>(matches: &ArgMatches<'a>) -> Request<'a>
     ensures { AsksCommand (codes "auto") (values_in matches.now) result }
 {
     Request::Auto(AutoRequest {
-        map: text(matches, "map"),
-        scen: text(matches, "scen"),
-        agents: used_number(matches, "agents"),
+        tasks: tasks_in(matches),
         horizon: given_number(matches, "horizon"),
         tries: tries_in(matches),
         deps: given_deps(matches, "deps"),
@@ -467,11 +450,8 @@ fn thin_in<'a>(matches: &ArgMatches<'a>) -> Request<'a>
     ensures { AsksCommand (codes "thin") (values_in matches.now) result }
 {
     Request::Thin(ThinRequest {
-        map: text(matches, "map"),
-        scen: text(matches, "scen"),
-        program: text(matches, "program"),
+        subject: program_in(matches),
         out: text(matches, "out"),
-        agents: used_number(matches, "agents"),
     })
 }
 
@@ -502,10 +482,7 @@ fn dispatch_in<'a>(matches: &ArgMatches<'a>) -> Request<'a>
     ensures { AsksCommand (codes "dispatch") (values_in matches.now) result }
 {
     Request::Dispatch(DispatchRequest {
-        map: text(matches, "map"),
-        scen: text(matches, "scen"),
-        program: text(matches, "program"),
-        agents: used_number(matches, "agents"),
+        subject: program_in(matches),
         ahead: given_number(matches, "ahead"),
         unnumbered: used(matches, "unnumbered"),
         resume: matches.get_str("resume"),
@@ -519,10 +496,7 @@ fn times_in<'a>(matches: &ArgMatches<'a>) -> Request<'a>
     ensures { AsksCommand (codes "times") (values_in matches.now) result }
 {
     Request::Times(TimesRequest {
-        map: text(matches, "map"),
-        scen: text(matches, "scen"),
-        program: text(matches, "program"),
-        agents: used_number(matches, "agents"),
+        subject: program_in(matches),
         costs: matches.get_str("costs"),
         broken: matches.get_str("broken"),
     })
@@ -534,13 +508,10 @@ fn rest_in<'a>(matches: &ArgMatches<'a>) -> Request<'a>
     ensures { AsksCommand (codes "rest") (values_in matches.now) result }
 {
     Request::Rest(RestRequest {
-        map: text(matches, "map"),
-        scen: text(matches, "scen"),
-        program: text(matches, "program"),
+        subject: program_in(matches),
         reports: text(matches, "reports"),
         scen_out: text(matches, "scen_out"),
         program_out: text(matches, "program_out"),
-        agents: used_number(matches, "agents"),
         without: matches.get_str("without"),
         map_out: matches.get_str("map-out"),
         others_out: matches.get_str("others-out"),

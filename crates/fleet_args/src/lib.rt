@@ -12,8 +12,8 @@ mod commands;
 mod request;
 
 pub use commands::{
-    AutoRequest, Best, CheckRequest, CompileRequest, DispatchRequest, InstanceRequest, ListRequest,
-    MigrateRequest, PlanRequest, RehearseRequest, Request, RestRequest, RunRequest, ThinRequest,
-    TimesRequest, Tries, VerifyRequest,
+    AutoRequest, Best, CheckRequest, CompileRequest, DispatchRequest, ListRequest, MigrateRequest,
+    PlanRequest, ProgramFor, RehearseRequest, Request, RestRequest, RunRequest, Tasks, ThinRequest,
+    TimesRequest, Tries,
 };
 pub use request::{WordStop, read_words};

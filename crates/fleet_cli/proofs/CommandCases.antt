@@ -70,8 +70,8 @@ RunFaultIn map scen asked bytes held out out' fault = TextsFault map scen asked 
 -- what `run` answers
 abbrev pub RunAnswer : RunRequest → FileTexts → (out out' : SinkState) → Result ℕ Fault → Type 0
 RunAnswer r texts out out' (Ok status) =
-    RunsTexts texts.map.items texts.scen.items r.agents texts.subject.items texts.holds.items out out' × (status ≡ 0)
-RunAnswer r texts out out' (Err fault) = RunFaultIn texts.map.items texts.scen.items r.agents texts.subject.items texts.holds.items out out' fault
+    RunsTexts texts.map.items texts.scen.items r.subject.tasks.agents texts.subject.items texts.holds.items out out' × (status ≡ 0)
+RunAnswer r texts out out' (Err fault) = RunFaultIn texts.map.items texts.scen.items r.subject.tasks.agents texts.subject.items texts.holds.items out out' fault
 
 -- a program is made of the texts; its trace was written under the holds, and handed on
 pub record RunsMade (map scen : List ℕ) (asked : Option ℕ) (horizon : ℕ) (tries : Tries) (deps : Deps) (held : List ℕ) (out out' : SinkState) : Type 0 where
@@ -99,10 +99,10 @@ ToldNumbers true numbers out out' = IsDelivered out out' (plan_numbers_text numb
 -- first step that refuses; or the output failed after the trace
 abbrev pub AutoAnswer : (map scen : List ℕ) → AutoRequest → (held : List ℕ) → (out out' : SinkState) → Result ℕ Fault → Type 0
 AutoAnswer map scen r held out out' (Ok status) =
-    (mid : SinkState) × (x : RunsMade map scen r.agents r.horizon r.tries r.deps held out mid) × ToldNumbers r.numbers x.makes.numbers mid out' × (status ≡ 0)
+    (mid : SinkState) × (x : RunsMade map scen r.tasks.agents r.horizon r.tries r.deps held out mid) × ToldNumbers r.numbers x.makes.numbers mid out' × (status ≡ 0)
 AutoAnswer map scen r held out out' (Err fault) =
-    MadeFault map scen r.agents r.horizon r.tries r.deps held out out' fault
-    ⊎ ((mid : SinkState) × (x : RunsMade map scen r.agents r.horizon r.tries r.deps held out mid) × (r.numbers ≡ true)
+    MadeFault map scen r.tasks.agents r.horizon r.tries r.deps held out out' fault
+    ⊎ ((mid : SinkState) × (x : RunsMade map scen r.tasks.agents r.horizon r.tries r.deps held out mid) × (r.numbers ≡ true)
     × IsOutFault fault × FailsAfter mid out' (plan_numbers_text x.makes.numbers))
 
 -- the rehearsal of the program under these holds was written and handed on, and ended so
@@ -199,7 +199,7 @@ module _ (map scen : List ℕ) (asked : Option ℕ) (bytes held : List ℕ) (out
 
 -- what `run` answers
 module _ (r : RunRequest) (texts : FileTexts) (out out' : SinkState) where
-  ran : (done : Result ℕ Fault) (x : AcceptsTexts texts.map.items texts.scen.items r.agents texts.subject.items) → Runs x.program x.chain texts.holds.items out out' done
+  ran : (done : Result ℕ Fault) (x : AcceptsTexts texts.map.items texts.scen.items r.subject.tasks.agents texts.subject.items) → Runs x.program x.chain texts.holds.items out out' done
       → ToldBy (RunAnswer r texts out out') done
   ran (Ok status) x (report, h, zero) = itself (RunAnswer r texts out out') (Ok status) (record { accepts = x; report = report; writes = h.0; flushed = h.1 }, zero)
   ran (Err fault) x (e, same, h) = subst (λ d. ToldBy (RunAnswer r texts out out') (Err d)) (sym same) (itself (RunAnswer r texts out out') (Err (f.Run e)) (x, h))
@@ -207,9 +207,9 @@ module _ (r : RunRequest) (texts : FileTexts) (out out' : SinkState) where
   pub run_answers : (done : Result ℕ Fault) → AnswersRun r texts out out' done → ToldBy (RunAnswer r texts out out') done
   run_answers done (inl (x, h)) = ran done x h
   run_answers done (inr (fault, same, refusal, unwritten)) =
-      let (other, alike, h) = judged texts.map.items texts.scen.items r.agents texts.subject.items texts.holds.items out out' fault refusal in
+      let (other, alike, h) = judged texts.map.items texts.scen.items r.subject.tasks.agents texts.subject.items texts.holds.items out out' fault refusal in
       refused (RunAnswer r texts out out') done fault other same alike
-      (before_run texts.map.items texts.scen.items r.agents texts.subject.items texts.holds.items out out' other h unwritten)
+      (before_run texts.map.items texts.scen.items r.subject.tasks.agents texts.subject.items texts.holds.items out out' other h unwritten)
 
 module _ (map scen : List ℕ) (asked : Option ℕ) (horizon : ℕ) (tries : Tries) (deps : Deps) (held : List ℕ) (out out' : SinkState) where
   in_making : (fault : Fault) → ProblemFault map scen asked fault → IsUnwritten out out' → MadeFault map scen asked horizon tries deps held out out' fault
@@ -227,7 +227,7 @@ module _ (map scen : List ℕ) (asked : Option ℕ) (horizon : ℕ) (tries : Tri
 
 -- what `auto` answers
 module _ (r : AutoRequest) (map scen held : List ℕ) (out out' : SinkState) where
-  numbered : (mid : SinkState) (x : RunsMade map scen r.agents r.horizon r.tries r.deps held out mid) (numbers : Bool) → r.numbers ≡ numbers → (done : Result ℕ Fault)
+  numbered : (mid : SinkState) (x : RunsMade map scen r.tasks.agents r.horizon r.tries r.deps held out mid) (numbers : Bool) → r.numbers ≡ numbers → (done : Result ℕ Fault)
       → TellsNumbers numbers x.makes.numbers mid out' done → ToldBy (AutoAnswer map scen r held out out') done
   numbered mid x false asked done (same, zero) =
       let told : ToldNumbers r.numbers x.makes.numbers mid out' = subst (λ b. ToldNumbers b x.makes.numbers mid out') (sym asked) same in
@@ -237,25 +237,25 @@ module _ (r : AutoRequest) (map scen held : List ℕ) (out out' : SinkState) whe
       itself (AutoAnswer map scen r held out out') (Ok status) (mid, x, told, zero)
   numbered mid x true asked (Err fault) (out_fault, fails) = itself (AutoAnswer map scen r held out out') (Err fault) (inr (mid, x, asked, out_fault, fails))
 
-  numbered_after : (mid : SinkState) (x : MakesProgram map scen r.agents r.horizon r.tries r.deps) → Runs x.program x.chain held out mid (Ok 0) → (done : Result ℕ Fault)
+  numbered_after : (mid : SinkState) (x : MakesProgram map scen r.tasks.agents r.horizon r.tries r.deps) → Runs x.program x.chain held out mid (Ok 0) → (done : Result ℕ Fault)
       → TellsNumbers r.numbers x.numbers mid out' done → ToldBy (AutoAnswer map scen r held out out') done
   numbered_after mid x (report, h, zero) done tells =
       numbered mid (record { makes = x; report = report; writes = h.0; flushed = h.1 }) r.numbers refl done tells
 
-  stopped : (x : MakesProgram map scen r.agents r.horizon r.tries r.deps) (done : Result ℕ Fault) (fault : Fault) → done ≡ Err fault → Runs x.program x.chain held out out' (Err fault)
+  stopped : (x : MakesProgram map scen r.tasks.agents r.horizon r.tries r.deps) (done : Result ℕ Fault) (fault : Fault) → done ≡ Err fault → Runs x.program x.chain held out out' (Err fault)
       → ToldBy (AutoAnswer map scen r held out out') done
   stopped x done fault same (e, at_run, h) =
       let there : AutoAnswer map scen r held out out' (Err (f.Run e)) = inl (x, h) in
       let here : AutoAnswer map scen r held out out' (Err fault) = subst (λ d. AutoAnswer map scen r held out out' (Err d)) (sym at_run) there in
       refused (AutoAnswer map scen r held out out') done fault fault same (λ err err' status told. told) here
 
-  making : (done : Result ℕ Fault) (fault : Fault) → done ≡ Err fault → IsMakingRefusal map scen r.agents r.horizon r.tries r.deps fault → IsUnwritten out out'
+  making : (done : Result ℕ Fault) (fault : Fault) → done ≡ Err fault → IsMakingRefusal map scen r.tasks.agents r.horizon r.tries r.deps fault → IsUnwritten out out'
       → ToldBy (AutoAnswer map scen r held out out') done
   making done fault same (inl refusal) unwritten =
-      let (other, alike, h) = problem map scen r.agents fault refusal in
-      refused (AutoAnswer map scen r held out out') done fault other same alike (inl (in_making map scen r.agents r.horizon r.tries r.deps held out out' other h unwritten))
+      let (other, alike, h) = problem map scen r.tasks.agents fault refusal in
+      refused (AutoAnswer map scen r held out out') done fault other same alike (inl (in_making map scen r.tasks.agents r.horizon r.tries r.deps held out out' other h unwritten))
   making done fault same (inr (g, tasks, e, step, read, refusal)) unwritten =
-      let there : AutoAnswer map scen r held out out' (Err (step_fault e)) = inl (made map scen r.agents r.horizon r.tries r.deps held out out' g tasks read unwritten e refusal) in
+      let there : AutoAnswer map scen r held out out' (Err (step_fault e)) = inl (made map scen r.tasks.agents r.horizon r.tries r.deps held out out' g tasks read unwritten e refusal) in
       let here : AutoAnswer map scen r held out out' (Err fault) = subst (λ d. AutoAnswer map scen r held out out' (Err d)) (sym step) there in
       refused (AutoAnswer map scen r held out out') done fault fault same (λ err err' status told. told) here
 

@@ -3,8 +3,10 @@ use Rattle.std.specs.Prelude.{◌≡◌, ℕ, List, [], ◌∷◌, ◌⊎◌, Op
 use Rattle.std.specs.Borrow.{Bor}
 use Rattle.clap.specs.Words.{Text}
 use Rattle.fleet_args.specs.Request.{ReadsFleet}
+use Rattle.fleet_args.specs.declared.commands.ProgramFor.{ProgramFor}
 use Rattle.fleet_args.specs.declared.commands.Request.{Request}
 use Rattle.fleet_args.specs.declared.commands.Request.TheVariants as r
+use Rattle.fleet_args.specs.declared.commands.Tasks.{Tasks}
 use Rattle.fleet_args.specs.declared.request.WordStop.{WordStop}
 use Rattle.fleet_args.specs.declared.request.WordStop.TheVariants as w
 use Rattle.fleet_cli.specs.Files.{Store, AreUnchanged}
@@ -25,26 +27,38 @@ use Rattle.fleet_dispatch.specs.declared.form.ReportForm.{ReportForm}
 use Rattle.fleet_cli.specs.declared.fault.Fault.{Fault}
 use Rattle.fleet_cli.specs.declared.fault.Fault.TheVariants as f
 
--- the names of files, in the order in which they are read; no log is among them
-abbrev pub names_by : Option (Bor (List ℕ)) → Option (Bor (List ℕ)) → Option (Bor (List ℕ)) → Option (Bor (List ℕ)) → FileNames
-names_by map scen subject holds = record { map = map; scen = scen; subject = subject; holds = holds; log = None }
+-- the files of a map and a scenario
+abbrev pub names_of_tasks : Tasks → FileNames
+names_of_tasks t = record { map = Some t.map; scen = Some t.scen; subject = None; holds = None; log = None }
+
+-- the same, and that of a program or a plan
+abbrev pub names_with : Tasks → Bor (List ℕ) → FileNames
+names_with t subject = record (names_of_tasks t) { subject = Some subject }
+
+-- the files of a program for tasks
+abbrev pub names_of_program : ProgramFor → FileNames
+names_of_program p = names_with p.tasks p.program
+
+-- the file of a program, and that of the holds
+abbrev pub names_alone : Bor (List ℕ) → Option (Bor (List ℕ)) → FileNames
+names_alone program holds = record { map = None; scen = None; subject = Some program; holds = holds; log = None }
 
 -- the files that each command reads, those of the holds and of the log last
 abbrev pub names_of : Request → FileNames
-names_of (r.Instance q) = names_by (Some q.map) (Some q.scen) None None
-names_of (r.Check q) = names_by (Some q.map) (Some q.scen) (Some q.plan) None
-names_of (r.Plan q) = names_by (Some q.map) (Some q.scen) None None
-names_of (r.Compile q) = names_by (Some q.map) (Some q.scen) (Some q.plan) None
-names_of (r.Verify q) = names_by (Some q.map) (Some q.scen) (Some q.program) None
-names_of (r.Run q) = names_by (Some q.map) (Some q.scen) (Some q.program) q.holds
-names_of (r.Rehearse q) = names_by None None (Some q.program) q.holds
-names_of (r.Auto q) = names_by (Some q.map) (Some q.scen) None q.holds
-names_of (r.Thin q) = names_by (Some q.map) (Some q.scen) (Some q.program) None
-names_of (r.Migrate q) = names_by None None (Some q.program) None
-names_of (r.List q) = names_by None None (Some q.program) None
-names_of (r.Dispatch q) = record (names_by (Some q.map) (Some q.scen) (Some q.program) None) { log = q.resume }
-names_of (r.Times q) = names_by (Some q.map) (Some q.scen) (Some q.program) q.costs
-names_of (r.Rest q) = record (names_by (Some q.map) (Some q.scen) (Some q.program) None) { log = Some q.reports }
+names_of (r.Instance q) = names_of_tasks q
+names_of (r.Check q) = names_with q.tasks q.plan
+names_of (r.Plan q) = names_of_tasks q.tasks
+names_of (r.Compile q) = names_with q.tasks q.plan
+names_of (r.Verify q) = names_of_program q
+names_of (r.Run q) = record (names_of_program q.subject) { holds = q.holds }
+names_of (r.Rehearse q) = names_alone q.program q.holds
+names_of (r.Auto q) = record (names_of_tasks q.tasks) { holds = q.holds }
+names_of (r.Thin q) = names_of_program q.subject
+names_of (r.Migrate q) = names_alone q.program None
+names_of (r.List q) = names_alone q.program None
+names_of (r.Dispatch q) = record (names_of_program q.subject) { log = q.resume }
+names_of (r.Times q) = record (names_of_program q.subject) { holds = q.costs }
+names_of (r.Rest q) = record (names_of_program q.subject) { log = Some q.reports }
 
 -- What each command answers for the texts of its files: all but `compile`, `thin`, `migrate`, `dispatch` and `rest` leave every file as
 -- before, and all but `dispatch` leave the input unread; `dispatch` tells robots over the output, hears them by the input, and logs what they

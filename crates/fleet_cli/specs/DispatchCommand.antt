@@ -38,6 +38,6 @@ Leads files after r p past untold talks result =
 -- before; or the program is accepted, and its agents are led, and every file but the log is as before
 abbrev pub AnswersDispatch : (files after : Option Store) → DispatchRequest → FileTexts → (untold : Type 0) → ((log log' : SinkState) → ReportForm → Talk → Type 0) → Result ℕ Fault → Type 0
 AnswersDispatch files after r texts untold talks result =
-    ((x : AcceptsTexts texts.map.items texts.scen.items r.agents texts.subject.items)
+    ((x : AcceptsTexts texts.map.items texts.scen.items r.subject.tasks.agents texts.subject.items)
     × Leads files after r x.program texts.log.items untold talks result × ChangesOnlyLog files after r.log)
-    ⊎ ((fault : Fault) × (result ≡ Err fault) × IsTextsRefusal texts.map.items texts.scen.items r.agents texts.subject.items fault × AreUnchanged files after × untold)
+    ⊎ ((fault : Fault) × (result ≡ Err fault) × IsTextsRefusal texts.map.items texts.scen.items r.subject.tasks.agents texts.subject.items fault × AreUnchanged files after × untold)

@@ -7,7 +7,7 @@ use Rattle.fleet_model.specs.Program.{origin, Program, total_moves, total_awaits
 use Rattle.fleet_grid.specs.Ground.{Ground, passable_cells, is_passable}
 use Rattle.fleet_cli.specs.Steps.{AreTextsOf, ReadsProblem, ReadsProgram, IsProblemRefusal, IsPlannedFor, AcceptsTexts, IsLoadRefusal}
 use Rattle.fleet_text.specs.Sink.{FailsAfter, SinkState, IsUnwritten, IsDelivered}
-use Rattle.fleet_args.specs.declared.commands.InstanceRequest.{InstanceRequest}
+use Rattle.fleet_args.specs.declared.commands.Tasks.{Tasks}
 use Rattle.fleet_text.specs.Words.{pair_text, line_text, count_line}
 use Rattle.fleet_cli.specs.declared.named.FileTexts.{FileTexts}
 use Rattle.fleet_cli.specs.declared.fault.Fault.{Fault}
@@ -34,7 +34,7 @@ use Rattle.fleet_verify.specs.Broken.{IsBrokenBy}
 use Rattle.fleet_verify.specs.declared.fault.VerifyFault.{VerifyFault}
 use Rattle.fleet_verify.specs.declared.fault.VerifyFault.TheVariants as v
 use Rattle.fleet_run.specs.HoldText.{holds_text}
-use Rattle.fleet_args.specs.declared.commands.VerifyRequest.{VerifyRequest}
+use Rattle.fleet_args.specs.declared.commands.ProgramFor.{ProgramFor}
 use Rattle.fleet_run.specs.Listing.{program_text}
 
 -- the start of agent i
@@ -64,7 +64,7 @@ instance_text g tasks =
     map_line g ++ (count_line (codes "ground") (passable_cells g) ++ (count_line (codes "agents") (length tasks) ++ task_lines tasks (length tasks)))
 
 -- what `instance` answers for the texts of its files
-abbrev pub AnswersInstance : InstanceRequest → FileTexts → (out out' : SinkState) → Result ℕ Fault → Type 0
+abbrev pub AnswersInstance : Tasks → FileTexts → (out out' : SinkState) → Result ℕ Fault → Type 0
 AnswersInstance r texts out out' result =
     Does (ReadsProblem texts.map.items texts.scen.items r.agents) (IsProblemRefusal texts.map.items texts.scen.items r.agents) (λ x. Prints (instance_text x.ground x.tasks)) out out' result
 
@@ -108,7 +108,7 @@ pub record ChecksTexts (map scen plan : List ℕ) (asked : Option ℕ) (numbers 
 -- what `check` answers for the texts of its files
 abbrev pub AnswersCheck : CheckRequest → FileTexts → (out out' : SinkState) → Result ℕ Fault → Type 0
 AnswersCheck r texts out out' result =
-    Does (ChecksTexts texts.map.items texts.scen.items texts.subject.items r.agents r.numbers) (IsPlanRefusal texts.map.items texts.scen.items texts.subject.items r.agents)
+    Does (ChecksTexts texts.map.items texts.scen.items texts.subject.items r.tasks.agents r.numbers) (IsPlanRefusal texts.map.items texts.scen.items texts.subject.items r.tasks.agents)
     (λ x. Prints (check_text x.paths x.bound)) out out' result
 
 -- the texts stand for a map and for tasks, for which the plan is made agent by agent and is free of conflict
@@ -129,7 +129,7 @@ IsSearchRefusal map scen asked horizon tries fault = IsProblemRefusal map scen a
 -- what `plan` answers for the texts of its files
 abbrev pub AnswersPlan : PlanRequest → FileTexts → (out out' : SinkState) → Result ℕ Fault → Type 0
 AnswersPlan r texts out out' result =
-    Does (PlansTexts texts.map.items texts.scen.items r.agents r.horizon r.tries) (IsSearchRefusal texts.map.items texts.scen.items r.agents r.horizon r.tries) (λ x. Prints (plan_text x.plan)) out out' result
+    Does (PlansTexts texts.map.items texts.scen.items r.tasks.agents r.horizon r.tries) (IsSearchRefusal texts.map.items texts.scen.items r.tasks.agents r.horizon r.tries) (λ x. Prints (plan_text x.plan)) out out' result
 
 -- `accepted`, then the agents, the moves, the awaits and the longest chain, each with its number
 abbrev pub accepted_text : Program → ℕ → List ℕ
@@ -171,10 +171,10 @@ abbrev pub IsViewRefusal : (map scen : List ℕ) → Option ℕ → List ℕ →
 IsViewRefusal map scen asked bytes fault = IsProblemRefusal map scen asked fault ⊎ ((g : Ground) × (tasks : List Task) × AreTextsOf map scen asked g tasks × IsLoadRefusal bytes fault)
 
 -- what `verify` answers for the texts of its files
-abbrev pub AnswersVerify : VerifyRequest → FileTexts → (out out' : SinkState) → Result ℕ Fault → Type 0
+abbrev pub AnswersVerify : ProgramFor → FileTexts → (out out' : SinkState) → Result ℕ Fault → Type 0
 AnswersVerify r texts out out' result =
-    Does (AcceptsTexts texts.map.items texts.scen.items r.agents texts.subject.items) (IsViewRefusal texts.map.items texts.scen.items r.agents texts.subject.items) (λ x. Prints (accepted_text x.program x.chain)) out out' result
-    ⊎ ((fault : Fault) × (result ≡ Err fault) × RefusesProgram texts.map.items texts.scen.items r.agents texts.subject.items out out' fault)
+    Does (AcceptsTexts texts.map.items texts.scen.items r.tasks.agents texts.subject.items) (IsViewRefusal texts.map.items texts.scen.items r.tasks.agents texts.subject.items) (λ x. Prints (accepted_text x.program x.chain)) out out' result
+    ⊎ ((fault : Fault) × (result ≡ Err fault) × RefusesProgram texts.map.items texts.scen.items r.tasks.agents texts.subject.items out out' fault)
 
 -- what `list` answers for the texts of its files
 abbrev pub AnswersList : FileTexts → (out out' : SinkState) → Result ℕ Fault → Type 0

@@ -74,7 +74,7 @@ AreOthers g tasks dead name text = IfSome name (λ _. text ≡ scen_text g.width
 -- is accepted for that; the one text stands for the tasks of q, and the bytes spell q, in version 1 if that has bytes for it. Around a dead
 -- robot there are the map in which its cells are blocked and the tasks of the others
 pub record RestsTexts (texts : FileTexts) (r : RestRequest) (q : Program) (scen map others bytes : List ℕ) : Type 0 where
-  pub accepts : AcceptsTexts texts.map.items texts.scen.items r.agents texts.subject.items
+  pub accepts : AcceptsTexts texts.map.items texts.scen.items r.subject.tasks.agents texts.subject.items
   pub left : IsRestOf accepts.program texts.log.items q
   pub tasks : tasks_of q ≡ rest_tasks (cell_at left.standings) accepts.program
   pub accepted : IsAccepted (is_passable accepts.ground) (tasks_of q) q
@@ -90,8 +90,8 @@ pub record RestsTexts (texts : FileTexts) (r : RestRequest) (q : Program) (scen 
 -- ran out
 abbrev pub IsRestRefusal : FileTexts → RestRequest → Fault → Type 0
 IsRestRefusal texts r fault =
-    IsTextsRefusal texts.map.items texts.scen.items r.agents texts.subject.items fault
-    ⊎ ((a : AcceptsTexts texts.map.items texts.scen.items r.agents texts.subject.items)
+    IsTextsRefusal texts.map.items texts.scen.items r.subject.tasks.agents texts.subject.items fault
+    ⊎ ((a : AcceptsTexts texts.map.items texts.scen.items r.subject.tasks.agents texts.subject.items)
     × (IsRestFault a.program texts.log.items fault
     ⊎ ((q : Program) × IsRestOf a.program texts.log.items q × IsDeadRefusal a.ground (length q) r.without fault)))
 

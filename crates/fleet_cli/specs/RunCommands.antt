@@ -77,7 +77,7 @@ Runs p chain held out out' (Err fault) = (e : RunFault) × (fault ≡ f.Run e) �
 -- what `run` answers for the texts of its files
 abbrev pub AnswersRun : RunRequest → FileTexts → (out out' : SinkState) → Result ℕ Fault → Type 0
 AnswersRun r texts out out' result =
-    Does (AcceptsTexts texts.map.items texts.scen.items r.agents texts.subject.items) (IsTextsRefusal texts.map.items texts.scen.items r.agents texts.subject.items)
+    Does (AcceptsTexts texts.map.items texts.scen.items r.subject.tasks.agents texts.subject.items) (IsTextsRefusal texts.map.items texts.scen.items r.subject.tasks.agents texts.subject.items)
     (λ x. Runs x.program x.chain texts.holds.items) out out' result
 
 -- The texts stand for a map and for tasks. For these a plan is made agent by agent in one of the first orders, each path the earliest
@@ -138,7 +138,7 @@ TellsNumbers true numbers out out' result = Prints (plan_numbers_text numbers) o
 -- what `auto` answers for the texts of its files
 abbrev pub AnswersAuto : AutoRequest → FileTexts → (out out' : SinkState) → Result ℕ Fault → Type 0
 AnswersAuto r texts out out' result =
-    Does (MakesProgram texts.map.items texts.scen.items r.agents r.horizon r.tries r.deps) (IsMakingRefusal texts.map.items texts.scen.items r.agents r.horizon r.tries r.deps)
+    Does (MakesProgram texts.map.items texts.scen.items r.tasks.agents r.horizon r.tries r.deps) (IsMakingRefusal texts.map.items texts.scen.items r.tasks.agents r.horizon r.tries r.deps)
     (λ x. Follow (Runs x.program x.chain texts.holds.items) (TellsNumbers r.numbers x.numbers)) out out' result
 
 -- The program was rehearsed under the holds for which the bytes stand, and the text of that was written and handed on; the status says how

@@ -79,5 +79,5 @@ Tells r p text (Some line) = TellsReached p line.now
 -- what `times` answers for the texts of its files
 abbrev pub AnswersTimes : TimesRequest → FileTexts → (out out' : SinkState) → Result ℕ Fault → Type 0
 AnswersTimes r texts out out' result =
-    Does (AcceptsTexts texts.map.items texts.scen.items r.agents texts.subject.items) (IsTextsRefusal texts.map.items texts.scen.items r.agents texts.subject.items)
+    Does (AcceptsTexts texts.map.items texts.scen.items r.subject.tasks.agents texts.subject.items) (IsTextsRefusal texts.map.items texts.scen.items r.subject.tasks.agents texts.subject.items)
     (λ a. Tells r a.program texts.holds.items r.broken) out out' result

@@ -65,8 +65,8 @@ compiled_numbers c =
 -- program's numbers were printed; or a refusal before anything is written; or OUT could not be written, or the output failed
 abbrev pub AnswersCompile : (files after : Option Store) → CompileRequest → FileTexts → (out out' : SinkState) → Result ℕ Fault → Type 0
 AnswersCompile files after r texts out out' result =
-    AnswersOut {A = Program × List ℕ} files after r.out.now (λ made. CompilesTexts texts.map.items texts.scen.items texts.subject.items r.agents r.deps r.dwell made.0 made.1)
-    (IsCompileFault texts.map.items texts.scen.items texts.subject.items r.agents r.deps r.dwell) (λ made. made.1) (λ made. compiled_text made.0 made.1) out out' result
+    AnswersOut {A = Program × List ℕ} files after r.out.now (λ made. CompilesTexts texts.map.items texts.scen.items texts.subject.items r.tasks.agents r.deps r.dwell made.0 made.1)
+    (IsCompileFault texts.map.items texts.scen.items texts.subject.items r.tasks.agents r.deps r.dwell) (λ made. made.1) (λ made. compiled_text made.0 made.1) out out' result
 
 -- the program of the bytes is accepted for the texts; the bytes that are written spell that program without its implied awaits, in
 -- version 1 if that has bytes for it; it is accepted for the same map and tasks, has the same longest chain and runs equally; and the
@@ -90,8 +90,8 @@ thinned_text before after = count_lines ((codes "awaits", before) ∷ (codes "aw
 -- awaits were printed; or a refusal before anything is written; or OUT could not be written, or the output failed
 abbrev pub AnswersThin : (files after : Option Store) → ThinRequest → FileTexts → (out out' : SinkState) → Result ℕ Fault → Type 0
 AnswersThin files after r texts out out' result =
-    AnswersOut {A = ℕ × ℕ × List ℕ} files after r.out.now (λ made. ThinsTexts texts.map.items texts.scen.items r.agents texts.subject.items made.0 made.1 made.2)
-    (IsTextsRefusal texts.map.items texts.scen.items r.agents texts.subject.items) (λ made. made.2) (λ made. thinned_text made.0 made.1) out out' result
+    AnswersOut {A = ℕ × ℕ × List ℕ} files after r.out.now (λ made. ThinsTexts texts.map.items texts.scen.items r.subject.tasks.agents texts.subject.items made.0 made.1 made.2)
+    (IsTextsRefusal texts.map.items texts.scen.items r.subject.tasks.agents texts.subject.items) (λ made. made.2) (λ made. thinned_text made.0 made.1) out out' result
 
 -- the bytes spell a program, in either version, and the others spell it in version 2
 pub record MigratesBytes (bytes migrated : List ℕ) : Type 0 where

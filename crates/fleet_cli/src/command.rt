@@ -3,7 +3,7 @@
 ghost use Rattle.std.specs.Prelude.{◌≡◌, map, string_bytes};
 ghost use Rattle.fleet_text.specs.Sink.{IsWorking};
 ghost use Rattle.fleet_dispatch.specs.Talk.{IsLogged};
-ghost use Rattle.fleet_cli.specs.Command.{names_by, names_of, AnswersRequest, RunsRequest, StopsAtWords, RunsCommand};
+ghost use Rattle.fleet_cli.specs.Command.{names_alone, names_of, names_of_program, names_of_tasks, names_with, AnswersRequest, RunsRequest, StopsAtWords, RunsCommand};
 
 use crate::dispatch_command::do_dispatch;
 use crate::fault::{Fault, finish, refuse};
@@ -14,25 +14,50 @@ use crate::rest_command::do_rest;
 use crate::run_commands::{do_auto, do_rehearse, do_run, run_hex};
 use crate::times_command::do_times;
 use crate::write_commands::{do_compile, do_migrate, do_thin};
-use fleet_args::{Request, WordStop, read_words};
+use fleet_args::{ProgramFor, Request, Tasks, WordStop, read_words};
 use fleet_dispatch::ReportsTo;
 use fleet_run::{Flush, OutFault, TraceOut, put_all};
 use fleet_text::deliver;
 use std::alloc::Global;
 
-/// The names of files, in the order in which they are read; no log is among them.
-fn names_by<'a>(
-    map: Option<&'a str>,
-    scen: Option<&'a str>,
-    subject: Option<&'a str>,
-    holds: Option<&'a str>,
-) -> FileNames<'a>
-    ensures { result ≡ names_by map.entry scen.entry subject.entry holds.entry }
+/// The files of a map and a scenario.
+fn names_of_tasks<'a>(tasks: &Tasks<'a>) -> FileNames<'a>
+    ensures { result ≡ names_of_tasks tasks.now }
 {
     FileNames {
-        map,
-        scen,
-        subject,
+        map: Some(tasks.map),
+        scen: Some(tasks.scen),
+        subject: None,
+        holds: None,
+        log: None,
+    }
+}
+
+/// The same, and that of a program or a plan.
+fn names_with<'a>(tasks: &Tasks<'a>, subject: &'a str) -> FileNames<'a>
+    ensures { result ≡ names_with tasks.now subject.entry }
+{
+    FileNames {
+        subject: Some(subject),
+        ..names_of_tasks(tasks)
+    }
+}
+
+/// The files of a program for tasks.
+fn names_of_program<'a>(program: &ProgramFor<'a>) -> FileNames<'a>
+    ensures { result ≡ names_of_program program.now }
+{
+    names_with(&program.tasks, program.program)
+}
+
+/// The file of a program, and that of the holds.
+fn names_alone<'a>(program: &'a str, holds: Option<&'a str>) -> FileNames<'a>
+    ensures { result ≡ names_alone program.entry holds.entry }
+{
+    FileNames {
+        map: None,
+        scen: None,
+        subject: Some(program),
         holds,
         log: None,
     }
@@ -43,31 +68,34 @@ fn names_of<'a>(request: &Request<'a>) -> FileNames<'a>
     ensures { result ≡ names_of request.now }
 {
     match request {
-        Request::Instance(q) => names_by(Some(q.map), Some(q.scen), None, None),
-        Request::Check(q) => names_by(Some(q.map), Some(q.scen), Some(q.plan), None),
-        Request::Plan(q) => names_by(Some(q.map), Some(q.scen), None, None),
-        Request::Compile(q) => names_by(Some(q.map), Some(q.scen), Some(q.plan), None),
-        Request::Verify(q) => names_by(Some(q.map), Some(q.scen), Some(q.program), None),
-        Request::Run(q) => names_by(Some(q.map), Some(q.scen), Some(q.program), q.holds),
-        Request::Rehearse(q) => names_by(None, None, Some(q.program), q.holds),
-        Request::Auto(q) => names_by(Some(q.map), Some(q.scen), None, q.holds),
-        Request::Thin(q) => names_by(Some(q.map), Some(q.scen), Some(q.program), None),
-        Request::Migrate(q) => names_by(None, None, Some(q.program), None),
-        Request::List(q) => names_by(None, None, Some(q.program), None),
-        Request::Dispatch(q) => FileNames {
-            map: Some(q.map),
-            scen: Some(q.scen),
-            subject: Some(q.program),
-            holds: None,
-            log: q.resume,
+        Request::Instance(q) => names_of_tasks(q),
+        Request::Check(q) => names_with(&q.tasks, q.plan),
+        Request::Plan(q) => names_of_tasks(&q.tasks),
+        Request::Compile(q) => names_with(&q.tasks, q.plan),
+        Request::Verify(q) => names_of_program(q),
+        Request::Run(q) => FileNames {
+            holds: q.holds,
+            ..names_of_program(&q.subject)
         },
-        Request::Times(q) => names_by(Some(q.map), Some(q.scen), Some(q.program), q.costs),
+        Request::Rehearse(q) => names_alone(q.program, q.holds),
+        Request::Auto(q) => FileNames {
+            holds: q.holds,
+            ..names_of_tasks(&q.tasks)
+        },
+        Request::Thin(q) => names_of_program(&q.subject),
+        Request::Migrate(q) => names_alone(q.program, None),
+        Request::List(q) => names_alone(q.program, None),
+        Request::Dispatch(q) => FileNames {
+            log: q.resume,
+            ..names_of_program(&q.subject)
+        },
+        Request::Times(q) => FileNames {
+            holds: q.costs,
+            ..names_of_program(&q.subject)
+        },
         Request::Rest(q) => FileNames {
-            map: Some(q.map),
-            scen: Some(q.scen),
-            subject: Some(q.program),
-            holds: None,
             log: Some(q.reports),
+            ..names_of_program(&q.subject)
         },
     }
 }

@@ -87,7 +87,7 @@ pub(crate) fn do_dispatch<'a, R: ReportsTo<O>, F: Files, O: Flush>(
         ((input.new ≡ input.old) × (out.new ≡ out.old))
         (IsLogged R.talks input.old out.old input.new out.new) result }
 {
-    let problem = read_problem(alloc, &texts, request.agents)?;
+    let problem = read_problem(alloc, &texts, request.subject.tasks.agents)?;
     let accepted = accept(alloc, &texts, &problem)?;
     begin_log(alloc, files, request.log)?;
     let outset = Outset {

@@ -41,9 +41,9 @@ pub use command::{run_command, run_request};
 pub use fault::{AutoFault, Fault, refuse};
 pub use files::{Disk, Files};
 pub use fleet_args::{
-    AutoRequest, Best, CheckRequest, CompileRequest, DispatchRequest, InstanceRequest, ListRequest,
-    MigrateRequest, PlanRequest, RehearseRequest, Request, RestRequest, RunRequest, ThinRequest,
-    TimesRequest, Tries, VerifyRequest, WordStop, read_words,
+    AutoRequest, Best, CheckRequest, CompileRequest, DispatchRequest, ListRequest, MigrateRequest,
+    PlanRequest, ProgramFor, RehearseRequest, Request, RestRequest, RunRequest, Tasks, ThinRequest,
+    TimesRequest, Tries, WordStop, read_words,
 };
 pub use input::{FileFault, MAX_BYTES, read_whole};
 pub use mem_files::MemFiles;

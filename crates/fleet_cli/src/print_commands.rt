@@ -11,7 +11,7 @@ use crate::fault::Fault;
 use crate::named::FileTexts;
 use crate::output::{print_report, status_after_print};
 use crate::steps::{plan_by, read_problem, view_subject};
-use fleet_args::{CheckRequest, InstanceRequest, PlanRequest, VerifyRequest};
+use fleet_args::{CheckRequest, PlanRequest, ProgramFor, Tasks};
 use fleet_grid::Grid;
 use fleet_model::{Cell, OutOfMemory, ProgramView, Visit, total_awaits, total_moves};
 use fleet_plan::{Checked, Plan, check, read_plan, write_plan};
@@ -83,7 +83,7 @@ fn print_instance<O: Flush>(out: &mut O, grid: &Grid, instance: &Instance) -> Re
 #[inline(never)]
 pub(crate) fn do_instance<'a, O: Flush>(
     alloc: Global,
-    request: &InstanceRequest<'a>,
+    request: &Tasks<'a>,
     texts: FileTexts,
     out: &mut O,
 ) -> Result<u8, Fault<'a>>
@@ -151,7 +151,7 @@ pub(crate) fn do_check<'a, O: Flush>(
     requires { IsWorking (O.state out.old) }
     ensures { AnswersCheck request.now texts (O.state out.old) (O.state out.new) result }
 {
-    let problem = read_problem(alloc, &texts, request.agents)?;
+    let problem = read_problem(alloc, &texts, request.tasks.agents)?;
     let plan = match read_plan(alloc, &texts.subject) {
         Ok(plan) => plan,
         Err(fault) => return Err(Fault::Text(fault)),
@@ -178,7 +178,7 @@ pub(crate) fn do_plan<'a, O: Flush>(
     requires { IsWorking (O.state out.old) }
     ensures { AnswersPlan request.now texts (O.state out.old) (O.state out.new) result }
 {
-    let problem = read_problem(alloc, &texts, request.agents)?;
+    let problem = read_problem(alloc, &texts, request.tasks.agents)?;
     drop(texts);
     let found = match plan_by(
         alloc,
@@ -263,14 +263,14 @@ fn report_refused<'a, P: ProgramView + Drop, O: Flush>(
 #[inline(never)]
 pub(crate) fn do_verify<'a, O: Flush>(
     alloc: Global,
-    request: &VerifyRequest<'a>,
+    request: &ProgramFor<'a>,
     texts: FileTexts,
     out: &mut O,
 ) -> Result<u8, Fault<'a>>
     requires { IsWorking (O.state out.old) }
     ensures { AnswersVerify request.now texts (O.state out.old) (O.state out.new) result }
 {
-    let problem = read_problem(alloc, &texts, request.agents)?;
+    let problem = read_problem(alloc, &texts, request.tasks.agents)?;
     let program = view_subject(alloc, &texts)?;
     let accepted = match verify(alloc, program, &problem.grid, &problem.instance) {
         Ok(accepted) => accepted,

@@ -145,7 +145,7 @@ fn rest_texts<'a>(
     rests_are_accepted();
     accepted_tasks_are_an_instance();
     a_written_scenario_is_read();
-    let problem = read_problem(alloc, texts, request.agents)?;
+    let problem = read_problem(alloc, texts, request.subject.tasks.agents)?;
     let accepted = accept(alloc, texts, &problem)?;
     let program = rest_of(alloc, &accepted, &texts.log)?;
     let _ = program.agents();

@@ -69,7 +69,7 @@ pub(crate) fn do_run<'a, O: Flush>(
     requires { IsWorking (O.state out.old) }
     ensures { AnswersRun request.now texts (O.state out.old) (O.state out.new) result }
 {
-    let problem = read_problem(alloc, &texts, request.agents)?;
+    let problem = read_problem(alloc, &texts, request.subject.tasks.agents)?;
     let accepted = accept(alloc, &texts, &problem)?;
     run_flushed(alloc, accepted, &texts.holds, out)
 }
@@ -138,7 +138,7 @@ pub(crate) fn do_auto<'a, O: Flush>(
     ensures { AnswersAuto request.now texts (O.state out.old) (O.state out.new) result }
 {
     each_spelling_has_one_program();
-    let problem = read_problem(alloc, &texts, request.agents)?;
+    let problem = read_problem(alloc, &texts, request.tasks.agents)?;
     let made = made_bytes(
         alloc,
         &problem.grid,

@@ -170,7 +170,7 @@ pub(crate) fn do_times<'a, O: Flush>(
     requires { IsWorking (O.state out.old) }
     ensures { AnswersTimes request.now texts (O.state out.old) (O.state out.new) result }
 {
-    let problem = read_problem(alloc, &texts, request.agents)?;
+    let problem = read_problem(alloc, &texts, request.subject.tasks.agents)?;
     let accepted = accept(alloc, &texts, &problem)?;
     match request.broken {
         None => tell_times(alloc, &accepted, request.costs, &texts.holds, out),

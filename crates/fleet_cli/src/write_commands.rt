@@ -29,11 +29,11 @@ fn compile_texts<'a>(
     texts: FileTexts,
 ) -> Result<CompiledBytes, Fault<'a>>
     ensures compiled { IfOk result (CompilesBytes texts.map.items texts.scen.items texts.subject.items
-        request.now.agents request.now.deps request.now.dwell) }
+        request.now.tasks.agents request.now.deps request.now.dwell) }
     ensures fault { IfErr result (IsCompileFault texts.map.items texts.scen.items texts.subject.items
-        request.now.agents request.now.deps request.now.dwell) }
+        request.now.tasks.agents request.now.deps request.now.dwell) }
 {
-    let problem = read_problem(alloc, &texts, request.agents)?;
+    let problem = read_problem(alloc, &texts, request.tasks.agents)?;
     let read = match read_plan(alloc, &texts.subject) {
         Ok(read) => read,
         Err(fault) => return Err(Fault::Text(fault)),
@@ -113,10 +113,10 @@ fn thinned_program<'a>(
     texts: FileTexts,
 ) -> Result<(u32, Program), Fault<'a>>
     ensures thinned { IfOk result
-        (λ t. (bytes : List ℕ) → SpellsShortest bytes t.1 → ThinsTexts texts.map.items texts.scen.items request.now.agents texts.subject.items t.0 (total_awaits t.1) bytes) }
-    ensures fault { IfErr result (IsTextsRefusal texts.map.items texts.scen.items request.now.agents texts.subject.items) }
+        (λ t. (bytes : List ℕ) → SpellsShortest bytes t.1 → ThinsTexts texts.map.items texts.scen.items request.now.subject.tasks.agents texts.subject.items t.0 (total_awaits t.1) bytes) }
+    ensures fault { IfErr result (IsTextsRefusal texts.map.items texts.scen.items request.now.subject.tasks.agents texts.subject.items) }
 {
-    let problem = read_problem(alloc, &texts, request.agents)?;
+    let problem = read_problem(alloc, &texts, request.subject.tasks.agents)?;
     let accepted = accept(alloc, &texts, &problem)?;
     match thin(alloc, &accepted) {
         Ok(thinned) => Ok((total_awaits(accepted.program()), thinned)),
@@ -131,8 +131,8 @@ fn thin_texts<'a>(
     texts: FileTexts,
 ) -> Result<Thinned, Fault<'a>>
     ensures thinned { IfOk result
-        (λ t. ThinsTexts texts.map.items texts.scen.items request.now.agents texts.subject.items t.before t.after t.bytes.items) }
-    ensures fault { IfErr result (IsTextsRefusal texts.map.items texts.scen.items request.now.agents texts.subject.items) }
+        (λ t. ThinsTexts texts.map.items texts.scen.items request.now.subject.tasks.agents texts.subject.items t.before t.after t.bytes.items) }
+    ensures fault { IfErr result (IsTextsRefusal texts.map.items texts.scen.items request.now.subject.tasks.agents texts.subject.items) }
 {
     let (before, thinned) = thinned_program(alloc, request, texts)?;
     let after = total_awaits(&thinned);

@@ -10,9 +10,8 @@ use crate::fleets::{
 use fleet_adg::Deps;
 use fleet_cli::{
     AutoFault, AutoRequest, Best, CheckRequest, CompileRequest, Disk, Fault, FileFault, Files,
-    InstanceRequest, MemFiles, MigrateRequest, PlanRequest, RehearseRequest, Request, RunRequest,
-    ThinRequest, Tries, VerifyRequest, WordStop, auto_run, read_words, run_command, run_hex,
-    run_request,
+    MemFiles, MigrateRequest, PlanRequest, ProgramFor, RehearseRequest, Request, RunRequest, Tasks,
+    ThinRequest, Tries, WordStop, auto_run, read_words, run_command, run_hex, run_request,
 };
 use fleet_grid::MapFault;
 use fleet_run::{Report, VecOut};
@@ -121,24 +120,32 @@ const ONE_TRY: Tries = Tries {
     best: None,
 };
 
+/// The tasks of the pair.
+const PAIR: Tasks<'static> = Tasks {
+    map: "map",
+    scen: "scen",
+    agents: None,
+};
+
+/// The pair's program, as it is compiled.
+const COMPILED_PAIR: ProgramFor<'static> = ProgramFor {
+    tasks: PAIR,
+    program: "out",
+};
+
 /// A request of each command on the pair's files.
 const REQUESTS: [Request<'static>; 10] = [
-    Request::Instance(InstanceRequest {
-        map: "map",
-        scen: "scen",
-        agents: None,
-    }),
+    Request::Instance(PAIR),
     Request::Check(CheckRequest {
-        map: "map",
-        scen: "scen",
+        tasks: Tasks {
+            agents: Some(2),
+            ..PAIR
+        },
         plan: "plan",
-        agents: Some(2),
         numbers: true,
     }),
     Request::Plan(PlanRequest {
-        map: "map",
-        scen: "scen",
-        agents: None,
+        tasks: PAIR,
         horizon: 2,
         tries: Tries {
             count: 2,
@@ -146,25 +153,15 @@ const REQUESTS: [Request<'static>; 10] = [
         },
     }),
     Request::Compile(CompileRequest {
-        map: "map",
-        scen: "scen",
+        tasks: PAIR,
         plan: "plan",
         out: "out",
-        agents: None,
         deps: Deps::All,
         dwell: 0,
     }),
-    Request::Verify(VerifyRequest {
-        map: "map",
-        scen: "scen",
-        program: "out",
-        agents: None,
-    }),
+    Request::Verify(COMPILED_PAIR),
     Request::Run(RunRequest {
-        map: "map",
-        scen: "scen",
-        program: "out",
-        agents: None,
+        subject: COMPILED_PAIR,
         holds: Some("holds"),
     }),
     Request::Rehearse(RehearseRequest {
@@ -172,9 +169,7 @@ const REQUESTS: [Request<'static>; 10] = [
         holds: None,
     }),
     Request::Auto(AutoRequest {
-        map: "map",
-        scen: "scen",
-        agents: None,
+        tasks: PAIR,
         horizon: 1024,
         tries: ONE_TRY,
         deps: Deps::Last,
@@ -182,11 +177,8 @@ const REQUESTS: [Request<'static>; 10] = [
         numbers: false,
     }),
     Request::Thin(ThinRequest {
-        map: "map",
-        scen: "scen",
-        program: "out",
+        subject: COMPILED_PAIR,
         out: "out",
-        agents: None,
     }),
     Request::Migrate(MigrateRequest {
         program: "out",
@@ -241,10 +233,14 @@ fn words_are_read(rt: HostRuntime) -> Result<(), Fail> {
         matches!(
             request,
             Ok(Request::Run(RunRequest {
-                map: "a",
-                scen: "b",
-                program: "c",
-                agents: Some(7),
+                subject: ProgramFor {
+                    tasks: Tasks {
+                        map: "a",
+                        scen: "b",
+                        agents: Some(7),
+                    },
+                    program: "c",
+                },
                 holds: Some("d"),
             }))
         )

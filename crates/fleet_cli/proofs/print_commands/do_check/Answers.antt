@@ -30,7 +30,7 @@ plan_refuses map scen plan asked (f.File x) h = absurd h
 pub returns-in_err-problem : goal.returns-in_err-problem
 returns-in_err-problem g c =
     let e = err_from_is_err_and c.from_residual.result c.from_residual.ensures.1 in
-    rw (e.1, e.2) (inr (_, refl, plan_refuses c.args.texts.map.items c.args.texts.scen.items c.args.texts.subject.items c.args.request.now.agents _ c.in_err-problem.ensures.fault, record { kept = keeps_self _; working = c.requires }))
+    rw (e.1, e.2) (inr (_, refl, plan_refuses c.args.texts.map.items c.args.texts.scen.items c.args.texts.subject.items c.args.request.now.tasks.agents _ c.in_err-problem.ensures.fault, record { kept = keeps_self _; working = c.requires }))
 
 pub returns-in-Err-check : goal.returns-in-Err-check
 returns-in-Err-check g c =

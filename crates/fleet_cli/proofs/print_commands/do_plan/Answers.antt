@@ -30,7 +30,7 @@ search_refuses map scen asked horizon tries (f.File x) h = absurd h
 pub returns-in_err-problem : goal.returns-in_err-problem
 returns-in_err-problem g c =
     let e = err_from_is_err_and c.from_residual.result c.from_residual.ensures.1 in
-    rw (e.1, e.2) (inr (_, refl, search_refuses c.args.texts.map.items c.args.texts.scen.items c.args.request.now.agents c.args.request.now.horizon c.args.request.now.tries _ c.in_err-problem.ensures.fault, record { kept = keeps_self _; working = c.requires }))
+    rw (e.1, e.2) (inr (_, refl, search_refuses c.args.texts.map.items c.args.texts.scen.items c.args.request.now.tasks.agents c.args.request.now.horizon c.args.request.now.tries _ c.in_err-problem.ensures.fault, record { kept = keeps_self _; working = c.requires }))
 
 pub returns-in-Err : goal.returns-in-Err
 returns-in-Err g c =

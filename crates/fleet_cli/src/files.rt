@@ -105,7 +105,7 @@ impl<'r, R: rt::Files> Files for Disk<'r, R> {
     /// Of what is no file, as a pipe or a terminal, nothing is cut off.
     fn cut_to_lines(&mut self, alloc: Global, name: &str) -> Result<(), FileFault> {
         let mut file = open_to_append(self.runtime, name)?;
-        if !is_file(&file) {
+        if !is_file(&file)? {
             return Ok(());
         }
         let bytes = read_whole(alloc, &mut file)?;
@@ -122,7 +122,7 @@ impl<'r, R: rt::Files> Files for Disk<'r, R> {
         if put_all(&mut WriteOut::new(&mut file), bytes).is_err() {
             return Err(FileFault::Failed);
         }
-        if is_file(&file) && file.sync_data().is_err() {
+        if is_file(&file)? && file.sync_data().is_err() {
             return Err(FileFault::Failed);
         }
         Ok(())
@@ -139,10 +139,11 @@ fn open_to_append<R: rt::Files>(runtime: &R, name: &str) -> Result<R::File, File
     }
 }
 
-/// Whether it is a file with bytes of its own, and no pipe, terminal or other device.
-fn is_file<F: OpenFile>(file: &F) -> bool {
+/// Whether it is a file with bytes of its own, and no pipe, terminal or other device. Of what is open the system can say
+/// it; if it does not, that is a failure, and not "no file".
+fn is_file<F: OpenFile>(file: &F) -> Result<bool, FileFault> {
     match file.metadata() {
-        Ok(metadata) => metadata.is_file(),
-        Err(_) => false,
+        Ok(metadata) => Ok(metadata.is_file()),
+        Err(_) => Err(FileFault::Failed),
     }
 }

@@ -148,8 +148,9 @@ fn rest_texts<'a>(
     let problem = read_problem(alloc, texts, request.subject.tasks.agents)?;
     let accepted = accept(alloc, texts, &problem)?;
     let program = rest_of(alloc, &accepted, &texts.log)?;
-    let _ = program.agents();
-    let _ = problem.grid.width();
+    // What is left has few agents, and a map that is read is no larger than one that can be written.
+    let _agents = program.agents();
+    let _width = problem.grid.width();
     let dead = dead_in(request.without, &problem.grid, &program)?;
     let map = map_around(alloc, &problem.grid, dead, request.map_out)?;
     let Ok(tasks) = tasks_of(alloc, &program) else {

@@ -144,20 +144,19 @@ fn log_report<F: Floor>(
 fn take_report<P: ProgramView, F: Floor>(
     session: &mut Session,
     program: &P,
-    pace: Pace,
+    _pace: Pace,
     floor: &mut F,
     line: u64,
 ) -> Result<(), DispatchFault>
     requires well_formed { IsWellFormed (P.program program.now) }
-    requires ready { IsReady (P.program program.now) pace session.old }
+    requires ready { IsReady (P.program program.now) _pace session.old }
     requires told { session.old.progress.told
-        ≡ told_at (P.program program.now) pace.ahead session.old.progress.done }
+        ≡ told_at (P.program program.now) _pace.ahead session.old.progress.done }
     requires few { session.old.taken < MAX_REPORTS }
     requires floor { F.works floor.old }
-    ensures { TakesReport (P.program program.now) pace (F.talks floor.old floor.new)
+    ensures { TakesReport (P.program program.now) _pace (F.talks floor.old floor.new)
         (F.works floor.new) session.old session.new line session.old.report result }
 {
-    let _ = pace;
     if let Some(agent) = session.progress.first_unordered(program, &session.report) {
         return Err(DispatchFault::NotOrdered { line, agent });
     }
@@ -175,19 +174,18 @@ fn take_report<P: ProgramView, F: Floor>(
 fn answer_question<P: ProgramView, F: Floor>(
     session: &mut Session,
     program: &P,
-    pace: Pace,
+    _pace: Pace,
     floor: &mut F,
 ) -> Result<(), OutFault>
     requires well_formed { IsWellFormed (P.program program.now) }
-    requires ready { IsReady (P.program program.now) pace session.old }
+    requires ready { IsReady (P.program program.now) _pace session.old }
     requires floor { F.works floor.old }
-    ensures ready { IsReady (P.program program.now) pace session.new }
+    ensures ready { IsReady (P.program program.now) _pace session.new }
     ensures done { session.new.progress ≡ session.old.progress }
     ensures taken { session.new.taken ≡ session.old.taken }
     ensures said { Tells (F.talks floor.old floor.new) (F.works floor.new) result
         (standings_text (P.program program.now) session.old.progress.done) }
 {
-    let _ = pace;
     let end = session
         .progress
         .write_standings(program, &mut session.answer);

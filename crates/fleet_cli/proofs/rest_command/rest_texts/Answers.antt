@@ -36,7 +36,7 @@ returns-clause-made c =
     let here : IsAccepted passable (rest_tasks cells p) q = subst (IsAccepted passable (rest_tasks cells p)) (sym left.is) made in
     let same : rest_tasks cells p ≡ tasks_of q = c.accepted_tasks_are_an_instance.ensures.tasks g (rest_tasks cells p) q here in
     let accepted : IsAccepted passable (tasks_of q) q = subst (λ (tasks : List Task). IsAccepted passable tasks q) same here in
-    let instance = c.accepted_tasks_are_an_instance.ensures.instance g (tasks_of q) q c.agents.ensures.well_formed accepted in
+    let instance = c.accepted_tasks_are_an_instance.ensures.instance g (tasks_of q) q c.agents-agents.ensures.well_formed accepted in
     let ends = c.accepted_tasks_are_an_instance.ensures.ends g (tasks_of q) q accepted in
     let written : c.in_ok-scen.scen.items ≡ scen_text g.width g.height (tasks_of q) = c.in_ok-scen.ensures.scen ∙ ap (scen_text g.width g.height) (c.deref-2.ensures.value ∙ c.in-Ok.ensures) in
     record {
@@ -45,7 +45,7 @@ returns-clause-made c =
       tasks = sym same;
       accepted = accepted;
       written = written;
-      stands = subst (λ (text : List ℕ). IsScenText text g None (tasks_of q)) (sym written) (c.a_written_scenario_is_read.ensures g (tasks_of q) c.width.ensures.sizes instance ends);
+      stands = subst (λ (text : List ℕ). IsScenText text g None (tasks_of q)) (sym written) (c.a_written_scenario_is_read.ensures g (tasks_of q) c.width-width.ensures.sizes instance ends);
       spelled = c.in-Ok-encode_shortest.ensures.shortest;
       robot = c.in_ok-dead.dead;
       dead = c.in_ok-dead.ensures.dead;

@@ -7,7 +7,7 @@ use Rattle.fleet_dispatch.proofs.run.take_report.Goals as goal
 pub take-requires-clause-ordered : goal.take-requires-clause-ordered
 take-requires-clause-ordered g c =
     let p = g.P.ProgramView.program c.args.program.now in
-    words_told p c.args.pace.ahead c.args.session.now.progress c.args.session.now.report c.requires.told (c.in_default.ensures.first c.args.pace.ahead c.requires.told)
+    words_told p c.args._pace.ahead c.args.session.now.progress c.args.session.now.report c.requires.told (c.in_default.ensures.first c.args._pace.ahead c.requires.told)
 
 pub returns : goal.returns
 returns g c =
@@ -18,8 +18,8 @@ returns g c =
       logged = logged.0;
       still = logged.1;
       rising = c.first_unordered.ensures.rising;
-      ordered = c.in_default.ensures.first c.args.pace.ahead c.requires.told;
-      ready = record { leads = c.take.ensures.leads c.args.pace.ahead c.requires.ready.leads; row = c.requires.ready.row; line = kept; answer = c.requires.ready.answer };
+      ordered = c.in_default.ensures.first c.args._pace.ahead c.requires.told;
+      ready = record { leads = c.take.ensures.leads c.args._pace.ahead c.requires.ready.leads; row = c.requires.ready.row; line = kept; answer = c.requires.ready.answer };
       done = c.take.ensures.done;
       told = c.take.ensures.told;
       taken = c.counted-session.ensures ∙ ap (λ b. s.taken + cond b 0 1) c.is_repeat-is_repeat.ensures;

@@ -76,8 +76,10 @@ pub fn compile_dwell(
     // The plan that is read is free of conflict.
     let _plan = checked.plan();
     let compiled = compile_bytes(alloc, checked, deps, dwell)?;
-    let program = program_of(alloc, &compiled.bytes)?;
-    Ok(program)
+    match program_of(alloc, &compiled.bytes) {
+        Ok(program) => Ok(program),
+        Err(OutOfMemory) => Err(CompileFault::OutOfMemory),
+    }
 }
 
 /// The program that the bytes spell.
@@ -131,9 +133,13 @@ pub fn compile_bytes(
     }
     programs_have_bytes();
     let version = version_for(dwell);
-    let actions = actions_of(alloc, checked, version, deps)?;
+    let Ok(actions) = actions_of(alloc, checked, version, deps) else {
+        return Err(CompileFault::OutOfMemory);
+    };
     let moves = actions_in(&actions, dwell);
-    let bytes = join(alloc, plan, version, &actions, dwell)?;
+    let Ok(bytes) = join(alloc, plan, version, &actions, dwell) else {
+        return Err(CompileFault::OutOfMemory);
+    };
     let agents = plan.agents();
     let awaits = awaits_in(version, bytes.len(), agents, moves);
     Ok(CompiledBytes {

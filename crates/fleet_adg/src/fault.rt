@@ -1,6 +1,5 @@
 //! Why a plan has no program.
 
-use fleet_model::OutOfMemory;
 use fleet_text::{OutFault, Refusal, TraceOut, put_memory, put_named};
 use thiserror::Error;
 
@@ -12,17 +11,6 @@ pub enum CompileFault {
     /// An agent has at most 1,000,000 actions, and all agents together have at most 4,194,304.
     #[error("an agent has more than 1000000 actions, or the agents have more than 4194304 together")]
     TooLong,
-}
-
-impl From<OutOfMemory> for CompileFault {
-    ghost use Rattle.std.specs.Prelude.{◌≡◌};
-    ghost use Rattle.fleet_adg.specs.declared.fault.CompileFault.TheVariants.{OutOfMemory};
-
-    ghost from_gives = { λ _ e. e ≡ OutOfMemory };
-
-    fn from(_e: OutOfMemory) -> CompileFault {
-        CompileFault::OutOfMemory
-    }
 }
 
 impl Refusal for CompileFault {

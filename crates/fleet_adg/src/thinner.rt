@@ -36,10 +36,14 @@ pub fn thin<P: ProgramView>(alloc: Global, accepted: &Accepted<'_, P>) -> Result
     ensures short { IfOk result (λ q. AreShort (P.program accepted.now.program) → AreShort q) }
 {
     let program = accepted.program();
-    let _ = program.agents();
-    let implied = implied_awaits(alloc, program, accepted.chain())?;
-    let agents = thinned_agents(alloc, program, &implied)?;
-    Ok(Program::new(agents))
+    let _agents = program.agents();
+    let Ok(implied) = implied_awaits(alloc, program, accepted.chain()) else {
+        return Err(ThinFault::OutOfMemory);
+    };
+    match thinned_agents(alloc, program, &implied) {
+        Ok(agents) => Ok(Program::new(agents)),
+        Err(OutOfMemory) => Err(ThinFault::OutOfMemory),
+    }
 }
 
 /// The agents of the program, without their implied awaits.
@@ -102,7 +106,7 @@ fn list_unimplied<P: ProgramView>(
         (length (awaits_of (P.program program.now) action.agent action.number))
         awaits.new.items) }
 {
-    let _ = program.agents();
+    let _agents = program.agents();
     awaits.clear();
     for k in 0..program.await_count(action.agent, action.number) {
         if let Some(one) = implied.await_unless_implied(program, action, k) {

@@ -26,7 +26,8 @@ use Rattle.fleet_run.specs.declared.run.RunFault.TheVariants.{OutOfMemory, Sourc
 use Rattle.fleet_run.specs.declared.trace.Report.{Report}
 use Rattle.fleet_args.specs.declared.commands.Tries.{Tries}
 use Rattle.fleet_cli.specs.declared.steps.PlanNumbers.{PlanNumbers}
-use Rattle.fleet_cli.specs.Faults.{run_fault}
+use Rattle.fleet_cli.specs.Faults.{in_step}
+use Rattle.fleet_cli.specs.declared.fault.AutoFault.TheVariants as a
 use Rattle.fleet_cli.specs.Steps.{AreTextsOf, SpellsMade, Accepts}
 use Rattle.fleet_cli.specs.RunCommands.{RehearsesFlushed, unfailed, FlushesRun, TracesFlushed, MakesProgram, AutoRuns, one_try}
 
@@ -190,9 +191,6 @@ made one {g = g} {tasks} {bytes} {q} {chain} {numbers} texts plan accepts = reco
 
 -- .. and its run stopped
 pub auto_stops : {map scen : List ℕ} {asked : Option ℕ} {horizon : ℕ} {deps : Deps} (held : List ℕ) (out out' : SinkState) (m : MakesProgram map scen asked horizon one_try deps) (fault : RunFault)
-    → Traces m.program m.chain held out out' (Err fault) → AutoRuns map scen asked horizon deps held out out' (Err (run_fault fault))
+    → Traces m.program m.chain held out out' (Err fault) → AutoRuns map scen asked horizon deps held out out' (Err (in_step (a.Run fault)))
 auto_stops held out out' m OutOfMemory h = h
-auto_stops held out out' m (Source x) h = (m, h)
-auto_stops held out out' m (Hold x) h = (m, h)
-auto_stops held out out' m Write h = (m, h)
-auto_stops held out out' m HoldLimit h = (m, h)
+auto_stops held out out' m _ h = (m, h)

@@ -1,17 +1,8 @@
 -- Refusals of the program: those of the steps within, and the line and the status of each.
-use Rattle.fleet_cli.specs.declared.input.FileFault.{FileFault}
-use Rattle.fleet_cli.specs.declared.input.FileFault.TheVariants as k
-use Rattle.fleet_cli.specs.declared.input.InputStop.{InputStop}
-use Rattle.fleet_cli.specs.declared.input.InputStop.TheVariants as i
-use Rattle.fleet_grid.specs.declared.fault.MapFault.{MapFault}
 use Rattle.fleet_grid.specs.declared.fault.MapFault.TheVariants as m
-use Rattle.fleet_scen.specs.declared.fault.ScenFault.{ScenFault}
 use Rattle.fleet_scen.specs.declared.fault.ScenFault.TheVariants as s
-use Rattle.fleet_search.specs.declared.fault.PlanStop.{PlanStop}
 use Rattle.fleet_search.specs.declared.fault.PlanStop.TheVariants as p
-use Rattle.fleet_adg.specs.declared.fault.CompileFault.{CompileFault}
 use Rattle.fleet_adg.specs.declared.fault.CompileFault.TheVariants as c
-use Rattle.fleet_run.specs.declared.run.RunFault.{RunFault}
 use Rattle.fleet_run.specs.declared.run.RunFault.TheVariants as r
 use Rattle.fleet_cli.specs.declared.fault.AutoFault.{AutoFault}
 use Rattle.fleet_cli.specs.declared.fault.AutoFault.TheVariants as a
@@ -30,31 +21,14 @@ use Rattle.fleet_dispatch.specs.RefusalWords.{dispatch_words, is_dispatch_failur
 use Rattle.fleet_cli.specs.declared.fault.Fault.{Fault}
 use Rattle.fleet_cli.specs.declared.fault.Fault.TheVariants as f
 
--- an input that cannot be read, or is too long, has failed
-abbrev pub input_fault : InputStop → FileFault
-input_fault i.OutOfMemory = k.OutOfMemory
-input_fault i.Unreadable = k.Failed
-input_fault i.TooLong = k.Failed
-
-abbrev pub map_fault : MapFault → AutoFault
-map_fault m.OutOfMemory = a.OutOfMemory
-map_fault fault = a.Map fault
-
-abbrev pub scen_fault : ScenFault → AutoFault
-scen_fault s.OutOfMemory = a.OutOfMemory
-scen_fault fault = a.Scen fault
-
-abbrev pub plan_fault : PlanStop → AutoFault
-plan_fault p.OutOfMemory = a.OutOfMemory
-plan_fault stop = a.Plan stop
-
-abbrev pub compile_fault : CompileFault → AutoFault
-compile_fault c.OutOfMemory = a.OutOfMemory
-compile_fault fault = a.Compile fault
-
-abbrev pub run_fault : RunFault → AutoFault
-run_fault r.OutOfMemory = a.OutOfMemory
-run_fault fault = a.Run fault
+-- the fault of a step as it is answered: want of memory in any step is the same
+abbrev pub in_step : AutoFault → AutoFault
+in_step (a.Map m.OutOfMemory) = a.OutOfMemory
+in_step (a.Scen s.OutOfMemory) = a.OutOfMemory
+in_step (a.Plan p.OutOfMemory) = a.OutOfMemory
+in_step (a.Compile c.OutOfMemory) = a.OutOfMemory
+in_step (a.Run r.OutOfMemory) = a.OutOfMemory
+in_step fault = fault
 
 -- the words of the line of a refusal
 abbrev pub words_of : Fault → List (List ℕ)

@@ -3,13 +3,12 @@
 ghost use Rattle.std.specs.Prelude.{◌≡◌};
 ghost use Rattle.fleet_text.specs.Sink.{IsWorking, Receives};
 ghost use Rattle.fleet_cli.specs.Output.{Finishes};
-ghost use Rattle.fleet_cli.specs.Faults.{refusal_line, status_of};
+ghost use Rattle.fleet_cli.specs.Faults.{in_step, refusal_line, status_of, step_fault};
 
 use fleet_adg::CompileFault;
 use fleet_code::{HexFault, LoadFault};
 use fleet_dispatch::{DispatchFault, TimesFault};
 use fleet_grid::MapFault;
-use fleet_model::OutOfMemory;
 use fleet_plan::{PlanFault, TextFault};
 use fleet_run::RunFault;
 use fleet_scen::ScenFault;
@@ -36,25 +35,6 @@ pub enum Fault<'a> {
     Times(TimesFault),
     Memory,
     File(&'a str),
-}
-
-/// The fault of a step, with its own line and status. Want of memory in any step is `Memory`.
-impl From<AutoFault> for Fault<'_> {
-    ghost use Rattle.std.specs.Prelude.{◌≡◌};
-    ghost use Rattle.fleet_cli.specs.Faults.{step_fault};
-
-    ghost from_gives = { λ fault r. r ≡ step_fault fault };
-
-    fn from(fault: AutoFault) -> Self {
-        match fault {
-            AutoFault::OutOfMemory => Fault::Memory,
-            AutoFault::Map(fault) => Fault::Map(fault),
-            AutoFault::Scen(fault) => Fault::Scen(fault),
-            AutoFault::Plan(stop) => Fault::Search(stop),
-            AutoFault::Compile(fault) => Fault::Compile(fault),
-            AutoFault::Run(fault) => Fault::Run(fault),
-        }
-    }
 }
 
 impl Refusal for Fault<'_> {
@@ -164,83 +144,30 @@ pub enum AutoFault {
     Run(RunFault),
 }
 
-impl From<OutOfMemory> for AutoFault {
-    ghost use Rattle.std.specs.Prelude.{◌≡◌};
-    ghost use Rattle.fleet_cli.specs.declared.fault.AutoFault.TheVariants.{OutOfMemory};
-
-    ghost from_gives = { λ _ r. r ≡ OutOfMemory };
-
-    fn from(_e: OutOfMemory) -> AutoFault {
-        AutoFault::OutOfMemory
+/// The fault of a step as it is answered: want of memory in any step is `OutOfMemory`.
+pub(crate) fn in_step(fault: AutoFault) -> AutoFault
+    ensures { result ≡ in_step fault }
+{
+    match fault {
+        AutoFault::Map(MapFault::OutOfMemory)
+        | AutoFault::Scen(ScenFault::OutOfMemory)
+        | AutoFault::Plan(PlanStop::OutOfMemory)
+        | AutoFault::Compile(CompileFault::OutOfMemory)
+        | AutoFault::Run(RunFault::OutOfMemory) => AutoFault::OutOfMemory,
+        fault => fault,
     }
 }
 
-impl From<MapFault> for AutoFault {
-    ghost use Rattle.std.specs.Prelude.{◌≡◌};
-    ghost use Rattle.fleet_cli.specs.Faults.{map_fault};
-
-    ghost from_gives = { λ fault r. r ≡ map_fault fault };
-
-    fn from(fault: MapFault) -> AutoFault {
-        match fault {
-            MapFault::OutOfMemory => AutoFault::OutOfMemory,
-            fault => AutoFault::Map(fault),
-        }
-    }
-}
-
-impl From<ScenFault> for AutoFault {
-    ghost use Rattle.std.specs.Prelude.{◌≡◌};
-    ghost use Rattle.fleet_cli.specs.Faults.{scen_fault};
-
-    ghost from_gives = { λ fault r. r ≡ scen_fault fault };
-
-    fn from(fault: ScenFault) -> AutoFault {
-        match fault {
-            ScenFault::OutOfMemory => AutoFault::OutOfMemory,
-            fault => AutoFault::Scen(fault),
-        }
-    }
-}
-
-impl From<PlanStop> for AutoFault {
-    ghost use Rattle.std.specs.Prelude.{◌≡◌};
-    ghost use Rattle.fleet_cli.specs.Faults.{plan_fault};
-
-    ghost from_gives = { λ stop r. r ≡ plan_fault stop };
-
-    fn from(stop: PlanStop) -> AutoFault {
-        match stop {
-            PlanStop::OutOfMemory => AutoFault::OutOfMemory,
-            stop => AutoFault::Plan(stop),
-        }
-    }
-}
-
-impl From<CompileFault> for AutoFault {
-    ghost use Rattle.std.specs.Prelude.{◌≡◌};
-    ghost use Rattle.fleet_cli.specs.Faults.{compile_fault};
-
-    ghost from_gives = { λ fault r. r ≡ compile_fault fault };
-
-    fn from(fault: CompileFault) -> AutoFault {
-        match fault {
-            CompileFault::OutOfMemory => AutoFault::OutOfMemory,
-            fault => AutoFault::Compile(fault),
-        }
-    }
-}
-
-impl From<RunFault> for AutoFault {
-    ghost use Rattle.std.specs.Prelude.{◌≡◌};
-    ghost use Rattle.fleet_cli.specs.Faults.{run_fault};
-
-    ghost from_gives = { λ fault r. r ≡ run_fault fault };
-
-    fn from(fault: RunFault) -> AutoFault {
-        match fault {
-            RunFault::OutOfMemory => AutoFault::OutOfMemory,
-            fault => AutoFault::Run(fault),
-        }
+/// The fault of a step as a refusal of the program, with its own line and status.
+pub(crate) fn step_fault(fault: AutoFault) -> Fault<'static>
+    ensures { result ≡ step_fault fault }
+{
+    match fault {
+        AutoFault::OutOfMemory => Fault::Memory,
+        AutoFault::Map(fault) => Fault::Map(fault),
+        AutoFault::Scen(fault) => Fault::Scen(fault),
+        AutoFault::Plan(stop) => Fault::Search(stop),
+        AutoFault::Compile(fault) => Fault::Compile(fault),
+        AutoFault::Run(fault) => Fault::Run(fault),
     }
 }

@@ -32,20 +32,6 @@ enum InputStop {
     TooLong,
 }
 
-impl From<InputStop> for FileFault {
-    ghost use Rattle.std.specs.Prelude.{◌≡◌};
-    ghost use Rattle.fleet_cli.specs.Faults.{input_fault};
-
-    ghost from_gives = { λ stop fault. fault ≡ input_fault stop };
-
-    fn from(stop: InputStop) -> FileFault {
-        match stop {
-            InputStop::OutOfMemory => FileFault::OutOfMemory,
-            InputStop::Unreadable | InputStop::TooLong => FileFault::Failed,
-        }
-    }
-}
-
 /// All bytes of the reader, unless they are more than `MAX_BYTES`.
 fn read_to_limit<R: Read>(alloc: Global, reader: &mut R) -> Result<Vec<u8>, InputStop>
     ensures whole { IfOk result (λ bytes. IfSome (R.remaining reader.old)
@@ -81,6 +67,9 @@ pub fn read_whole<R: Read>(alloc: Global, reader: &mut R) -> Result<Vec<u8>, Fil
         (λ rest. bytes.items ≡ rest)) }
     ensures within { IfOk result (λ bytes. length bytes.items ≤ MAX_BYTES) }
 {
-    let bytes = read_to_limit(alloc, reader)?;
-    Ok(bytes)
+    match read_to_limit(alloc, reader) {
+        Ok(bytes) => Ok(bytes),
+        Err(InputStop::OutOfMemory) => Err(FileFault::OutOfMemory),
+        Err(InputStop::Unreadable | InputStop::TooLong) => Err(FileFault::Failed),
+    }
 }

@@ -6,7 +6,7 @@ ghost use Rattle.fleet_text.specs.Sink.{IsWorking};
 ghost use Rattle.fleet_cli.specs.Output.{end_status};
 ghost use Rattle.fleet_cli.specs.RunCommands.{FlushesRun, Runs, AutoRuns, AnswersRun, TellsNumbers, AnswersAuto, RehearsesProgram, AnswersRehearse, ReadsInput, IsInputRefusal, AnswersHex, RunsHex};
 
-use crate::fault::{AutoFault, Fault, finish};
+use crate::fault::{AutoFault, Fault, finish, in_step, step_fault};
 use crate::input::{FileFault, read_whole};
 use crate::named::FileTexts;
 use crate::output::{print_counts, status_after_print};
@@ -95,12 +95,22 @@ pub fn auto_run<O: TraceOut>(
         (O.state out.old) (O.state out.new) result }
 {
     each_spelling_has_one_program();
-    let grid = read_map(alloc, map)?;
-    let instance = read_scen(alloc, scen, &grid, asked)?;
+    let grid = match read_map(alloc, map) {
+        Ok(grid) => grid,
+        Err(fault) => return Err(in_step(AutoFault::Map(fault))),
+    };
+    let instance = match read_scen(alloc, scen, &grid, asked) {
+        Ok(instance) => instance,
+        Err(fault) => return Err(in_step(AutoFault::Scen(fault))),
+    };
     let made = made_bytes(alloc, &grid, &instance, horizon, ONE_TRY, deps)?;
-    let accepted = accept_made(alloc, &made.bytes, &grid, &instance)?;
-    let report = run_accepted(alloc, accepted, holds, out)?;
-    Ok(report)
+    let Ok(accepted) = accept_made(alloc, &made.bytes, &grid, &instance) else {
+        return Err(AutoFault::OutOfMemory);
+    };
+    match run_accepted(alloc, accepted, holds, out) {
+        Ok(report) => Ok(report),
+        Err(fault) => Err(in_step(AutoFault::Run(fault))),
+    }
 }
 
 /// Prints the numbers of a plan that was run, if they are asked for. Answers 0.
@@ -139,14 +149,17 @@ pub(crate) fn do_auto<'a, O: Flush>(
 {
     each_spelling_has_one_program();
     let problem = read_problem(alloc, &texts, request.tasks.agents)?;
-    let made = made_bytes(
+    let made = match made_bytes(
         alloc,
         &problem.grid,
         &problem.instance,
         request.horizon,
         request.tries,
         request.deps,
-    )?;
+    ) {
+        Ok(made) => made,
+        Err(fault) => return Err(step_fault(fault)),
+    };
     let Ok(accepted) = accept_made(alloc, &made.bytes, &problem.grid, &problem.instance) else {
         return Err(Fault::Memory);
     };

@@ -12,7 +12,7 @@ ghost use Rattle.fleet_plan.specs.Plan.{IsConflictFree};
 ghost use Rattle.fleet_search.specs.Best.{IsBestInTries};
 ghost use Rattle.fleet_search.specs.Orders.{IsStuckInTries};
 
-use crate::fault::{AutoFault, Fault};
+use crate::fault::{AutoFault, Fault, in_step};
 use crate::named::FileTexts;
 use fleet_adg::{CompileFault, Deps, compile_bytes};
 use fleet_args::{Best, Tries};
@@ -147,8 +147,14 @@ pub fn made_bytes(
         (λ m. SpellsMade grid.now instance.now horizon tries deps m.numbers m.bytes.items) }
     ensures fault { IfErr result (IsMakingFault grid.now instance.now horizon tries deps) }
 {
-    let Found { checked, tried } = plan_by(alloc, grid, instance, horizon, tries)?;
-    let compiled = compile_bytes(alloc, &checked, deps, 0)?;
+    let Found { checked, tried } = match plan_by(alloc, grid, instance, horizon, tries) {
+        Ok(found) => found,
+        Err(stop) => return Err(in_step(AutoFault::Plan(stop))),
+    };
+    let compiled = match compile_bytes(alloc, &checked, deps, 0) {
+        Ok(compiled) => compiled,
+        Err(fault) => return Err(in_step(AutoFault::Compile(fault))),
+    };
     let numbers = numbers_of(checked.plan(), tried);
     Ok(MadeBytes {
         bytes: compiled.bytes,

@@ -207,7 +207,9 @@ pub fn costs_of<P: ProgramView>(
     ensures least { IfOk result (λ t. (a : ActionId) → 1 ≤ cost_in t a) }
     ensures fault { IfErr result (IsCostsFault (P.program program.now) text.now) }
 {
-    let mut rows = first_rows(alloc, program)?;
+    let Ok(mut rows) = first_rows(alloc, program) else {
+        return Err(TimesFault::OutOfMemory);
+    };
     let mut lines = Cursor::new(text);
     note_lines(program, &mut lines, &mut rows)?;
     Ok(CostTable { rows })

@@ -1,6 +1,5 @@
 //! Why no times are told of an accepted program.
 
-use fleet_model::OutOfMemory;
 use fleet_text::{OutFault, Refusal, TraceOut, put_memory, put_named, put_named_at};
 use thiserror::Error;
 
@@ -18,17 +17,6 @@ pub enum TimesFault {
     /// It has to be `A:X,Y` or `A:X,Y:X,Y`, an agent of the program and one or two cells of the map.
     #[error("what is dead is no agent and its cells")]
     Dead,
-}
-
-impl From<OutOfMemory> for TimesFault {
-    ghost use Rattle.std.specs.Prelude.{◌≡◌};
-    ghost use Rattle.fleet_dispatch.specs.declared.times_fault.TimesFault.TheVariants.{OutOfMemory};
-
-    ghost from_gives = { λ _ e. e ≡ OutOfMemory };
-
-    fn from(_e: OutOfMemory) -> TimesFault {
-        TimesFault::OutOfMemory
-    }
 }
 
 impl Refusal for TimesFault {

@@ -10,7 +10,7 @@ loop-k-preserved g c =
     let a = c.args.action in
     let k = c.loop-k.k in
     let made = c.loop-k.invariant.made in
-    let formed = c.agents.ensures.well_formed in
+    let formed = c.agents-agents.ensures.well_formed in
     elim c.match-await_unless_implied.branch [
       | in-Some+in_ok-push w ↦
           let some = c.await_unless_implied.ensures.some w.in-Some.one w.in-Some.is in

@@ -16,70 +16,70 @@ implied_awaits-requires-clause-finish g c =
     subst (IsFinish p []) (sym c.chain.ensures.chain) (longest_finishes p known.accepted.right.in_range c.args.accepted.now.chain known.longest)
 
 pub new-requires : goal.new-requires
-new-requires g c = thinned_formed (g.P.ProgramView.program c.program-program.result.now) c.in_ok-agents.agents.items c.in_ok-agents.ensures c.agents.ensures.well_formed
+new-requires g c = thinned_formed (g.P.ProgramView.program c.program-program.result.now) c.in-Ok-thinned_agents.agents.items c.in-Ok-thinned_agents.ensures c.agents-agents.ensures.well_formed
 
-pub returns-clause-thinned : goal.returns-clause-thinned
-returns-clause-thinned g c =
+pub returns-in-Ok-thinned_agents-clause-thinned : goal.returns-in-Ok-thinned_agents-clause-thinned
+returns-in-Ok-thinned_agents-clause-thinned g c =
     let p = g.P.ProgramView.program c.args.accepted.now.program in
     let same = ap g.P.ProgramView.program c.program-program.ensures.program in
-    let made : IsThinned p c.new.result = thinned_of p (g.P.ProgramView.program c.program-program.result.now) c.new.result c.in_ok-agents.agents.items same c.in_ok-agents.ensures c.new.ensures in
+    let made : IsThinned p c.new.result = thinned_of p (g.P.ProgramView.program c.program-program.result.now) c.new.result c.in-Ok-thinned_agents.agents.items same c.in-Ok-thinned_agents.ensures c.new.ensures in
     made
 
-pub returns-clause-accepted : goal.returns-clause-accepted
-returns-clause-accepted g c =
+pub returns-in-Ok-thinned_agents-clause-accepted : goal.returns-in-Ok-thinned_agents-clause-accepted
+returns-in-Ok-thinned_agents-clause-accepted g c =
     let p = g.P.ProgramView.program c.args.accepted.now.program in
     let same = ap g.P.ProgramView.program c.program-program.ensures.program in
-    let made : IsThinned p c.new.result = thinned_of p (g.P.ProgramView.program c.program-program.result.now) c.new.result c.in_ok-agents.agents.items same c.in_ok-agents.ensures c.new.ensures in
+    let made : IsThinned p c.new.result = thinned_of p (g.P.ProgramView.program c.program-program.result.now) c.new.result c.in-Ok-thinned_agents.agents.items same c.in-Ok-thinned_agents.ensures c.new.ensures in
     let known = subst (λ (x : Program). IsAcceptedFor c.args.accepted.now.grid c.args.accepted.now.instance x c.args.accepted.now.chain) same c.program-program.ensures.accepted in
     let less = reduced_chains p c.new.result (thinned_reduced p c.new.result known.accepted.numbering.0 known.accepted.numbering.1 made) in
     let range = thinned_range p c.new.result made known.accepted.right.in_range in
     accepted_over p c.new.result range less (is_passable c.args.accepted.now.grid) c.args.accepted.now.instance known.accepted
 
-pub returns-clause-chain : goal.returns-clause-chain
-returns-clause-chain g c =
+pub returns-in-Ok-thinned_agents-clause-chain : goal.returns-in-Ok-thinned_agents-clause-chain
+returns-in-Ok-thinned_agents-clause-chain g c =
     let p = g.P.ProgramView.program c.args.accepted.now.program in
     let same = ap g.P.ProgramView.program c.program-program.ensures.program in
-    let made : IsThinned p c.new.result = thinned_of p (g.P.ProgramView.program c.program-program.result.now) c.new.result c.in_ok-agents.agents.items same c.in_ok-agents.ensures c.new.ensures in
+    let made : IsThinned p c.new.result = thinned_of p (g.P.ProgramView.program c.program-program.result.now) c.new.result c.in-Ok-thinned_agents.agents.items same c.in-Ok-thinned_agents.ensures c.new.ensures in
     let known = subst (λ (x : Program). IsAcceptedFor c.args.accepted.now.grid c.args.accepted.now.instance x c.args.accepted.now.chain) same c.program-program.ensures.accepted in
     let less = reduced_chains p c.new.result (thinned_reduced p c.new.result known.accepted.numbering.0 known.accepted.numbering.1 made) in
     let range = thinned_range p c.new.result made known.accepted.right.in_range in
     longest_over p c.new.result known.accepted.right.in_range range less c.args.accepted.now.chain known.longest
 
-pub returns-clause-equally : goal.returns-clause-equally
-returns-clause-equally g c = λ holds t.
+pub returns-in-Ok-thinned_agents-clause-equally : goal.returns-in-Ok-thinned_agents-clause-equally
+returns-in-Ok-thinned_agents-clause-equally g c = λ holds t.
     let p = g.P.ProgramView.program c.args.accepted.now.program in
     let same = ap g.P.ProgramView.program c.program-program.ensures.program in
-    let made : IsThinned p c.new.result = thinned_of p (g.P.ProgramView.program c.program-program.result.now) c.new.result c.in_ok-agents.agents.items same c.in_ok-agents.ensures c.new.ensures in
+    let made : IsThinned p c.new.result = thinned_of p (g.P.ProgramView.program c.program-program.result.now) c.new.result c.in-Ok-thinned_agents.agents.items same c.in-Ok-thinned_agents.ensures c.new.ensures in
     let known = subst (λ (x : Program). IsAcceptedFor c.args.accepted.now.grid c.args.accepted.now.instance x c.args.accepted.now.chain) same c.program-program.ensures.accepted in
     let less = reduced_chains p c.new.result (thinned_reduced p c.new.result known.accepted.numbering.0 known.accepted.numbering.1 made) in
     let range = thinned_range p c.new.result made known.accepted.right.in_range in
     run_over p c.new.result known.accepted.right.in_range range less holds t
 
-pub returns-clause-again : goal.returns-clause-again
-returns-clause-again g c =
+pub returns-in-Ok-thinned_agents-clause-again : goal.returns-in-Ok-thinned_agents-clause-again
+returns-in-Ok-thinned_agents-clause-again g c =
     let p = g.P.ProgramView.program c.args.accepted.now.program in
     let same = ap g.P.ProgramView.program c.program-program.ensures.program in
-    let made : IsThinned p c.new.result = thinned_of p (g.P.ProgramView.program c.program-program.result.now) c.new.result c.in_ok-agents.agents.items same c.in_ok-agents.ensures c.new.ensures in
+    let made : IsThinned p c.new.result = thinned_of p (g.P.ProgramView.program c.program-program.result.now) c.new.result c.in-Ok-thinned_agents.agents.items same c.in-Ok-thinned_agents.ensures c.new.ensures in
     let known = subst (λ (x : Program). IsAcceptedFor c.args.accepted.now.grid c.args.accepted.now.instance x c.args.accepted.now.chain) same c.program-program.ensures.accepted in
     thinned_again p c.new.result known.accepted.numbering.0 known.accepted.numbering.1 made
 
-pub returns-clause-least : goal.returns-clause-least
-returns-clause-least g c =
+pub returns-in-Ok-thinned_agents-clause-least : goal.returns-in-Ok-thinned_agents-clause-least
+returns-in-Ok-thinned_agents-clause-least g c =
     let p = g.P.ProgramView.program c.args.accepted.now.program in
     let same = ap g.P.ProgramView.program c.program-program.ensures.program in
-    let made : IsThinned p c.new.result = thinned_of p (g.P.ProgramView.program c.program-program.result.now) c.new.result c.in_ok-agents.agents.items same c.in_ok-agents.ensures c.new.ensures in
+    let made : IsThinned p c.new.result = thinned_of p (g.P.ProgramView.program c.program-program.result.now) c.new.result c.in-Ok-thinned_agents.agents.items same c.in-Ok-thinned_agents.ensures c.new.ensures in
     let known = subst (λ (x : Program). IsAcceptedFor c.args.accepted.now.grid c.args.accepted.now.instance x c.args.accepted.now.chain) same c.program-program.ensures.accepted in
     thinned_least p c.new.result known.accepted.numbering.0 known.accepted.numbering.1 known.accepted.right.in_range made
 
-pub returns-clause-moves : goal.returns-clause-moves
-returns-clause-moves g c =
+pub returns-in-Ok-thinned_agents-clause-moves : goal.returns-in-Ok-thinned_agents-clause-moves
+returns-in-Ok-thinned_agents-clause-moves g c =
     let p = g.P.ProgramView.program c.args.accepted.now.program in
-    moves_of p (g.P.ProgramView.program c.program-program.result.now) c.new.result c.in_ok-agents.agents.items (ap g.P.ProgramView.program c.program-program.ensures.program) c.in_ok-agents.ensures c.new.ensures
+    moves_of p (g.P.ProgramView.program c.program-program.result.now) c.new.result c.in-Ok-thinned_agents.agents.items (ap g.P.ProgramView.program c.program-program.ensures.program) c.in-Ok-thinned_agents.ensures c.new.ensures
 
-pub returns-clause-short : goal.returns-clause-short
-returns-clause-short g c =
+pub returns-in-Ok-thinned_agents-clause-short : goal.returns-in-Ok-thinned_agents-clause-short
+returns-in-Ok-thinned_agents-clause-short g c =
     let p = g.P.ProgramView.program c.args.accepted.now.program in
     let same = ap g.P.ProgramView.program c.program-program.ensures.program in
-    let made : IsThinned p c.new.result = thinned_of p (g.P.ProgramView.program c.program-program.result.now) c.new.result c.in_ok-agents.agents.items same c.in_ok-agents.ensures c.new.ensures in
+    let made : IsThinned p c.new.result = thinned_of p (g.P.ProgramView.program c.program-program.result.now) c.new.result c.in-Ok-thinned_agents.agents.items same c.in-Ok-thinned_agents.ensures c.new.ensures in
     let known = subst (λ (x : Program). IsAcceptedFor c.args.accepted.now.grid c.args.accepted.now.instance x c.args.accepted.now.chain) same c.program-program.ensures.accepted in
     thinned_short p c.new.result made known.accepted.right.in_range

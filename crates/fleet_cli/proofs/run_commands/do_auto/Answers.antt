@@ -10,10 +10,9 @@ returns-in_err-problem g c =
     let e = err_from_is_err_and c.from_residual.result c.from_residual.ensures.1 in
     rw (e.1, e.2) (inr (_, refl, inl c.in_err-problem.ensures.fault, record { kept = keeps_self _; working = c.requires }))
 
-pub returns-in_err-made : goal.returns-in_err-made
-returns-in_err-made g c =
-    let e = err_from_is_err_and c.from_residual-in_err-made.result c.from_residual-in_err-made.ensures.1 in
-    rw (e.1, e.2) (inr (_, refl, inr (_, _, c.in_err-made.field-0.0, refl, c.in_ok-problem.ensures.read, c.in_err-made.ensures.fault), record { kept = keeps_self _; working = c.requires }))
+pub returns-in-Err : goal.returns-in-Err
+returns-in-Err g c =
+    rw c.step_fault.ensures (inr (_, refl, inr (_, _, c.in-Err.fault, refl, c.in_ok-problem.ensures.read, c.in-Err.ensures.fault), record { kept = keeps_self _; working = c.requires }))
 
 pub tell_numbers-requires : goal.tell_numbers-requires
 tell_numbers-requires g c = c.in_ok-run_flushed.ensures.1.0.written.working
@@ -21,15 +20,15 @@ tell_numbers-requires g c = c.in_ok-run_flushed.ensures.1.0.written.working
 pub returns-in_err-run_flushed : goal.returns-in_err-run_flushed
 returns-in_err-run_flushed g c =
     let e = err_from_is_err_and c.from_residual-in_err-run_flushed.result c.from_residual-in_err-run_flushed.ensures.1 in
-    let spelled : SpellsMade c.in_ok-problem.problem.grid c.in_ok-problem.problem.instance c.args.request.now.horizon c.args.request.now.tries c.args.request.now.deps c.in_ok-made.made.numbers c.deref.result.now = rw c.deref.ensures.value c.in_ok-made.ensures.made in
-    let one = made c.each_spelling_has_one_program.ensures.program c.in_ok-problem.ensures.read spelled c.in-Ok.ensures in
-    let ran = subst (λ (held : List ℕ). Runs c.in-Ok.accepted.program.program c.in-Ok.accepted.chain held (g.O.TraceOut.state c.args.out.now) (g.O.TraceOut.state c.run_flushed.new.out) (Err c.in_err-run_flushed.field-0.0))
+    let spelled : SpellsMade c.in_ok-problem.problem.grid c.in_ok-problem.problem.instance c.args.request.now.horizon c.args.request.now.tries c.args.request.now.deps c.in-Ok.made.numbers c.deref.result.now = rw c.deref.ensures.value c.in-Ok.ensures.made in
+    let one = made c.each_spelling_has_one_program.ensures.program c.in_ok-problem.ensures.read spelled c.in-Ok-accept_made.ensures in
+    let ran = subst (λ (held : List ℕ). Runs c.in-Ok-accept_made.accepted.program.program c.in-Ok-accept_made.accepted.chain held (g.O.TraceOut.state c.args.out.now) (g.O.TraceOut.state c.run_flushed.new.out) (Err c.in_err-run_flushed.field-0.0))
     c.deref-2.ensures.value c.in_err-run_flushed.ensures in
     rw (e.1, e.2) (inl (one, inr (_, refl, ran)))
 
 pub returns : goal.returns
 returns g c =
-    let spelled : SpellsMade c.in_ok-problem.problem.grid c.in_ok-problem.problem.instance c.args.request.now.horizon c.args.request.now.tries c.args.request.now.deps c.in_ok-made.made.numbers c.deref.result.now = rw c.deref.ensures.value c.in_ok-made.ensures.made in
-    let one = made c.each_spelling_has_one_program.ensures.program c.in_ok-problem.ensures.read spelled c.in-Ok.ensures in
+    let spelled : SpellsMade c.in_ok-problem.problem.grid c.in_ok-problem.problem.instance c.args.request.now.horizon c.args.request.now.tries c.args.request.now.deps c.in-Ok.made.numbers c.deref.result.now = rw c.deref.ensures.value c.in-Ok.ensures.made in
+    let one = made c.each_spelling_has_one_program.ensures.program c.in_ok-problem.ensures.read spelled c.in-Ok-accept_made.ensures in
     let ran = rw c.deref-2.ensures.value at c.in_ok-run_flushed.ensures in
     inl (one, inl (g.O.TraceOut.state c.run_flushed.new.out, (ran.0, ran.1, refl), c.tell_numbers.ensures))

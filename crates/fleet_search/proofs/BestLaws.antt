@@ -6,10 +6,11 @@ use Rattle.std.proofs.lemmas.List.{length_push}
 use Rattle.std.proofs.lemmas.Option.{slice_get_within}
 use Rattle.std.proofs.lemmas.List.FromFn.{length-range_with_len}
 use Rattle.std.proofs.lemmas.List.Sorted.{IsPermutation-refl}
+use Rattle.fleet_model.specs.Machine.{indices}
 use Rattle.fleet_model.specs.declared.geometry.Place.{Place}
 use Rattle.fleet_model.specs.declared.task.Task.{Task}
 use Rattle.fleet_plan.specs.Plan.{Plan}
-use Rattle.fleet_search.specs.Orders.{agent_numbers, to_front}
+use Rattle.fleet_search.specs.Orders.{to_front}
 use Rattle.std.specs.Prelude.{IfSome, IfNone}
 use Rattle.std.proofs.lemmas.List.{take_more, take-take, get_or-take, length-take}
 use Rattle.fleet_grid.specs.Ground.{is_passable}
@@ -128,7 +129,7 @@ made_front passable tasks horizon n k plan made few = record {
 pub turn_next : (problem : Problem) (order next : List ℕ) (kept : Plan) (place : ℕ) → IsOrderOf problem order → place < length order → next ≡ to_front order place → length kept ≡ place → IsPrioritisedPlan (is_passable problem.grid.now) (tasks_by order problem.instance.now) problem.horizon (length kept) kept → IsTurnOf problem next kept
 turn_next problem order next kept place each within is long made =
     let few : length kept < length order = omega arith in
-    let raised : IsPermutation (agent_numbers (length problem.instance.now)) next = subst (IsPermutation (agent_numbers (length problem.instance.now))) (sym is) (order_with_raised (length problem.instance.now) order place each within) in
+    let raised : IsPermutation (indices (length problem.instance.now)) next = subst (IsPermutation (indices (length problem.instance.now))) (sym is) (order_with_raised (length problem.instance.now) order place each within) in
     let at : next ≡ to_front order (length kept) = is ∙ ap (to_front order) (sym long) in
     let before = order-length (length problem.instance.now) order each in
     let after = order-length (length problem.instance.now) next raised in
@@ -152,13 +153,13 @@ but_last problem order paths kept made is =
     )
 
 -- the first turn
-pub first_turn : (problem : Problem) (order : List ℕ) (kept : Plan) (n : ℕ) → order ≡ agent_numbers n → n ≡ length problem.instance.now → 1 ≤ n → kept ≡ [] → IsTurnOf problem order kept
+pub first_turn : (problem : Problem) (order : List ℕ) (kept : Plan) (n : ℕ) → order ≡ indices n → n ≡ length problem.instance.now → 1 ≤ n → kept ≡ [] → IsTurnOf problem order kept
 first_turn problem order kept n is all some none =
-    let each : order ≡ agent_numbers (length problem.instance.now) = is ∙ ap agent_numbers all in
+    let each : order ≡ indices (length problem.instance.now) = is ∙ ap indices all in
     let long : length order ≡ n = ap length is ∙ length-range_with_len 0 n in
     let short : length kept ≡ 0 = ap length none in
     record {
-      each_once = subst (IsPermutation (agent_numbers (length problem.instance.now))) (sym each) (IsPermutation-refl (agent_numbers (length problem.instance.now)));
+      each_once = subst (IsPermutation (indices (length problem.instance.now))) (sym each) (IsPermutation-refl (indices (length problem.instance.now)));
       made = subst (λ z. IsPrioritisedPlan (is_passable problem.grid.now) (drop 1 (tasks_by order problem.instance.now)) problem.horizon (length z) z) (sym none)
           (none_made (is_passable problem.grid.now) (drop 1 (tasks_by order problem.instance.now)) problem.horizon);
       fewer = omega arith;
@@ -169,7 +170,7 @@ copied_more paths copy new i path l e is more = more ∙ ap (λ z. z ++ path ∷
 
 -- ---- the best so far
 
-pub so_far_none : (problem : Problem) (Measures : Plan → ℕ → Type 0) (order : List ℕ) → order ≡ agent_numbers (length problem.instance.now) → IsBestSoFar problem Measures order 0 None
+pub so_far_none : (problem : Problem) (Measures : Plan → ℕ → Type 0) (order : List ℕ) → order ≡ indices (length problem.instance.now) → IsBestSoFar problem Measures order 0 None
 so_far_none problem Measures order first = record {
   outcomes = [];
   all = refl;
@@ -183,18 +184,18 @@ module _ (problem : Problem) (Measures : Plan → ℕ → Type 0) (order next : 
   best_planned None m new so is none earlier later = record {
     outcomes = so.outcomes ++ outcome_of (t.Planned m) ∷ [];
     all = length_push so.outcomes (outcome_of (t.Planned m)) ∙ ap (λ z. z + 1) so.all;
-    came = outcomes_more (is_passable problem.grid.now) problem.instance.now problem.horizon Measures (agent_numbers (length problem.instance.now)) so.outcomes (outcome_of (t.Planned m)) so.came
+    came = outcomes_more (is_passable problem.grid.now) problem.instance.now problem.horizon Measures (indices (length problem.instance.now)) so.outcomes (outcome_of (t.Planned m)) so.came
         (subst (λ z. IsOutcome (is_passable problem.grid.now) problem.instance.now problem.horizon Measures z (outcome_of (t.Planned m))) so.next is.outcome);
-    next = is.next ∙ ap (λ z. order_after z (outcome_of (t.Planned m))) so.next ∙ sym (order_after_more (agent_numbers (length problem.instance.now)) so.outcomes (outcome_of (t.Planned m)));
+    next = is.next ∙ ap (λ z. order_after z (outcome_of (t.Planned m))) so.next ∙ sym (order_after_more (indices (length problem.instance.now)) so.outcomes (outcome_of (t.Planned m)));
     is_best = subst (λ (z : Measured). IsFirstLeast (so.outcomes ++ outcome_of (t.Planned m) ∷ []) z.checked.plan z.measure × IsFor problem z) (sym none)
         (least_first so.outcomes m.checked.plan m.measure so.is_best.0, is.right);
   }
   best_planned (Some e) m new so is none earlier later = record {
     outcomes = so.outcomes ++ outcome_of (t.Planned m) ∷ [];
     all = length_push so.outcomes (outcome_of (t.Planned m)) ∙ ap (λ z. z + 1) so.all;
-    came = outcomes_more (is_passable problem.grid.now) problem.instance.now problem.horizon Measures (agent_numbers (length problem.instance.now)) so.outcomes (outcome_of (t.Planned m)) so.came
+    came = outcomes_more (is_passable problem.grid.now) problem.instance.now problem.horizon Measures (indices (length problem.instance.now)) so.outcomes (outcome_of (t.Planned m)) so.came
         (subst (λ z. IsOutcome (is_passable problem.grid.now) problem.instance.now problem.horizon Measures z (outcome_of (t.Planned m))) so.next is.outcome);
-    next = is.next ∙ ap (λ z. order_after z (outcome_of (t.Planned m))) so.next ∙ sym (order_after_more (agent_numbers (length problem.instance.now)) so.outcomes (outcome_of (t.Planned m)));
+    next = is.next ∙ ap (λ z. order_after z (outcome_of (t.Planned m))) so.next ∙ sym (order_after_more (indices (length problem.instance.now)) so.outcomes (outcome_of (t.Planned m)));
     is_best = elim (cases_lt m.measure e.measure) [
       | inl less ↦ subst (λ (z : Measured). IsFirstLeast (so.outcomes ++ outcome_of (t.Planned m) ∷ []) z.checked.plan z.measure × IsFor problem z) (sym (later less))
           (least_next so.outcomes e.checked.plan m.checked.plan e.measure m.measure so.is_best.0 less, is.right)
@@ -207,9 +208,9 @@ module _ (problem : Problem) (Measures : Plan → ℕ → Type 0) (order next : 
   best_stuck None place so is = record {
     outcomes = so.outcomes ++ NoPathAt place ∷ [];
     all = length_push so.outcomes (NoPathAt place) ∙ ap (λ z. z + 1) so.all;
-    came = outcomes_more (is_passable problem.grid.now) problem.instance.now problem.horizon Measures (agent_numbers (length problem.instance.now)) so.outcomes (NoPathAt place) so.came
+    came = outcomes_more (is_passable problem.grid.now) problem.instance.now problem.horizon Measures (indices (length problem.instance.now)) so.outcomes (NoPathAt place) so.came
         (subst (λ z. IsOutcome (is_passable problem.grid.now) problem.instance.now problem.horizon Measures z (NoPathAt place)) so.next is.outcome);
-    next = is.next ∙ ap (λ z. order_after z (NoPathAt place)) so.next ∙ sym (order_after_more (agent_numbers (length problem.instance.now)) so.outcomes (NoPathAt place));
+    next = is.next ∙ ap (λ z. order_after z (NoPathAt place)) so.next ∙ sym (order_after_more (indices (length problem.instance.now)) so.outcomes (NoPathAt place));
     is_best = (
       none_kept so.outcomes place so.is_best.0,
       subst (λ z. IsOrderAfter (is_passable problem.grid.now) problem.instance.now problem.horizon z next) (sym (length_push so.outcomes (NoPathAt place)))
@@ -219,9 +220,9 @@ module _ (problem : Problem) (Measures : Plan → ℕ → Type 0) (order next : 
   best_stuck (Some e) place so is = record {
     outcomes = so.outcomes ++ NoPathAt place ∷ [];
     all = length_push so.outcomes (NoPathAt place) ∙ ap (λ z. z + 1) so.all;
-    came = outcomes_more (is_passable problem.grid.now) problem.instance.now problem.horizon Measures (agent_numbers (length problem.instance.now)) so.outcomes (NoPathAt place) so.came
+    came = outcomes_more (is_passable problem.grid.now) problem.instance.now problem.horizon Measures (indices (length problem.instance.now)) so.outcomes (NoPathAt place) so.came
         (subst (λ z. IsOutcome (is_passable problem.grid.now) problem.instance.now problem.horizon Measures z (NoPathAt place)) so.next is.outcome);
-    next = is.next ∙ ap (λ z. order_after z (NoPathAt place)) so.next ∙ sym (order_after_more (agent_numbers (length problem.instance.now)) so.outcomes (NoPathAt place));
+    next = is.next ∙ ap (λ z. order_after z (NoPathAt place)) so.next ∙ sym (order_after_more (indices (length problem.instance.now)) so.outcomes (NoPathAt place));
     is_best = (least_kept so.outcomes (NoPathAt place) e.checked.plan e.measure so.is_best.0 (λ other n same. absurd (cc)), so.is_best.1);
   }
 

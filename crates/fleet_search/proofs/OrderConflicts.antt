@@ -5,12 +5,13 @@ use Rattle.std.specs.List.{AllByRecursion, IsDistinct}
 use Rattle.std.proofs.lemmas.Bool.{cases_lt, eqb-false, ne_eqb}
 use Rattle.std.proofs.lemmas.Option.{slice_get-get_or, slice_get_within}
 use Rattle.std.proofs.lemmas.List.{get_or-map, get_or_default, get_or_past, length-map}
+use Rattle.fleet_model.specs.Machine.{indices}
 use Rattle.fleet_model.specs.declared.geometry.Place.{Place}
 use Rattle.fleet_model.specs.Geometry.{place_of}
 use Rattle.fleet_model.specs.declared.task.Task.{Task}
 use Rattle.fleet_model.specs.Conflict.{Motion, HasVertexConflict, HasSwappingConflict, HasCycleConflict, after_in}
 use Rattle.fleet_plan.specs.Plan.{Plan, cell_at, cell_of, last_cell, motion_of, AreNeighbours, IsConflictFree}
-use Rattle.fleet_search.specs.Orders.{no_task, tasks_by, paths_by, agent_numbers, IsMadeInOrder, IsMadeInTries}
+use Rattle.fleet_search.specs.Orders.{no_task, tasks_by, paths_by, IsMadeInOrder, IsMadeInTries}
 use Rattle.fleet_search.specs.InTurn.{IsPrioritisedPlan}
 use Rattle.fleet_search.proofs.InTurnLaws.{in_turn_free}
 use Rattle.fleet_search.proofs.OrderLaws.{order-length, place_of_agent, task_in_order, get_or-by}
@@ -74,7 +75,7 @@ module _ (p q : Motion) (n : ℕ) (f : ℕ → ℕ) (apart : (i j : ℕ) → i <
 
 -- ---- the order in which a plan is made
 
-module _ (passable : Place → Bool) (tasks : List Task) (plan : Plan) (order : List ℕ) (each : IsPermutation (agent_numbers (length tasks)) order) (agents : length plan ≡ length tasks) where
+module _ (passable : Place → Bool) (tasks : List Task) (plan : Plan) (order : List ℕ) (each : IsPermutation (indices (length tasks)) order) (agents : length plan ≡ length tasks) where
   place_by : (i : ℕ) → (i < length tasks) ⊎ (length tasks ≤ i) → ℕ
   place_by i (inl h) = (place_of_agent (length tasks) order each i h).0
   place_by i (inr h) = 0
@@ -147,7 +148,7 @@ module _ (passable : Place → Bool) (tasks : List Task) (plan : Plan) (order : 
         (cycle-by (motion_of plan) (motion_of (paths_by order plan)) (length tasks) place places_apart same_cell ring (λ k e h. here (get_or ring k e) (inside k e h)) x w);
   }
 
-pub in_order_free : (passable : Place → Bool) (tasks : List Task) (horizon : ℕ) (order : List ℕ) (plan : Plan) → IsPermutation (agent_numbers (length tasks)) order → length plan ≡ length tasks → IsMadeInOrder passable tasks horizon order plan → IsConflictFree passable tasks plan
+pub in_order_free : (passable : Place → Bool) (tasks : List Task) (horizon : ℕ) (order : List ℕ) (plan : Plan) → IsPermutation (indices (length tasks)) order → length plan ≡ length tasks → IsMadeInOrder passable tasks horizon order plan → IsConflictFree passable tasks plan
 in_order_free passable tasks horizon order plan each agents m =
     let made : IsPrioritisedPlan passable (tasks_by order tasks) horizon (length (tasks_by order tasks)) (paths_by order plan) =
     subst (λ z. IsPrioritisedPlan passable (tasks_by order tasks) horizon z (paths_by order plan)) (sym (length-map order (λ a. get_or tasks a no_task))) m in

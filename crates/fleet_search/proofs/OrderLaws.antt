@@ -8,36 +8,37 @@ use Rattle.std.proofs.lemmas.List.{get_or-map, length-map, length_push, get_or_p
 use Rattle.std.proofs.lemmas.List.FromFn.{length-range_with_len, get_or-range_with_len}
 use Rattle.std.proofs.lemmas.List.Sorted.{length_permutation, All-permutation, Contains-permutation, IsPermutation-sym, IsPermutation-trans, IsPermutation-insert}
 use Rattle.std.proofs.lemmas.Map.Keys.{IsDistinct-IsPermutation, apart_from_distinct}
+use Rattle.fleet_model.specs.Machine.{indices}
 use Rattle.fleet_model.specs.declared.geometry.Cell.{Cell}
 use Rattle.fleet_model.specs.declared.geometry.Place.{Place}
 use Rattle.fleet_model.specs.declared.task.Task.{Task}
 use Rattle.fleet_plan.specs.Plan.{Plan}
 use Rattle.fleet_search.specs.InTurn.{IsPrioritisedPlan, HasNoPathFor}
-use Rattle.fleet_search.specs.Orders.{no_task, tasks_by, paths_by, agent_numbers, to_front, IsMadeInOrder, IsStuckInOrder, IsOrderAfter, IsMadeInTries, IsStuckInTries}
+use Rattle.fleet_search.specs.Orders.{no_task, tasks_by, paths_by, to_front, IsMadeInOrder, IsStuckInOrder, IsOrderAfter, IsMadeInTries, IsStuckInTries}
 
 -- ---- each agent once
 
-get_or-agent_numbers : (n i d : ℕ) → i < n → get_or (agent_numbers n) i d ≡ i
-get_or-agent_numbers n i d h =
-    let e : get_or (agent_numbers n) i d ≡ 0 + i = get_or-range_with_len 0 n i d h in
+get_or-indices : (n i d : ℕ) → i < n → get_or (indices n) i d ≡ i
+get_or-indices n i d h =
+    let e : get_or (indices n) i d ≡ 0 + i = get_or-range_with_len 0 n i d h in
     omega arith
 
-pub order-length : (n : ℕ) (order : List ℕ) → IsPermutation (agent_numbers n) order → length order ≡ n
-order-length n order p = length_permutation (agent_numbers n) order p ∙ length-range_with_len 0 n
+pub order-length : (n : ℕ) (order : List ℕ) → IsPermutation (indices n) order → length order ≡ n
+order-length n order p = length_permutation (indices n) order p ∙ length-range_with_len 0 n
 
-pub agents_below : (n : ℕ) (order : List ℕ) → IsPermutation (agent_numbers n) order → (k d : ℕ) → k < length order → get_or order k d < n
-agents_below n order p = All-permutation (λ a. a < n) (agent_numbers n) order p below
+pub agents_below : (n : ℕ) (order : List ℕ) → IsPermutation (indices n) order → (k d : ℕ) → k < length order → get_or order k d < n
+agents_below n order p = All-permutation (λ a. a < n) (indices n) order p below
   where
-    below : All (λ a. a < n) (agent_numbers n)
+    below : All (λ a. a < n) (indices n)
     below k d h =
         let few : k < n = omega (arith, length-range_with_len 0 n) in
-        let e : get_or (agent_numbers n) k d ≡ 0 + k = get_or-range_with_len 0 n k d few in
+        let e : get_or (indices n) k d ≡ 0 + k = get_or-range_with_len 0 n k d few in
         omega arith
 
 -- the place of an agent in the order
-pub place_of_agent : (n : ℕ) (order : List ℕ) → IsPermutation (agent_numbers n) order → (i : ℕ) → i < n → Contains order i
-place_of_agent n order p i h = Contains-permutation (agent_numbers n) order i p
-    (i, subst (λ z. i < z) (sym (length-range_with_len 0 n)) h, get_or-agent_numbers n i i h)
+pub place_of_agent : (n : ℕ) (order : List ℕ) → IsPermutation (indices n) order → (i : ℕ) → i < n → Contains order i
+place_of_agent n order p i h = Contains-permutation (indices n) order i p
+    (i, subst (λ z. i < z) (sym (length-range_with_len 0 n)) h, get_or-indices n i i h)
 
 later_apart : (a b n : ℕ) → a < b → AllByRecursion (λ y. eqb a y ≡ false) (range_with_len b n)
 later_apart a b zero h = tt
@@ -57,9 +58,9 @@ eqb-flips a b = elim (cases_eq a b) [
   | inr ne ↦ ne_eqb a b ne ∙ sym (ne_eqb b a (λ e. ne (sym e)))
 ]
 
-pub agents_apart : (n : ℕ) (order : List ℕ) → IsPermutation (agent_numbers n) order → (i k d : ℕ) → i < k → k < length order → get_or order i d ≢ get_or order k d
+pub agents_apart : (n : ℕ) (order : List ℕ) → IsPermutation (indices n) order → (i k d : ℕ) → i < k → k < length order → get_or order i d ≢ get_or order k d
 agents_apart n order p i k d l h =
-    eqb-false _ _ (apart_from_distinct eqb order i k d (IsDistinct-IsPermutation eqb eqb-flips (agent_numbers n) order p (range-distinct 0 n)) l h)
+    eqb-false _ _ (apart_from_distinct eqb order i k d (IsDistinct-IsPermutation eqb eqb-flips (indices n) order p (range-distinct 0 n)) l h)
 
 -- ---- an agent comes first
 
@@ -68,7 +69,7 @@ inserted_again [] i d h = absurd (omega arith)
 inserted_again (x ∷ xs) zero d h = refl
 inserted_again (x ∷ xs) (suc i) d h = ap (λ z. x ∷ z) (inserted_again xs i d (omega arith))
 
-pub order_with_raised : (n : ℕ) (order : List ℕ) (place : ℕ) → IsPermutation (agent_numbers n) order → place < length order → IsPermutation (agent_numbers n) (to_front order place)
+pub order_with_raised : (n : ℕ) (order : List ℕ) (place : ℕ) → IsPermutation (indices n) order → place < length order → IsPermutation (indices n) (to_front order place)
 order_with_raised n order place p h =
     let back : IsPermutation (to_front order place) (insert (remove order place) place (get_or order place 0)) = IsPermutation-insert (remove order place) place (get_or order place 0) in
     IsPermutation-trans _ _ _ p (IsPermutation-sym _ _ (subst (IsPermutation (to_front order place)) (inserted_again order place 0 h) back))
@@ -91,11 +92,11 @@ module _ (passable : Place → Bool) (tasks : List Task) (horizon : ℕ) where
   order_after-again n (suc more) order h after stuck = rw suc-add
       (order, 0, order_after-again n more order h after stuck, stuck, sym (order_with_raised-first order h))
 
-  pub order_after-none : IsOrderAfter passable tasks horizon 0 (agent_numbers (length tasks))
+  pub order_after-none : IsOrderAfter passable tasks horizon 0 (indices (length tasks))
   unfolding IsOrderAfter
   order_after-none = refl
 
-  pub order_after-none_is : (order : List ℕ) → IsOrderAfter passable tasks horizon 0 order → order ≡ agent_numbers (length tasks)
+  pub order_after-none_is : (order : List ℕ) → IsOrderAfter passable tasks horizon 0 order → order ≡ indices (length tasks)
   unfolding IsOrderAfter
   order_after-none_is order after = after
 
@@ -104,14 +105,14 @@ module _ (passable : Place → Bool) (tasks : List Task) (horizon : ℕ) where
 pub get_or-by : {X : Type 0} (xs : List X) (d e : X) (order : List ℕ) (k : ℕ) → k < length order → get_or (map (λ a. get_or xs a d) order) k e ≡ get_or xs (get_or order k 0) d
 get_or-by xs d e order k h = get_or-map (λ a. get_or xs a d) order k 0 e h
 
-map-agent_numbers : {X : Type 0} (xs : List X) (d : X) → map (λ a. get_or xs a d) (agent_numbers (length xs)) ≡ xs
-map-agent_numbers xs d = ext_get_or d _ xs (length-map (agent_numbers (length xs)) (λ a. get_or xs a d) ∙ length-range_with_len 0 (length xs)) same
+map-indices : {X : Type 0} (xs : List X) (d : X) → map (λ a. get_or xs a d) (indices (length xs)) ≡ xs
+map-indices xs d = ext_get_or d _ xs (length-map (indices (length xs)) (λ a. get_or xs a d) ∙ length-range_with_len 0 (length xs)) same
   where
-    same : (i : ℕ) → i < length (map (λ a. get_or xs a d) (agent_numbers (length xs))) → get_or (map (λ a. get_or xs a d) (agent_numbers (length xs))) i d ≡ get_or xs i d
+    same : (i : ℕ) → i < length (map (λ a. get_or xs a d) (indices (length xs))) → get_or (map (λ a. get_or xs a d) (indices (length xs))) i d ≡ get_or xs i d
     same i h =
-        let few : i < length (agent_numbers (length xs)) = subst (λ z. i < z) (length-map (agent_numbers (length xs)) (λ a. get_or xs a d)) h in
+        let few : i < length (indices (length xs)) = subst (λ z. i < z) (length-map (indices (length xs)) (λ a. get_or xs a d)) h in
         let few' : i < length xs = subst (λ z. i < z) (length-range_with_len 0 (length xs)) few in
-        get_or-by xs d d (agent_numbers (length xs)) i few ∙ ap (λ z. get_or xs z d) (get_or-agent_numbers (length xs) i 0 few')
+        get_or-by xs d d (indices (length xs)) i few ∙ ap (λ z. get_or xs z d) (get_or-indices (length xs) i 0 few')
 
 pub task_in_order : (tasks : List Task) (order : List ℕ) (place agent : ℕ) → slice_get order place ≡ Some agent → agent < length tasks → slice_get (tasks_by order tasks) place ≡ slice_get tasks agent
 task_in_order tasks order place agent e h =
@@ -121,25 +122,25 @@ module _ (passable : Place → Bool) (tasks : List Task) (horizon : ℕ) where
   pub one_try-made : (plan : Plan) → IsMadeInTries passable tasks horizon 1 plan → IsPrioritisedPlan passable tasks horizon (length tasks) plan
   one_try-made plan m =
       let none : m.failed ≡ 0 = (let f : m.failed ≤ 1 - 1 = m.few in omega arith) in
-      let is : m.order ≡ agent_numbers (length tasks) = order_after-none_is passable tasks horizon m.order (subst (λ z. IsOrderAfter passable tasks horizon z m.order) none m.after) in
-      let made : IsMadeInOrder passable tasks horizon (agent_numbers (length tasks)) plan = subst (λ z. IsMadeInOrder passable tasks horizon z plan) is m.made in
-      let by_paths : paths_by (agent_numbers (length tasks)) plan ≡ plan = ap (λ z. paths_by (agent_numbers z) plan) (sym m.agents) ∙ map-agent_numbers plan [] in
+      let is : m.order ≡ indices (length tasks) = order_after-none_is passable tasks horizon m.order (subst (λ z. IsOrderAfter passable tasks horizon z m.order) none m.after) in
+      let made : IsMadeInOrder passable tasks horizon (indices (length tasks)) plan = subst (λ z. IsMadeInOrder passable tasks horizon z plan) is m.made in
+      let by_paths : paths_by (indices (length tasks)) plan ≡ plan = ap (λ z. paths_by (indices z) plan) (sym m.agents) ∙ map-indices plan [] in
       subst (IsPrioritisedPlan passable tasks horizon (length tasks)) by_paths
-      (subst (λ z. IsPrioritisedPlan passable tasks horizon z (paths_by (agent_numbers (length tasks)) plan)) (length-range_with_len 0 (length tasks))
-      (subst (λ z. IsPrioritisedPlan passable z horizon (length (agent_numbers (length tasks))) (paths_by (agent_numbers (length tasks)) plan)) (map-agent_numbers tasks no_task) made))
+      (subst (λ z. IsPrioritisedPlan passable tasks horizon z (paths_by (indices (length tasks)) plan)) (length-range_with_len 0 (length tasks))
+      (subst (λ z. IsPrioritisedPlan passable z horizon (length (indices (length tasks))) (paths_by (indices (length tasks)) plan)) (map-indices tasks no_task) made))
 
   pub one_try-stuck : (agent : ℕ) → IsStuckInTries passable tasks horizon 1 agent → HasNoPathFor passable tasks horizon agent
   one_try-stuck agent s =
-      let is : s.order ≡ agent_numbers (length tasks) = order_after-none_is passable tasks horizon s.order s.after in
-      let here : slice_get (agent_numbers (length tasks)) s.place ≡ Some agent = subst (λ z. slice_get z s.place ≡ Some agent) is s.here in
-      let few : s.place < length tasks = subst (λ z. s.place < z) (length-range_with_len 0 (length tasks)) (slice_get_within (agent_numbers (length tasks)) s.place agent here) in
-      let same : s.place ≡ agent = sym (get_or-agent_numbers (length tasks) s.place 0 few) ∙ get_or_from_slice_get (agent_numbers (length tasks)) s.place agent 0 here in
-      let stuck : HasNoPathFor passable (tasks_by (agent_numbers (length tasks)) tasks) horizon s.place = subst (λ z. IsStuckInOrder passable tasks horizon z s.place) is s.stuck in
-      subst (HasNoPathFor passable tasks horizon) same (subst (λ z. HasNoPathFor passable z horizon s.place) (map-agent_numbers tasks no_task) stuck)
+      let is : s.order ≡ indices (length tasks) = order_after-none_is passable tasks horizon s.order s.after in
+      let here : slice_get (indices (length tasks)) s.place ≡ Some agent = subst (λ z. slice_get z s.place ≡ Some agent) is s.here in
+      let few : s.place < length tasks = subst (λ z. s.place < z) (length-range_with_len 0 (length tasks)) (slice_get_within (indices (length tasks)) s.place agent here) in
+      let same : s.place ≡ agent = sym (get_or-indices (length tasks) s.place 0 few) ∙ get_or_from_slice_get (indices (length tasks)) s.place agent 0 here in
+      let stuck : HasNoPathFor passable (tasks_by (indices (length tasks)) tasks) horizon s.place = subst (λ z. IsStuckInOrder passable tasks horizon z s.place) is s.stuck in
+      subst (HasNoPathFor passable tasks horizon) same (subst (λ z. HasNoPathFor passable z horizon s.place) (map-indices tasks no_task) stuck)
 
 -- the last of so many orders leaves the agent at the place without a path: there are no more, or the agent is first
 -- already
-pub stuck_in_tries : (passable : Place → Bool) (tasks : List Task) (horizon tries failed : ℕ) (order : List ℕ) (place agent : ℕ) → failed ≤ tries - 1 → IsPermutation (agent_numbers (length tasks)) order → IsOrderAfter passable tasks horizon failed order → IsStuckInOrder passable tasks horizon order place → place < length order → agent ≡ get_or order place 0 → (place ≡ 0) ⊎ (tries ≤ failed + 1) → IsStuckInTries passable tasks horizon tries agent
+pub stuck_in_tries : (passable : Place → Bool) (tasks : List Task) (horizon tries failed : ℕ) (order : List ℕ) (place agent : ℕ) → failed ≤ tries - 1 → IsPermutation (indices (length tasks)) order → IsOrderAfter passable tasks horizon failed order → IsStuckInOrder passable tasks horizon order place → place < length order → agent ≡ get_or order place 0 → (place ≡ 0) ⊎ (tries ≤ failed + 1) → IsStuckInTries passable tasks horizon tries agent
 stuck_in_tries passable tasks horizon tries failed order place agent few each after stuck l is last = record {
   order = order;
   each_once = each;
@@ -178,7 +179,7 @@ last_left paths old rest path front items =
 abbrev pub ArePlaced : List ℕ → (paths plan : Plan) → ℕ → Type 0
 ArePlaced order paths plan from = (k : ℕ) → from ≤ k → k < length order → get_or plan (get_or order k 0) [] ≡ get_or paths k []
 
-pub placed-more : (n : ℕ) (order : List ℕ) → IsPermutation (agent_numbers n) order → (paths plan : Plan) (from agent : ℕ) (path : List Cell) → length plan ≡ n → from < length order → agent ≡ get_or order from 0 → path ≡ get_or paths from [] → ArePlaced order paths plan (from + 1) → ArePlaced order paths (set plan agent path) from
+pub placed-more : (n : ℕ) (order : List ℕ) → IsPermutation (indices n) order → (paths plan : Plan) (from agent : ℕ) (path : List Cell) → length plan ≡ n → from < length order → agent ≡ get_or order from 0 → path ≡ get_or paths from [] → ArePlaced order paths plan (from + 1) → ArePlaced order paths (set plan agent path) from
 placed-more n order p paths plan from agent path long l is e done k a b = elim (cases_eq k from) [
   | inl same ↦
       let here : get_or order k 0 ≡ agent = ap (λ z. get_or order z 0) same ∙ sym is in

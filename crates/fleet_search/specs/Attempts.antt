@@ -1,5 +1,6 @@
 -- The outcome of planning in one order.
 use Rattle.std.specs.Prelude.{◌≡◌, ℕ, ◌<◌, ◌≤◌, Bool, true, false, List, [], ◌∷◌, ◌++◌, length, get_or, take, drop, slice_get, Some, IsPermutation}
+use Rattle.fleet_model.specs.Machine.{indices}
 use Rattle.fleet_model.specs.declared.geometry.Cell.{Cell}
 use Rattle.fleet_model.specs.declared.task.Task.{Task}
 use Rattle.fleet_plan.specs.Plan.{Plan}
@@ -7,7 +8,7 @@ use Rattle.fleet_search.specs.Way.{Fits}
 use Rattle.fleet_search.specs.Earliest.{IsEarliest, IsInfeasible}
 use Rattle.fleet_grid.specs.Ground.{is_passable}
 use Rattle.fleet_search.specs.InTurn.{IsPrioritisedPlan}
-use Rattle.fleet_search.specs.Orders.{agent_numbers, tasks_by, IsStuckInOrder}
+use Rattle.fleet_search.specs.Orders.{tasks_by, IsStuckInOrder}
 use Rattle.fleet_search.specs.declared.orders.Problem.{Problem}
 use Rattle.fleet_search.specs.declared.orders.Tables.{Tables}
 use Rattle.fleet_search.specs.declared.orders.Attempt.{Attempt}
@@ -19,7 +20,7 @@ AreTables problem tables = tables.distances.grid ≡ problem.grid.now
 
 -- the agents of the instance, each once
 abbrev pub IsOrderOf : Problem → List ℕ → Type 0
-IsOrderOf problem order = IsPermutation (agent_numbers (length problem.instance.now)) order
+IsOrderOf problem order = IsPermutation (indices (length problem.instance.now)) order
 
 -- the agent's earliest path past the old ones that arrives by the horizon is the last of the new ones; or it has none,
 -- and they stay

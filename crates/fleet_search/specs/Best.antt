@@ -1,9 +1,10 @@
 -- The best of the plans that several orders make.
 use Rattle.std.specs.Prelude.{◌≡◌, ℕ, ◌-◌, ◌<◌, ◌≤◌, max, Bool, List, [], ◌∷◌, length, slice_get, Some, ⊤}
+use Rattle.fleet_model.specs.Machine.{indices}
 use Rattle.fleet_model.specs.declared.geometry.Place.{Place}
 use Rattle.fleet_model.specs.declared.task.Task.{Task}
 use Rattle.fleet_plan.specs.Plan.{Plan}
-use Rattle.fleet_search.specs.Orders.{agent_numbers, to_front, IsMadeInOrder, IsStuckInOrder}
+use Rattle.fleet_search.specs.Orders.{to_front, IsMadeInOrder, IsStuckInOrder}
 
 -- what came of an order: a plan with its measure, or the place of the agent that was left without a path
 pub data Outcome : Type 0 where
@@ -49,5 +50,5 @@ pub record IsFirstLeast (outcomes : List Outcome) (plan : Plan) (measure : ℕ) 
 pub record IsBestInTries (passable : Place → Bool) (tasks : List Task) (horizon : ℕ) (Measures : Plan → ℕ → Type 0) (tries : ℕ) (plan : Plan) (measure : ℕ) : Type 0 where
   pub outcomes : List Outcome
   pub all : length outcomes ≡ max tries 1
-  pub tried : AreOutcomes passable tasks horizon Measures (agent_numbers (length tasks)) outcomes
+  pub tried : AreOutcomes passable tasks horizon Measures (indices (length tasks)) outcomes
   pub best : IsFirstLeast outcomes plan measure

@@ -1,7 +1,8 @@
 -- Plans that are made agent by agent in several orders: an agent that is left without a path comes first in the next
 -- one.
 use Rattle.std.specs.Prelude.{◌≡◌, ℕ, zero, suc, ◌≤◌, ◌+◌, ◌-◌, Bool, List, [], ◌∷◌, length, map, get_or, IsPermutation, slice_get, Some}
-use Rattle.std.specs.List.{range_with_len, remove}
+use Rattle.std.specs.List.{remove}
+use Rattle.fleet_model.specs.Machine.{indices}
 use Rattle.fleet_model.specs.declared.geometry.Place.{Place}
 use Rattle.fleet_model.specs.declared.task.Task.{Task}
 use Rattle.fleet_model.specs.Program.{origin}
@@ -20,10 +21,6 @@ tasks_by order tasks = map (λ agent. get_or tasks agent no_task) order
 abbrev pub paths_by : List ℕ → Plan → Plan
 paths_by order plan = map (λ agent. get_or plan agent []) order
 
--- the numbers of so many agents, rising
-abbrev pub agent_numbers : ℕ → List ℕ
-agent_numbers n = range_with_len 0 n
-
 -- the agent at the place comes first, and the others follow as they did
 abbrev pub to_front : List ℕ → ℕ → List ℕ
 to_front order place = get_or order place 0 ∷ remove order place
@@ -40,7 +37,7 @@ IsStuckInOrder passable tasks horizon order place = HasNoPathFor passable (tasks
 -- the order comes after so many others: none comes before that of the agents' numbers, and after an order that leaves
 -- an agent without a path comes the one in which that agent is first
 unfoldable pub IsOrderAfter : (Place → Bool) → List Task → ℕ → ℕ → List ℕ → Type 0
-IsOrderAfter passable tasks horizon zero order = order ≡ agent_numbers (length tasks)
+IsOrderAfter passable tasks horizon zero order = order ≡ indices (length tasks)
 IsOrderAfter passable tasks horizon (suc n) order =
     (before : List ℕ) × (place : ℕ) × IsOrderAfter passable tasks horizon n before × IsStuckInOrder passable tasks horizon before place × (order ≡ to_front before place)
 
@@ -48,7 +45,7 @@ IsOrderAfter passable tasks horizon (suc n) order =
 pub record IsMadeInTries (passable : Place → Bool) (tasks : List Task) (horizon tries : ℕ) (plan : Plan) : Type 0 where
   pub agents : length plan ≡ length tasks
   pub order : List ℕ
-  pub each_once : IsPermutation (agent_numbers (length tasks)) order
+  pub each_once : IsPermutation (indices (length tasks)) order
   pub failed : ℕ
   pub few : failed ≤ tries - 1
   pub after : IsOrderAfter passable tasks horizon failed order
@@ -62,7 +59,7 @@ pub record IsMadeInTry (passable : Place → Bool) (tasks : List Task) (horizon 
 -- in the last of the first `tries` orders (the first if that is 0) those before the agent leave it without a path
 pub record IsStuckInTries (passable : Place → Bool) (tasks : List Task) (horizon tries agent : ℕ) : Type 0 where
   pub order : List ℕ
-  pub each_once : IsPermutation (agent_numbers (length tasks)) order
+  pub each_once : IsPermutation (indices (length tasks)) order
   pub after : IsOrderAfter passable tasks horizon (tries - 1) order
   pub place : ℕ
   pub here : slice_get order place ≡ Some agent

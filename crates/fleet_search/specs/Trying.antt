@@ -1,8 +1,9 @@
 -- Orders that are tried one after another, to find the best of their plans.
 use Rattle.std.specs.Prelude.{◌≡◌, ℕ, ◌<◌, List, length, slice_get, Option, Some, None, ⊤}
+use Rattle.fleet_model.specs.Machine.{indices}
 use Rattle.fleet_plan.specs.Plan.{Plan}
 use Rattle.fleet_grid.specs.Ground.{is_passable}
-use Rattle.fleet_search.specs.Orders.{agent_numbers, tasks_by, IsOrderAfter}
+use Rattle.fleet_search.specs.Orders.{tasks_by, IsOrderAfter}
 use Rattle.fleet_search.specs.InTurn.{IsPrioritisedPlan}
 use Rattle.fleet_search.specs.Attempts.{IsOrderOf, IsMadeAfterFirst}
 use Rattle.fleet_search.specs.Best.{Outcome, Planned, NoPathAt, order_after, order_after_all, IsOutcome, AreOutcomes, IsFirstLeast}
@@ -57,6 +58,6 @@ IsBestOf problem order outcomes (Some m) = IsFirstLeast outcomes m.checked.plan 
 pub record IsBestSoFar (problem : Problem) (Measures : Plan → ℕ → Type 0) (order : List ℕ) (tried : ℕ) (best : Option Measured) : Type 0 where
   pub outcomes : List Outcome
   pub all : length outcomes ≡ tried
-  pub came : AreOutcomes (is_passable problem.grid.now) problem.instance.now problem.horizon Measures (agent_numbers (length problem.instance.now)) outcomes
-  pub next : order ≡ order_after_all (agent_numbers (length problem.instance.now)) outcomes
+  pub came : AreOutcomes (is_passable problem.grid.now) problem.instance.now problem.horizon Measures (indices (length problem.instance.now)) outcomes
+  pub next : order ≡ order_after_all (indices (length problem.instance.now)) outcomes
   pub is_best : IsBestOf problem order outcomes best

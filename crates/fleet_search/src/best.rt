@@ -3,7 +3,8 @@
 ghost use Rattle.std.specs.Prelude.{◌≡◌, ◌-◌, ◌<◌, ◌≤◌, ℕ, true, false, length, take, max, IfOk, IfErr, OnOk, IfSome, IfNone};
 ghost use Rattle.fleet_plan.specs.Plan.{IsConflictFree};
 ghost use Rattle.fleet_grid.specs.Ground.{is_passable};
-ghost use Rattle.fleet_search.specs.Orders.{agent_numbers, to_front, IsStuckInOrder, IsStuckInTries};
+ghost use Rattle.fleet_model.specs.Machine.{indices};
+ghost use Rattle.fleet_search.specs.Orders.{to_front, IsStuckInOrder, IsStuckInTries};
 ghost use Rattle.fleet_search.specs.Attempts.{AreTables, AreReservedInOrder};
 ghost use Rattle.fleet_search.specs.Best.{IsBestInTries};
 ghost use Rattle.fleet_search.specs.Trying.{IsTurn, IsMadeBefore, IsFor, IsTried};
@@ -15,6 +16,7 @@ use crate::frontier::Frontier;
 use crate::orders::{
     Attempt, Problem, Tables, checked_of, first_order, is_last_try, plan_in_order, raise,
 };
+use crate::reservations::copy_path;
 use fleet_grid::Grid;
 use fleet_model::OutOfMemory;
 use fleet_plan::{Checked, Path};
@@ -54,14 +56,6 @@ fn copy_paths(alloc: Global, paths: &[Path], count: usize) -> Result<Vec<Path>, 
         copy.push(copy_path(alloc, &paths[i])?)?;
     }
     Ok(copy)
-}
-
-/// The same path.
-fn copy_path(alloc: Global, path: &Path) -> Result<Path, OutOfMemory>
-    ensures { IfOk result (λ copy. copy ≡ path.now) }
-{
-    let cells = Vec::from_slice(alloc, path.cells())?;
-    Ok(Path::new(cells))
 }
 
 /// All paths of an order but the last.
@@ -194,7 +188,7 @@ fn best_from<'g, M: Measure>(
     turn: &mut Turn,
     tables: &mut Tables<'_>,
 ) -> Result<Measured<'g>, PlanStop>
-    requires first { turn.old.order.items ≡ agent_numbers (length problem.now.instance.now) }
+    requires first { turn.old.order.items ≡ indices (length problem.now.instance.now) }
     requires turn { IsTurn problem.now turn.old }
     requires tables { AreTables problem.now tables.old }
     ensures best { IfOk result (λ m. IsBestInTries (is_passable problem.now.grid.now)

@@ -5,7 +5,8 @@ ghost use Rattle.std.specs.Prelude.{◌≡◌, ◌+◌, ◌<◌, ◌≤◌, ◌�
 ghost use Rattle.fleet_plan.specs.Plan.{IsConflictFree};
 ghost use Rattle.fleet_grid.specs.Ground.{is_passable};
 ghost use Rattle.fleet_search.specs.Way.{Fits};
-ghost use Rattle.fleet_search.specs.Orders.{agent_numbers, to_front, paths_by, IsMadeInOrder, IsMadeInTries, IsMadeInTry, IsStuckInTries};
+ghost use Rattle.fleet_model.specs.Machine.{indices};
+ghost use Rattle.fleet_search.specs.Orders.{to_front, paths_by, IsMadeInOrder, IsMadeInTries, IsMadeInTry, IsStuckInTries};
 ghost use Rattle.fleet_search.specs.Attempts.{AreTables, ArePathsKept, IsPathAdded, IsMadeAfterFirst, IsOrderOf, AreReservedInOrder, IsAttempt, IsOldPath};
 ghost use Rattle.fleet_search.specs.InTurn.{IsPrioritisedPlan, HasNoPathFor};
 
@@ -220,7 +221,7 @@ fn reserve_in_order(
 
 /// The order that is tried first: the numbers of the agents, rising.
 pub(crate) fn first_order(alloc: Global, agents: u16) -> Result<Vec<u16>, OutOfMemory>
-    ensures { IfOk result (λ order. order.items ≡ agent_numbers agents) }
+    ensures { IfOk result (λ order. order.items ≡ indices agents) }
 {
     Ok(agent_numbers(alloc, agents)?)
 }
@@ -295,7 +296,7 @@ fn plan_from(
     order: &mut Vec<u16>,
     tables: &mut Tables<'_>,
 ) -> Result<MadePlan, PlanStop>
-    requires order { order.old.items ≡ agent_numbers (length problem.now.instance.now) }
+    requires order { order.old.items ≡ indices (length problem.now.instance.now) }
     requires some { 1 ≤ length problem.now.instance.now }
     requires tables { AreTables problem.now tables.old }
     ensures made { IfOk result (λ m. IsMadeInTry (is_passable problem.now.grid.now)
@@ -351,6 +352,24 @@ fn plan_by_number(problem: &Problem<'_>, order: &[u16], paths: Vec<Path>) -> Res
     }
 }
 
+/// A plan that is free of conflict, as checked.
+fn checked<'g>(problem: &Problem<'g>, plan: Plan) -> Result<Checked<'g>, PlanStop>
+    requires { IsConflictFree (is_passable problem.now.grid.now) problem.now.instance.now plan }
+    ensures plan { IfOk result (λ checked. checked.plan ≡ plan) }
+    ensures grid { IfOk result (λ checked. checked.grid ≡ problem.now.grid.now) }
+    ensures instance { IfOk result (λ checked. checked.instance ≡ problem.now.instance.now) }
+    ensures memory { IfErr result (λ e. e ≡ PlanStop.OutOfMemory) }
+{
+    match check(problem.alloc, plan, problem.grid, problem.instance) {
+        Ok(checked) => Ok(checked),
+        Err(refusal) => match refusal.fault {
+            PlanFault::OutOfMemory => Err(PlanStop::OutOfMemory),
+            // The plan is right and free of conflict.
+            _ => unreachable!(),
+        },
+    }
+}
+
 /// The plan of the paths of an order, each the earliest past those before it: it is free of conflict.
 pub(crate) fn checked_of<'g>(
     problem: &Problem<'g>,
@@ -368,14 +387,7 @@ pub(crate) fn checked_of<'g>(
     ensures memory { IfErr result (λ e. e ≡ PlanStop.OutOfMemory) }
 {
     let plan = plan_by_number(problem, order, paths)?;
-    match check(problem.alloc, plan, problem.grid, problem.instance) {
-        Ok(checked) => Ok(checked),
-        Err(refusal) => match refusal.fault {
-            PlanFault::OutOfMemory => Err(PlanStop::OutOfMemory),
-            // The plan is right and free of conflict.
-            _ => unreachable!(),
-        },
-    }
+    checked(problem, plan)
 }
 
 /// Plans agent by agent in up to `tries` orders, and answers the first plan that is found and how many orders were tried
@@ -409,14 +421,8 @@ pub fn first_in_orders<'g>(
     };
     let made = plan_in_turns(&problem, tries)?;
     let tried = made.tried;
-    match check(alloc, made.plan, grid, instance) {
-        Ok(checked) => Ok(Found { checked, tried }),
-        Err(refusal) => match refusal.fault {
-            PlanFault::OutOfMemory => Err(PlanStop::OutOfMemory),
-            // The plan is right and free of conflict.
-            _ => unreachable!(),
-        },
-    }
+    let checked = checked(&problem, made.plan)?;
+    Ok(Found { checked, tried })
 }
 
 /// Plans in up to `tries` orders as `first_in_orders` does, and answers the plan alone.

@@ -34,8 +34,8 @@ impl Model for Reservations {
     ghost invariant = { λ r. AreReserved r.paths.items r.table };
 }
 
-/// A copy of the path.
-fn copy_of(alloc: Global, path: &Path) -> Result<Path, OutOfMemory>
+/// The same path.
+pub(crate) fn copy_path(alloc: Global, path: &Path) -> Result<Path, OutOfMemory>
     ensures { IfOk result (λ p. p ≡ path.now) }
 {
     let cells = Vec::from_slice(alloc, path.cells())?;
@@ -179,7 +179,7 @@ impl Reservations {
         ensures ok { OnOk result (self.new ≡ self.old ++ path.now ∷ []) }
         ensures err { OnErr result (self.new ≡ self.old) }
     {
-        let copy = copy_of(self.alloc, path)?;
+        let copy = copy_path(self.alloc, path)?;
         self.paths.reserve(1)?;
         self.table.insert(self.paths.as_slice(), path)?;
         self.paths.push(copy)?;

@@ -5,8 +5,8 @@ use Rattle.fleet_search.specs.Orders.{tasks_by, IsMadeInOrder}
 use Rattle.fleet_search.proofs.OrderConflicts.{in_order_free}
 use Rattle.fleet_search.proofs.orders.checked_of.Goals as goal
 
-pub unreachable-requires : goal.unreachable-requires
-unreachable-requires c =
+pub checked-requires : goal.checked-requires
+checked-requires c =
     let passable = is_passable c.args.problem.now.grid.now in
     let tasks = c.args.problem.now.instance.now in
     let horizon = c.args.problem.now.horizon in
@@ -14,5 +14,4 @@ unreachable-requires c =
     let plan = c.in_ok-plan.plan in
     let made : IsMadeInOrder passable tasks horizon order plan =
     subst (IsPrioritisedPlan passable (tasks_by order tasks) horizon (length order)) (sym c.in_ok-plan.ensures.plan.1) c.requires.paths in
-    c.in-Err.ensures.wrong c.in_default.not-OutOfMemory
-    (in_order_free passable tasks horizon order plan c.requires.order c.in_ok-plan.ensures.plan.0 made)
+    in_order_free passable tasks horizon order plan c.requires.order c.in_ok-plan.ensures.plan.0 made

@@ -4,8 +4,9 @@ use Rattle.std.proofs.lemmas.List.FromFn.{length-range_with_len}
 use Rattle.std.proofs.lemmas.List.Sorted.{IsPermutation-refl}
 use Rattle.std.proofs.lemmas.List.{get_or_default}
 use Rattle.std.proofs.lemmas.Result.{err_from_is_err_and}
+use Rattle.fleet_model.specs.Machine.{indices}
 use Rattle.fleet_grid.specs.Ground.{is_passable}
-use Rattle.fleet_search.specs.Orders.{tasks_by, paths_by, agent_numbers, to_front, IsOrderAfter, IsStuckInOrder, IsStuckInTries}
+use Rattle.fleet_search.specs.Orders.{tasks_by, paths_by, to_front, IsOrderAfter, IsStuckInOrder, IsStuckInTries}
 use Rattle.fleet_search.specs.InTurn.{IsPrioritisedPlan}
 use Rattle.fleet_search.proofs.InTurnLaws.{same_agent}
 use Rattle.fleet_search.proofs.KeptPaths.{none_made, made_after_raise}
@@ -16,10 +17,10 @@ use Rattle.fleet_search.proofs.orders.plan_from.Goals as goal
 pub loop-failed-init : goal.loop-failed-init
 loop-failed-init c =
     let tasks = c.args.problem.now.instance.now in
-    let e : c.args.order.now.items ≡ agent_numbers (length tasks) = c.requires.order in
+    let e : c.args.order.now.items ≡ indices (length tasks) = c.requires.order in
     record {
       more = omega arith;
-      each_once = subst (IsPermutation (agent_numbers (length tasks))) (sym e) (IsPermutation-refl (agent_numbers (length tasks)));
+      each_once = subst (IsPermutation (indices (length tasks))) (sym e) (IsPermutation-refl (indices (length tasks)));
       after = subst (IsOrderAfter (is_passable c.args.problem.now.grid.now) tasks c.args.problem.now.horizon 0) (sym e) (order_after-none (is_passable c.args.problem.now.grid.now) tasks c.args.problem.now.horizon);
       tables = c.requires.tables;
       kept = subst (λ z. IsPrioritisedPlan (is_passable c.args.problem.now.grid.now) (drop 1 (tasks_by c.args.order.now.items tasks)) c.args.problem.now.horizon (length z) z) (sym c.new-kept.ensures.items)
@@ -93,7 +94,7 @@ loop-failed-preserved c =
         | inl less ↦ omega arith
         | inr late ↦ absurd (no_from_false c.is_last_try.result c.if-is_last_try.false c.is_last_try.ensures (inr late))
       ];
-      each_once = subst (IsPermutation (agent_numbers (length tasks))) (sym next) (order_with_raised (length tasks) order c.len-place.result i.each_once inside);
+      each_once = subst (IsPermutation (indices (length tasks))) (sym next) (order_with_raised (length tasks) order c.len-place.result i.each_once inside);
       after = order_after-more passable tasks horizon c.loop-failed.failed c.len-place.result order c.raise.new.order.items i.after stuck next;
       tables = c.in_ok-paths.ensures.tables;
       kept =
@@ -102,7 +103,7 @@ loop-failed-preserved c =
           subst (λ z. IsPrioritisedPlan passable (drop 1 (tasks_by z tasks)) horizon (length c.in-Stuck.paths.items) c.in-Stuck.paths.items) (sym (next ∙ ap (to_front order) at))
           (made_after_raise passable tasks horizon order c.in-Stuck.paths.items few made);
       fewer =
-          let long : length c.raise.new.order.items ≡ length tasks = order-length (length tasks) c.raise.new.order.items (subst (IsPermutation (agent_numbers (length tasks))) (sym next) (order_with_raised (length tasks) order c.len-place.result i.each_once inside)) in
+          let long : length c.raise.new.order.items ≡ length tasks = order-length (length tasks) c.raise.new.order.items (subst (IsPermutation (indices (length tasks))) (sym next) (order_with_raised (length tasks) order c.len-place.result i.each_once inside)) in
           let long' : length order ≡ length tasks = order-length (length tasks) order i.each_once in
           omega arith;
     }

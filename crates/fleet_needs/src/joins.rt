@@ -11,7 +11,7 @@ ghost use Rattle.fleet_needs.specs.Joins.{AreJoinsOf, AreJoinsEnd, CanJoin, AreT
 
 use crate::await_places::ActionPlaces;
 use crate::finish_order::FinishOrder;
-use fleet_model::{ActionId, Await, OutOfMemory, ProgramView, total_moves};
+use fleet_model::{ActionId, Await, OutOfMemory, ProgramView, total_awaits, total_moves};
 use std::alloc::Global;
 
 /// A row that is made: that of an action, joined of the row that stands for the agent's action before and of those that
@@ -68,12 +68,27 @@ pub(crate) fn joins_of<P: ProgramView>(
     ensures { IfOk result (AreJoinsEnd
         (P.program program.now) course.now.places.now course.now.wanted.now) }
 {
-    let mut joins = Joins::new(alloc, total_moves(program) as usize)?;
+    let rows = most_rows(program, course.wanted);
+    let mut joins = Joins::new(
+        alloc,
+        total_moves(program) as usize,
+        rows,
+        total_awaits(program),
+    )?;
     let mut counts = vec![in alloc; 0; usize::from(program.agents())]?;
     for t in 0..ticks {
         join_tick(program, course, t, &mut counts, &mut joins)?;
     }
     Ok(joins)
+}
+
+/// How many rows are made at most: one for each await, and one for each action that is wanted to have one.
+fn most_rows<P: ProgramView>(program: &P, wanted: &[bool]) -> u32 {
+    let mut rows = total_awaits(program);
+    for &is_wanted in wanted {
+        rows = rows.saturating_add(u32::from(is_wanted));
+    }
+    rows.min(total_moves(program))
 }
 
 /// Adds the actions that the tick after so many finishes.
@@ -120,16 +135,18 @@ fn is_wanted(course: &Course<'_>, action: ActionId) -> bool
 }
 
 impl Joins {
-    /// No joins yet, of so many actions.
-    fn new(alloc: Global, actions: usize) -> Result<Joins, OutOfMemory>
+    /// No joins yet, of so many actions, with room for so many rows and awaits.
+    fn new(alloc: Global, actions: usize, rows: u32, awaits: u32) -> Result<Joins, OutOfMemory>
         ensures joins { IfOk result (λ m. m.joins.items ≡ []) }
         ensures lasts { IfOk result (λ m. lasts_known m ≡ 1) }
         ensures standing { IfOk result (λ m. room_for m ≡ actions) }
     {
+        let mut lasts = Vec::with_capacity(alloc, rows as usize + 1)?;
+        lasts.push(0)?;
         Ok(Joins {
-            joins: Vec::new(alloc),
-            needs: Vec::new(alloc),
-            lasts: vec![in alloc; 0; 1]?,
+            joins: Vec::with_capacity(alloc, rows as usize)?,
+            needs: Vec::with_capacity(alloc, awaits as usize)?,
+            lasts,
             standing: vec![in alloc; 0; actions]?,
         })
     }

@@ -1,5 +1,5 @@
 -- The costs of critical paths: that of an action from those of what it directly needs.
-use Rattle.std.proofs.Common.{◌≡◌, ℕ, suc, ◌+◌, ◌*◌, ◌≤◌, List, [], ◌∷◌, length, max, refl, ap, sym, subst, ◌∙◌, arith, inl, inr, ◌⊎◌}
+use Rattle.std.proofs.Common.{◌≡◌, ℕ, zero, suc, ◌+◌, ◌*◌, ◌≤◌, List, [], ◌∷◌, length, max, refl, ap, sym, subst, ◌∙◌, arith, inl, inr, ◌⊎◌}
 use Rattle.std.specs.Prelude.{sum_by, slice_get, Some}
 use Rattle.std.proofs.Math.Nat.{max-eq_left, max-eq_right}
 use Rattle.std.proofs.lemmas.Bool.{cases_lt}
@@ -10,13 +10,10 @@ use Rattle.fleet_model.specs.declared.program.ActionId.{ActionId}
 use Rattle.fleet_model.specs.Program.{Program, awaits_of, AreInRange}
 use Rattle.fleet_model.specs.Chain.{IsAction, DirectlyNeeds, ChainFrom, IsCriticalCost, awaited}
 use Rattle.fleet_model.proofs.Chains.{need_action, ends_alone, ends_dearer}
-use Rattle.fleet_needs.specs.Critical.{IsNotedCost, IsGreatestNeed, IsGreatestOf, value_at}
-use Rattle.fleet_needs.specs.Order.{IsNextReady}
-use Rattle.fleet_needs.specs.Settled.{IsFinishedBy, IsFinishTick, IsDoneMid}
-use Rattle.fleet_needs.specs.declared.await_places.ActionPlaces.{ActionPlaces}
+use Rattle.fleet_needs.specs.Critical.{IsNotedCost}
+use Rattle.fleet_needs.specs.Settled.{IsFinishedBy}
 use Rattle.fleet_needs.specs.declared.critical.TheConstants.{MAX_COST}
-use Rattle.fleet_needs.proofs.Free.{next_action, count, needs_done}
-use Rattle.fleet_needs.proofs.Ticking.{finished_here, grows_to}
+use Rattle.fleet_needs.proofs.Free.{needs_before, none_started}
 
 module _ (p : Program) (cost : ActionId → ℕ) where
   -- a chain of more than one action, but for its last
@@ -49,111 +46,37 @@ module _ (p : Program) (cost : ActionId → ℕ) where
   bound_on b m each a (c ∷ cs) h =
       let r = but_last a c cs b h in omega (arith, r.total, each r.before r.needs a r.others r.chain)
 
+  -- an action has one such cost
+  pub one_cost : (b : ActionId) (m n : ℕ) → IsCriticalCost p cost b m → IsCriticalCost p cost b n → m ≡ n
+  one_cost b m n c d = omega (arith, c.most n d.some, d.most m c.some)
+
   -- the greatest of the costs of what an action directly needs, and its own
-  pub critical_from : (value : ActionId → ℕ) (b : ActionId) (m : ℕ) → IsAction p b → ((d : ActionId) → DirectlyNeeds p b d → IsCriticalCost p cost d (value d))
-      → IsGreatestNeed p value b m → IsCriticalCost p cost b (m + cost b)
-  critical_from value b m act each h = record {
-    some = elim h.some [
+  critical_from : (value : ActionId → ℕ) (b : ActionId) (m : ℕ) → IsAction p b → ((d : ActionId) → DirectlyNeeds p b d → IsCriticalCost p cost d (value d)) → ((d : ActionId) → DirectlyNeeds p b d → value d ≤ m)
+      → (m ≡ 0) ⊎ ((d : ActionId) × DirectlyNeeds p b d × IsCriticalCost p cost d m) → IsCriticalCost p cost b (m + cost b)
+  critical_from value b m act each most some = record {
+    some = elim some [
       | inl e ↦ let alone : cost b ≡ m + cost b = omega (arith, e) in subst (λ (n : ℕ). (a : ActionId) × (cs : List ActionId) × ChainFrom p a cs b × (n ≡ sum_by cost (a ∷ cs))) alone (ends_alone p cost b act)
-      | inr d ↦ subst (λ (n : ℕ). (a : ActionId) × (cs : List ActionId) × ChainFrom p a cs b × (n + cost b ≡ sum_by cost (a ∷ cs))) (sym d.2) (ends_dearer p cost (value d.0) d.0 b (each d.0 d.1).some act d.1)
+      | inr d ↦ ends_dearer p cost m d.0 b d.2.some act d.1
     ];
-    most = λ n c. omega (arith, c.3, bound_on b m (λ d need a cs chain. omega (arith, h.most d need, bound_of d (value d) (each d need) a cs chain)) c.0 c.1 c.2);
+    most = λ n c. omega (arith, c.3, bound_on b m (λ d need a cs chain. omega (arith, most d need, bound_of d (value d) (each d need) a cs chain)) c.0 c.1 c.2);
   }
 
-  -- ---- as it is noted
-
-  module _ (range : AreInRange p) (t from i : ℕ) (next : IsNextReady p t from i) (n : ℕ) (number : n ≡ count p t i + 1) where
-    abbrev here : ActionId
-    here = record { agent = i; number = n }
-
-    finished : IsFinishTick p here (t + 1)
-    finished = finished_here p t from i next n number
-
-    before : (d : ActionId) → DirectlyNeeds p here d → IsFinishedBy p t d
-    before d need =
-        let up : t + 1 ≡ suc t = omega arith in
-        needs_done p t here d (next_action p t from i next n number) (omega (arith, number)) (subst (λ (u : ℕ). n ≤ count p u i) up finished.done) need
-
-    not_before : (s : ℕ) → s ≤ t → IsFinishedBy p s here → ⊥
-    not_before s l done = omega (arith, number, done, grows_to p s t i next.agent l)
-
-    module _ (value : ActionId → ℕ) (noted : (a : ActionId) → IsAction p a → IsDoneMid p t from a → IsNotedCost p cost a (value a)) (m : ℕ) (greatest : IsGreatestNeed p value here m) where
-      needed : (d : ActionId) → DirectlyNeeds p here d → IsNotedCost p cost d (value d)
-      needed d need = noted d (need_action p range here d (next_action p t from i next n number) need) (inl (before d need))
-
-      -- so much its needs cost at most
-      pub needs_cost : m ≤ t * MAX_COST
-      needs_cost = elim greatest.some [
+  -- as it is noted
+  pub noted_next : AreInRange p → (b : ActionId) → IsAction p b → (m : ℕ) (value : ActionId → ℕ) → ((d : ActionId) → DirectlyNeeds p b d → IsNotedCost p cost d (value d)) → ((d : ActionId) → DirectlyNeeds p b d → value d ≤ m)
+      → (m ≡ 0) ⊎ ((d : ActionId) × DirectlyNeeds p b d × IsCriticalCost p cost d m) → (own : ℕ) → own ≡ cost b → own ≤ MAX_COST → IsNotedCost p cost b (m + own)
+  noted_next range b act m value noted greatest some own is most = record {
+    critical = subst (λ (k : ℕ). IsCriticalCost p cost b (m + k)) (sym is) (critical_from value b m act (λ d need. (noted d need).critical) greatest some);
+    few = few;
+  }
+    where
+      needs_cost : (t : ℕ) → IsFinishedBy p (suc t) b → m ≤ t * MAX_COST
+      needs_cost t done = elim some [
         | inl e ↦ omega (arith, e)
-        | inr d ↦ omega (arith, d.2, (needed d.0 d.1).few t (before d.0 d.1))
+        | inr d ↦
+            let before = needs_before p t b d.0 act (need_action p range b d.0 act d.1) done d.1 in
+            omega (arith, (noted d.0 d.1).few t before, one_cost d.0 m (value d.0) d.2 (noted d.0 d.1).critical)
       ]
 
-      -- an action that the tick after t ticks finishes
-      pub noted_here : (own : ℕ) → own ≡ cost here → own ≤ MAX_COST → IsNotedCost p cost here (m + own)
-      noted_here own is most = record {
-        critical = subst (λ (k : ℕ). IsCriticalCost p cost here (m + k)) (sym is) (critical_from value here m (next_action p t from i next n number) (λ d need. (needed d need).critical) greatest);
-        few = λ s done. elim (cases_lt t s) [
-          | inl l ↦ omega (arith, l, needs_cost, most)
-          | inr l ↦ absurd (not_before s l done)
-        ];
-      }
-
--- ---- the greatest of several
-
--- nothing but the action before
-pub greatest_own : (p : Program) (value : ActionId → ℕ) (a b : ActionId) → a.agent ≡ b.agent → a.number ≡ b.number + 1 → 1 ≤ b.number → IsGreatestOf p value a 0 (value b)
-greatest_own p value a b same next first = record {
-  some = inr (b, inl (same, next, first), refl);
-  own = λ d x y z. let e : d ≡ b = (λ k. record { agent = (sym x ∙ same) k; number = number d y k }) in let f = ap value e in omega (arith, f);
-  awaits = λ j w l at. absurd (omega arith);
-}
-  where
-    number : (d : ActionId) → a.number ≡ d.number + 1 → d.number ≡ b.number
-    number d y = omega (arith, y, next)
-
--- nothing at all
-pub greatest_none : (p : Program) (value : ActionId → ℕ) (a : ActionId) → a.number ≤ 1 → IsGreatestOf p value a 0 0
-greatest_none p value a few = record {
-  some = inl refl;
-  own = λ d x y z. absurd (omega (arith, y, z, few));
-  awaits = λ j w l at. absurd (omega arith);
-}
-
--- one await more
-pub greatest_more : (p : Program) (value : ActionId → ℕ) (a : ActionId) (k m : ℕ) (w : Await) → IsGreatestOf p value a k m → slice_get (awaits_of p a.agent a.number) k ≡ Some w
-    → (n : ℕ) → m ≤ n → value (awaited w) ≤ n → (n ≡ m) ⊎ (n ≡ value (awaited w)) → IsGreatestOf p value a (k + 1) n
-greatest_more p value a k m w h at n least above is = record {
-  some = elim is [
-    | inl e ↦ elim h.some [ inl none ↦ inl (omega (arith, e, none)) | inr b ↦ inr (b.0, b.1, omega (arith, e, b.2)) ]
-    | inr e ↦ inr (awaited w, inr (k, slice_get_within (awaits_of p a.agent a.number) k w at, get_or_from_slice_get (awaits_of p a.agent a.number) k w w at), e)
-  ];
-  own = λ b x y z. omega (arith, least, h.own b x y z);
-  awaits = λ j v l there. elim (cases_lt j k) [
-    | inl s ↦ omega (arith, least, h.awaits j v s there)
-    | inr s ↦ last j v (omega (arith, s, l)) there
-  ];
-}
-  where
-    last : (j : ℕ) (v : Await) → j ≡ k → slice_get (awaits_of p a.agent a.number) j ≡ Some v → value (awaited v) ≤ n
-    last j v e there =
-        let same : w ≡ v = same_Some w v (sym at ∙ subst (λ (x : ℕ). slice_get (awaits_of p a.agent a.number) x ≡ Some v) e there) in
-        subst (λ (x : Await). value (awaited x) ≤ n) same above
-
--- the greater of those so far and of the entry of one await more
-pub greatest_entry : (p : Program) (places : ActionPlaces) (entries : List ℕ) (a : ActionId) (k m : ℕ) (w : Await) → IsGreatestOf p (value_at places entries) a k m → slice_get (awaits_of p a.agent a.number) k ≡ Some w
-    → (v : ℕ) → v ≡ value_at places entries (awaited w) → (n : ℕ) → n ≡ max m v → IsGreatestOf p (value_at places entries) a (k + 1) n
-greatest_entry p places entries a k m w h at v value n is = elim (cases_lt m v) [
-  | inl l ↦ (let e : n ≡ v = is ∙ max-eq_right (let le : m ≤ v = omega arith in le) in greatest_more p (value_at places entries) a k m w h at n (omega arith) (omega arith) (inr (e ∙ value)))
-  | inr l ↦ (let e : n ≡ m = is ∙ max-eq_left l in greatest_more p (value_at places entries) a k m w h at n (omega arith) (omega arith) (inl e))
-]
-
--- all awaits, and the action before
-pub greatest_all : (p : Program) (value : ActionId → ℕ) (a : ActionId) (m : ℕ) → IsGreatestOf p value a (length (awaits_of p a.agent a.number)) m → IsGreatestNeed p value a m
-greatest_all p value a m h = record {
-  some = h.some;
-  most = λ b need. elim need [
-    | inl own ↦ h.own b own.0 own.1 own.2
-    | inr w ↦ h.awaits w.0 (record { agent = b.agent; count = b.number }) w.1
-        (slice_get-get_or (awaits_of p a.agent a.number) w.0 (record { agent = b.agent; count = b.number }) w.1 ∙ ap Some w.2)
-  ];
-}
+      few : (t : ℕ) → IsFinishedBy p t b → m + own ≤ t * MAX_COST
+      few zero done = absurd (none_started p b act done)
+      few (suc t) done = omega (arith, needs_cost t done, most)

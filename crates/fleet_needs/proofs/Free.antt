@@ -66,6 +66,13 @@ module _ (p : Program) where
     | inr g ↦ omega (arith, done_needs t a b k m g needs, grows t b.agent m.agent)
   ]
 
+  -- a tick before
+  pub needs_before : (t : ℕ) (a b : ActionId) → IsAction p a → IsAction p b → a.number ≤ count (suc t) a.agent → DirectlyNeeds p a b → b.number ≤ count t b.agent
+  needs_before t a b k m done needs = elim (cases_lt (count t a.agent) a.number) [
+    | inl l ↦ needs_done t a b k l done needs
+    | inr g ↦ done_needs t a b k m g needs
+  ]
+
   -- and so is all that reaches it
   pub done_reaches : (t : ℕ) (a b : ActionId) → IsAction p b → b.number ≤ count t b.agent → Reaches p a b → a.number ≤ count t a.agent
   done_reaches t a b k done r = (Reaches-kept p (λ c. IsAction p c × (c.number ≤ count t c.agent)) (λ c d h m n. (m, done_needs t c d h.0 m h.1 n)) a b (k, done) r).1

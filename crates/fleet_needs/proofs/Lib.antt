@@ -21,3 +21,4 @@ mod Slotting
 pub mod RowsMade
 mod JoinTick
 pub mod Costing
+mod Walking

@@ -1,5 +1,5 @@
 -- Entries for actions, noted in the ticks that finish these if nobody is held; and these ticks, which rise along chains.
-use Rattle.std.proofs.Common.{◌≡◌, ◌≢◌, ℕ, zero, suc, ◌+◌, ◌-◌, ◌<◌, ◌≤◌, true, List, [], length, set, slice_index, sym, ap, subst, ◌∙◌, arith, inl, inr}
+use Rattle.std.proofs.Common.{◌≡◌, ◌≢◌, ℕ, zero, suc, ◌+◌, ◌-◌, ◌<◌, ◌≤◌, true, List, [], length, set, slice_index, refl, sym, ap, subst, ◌∙◌, arith, inl, inr, ◌⊎◌}
 use Rattle.std.proofs.lemmas.Bool.{cases_lt}
 use Rattle.std.proofs.lemmas.List.{get_or-set_same, get_or-set_other}
 use Rattle.fleet_model.specs.declared.program.ActionId.{ActionId}
@@ -25,16 +25,16 @@ pub noted_mid : (p : Program) (places : ActionPlaces) (Is : ActionId → ℕ →
 noted_mid p places Is t entries h a k (inl done) = h a k done
 noted_mid p places Is t entries h a k (inr (l, done)) = absurd (omega arith)
 
-module _ (p : Program) (places : ActionPlaces) (right : ArePlacesOf p places) (Is : ActionId → ℕ → Type 0) (t from : ℕ) where
+module _ (p : Program) (places : ActionPlaces) (right : ArePlacesOf p places) (Is : ActionId → ℕ → Type 0) where
   abbrev firsts : List ℕ
   firsts = places
 
-  -- an action that the tick has finished
-  pub noted_on : (i : ℕ) → IsNextReady p t from i → (n : ℕ) → n ≡ count p t i + 1 → (x : ℕ) → x + 1 ≡ slice_index firsts i + n → (old : List ℕ) → length old ≡ total_moves p
-      → (v : ℕ) → Is (record { agent = i; number = n }) v → AreEntries p places Is (IsDoneMid p t from) old → AreEntries p places Is (IsDoneMid p t (i + 1)) (set old x v)
-  noted_on i next n number x at old all v right_here before a k done = elim (one_more p t from i next n number a k done) [
+  -- one action more
+  pub noted_more : (Old New : ActionId → Type 0) (here : ActionId) → IsAction p here → ((a : ActionId) → IsAction p a → New a → Old a ⊎ (a ≡ here)) → (Old here → ⊥)
+      → (x : ℕ) → x + 1 ≡ slice_index firsts here.agent + here.number → (old : List ℕ) → length old ≡ total_moves p → (v : ℕ) → Is here v → AreEntries p places Is Old old → AreEntries p places Is New (set old x v)
+  noted_more Old New here is split not_before x at old all v right_here before a k done = elim (split a k done) [
     | inl was ↦
-        let ne : action_place firsts a ≢ x = (λ same. place_apart p firsts right a here k is (apart p t from i next n number a was) (same ∙ place)) in
+        let ne : action_place firsts a ≢ x = (λ same. place_apart p firsts right a here k is (λ e. not_before (subst Old e was)) (same ∙ place)) in
         subst (Is a) (sym (get_or-set_other old x (action_place firsts a) v 0 ne)) (before a k was)
     | inr same ↦
         let there : action_place firsts a ≡ x = ap (action_place firsts) same ∙ sym place in
@@ -42,17 +42,19 @@ module _ (p : Program) (places : ActionPlaces) (right : ArePlacesOf p places) (I
         subst (Is a) (sym entry) (subst (λ (y : ActionId). Is y v) (sym same) right_here)
   ]
     where
-      here : ActionId
-      here = record { agent = i; number = n }
-
-      is : IsAction p here
-      is = next_action p t from i next n number
-
       place : x ≡ action_place firsts here
       place = omega (arith, at)
 
       within : x < length old
       within = (let l = place_within p firsts right here is in omega (arith, l, all, place))
+
+module _ (p : Program) (places : ActionPlaces) (right : ArePlacesOf p places) (Is : ActionId → ℕ → Type 0) (t from : ℕ) where
+  -- an action that the tick has finished
+  pub noted_on : (i : ℕ) → IsNextReady p t from i → (n : ℕ) → n ≡ count p t i + 1 → (x : ℕ) → x + 1 ≡ slice_index places i + n → (old : List ℕ) → length old ≡ total_moves p
+      → (v : ℕ) → Is (record { agent = i; number = n }) v → AreEntries p places Is (IsDoneMid p t from) old → AreEntries p places Is (IsDoneMid p t (i + 1)) (set old x v)
+  noted_on i next n number =
+      noted_more p places right Is (IsDoneMid p t from) (IsDoneMid p t (i + 1)) (record { agent = i; number = n }) (next_action p t from i next n number)
+      (λ a k done. one_more p t from i next n number a k done) (λ was. apart p t from i next n number (record { agent = i; number = n }) was refl)
 
   -- where nobody else was ready
   pub noted_all : AreNoneReady p t from → (entries : List ℕ) → AreEntries p places Is (IsDoneMid p t from) entries → AreEntries p places Is (IsFinishedBy p (t + 1)) entries

@@ -1,9 +1,8 @@
--- The cost of the critical path of each action, as it is noted tick by tick.
-use Rattle.std.specs.Prelude.{◌≡◌, ℕ, ◌+◌, ◌*◌, ◌<◌, ◌≤◌, ◌⊎◌, List, length, slice_index, slice_get, Some}
+-- The cost of the critical path of each action, as it is noted.
+use Rattle.std.specs.Prelude.{◌≡◌, ℕ, ◌*◌, ◌≤◌, List, length, slice_index}
 use Rattle.fleet_model.specs.declared.program.ActionId.{ActionId}
-use Rattle.fleet_model.specs.declared.program.Await.{Await}
-use Rattle.fleet_model.specs.Program.{Program, awaits_of, total_moves}
-use Rattle.fleet_model.specs.Chain.{IsAction, DirectlyNeeds, IsCriticalCost, awaited}
+use Rattle.fleet_model.specs.Program.{Program, total_moves}
+use Rattle.fleet_model.specs.Chain.{IsAction, IsCriticalCost}
 use Rattle.fleet_needs.specs.Places.{ArePlacesOf, place_of_action}
 use Rattle.fleet_needs.specs.Settled.{IsFinishedBy}
 use Rattle.fleet_needs.specs.declared.await_places.ActionPlaces.{ActionPlaces}
@@ -21,17 +20,6 @@ value_at places entries a = slice_index entries (place_of_action places a)
 -- the entries of these actions are the costs of their critical paths
 abbrev pub AreNotedCosts : Program → (ActionId → ℕ) → ActionPlaces → (ActionId → Type 0) → List ℕ → Type 0
 AreNotedCosts p cost places These entries = (a : ActionId) → IsAction p a → These a → IsNotedCost p cost a (value_at places entries a)
-
--- m is the greatest of these costs of what the action directly needs, or 0 if it needs nothing
-pub record IsGreatestNeed (p : Program) (value : ActionId → ℕ) (a : ActionId) (m : ℕ) : Type 0 where
-  pub some : (m ≡ 0) ⊎ ((b : ActionId) × DirectlyNeeds p a b × (m ≡ value b))
-  pub most : (b : ActionId) → DirectlyNeeds p a b → value b ≤ m
-
--- of the action of the same agent right before, if there is one, and of the first k awaits
-pub record IsGreatestOf (p : Program) (value : ActionId → ℕ) (a : ActionId) (k m : ℕ) : Type 0 where
-  pub some : (m ≡ 0) ⊎ ((b : ActionId) × DirectlyNeeds p a b × (m ≡ value b))
-  pub own : (b : ActionId) → a.agent ≡ b.agent → a.number ≡ b.number + 1 → 1 ≤ b.number → value b ≤ m
-  pub awaits : (j : ℕ) (w : Await) → j < k → slice_get (awaits_of p a.agent a.number) j ≡ Some w → value (awaited w) ≤ m
 
 -- the places of actions, and for each action, by its place, a cost
 pub record CostsByPlace : Type 0 where

@@ -17,3 +17,4 @@ pub mod Slots
 pub mod Schedule
 pub mod JoinPass
 pub mod Critical
+pub mod CostWalk

@@ -36,11 +36,13 @@
 //! that are left it goes block by block over the rows, in which these agents alone have a column: between the two steps
 //! of a row an await is implied if the count of its agent is no less than its own.
 //!
-//! `critical` runs the program once without holds, and notes for each action that finishes the greatest cost among what
-//! it needs, and its own (`CriticalCosts`). What an action costs is a trait, `ActionCosts`.
+//! `cost_walk` lets each agent go on as far as its awaits allow, without ticks: while it waits, the agent that it waits
+//! for goes on. For each action that is finished so it notes the greatest cost among what the action needs, and its own;
+//! `critical` hands these out (`CriticalCosts`). What an action costs is a trait, `ActionCosts`.
 #![tactic(auto)]
 
 mod await_places;
+mod cost_walk;
 mod counts;
 mod critical;
 mod finish_order;

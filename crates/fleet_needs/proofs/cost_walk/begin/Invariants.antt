@@ -1,0 +1,11 @@
+use Rattle.std.proofs.Common.{◌≡◌, ℕ, length}
+use Rattle.std.specs.Prelude.{slice_get, Some}
+use Rattle.fleet_needs.specs.declared.cost_walk.Stage.{Stage}
+use Rattle.fleet_needs.proofs.Walking.{IsFirstStage}
+use Rattle.fleet_needs.proofs.cost_walk.begin.Given as goal
+
+abbrev pub invariant-loop-i : goal.invariant-loop-i
+invariant-loop-i g l = record {
+  all : length l.stages.items ≡ l.i;
+  each : (k : ℕ) (s : Stage) → slice_get l.stages.items k ≡ Some s → IsFirstStage (g.P.ProgramView.offset l.program) k s;
+}

@@ -1,0 +1,55 @@
+use Rattle.std.proofs.Common.{◌≡◌, ◌+◌, ℕ, slice_index, ap, ◌∙◌, arith, refl}
+use Rattle.std.proofs.lemmas.List.{get_or_read}
+use Rattle.fleet_model.specs.declared.program.ActionId.{ActionId}
+use Rattle.fleet_needs.specs.CostWalk.{after}
+use Rattle.fleet_needs.proofs.Placed.{place_within, place_is}
+use Rattle.fleet_needs.proofs.Walking.{costs_here, costs_fit, finished_at, here_action}
+use Rattle.fleet_needs.proofs.cost_walk.finish.Goals as goal
+
+pub overflow_add-greatest : goal.overflow_add-greatest
+overflow_add-greatest g c =
+    let p = g.P.ProgramView.program c.args.program.now in
+    let cost = g.C.ActionCosts.cost c.args.costs.now in
+    let walk = c.requires.walk.walk in
+    let i = c.args.agent in
+    let counts = c.args.walk.now.counts.items in
+    let count : c.index.result.now ≡ slice_index counts i =
+    get_or_read counts _ _ (omega (arith, c.from.ensures, c.requires.agent, walk.all_counts)) c.index.ensures 0 ∙ ap (slice_index counts) c.from.ensures in
+    let own : c.from-2.result ≡ cost (after i (slice_index counts i)) = c.from-2.ensures ∙ c.cost-own.ensures.cost ∙ ap (λ (n : ℕ). cost (after i n)) count in
+    let fits = costs_fit p cost (g.P.ProgramView.offset c.args.program.now) counts c.args.walk.now.stages.items c.args.walk.now.places c.args.walk.now.costs.items walk i c.requires.agent c.requires.left
+    c.args.walk.now.ticks c.requires.walk.finishes c.args.ready c.requires.ready c.from-2.result own (omega (arith, c.from-2.ensures, c.cost-own.ensures.most)) in
+    omega (arith, fits)
+
+pub index_mut-requires : goal.index_mut-requires
+index_mut-requires g c =
+    let p = g.P.ProgramView.program c.args.program.now in
+    let walk = c.requires.walk.walk in
+    let i = c.args.agent in
+    let counts = c.args.walk.now.counts.items in
+    let count : c.index.result.now ≡ slice_index counts i =
+    get_or_read counts _ _ (omega (arith, c.from.ensures, c.requires.agent, walk.all_counts)) c.index.ensures 0 ∙ ap (slice_index counts) c.from.ensures in
+    let l = place_within p c.args.walk.now.places walk.are_places (after i (slice_index counts i)) (here_action p (g.C.ActionCosts.cost c.args.costs.now) (g.P.ProgramView.offset c.args.program.now) counts c.args.walk.now.stages.items
+    c.args.walk.now.places c.args.walk.now.costs.items walk i c.requires.agent c.requires.left) in
+    omega (arith, l, c.place-place.ensures, count, walk.all_costs)
+
+pub returns-clause-walk : goal.returns-clause-walk
+returns-clause-walk g c =
+    let p = g.P.ProgramView.program c.args.program.now in
+    let cost = g.C.ActionCosts.cost c.args.costs.now in
+    let offset = g.P.ProgramView.offset c.args.program.now in
+    let walk = c.requires.walk.walk in
+    let i = c.args.agent in
+    let counts = c.args.walk.now.counts.items in
+    let stages = c.args.walk.now.stages.items in
+    let places = c.args.walk.now.places in
+    let costs = c.args.walk.now.costs.items in
+    let count : c.index.result.now ≡ slice_index counts i =
+    get_or_read counts _ _ (omega (arith, c.from.ensures, c.requires.agent, walk.all_counts)) c.index.ensures 0 ∙ ap (slice_index counts) c.from.ensures in
+    let own : c.from-2.result ≡ cost (after i (slice_index counts i)) = c.from-2.ensures ∙ c.cost-own.ensures.cost ∙ ap (λ (n : ℕ). cost (after i n)) count in
+    let here = costs_here p cost offset counts stages places costs walk i c.requires.agent c.requires.left
+    c.args.walk.now.ticks c.requires.walk.finishes c.args.ready c.requires.ready c.from-2.result own (omega (arith, c.from-2.ensures, c.cost-own.ensures.most)) in
+    record {
+      finishes = c.requires.walk.finishes;
+      walk = finished_at p cost offset counts stages places costs walk i c.requires.agent c.requires.left (c.args.ready.greatest + c.from-2.result) here (c.index.result.now + 1) c.place-place.result c.from-3.result c.from-4.result
+          (ap (λ (n : ℕ). n + 1) count) c.place-place.ensures c.from-3.ensures c.from-4.ensures (record { met = 0; at = c.args.ready.at; greatest = c.args.ready.greatest + c.from-2.result }) refl c.requires.ready.at refl;
+    }

@@ -771,7 +771,7 @@ fn judge_ahead<P: ProgramView>(
         pairs,
     } = ahead;
     drop(cells);
-    drop(last);
+    last.let_go();
     let is_orderly = are_chained(alloc, program, chain, rows, pairs)?;
     if is_orderly {
         return Ok(Some(chain));

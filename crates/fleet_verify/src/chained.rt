@@ -83,15 +83,23 @@ fn answer_asked<P: ProgramView>(
 {
     let _agents = program.agents();
     drop(rows);
-    drop(pairs);
+    let_go(pairs);
     let asked = sorted(found);
     if !are_rising(&asked) {
         return Ok(false);
     }
     let questions = questions_of(alloc, &asked)?;
-    drop(asked);
+    let_go(asked);
     let flags = answer_questions(alloc, program, ticks, &questions)?;
     Ok(is_none(&flags))
+}
+
+/// Gives the memory of the list back, all but that of one item before the list ends: an allocator that gets much back at
+/// once may keep as much for itself from then on.
+fn let_go<T: Drop>(list: Vec<T>) {
+    let mut list = list;
+    list.truncate(1);
+    list.shrink_to_fit();
 }
 
 /// Whether nothing is flagged.

@@ -61,6 +61,14 @@ impl LastVisits {
         }
     }
 
+    /// Gives the memory back, all but that of one square before the rest ends, as `let_go` does.
+    pub fn let_go(self) {
+        let LastVisits { squares, .. } = self;
+        let mut squares = squares;
+        squares.truncate(1);
+        squares.shrink_to_fit();
+    }
+
     /// Keeps the visit as the last one of the cell, and answers the one before.
     #[inline(always)]
     pub fn replace(&mut self, cell: Cell, visit: Visit) -> Result<Option<Visit>, OutOfMemory>

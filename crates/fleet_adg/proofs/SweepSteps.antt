@@ -26,7 +26,7 @@ use Rattle.fleet_adg.specs.Sweep.{under_way, movers, actions_by, all_actions_by,
 use Rattle.fleet_plan.specs.UnderWay.{is_under_way}
 use Rattle.fleet_adg.proofs.Moves.{moves_by-yes, moves_by-no, moves_by-le, steps-ge}
 use Rattle.fleet_adg.proofs.Entry.{leaves-parts, leaves-from}
-use Rattle.fleet_adg.proofs.Folds.{still, leaves-still, note_by, note_by-leaves, note_by-stays, leavings-next, add_by, add_by-changes, add_by-stays}
+use Rattle.fleet_adg.proofs.Folds.{still, note_by, note_by-leaves, note_by-stays, leavings-next, add_by, add_by-changes, add_by-stays}
 
 -- ---- moves counted
 
@@ -115,15 +115,6 @@ noting_begins g plan deps x l h = record { kind = h.kind; rows = h.rows }
 
 pub noting_ends : (g : Ground) (plan : Plan) (deps : Deps) (x : ℕ) (l : Leavings) → IsNotedBelow g plan deps x (under_way plan x) l → AreLeavingsAt g plan deps (x + 1) l
 noting_ends g plan deps x l h = record { kind = h.kind; rows = λ q a b. h.rows q a b ∙ leavings-next plan deps q x }
-
-pub one_stays : (g : Ground) (plan : Plan) (deps : Deps) (x : ℕ) (agents : List ℕ) (k i : ℕ) (l : Leavings) → k < length agents → i ≡ get_or agents k i → changes_in plan i x ≡ false → IsNotedBelow g plan deps x (take k agents) l → IsNotedBelow g plan deps x (take (k + 1) agents) l
-one_stays g plan deps x agents k i l b e c h = record {
-  kind = h.kind;
-  rows = λ q p r.
-      let f = note_by plan deps q x in
-      let before = fold f (leavings plan deps q x) (take k agents) in
-      h.rows q p r ∙ sym (note_by-stays plan deps q x before i (leaves-still plan q x i c)) ∙ ap (f before) e ∙ sym (fold_more f (leavings plan deps q x) agents k i b);
-}
 
 pub one_leaves : (g : Ground) (plan : Plan) (deps : Deps) (x : ℕ) (agents : List ℕ) (k i : ℕ) (l m : Leavings) (p : Cell) (w : Await)
     → ((c d : Cell) → c.x < g.width → d.x < g.width → cell_index g c ≡ cell_index g d → c ≡ d)

@@ -1,11 +1,10 @@
 -- The moves and actions that the compiler has found up to a step of the plan.
-use Rattle.std.specs.Prelude.{ℕ, ◌+◌, ◌<◌, List, [], length, map, filter, get_or}
+use Rattle.std.specs.Prelude.{ℕ, ◌+◌, ◌<◌, List, length, map, filter}
 use Rattle.fleet_model.specs.declared.program.Action.{Action}
-use Rattle.fleet_model.specs.declared.program.AgentProgram.{AgentProgram}
 use Rattle.fleet_model.specs.Machine.{indices}
 use Rattle.fleet_model.specs.declared.deps.Deps.{Deps}
 use Rattle.fleet_grid.specs.Ground.{Ground}
-use Rattle.fleet_plan.specs.Plan.{Plan, cell_of, steps}
+use Rattle.fleet_plan.specs.Plan.{Plan, cell_of}
 use Rattle.fleet_plan.specs.UnderWay.{is_under_way}
 use Rattle.fleet_code.specs.declared.format.Version.{Version}
 use Rattle.fleet_code.specs.Written.{Written, written}
@@ -39,10 +38,6 @@ all_actions_by plan deps t = map (actions_by plan deps t) (indices (length plan)
 -- .. as bytes of the version
 abbrev pub all_bytes_by : Plan → Deps → Version → ℕ → List Written
 all_bytes_by plan deps v t = map (written v) (all_actions_by plan deps t)
-
--- agent i, with these actions of all agents
-unfoldable pub agent_from : Plan → List (List Action) → ℕ → AgentProgram
-agent_from plan actions i = record { start = cell_of plan i 0; goal = cell_of plan i (steps plan); actions = get_or actions i [] }
 
 -- every cell of the plan lies on the map
 pub record IsOnMap (g : Ground) (plan : Plan) : Type 0 where

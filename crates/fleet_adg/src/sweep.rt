@@ -134,7 +134,7 @@ fn cells_are_on_map(checked: &Checked<'_>)
     let _width = checked.grid().width();
 }
 
-/// For each agent no action, and room for its moves, and for their awaits if each has at most one.
+/// For each agent no action, and room for a move in each step of its path, and for their awaits if each has at most one.
 fn empty_lists(
     alloc: Global,
     plan: &Plan,
@@ -146,7 +146,7 @@ fn empty_lists(
 {
     let mut lists = Vec::with_capacity(alloc, usize::from(plan.agents()))?;
     for i in 0..plan.agents() {
-        let moves = moves_of(plan, i) as usize;
+        let moves = plan.path(i).steps() as usize;
         let awaits = match deps {
             Deps::All => 0,
             Deps::Last => moves,

@@ -8,12 +8,6 @@ use Rattle.fleet_machine.proofs.Bits.{bit_shifted, flag_is}
 
 -- ---- within a word
 
-pub none_if_zero : (word end : ℕ) → word ≡ 0 → HasNoneBelow word end
-none_if_zero word end none k lt = rw none (bit_at-zero k)
-
-pub none_if_higher : (word place end : ℕ) → IsLowest word place → end ≤ place → HasNoneBelow word end
-none_if_higher word place end low le k lt = low.lower k (omega arith)
-
 module _ (word place : ℕ) where
   pub above : (j : ℕ) → bit_at (word / 2 ^ place / 2 ^ 1) j ≡ bit_at word (place + (1 + j))
   above j = bit_shifted (word / 2 ^ place) 1 j ∙ bit_shifted word place (1 + j)

@@ -146,9 +146,6 @@ module _ (words : List ℕ) (n : ℕ) (bits : AreBits words n) (from : ℕ) wher
         between = λ k ge lt. flag_is words n k bits ∙ between k ge lt;
       }
 
-  pub few_next : (i : ℕ) → IsNextFrom (flags_in words n) from i → i < 2 ^ 16
-  few_next i next = let few = bits.few in let agent = rw (long_flags words n) at next.agent in omega arith
-
   pub none_is : ((k : ℕ) → from ≤ k → is_bit words k ≡ false) → AreNoneFrom (flags_in words n) from
   none_is none k ge = flag_is words n k bits ∙ none k ge
 

@@ -83,16 +83,6 @@ no_chains lists agents = record {
         ]
 
 module _ {first next homes : List (Option ℕ)} (c : AreChains first next homes) (list : ℕ) (within : list < length first) where
-  -- in an empty list nobody stands
-  pub empty_chain : get_or first list None ≡ None → (i : ℕ) → home_of homes i ≢ Some list
-  empty_chain e i at =
-      let chain = c.chains list within in
-      no_links chain.agents (rw e at chain.linked) (chain.all i at)
-    where
-      no_links : (agents : List ℕ) → IsLinked next None agents → {i : ℕ} → Contains agents i → ⊥
-      no_links [] h there = in_none _ there
-      no_links (x ∷ agents) h there = absurd h
-
   -- the first of a list stands in it
   pub first_in_chain : (i : ℕ) → get_or first list None ≡ Some i → (i < length homes) × (home_of homes i ≡ Some list)
   first_in_chain i e =

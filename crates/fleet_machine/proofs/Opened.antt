@@ -1,11 +1,10 @@
 -- The rows at the start, and the test for the end.
-use Rattle.std.proofs.Common.{◌≡◌, ◌<◌, ◌≤◌, ℕ, zero, suc, ◌+◌, true, false, [], ◌∷◌, ◌++◌, take, length, get_or, replicate, None, refl, ap, sym, ◌∙◌, zero-add, arith, inl, inr}
+use Rattle.std.proofs.Common.{◌≡◌, ◌<◌, ℕ, zero, suc, ◌+◌, false, [], ◌∷◌, ◌++◌, take, length, get_or, replicate, None, refl, ap, sym, ◌∙◌, zero-add, arith, inl, inr}
 use Rattle.std.specs.Prelude.{nat_le}
-use Rattle.std.specs.List.{list_all}
 use Rattle.std.proofs.lemmas.List.{take_more, length-map, length_push, get_or_push, get_or_append_left}
 use Rattle.std.proofs.lemmas.List.FromFn.{length-range_with_len, get_or-range_with_len}
 use Rattle.std.proofs.lemmas.List.Folds.{list_all_at}
-use Rattle.std.proofs.lemmas.Bool.{cases_lt, lt-leb, le-leb}
+use Rattle.std.proofs.lemmas.Bool.{cases_lt, lt-leb}
 use Rattle.fleet_model.specs.declared.standing.Standing.{Standing}
 use Rattle.fleet_model.specs.declared.geometry.Cell.{Cell}
 use Rattle.fleet_model.specs.Geometry.{place_of}
@@ -13,7 +12,6 @@ use Rattle.fleet_model.specs.Program.{Program, start_of, moves}
 use Rattle.fleet_model.specs.Machine.{Configuration, standing_at, count_at, opening, indices, is_finished}
 use Rattle.fleet_machine.specs.WaitLists.{home_of}
 use Rattle.fleet_machine.specs.Near.{IsNear, AreNear}
-use Rattle.fleet_machine.proofs.Indices.{all_more}
 
 -- an agent at its start
 abbrev pub at_start : Cell → Standing
@@ -52,7 +50,3 @@ not_finished_if p c i inside h =
     let long : i < length (indices (length p)) = rw length-range_with_len inside in
     let here : get_or (indices (length p)) i 0 ≡ i = get_or-range_with_len 0 (length p) i 0 inside ∙ zero-add i in
     sym (list_all_at test (indices (length p)) i 0 long (ap test here ∙ lt-leb _ _ h))
-
-pub finished_more : (p : Program) (c : Configuration) (i : ℕ) → moves p i ≤ count_at c i → list_all (λ k. nat_le (moves p k) (count_at c k)) (indices i) ≡ true
-    → list_all (λ k. nat_le (moves p k) (count_at c k)) (indices (i + 1)) ≡ true
-finished_more p c i h before = rw (all_more (λ k. nat_le (moves p k) (count_at c k)) i, before) (le-leb _ _ h)

@@ -22,7 +22,7 @@ use Rattle.fleet_machine.proofs.Advanced.{onward, IsAdvanced, one_moves, one_hel
 use Rattle.fleet_machine.proofs.Lasting.{ready_lasts, count_rises}
 use Rattle.fleet_machine.proofs.Waiting.{agent_of_list}
 use Rattle.fleet_machine.proofs.Waking.{eqb-refl}
-use Rattle.fleet_machine.proofs.Marks.{ArePassedTo, none_passed, all_stay, all_passed, long_after, mark_unmoved, read_after, flagged_after}
+use Rattle.fleet_machine.proofs.Marks.{ArePassedTo, all_stay, all_passed, long_after, mark_unmoved, read_after, flagged_after}
 use Rattle.fleet_machine.proofs.Marks.{one_moves as mark_moves, one_stays as mark_stays}
 use Rattle.fleet_machine.proofs.Judging.{none_more_counted, one_more_counted, counted_le}
 use Rattle.fleet_machine.proofs.Ready.{no_action_left, has_next, not_ready_if_unmet, awaited_agent}
@@ -40,25 +40,6 @@ pub record IsAdvancedTo (p : Program) (held : ℕ → Bool) (old now : MachineSt
   pub done : IsAdvanced p held old.configuration now.configuration now.moving n moved ready_held
   pub counted : ready ≡ length (filter (is_ready p old.configuration) (indices n))
   pub within : n ≤ length p
-
-pub none_advanced : (p : Program) (held : ℕ → Bool) (old : MachineState) → Runs p old → IsAdvancedTo p held old (record old { moving = old.ready; due = old.ready }) 0 0 false 0
-none_advanced p held old runs = record {
-  same = refl;
-  passes = none_passed p held old runs.rows.marks;
-  done = record {
-    done = λ k lt. absurd (omega arith);
-    rest = λ k ge. refl;
-    counted = refl;
-    few = omega arith;
-    long = runs.agents;
-    flags = runs.rows.ready;
-    flagged = λ k lt. absurd (omega arith);
-    to_move = λ k ge agent. (runs.judged k agent).ready;
-    held_is = refl;
-  };
-  counted = refl;
-  within = omega arith;
-}
 
 module _ (p : Program) (held : ℕ → Bool) (old : MachineState) (runs : Runs p old)
     (now : MachineState) (from moved : ℕ) (ready_held : Bool) (ready : ℕ) (before : IsAdvancedTo p held old now from moved ready_held ready) where
@@ -157,13 +138,6 @@ module _ (p : Program) (held : ℕ → Bool) (old : MachineState) (runs : Runs p
       counted = more;
       within = omega (arith, ready_agent);
     }
-
-    -- what it is to do is what it was to do before the tick
-    pub as_it_was : standing_at now.configuration i ≡ standing_at old.configuration i
-    as_it_was = before.done.rest i next.later
-
-    pub read_as_it_was : mark_of now.marks i ≡ mark_of old.marks i
-    read_as_it_was = before.passes.rest i next.later
 
 -- ---- agents that lack a count
 

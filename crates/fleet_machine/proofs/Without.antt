@@ -1,14 +1,13 @@
 -- Sets without the members of others.
-use Rattle.std.proofs.Common.{zero, suc, not, ◌&&◌, ◌≡◌, ◌≢◌, ◌<◌, ◌≤◌, ◌+◌, ◌-◌, ◌/◌, ◌%◌, ◌^◌, ◌↔◌, ℕ, Bool, true, false, List, length, set, slice_index, refl, ap, ◌∙◌, inl, inr, arith, get_or-set_same, get_or-set_other, length-set, sym}
+use Rattle.std.proofs.Common.{zero, suc, not, ◌&&◌, ◌≡◌, ◌≢◌, ◌<◌, ◌≤◌, ◌+◌, ◌-◌, ◌/◌, ◌%◌, ◌^◌, ◌↔◌, ℕ, Bool, List, length, set, slice_index, refl, ap, ◌∙◌, inl, inr, arith, get_or-set_same, get_or-set_other, length-set}
 use Rattle.std.specs.Int.{bit_at, w64}
 use Rattle.std.specs.Prelude.{◌==◌, bit_and, min}
 use Rattle.std.proofs.lemmas.Nat.Bits.{bit_at-lt, bit_at-zero, bit_at_and, bit_at_not}
 use Rattle.std.proofs.lemmas.Bool.{cases_eq, cases_lt}
 use Rattle.std.proofs.lemmas.List.{get_or_past}
-use Rattle.std.proofs.Math.Bool.{and-true, and-false}
 use Rattle.fleet_model.specs.declared.limits.TheConstants.{MAX_AGENTS}
 use Rattle.fleet_machine.specs.Machine.{flag_of}
-use Rattle.fleet_machine.specs.AgentSet.{is_bit, bit_if, flags_in, AreBits, AreMarks, AreBitsMarked, AreNoneFrom, IsNextFrom}
+use Rattle.fleet_machine.specs.AgentSet.{is_bit, bit_if, flags_in, AreBits, AreMarks, AreBitsMarked}
 use Rattle.fleet_machine.proofs.Bits.{flag_is, bit_is}
 use Rattle.fleet_machine.proofs.Marked.{mark_written}
 
@@ -97,37 +96,3 @@ pub record AreRemovedTo (old flags now : List Bool) (from : ℕ) : Type 0 where
   pub within : from ≤ length flags
   pub so_far : (k : ℕ) → k < from → flag_of now k ≡ (flag_of old k && not (flag_of flags k))
   pub rest : (k : ℕ) → from ≤ k → flag_of now k ≡ flag_of old k
-
-pub none_removed : (old flags : List Bool) → AreRemovedTo old flags old 0
-none_removed old flags = record { long = refl; within = omega arith; so_far = λ k lt. absurd (omega arith); rest = λ k ge. refl }
-
-module _ (old flags now : List Bool) (from : ℕ) (before : AreRemovedTo old flags now from) where
-  unflagged : (k : ℕ) → flag_of flags k ≡ false → flag_of old k ≡ (flag_of old k && not (flag_of flags k))
-  unflagged k flag = rw flag (sym (and-true (flag_of old k)))
-
-  flagged : (k : ℕ) → flag_of flags k ≡ true → false ≡ (flag_of old k && not (flag_of flags k))
-  flagged k flag = rw flag (sym (and-false (flag_of old k)))
-
-  pub one_removed : (i : ℕ) → length old ≡ length flags → IsNextFrom flags from i → AreRemovedTo old flags (set now i false) (i + 1)
-  one_removed i same next =
-      let later = next.later in
-      let there : i < length now = omega (arith, before.long, next.agent) in
-      record {
-        long = length-set now i false ∙ before.long;
-        within = omega (arith, next.agent);
-        so_far = λ k lt. elim (cases_eq k i) [
-          | inl here ↦ rw here (get_or-set_same now i false false there ∙ flagged i next.member)
-          | inr other ↦ get_or-set_other now i k false false other ∙ elim (cases_lt k from) [
-            | inl below ↦ before.so_far k below
-            | inr above ↦ before.rest k above ∙ unflagged k (next.between k above (omega arith))
-          ]
-        ];
-        rest = λ k ge. let other : k ≢ i = omega arith in get_or-set_other now i k false false other ∙ before.rest k (omega arith);
-      }
-
-  pub all_removed : AreNoneFrom flags from → (k : ℕ) → flag_of now k ≡ (flag_of old k && not (flag_of flags k))
-  all_removed none k =
-      elim (cases_lt k from) [
-        | inl below ↦ before.so_far k below
-        | inr above ↦ before.rest k above ∙ unflagged k (none k above)
-      ]

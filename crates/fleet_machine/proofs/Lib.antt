@@ -5,9 +5,7 @@ pub mod Bits
 pub mod Flags
 mod Marked
 pub mod Copied
-pub mod Below
 pub mod Onward
-pub mod Without
 pub mod Indices
 pub mod Lacking
 pub mod Placed

@@ -1,14 +1,18 @@
 -- A cursor that goes on through the members of a set.
 use Rattle.std.proofs.Common.{◌≡◌, ◌<◌, ◌+◌, ◌-◌, ◌/◌, ◌%◌, ◌^◌, ℕ, Bool, true, false, List, length, slice_index, refl, ap, sym, ◌∙◌, inl, inr, arith}
 use Rattle.std.specs.Prelude.{◌==◌}
+use Rattle.std.specs.Int.{bit_at}
 use Rattle.std.proofs.lemmas.Nat.Bits.{bit_at-zero, bit_at_above}
 use Rattle.std.proofs.lemmas.Bool.{cases_lt, true≢false}
 use Rattle.std.proofs.lemmas.List.{get_or_past}
 use Rattle.fleet_machine.specs.declared.cursor.Cursor.{Cursor}
 use Rattle.fleet_machine.specs.Machine.{flag_of}
 use Rattle.fleet_machine.specs.AgentSet.{flags_in, AreBits, IsLowest, IsNextFrom, IsCursorOf}
-use Rattle.fleet_machine.proofs.Below.{above}
-use Rattle.fleet_machine.proofs.Bits.{flag_is}
+use Rattle.fleet_machine.proofs.Bits.{bit_shifted, flag_is}
+
+-- the bits of a word above one of them
+above : (word place j : ℕ) → bit_at (word / 2 ^ place / 2 ^ 1) j ≡ bit_at word (place + (1 + j))
+above word place j = bit_shifted (word / 2 ^ place) 1 j ∙ bit_shifted word place (1 + j)
 
 -- without a bit
 pub no_bits_yet : (flags : List Bool) (from : ℕ) → IsCursorOf flags (record { from = from; bits = 0 })

@@ -38,17 +38,6 @@ pub record IsLowest (word place : ℕ) : Type 0 where
   pub is_set : bit_at word place ≡ 1
   pub lower : (k : ℕ) → k < place → bit_at word k ≡ 0
 
--- no bit of the word is set below the end
-abbrev pub HasNoneBelow : (word end : ℕ) → Type 0
-HasNoneBelow word end = (k : ℕ) → k < end → bit_at word k ≡ 0
-
--- the highest bit of the word below the end that is set
-pub record IsHighestBelow (word end place : ℕ) : Type 0 where
-  pub within : place < 64
-  pub below : place < end
-  pub is_set : bit_at word place ≡ 1
-  pub higher : (k : ℕ) → place < k → k < end → bit_at word k ≡ 0
-
 -- no flag is set from there on
 abbrev pub AreNoneFrom : List Bool → ℕ → Type 0
 AreNoneFrom flags from = (k : ℕ) → from ≤ k → flag_of flags k ≡ false
@@ -63,12 +52,6 @@ pub record IsNextFrom (flags : List Bool) (from i : ℕ) : Type 0 where
   pub later : from ≤ i
   pub member : flag_of flags i ≡ true
   pub between : (k : ℕ) → from ≤ k → k < i → flag_of flags k ≡ false
-
--- the last flag before the end that is set
-pub record IsLastBefore (flags : List Bool) (end i : ℕ) : Type 0 where
-  pub before : i < end
-  pub member : flag_of flags i ≡ true
-  pub between : (k : ℕ) → i < k → k < end → flag_of flags k ≡ false
 
 -- the bits of the cursor are the flags from its agent on up to some agent, and none is set from there on
 pub record IsCursorOf (flags : List Bool) (cursor : Cursor) : Type 0 where

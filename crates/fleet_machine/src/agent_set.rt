@@ -1,9 +1,9 @@
 //! Sets of agents, a bit for each agent. The next member is found at a look at three words.
 
-ghost use Rattle.std.specs.Prelude.{◌≡◌, ◌≢◌, ◌<◌, ◌≤◌, ◌+◌, ◌^◌, ℕ, length, set, replicate, true, false, not, ◌&&◌, ◌==◌, MatchOption, IfSome};
+ghost use Rattle.std.specs.Prelude.{◌≡◌, ◌≢◌, ◌<◌, ◌≤◌, ◌+◌, ◌^◌, ℕ, length, set, replicate, true, false, MatchOption, IfSome};
 ghost use Rattle.std.specs.Int.{bit_at};
 ghost use Rattle.fleet_machine.specs.Machine.{flag_of};
-ghost use Rattle.fleet_machine.specs.AgentSet.{bit_if, IsLowest, IsHighestBelow, HasNoneBelow, IsNextFrom, IsLastBefore, AreNoneFrom, AreNoneIn, AreMarks, IsCursorOf};
+ghost use Rattle.fleet_machine.specs.AgentSet.{bit_if, IsLowest, IsNextFrom, AreNoneFrom, AreNoneIn, AreMarks, IsCursorOf};
 
 use crate::cursor::Cursor;
 use fleet_model::MAX_AGENTS;
@@ -70,36 +70,6 @@ fn with_bit(word: u64, place: u16, is_set: bool) -> u64
     ensures others { (k : ℕ) → k < 64 → k ≢ place → bit_at result k ≡ bit_at word k }
 {
     without_bit(word, place) | bit(is_set) << place
-}
-
-/// The place of the highest bit below this place that is set.
-fn highest_below(word: u64, end: usize) -> Option<usize>
-    ensures { MatchOption result (HasNoneBelow word end) (IsHighestBelow word end) }
-{
-    let Some(first) = lowest(word) else {
-        return None;
-    };
-    let mut place = first;
-    if place >= end {
-        return None;
-    }
-    while let Some(skipped) = lowest(word >> place >> 1) {
-        let higher = place + 1 + skipped;
-        let is_past = higher >= end;
-        if is_past {
-            return Some(place);
-        }
-        place = higher;
-    }
-    Some(place)
-}
-
-/// The bits of the word that the other has not.
-fn without_bits(word: u64, others: u64) -> u64
-    ensures { (k : ℕ) → k < 64 → bit_at result k
-        ≡ bit_if (bit_at word k == 1 && not (bit_at others k == 1)) }
-{
-    word & !others
 }
 
 /// Writes 0 to the words that are marked, which are all that have a bit.
@@ -242,62 +212,6 @@ impl AgentSet {
             self.set(i, true);
             from = i + 1;
         }
-    }
-
-    /// The flagged agents are no members from now on.
-    pub fn remove(&mut self, flags: &[bool])
-        requires few { length flags.now ≤ MAX_AGENTS }
-        requires flags { length self.old ≡ length flags.now }
-        ensures agents { length self.new ≡ length self.old }
-        ensures members { (i : ℕ) → flag_of self.new i
-            ≡ (flag_of self.old i && not (flag_of flags.now i)) }
-    {
-        let mut from = 0;
-        while let Some(i) = next_flag(flags, from) {
-            self.set(i, false);
-            from = i + 1;
-        }
-    }
-
-    /// The members that are not members of the other set.
-    pub fn without(&self, others: &AgentSet) -> AgentSet
-        ensures agents { length result ≡ length self.now }
-        ensures members { (i : ℕ) → flag_of result i
-            ≡ (flag_of self.now i && not (flag_of others.now i)) }
-    {
-        let all = self.words;
-        let taken = others.words;
-        let mut words = all;
-        let mut filled = self.filled;
-        for at in 0..WORDS {
-            let word = without_bits(all[at], taken[at]);
-            words[at] = word;
-            filled = with_bit(filled, at as u16, word != 0);
-        }
-        AgentSet {
-            words,
-            filled,
-            agents: self.agents,
-        }
-    }
-
-    /// The last member before this agent.
-    pub fn last_before(&self, end: u16) -> Option<u16>
-        requires { end ≤ length self.now }
-        ensures { MatchOption result (AreNoneIn self.now 0 end) (IsLastBefore self.now end) }
-    {
-        let filled = self.filled;
-        let first = end as usize / WORD;
-        if let Some(place) = highest_below(self.words[first], end as usize % WORD) {
-            return Some((WORD * first + place) as u16);
-        }
-        let Some(at) = highest_below(filled, first) else {
-            return None;
-        };
-        let Some(place) = highest_below(self.words[at], WORD) else {
-            return None;
-        };
-        Some((WORD * at + place) as u16)
     }
 
     /// The first member from this agent on.

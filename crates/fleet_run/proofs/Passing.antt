@@ -9,9 +9,9 @@ use Rattle.fleet_run.specs.declared.run.Time.{Time}
 use Rattle.fleet_run.specs.declared.run.TheConstants.{MAX_RUN_TICKS}
 use Rattle.fleet_run.specs.Source.{SourceState, HasNotFailed}
 use Rattle.fleet_run.specs.Text.{line_of, lines_below}
-use Rattle.fleet_run.specs.Outcome.{AsksNext, AsksUnless, AsksUnlessOver, PassesTime, RunsLines, RunsToEnd, run_end}
+use Rattle.fleet_run.specs.Outcome.{AsksNext, AsksUnless, AsksUnlessOver, PassesTime, RunsLines, run_end}
 use Rattle.fleet_run.proofs.Ending.{not_over}
-use Rattle.fleet_run.proofs.UnderWay.{IsUnderWay, IsNextTick, asked, asked_so_far, line_added, stops_asking, stops_at_sink}
+use Rattle.fleet_run.proofs.UnderWay.{IsUnderWay, IsNextTick, asked, line_added, stops_asking, stops_at_sink}
 use Rattle.fleet_text.specs.Sink.{SinkState, Takes}
 
 -- no answer of asking is that the sink failed, or want of memory
@@ -52,28 +52,6 @@ module _ (p : Program) (s now after : SourceState) (c : Configuration) (time : T
       let stop = stops_at_sink p s now c time.ticks held time.source_ended first mid last before working lines h.0 in
       subst (λ source. RunsLines p s source first last c (Err Write)) (sym h.1) stop
   stops_in_time HoldLimit same h = stops_there HoldLimit same h.0 h.1
-
-  asked_nothing : (end : End) (more : Bool) → time.end ≡ Some end → AsksUnlessOver time now after (Ok more) flags → after ≡ now
-  asked_nothing end more is h =
-      let asks : AsksUnless (Some end) time.source_ended now after time.ticks (Ok more) flags =
-      subst (λ e. AsksUnless e time.source_ended now after time.ticks (Ok more) flags) is h in
-      asks.1
-
-  -- the run ends at this time
-  pub ends_in_time : (end : End) (more : Bool) → time.end ≡ Some end → PassesTime time now after mid last (line_of time.ticks c) (Ok more) flags
-      → RunsLines p s after first last c (Ok (record { ticks = time.ticks; held = held; end = end }))
-  ends_in_time end more is h =
-      let took = with_line h.0 in
-      let same = asked_nothing end more is h.1 in
-      let ran : RunsToEnd p s now first last (record { ticks = time.ticks; held = held; end = end }) = record {
-        needed = before.needed;
-        end = subst (λ d. run_end p d ≡ Some end) before.here (sym end_is ∙ is);
-        held = before.held_is;
-        asked = asked_so_far p s now c time.ticks held time.source_ended before working;
-        taken = took.taken;
-        working = took.working;
-      } in
-      subst (λ source. RunsLines p s source first last c (Ok (record { ticks = time.ticks; held = held; end = end }))) (sym same) (before.here, ran)
 
   -- the run goes on after this time
   pub goes_in_time : (more : Bool) → time.end ≡ None → length flags ≡ length p → PassesTime time now after mid last (line_of time.ticks c) (Ok more) flags

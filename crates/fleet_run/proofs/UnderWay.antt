@@ -70,9 +70,6 @@ pub record IsUnderWay (p : Program) (s now : SourceState) (c : Configuration) (t
   pub afterwards : ended ≡ true → ticks + all_left p c ≤ MAX_RUN_TICKS + MAX_AGENTS * MAX_MOVES
 
 module _ (p : Program) (s now : SourceState) (c : Configuration) (ticks held : ℕ) (ended : Bool) (before : IsUnderWay p s now c ticks held ended) where
-  pub agents_under_way : length c ≡ length p
-  agents_under_way = ap length before.here ∙ length-run p s.ticks ticks
-
   -- the numbers fit
   pub few_ticks : ticks ≤ MAX_RUN_TICKS + MAX_AGENTS * MAX_MOVES
   few_ticks =

@@ -1,9 +1,8 @@
 //! A fleet that runs an accepted program.
 
-ghost use Rattle.std.specs.Prelude.{◌≡◌, ℕ, ◌<◌, ◌≤◌, length, IsOk, IfOk, IfErr, OnOk, OnErr, All, IsTrue, IsFalse, false, option_map};
+ghost use Rattle.std.specs.Prelude.{◌≡◌, ℕ, ◌<◌, ◌≤◌, length, IsOk, IfOk, IfErr, OnOk, OnErr, All, IsTrue, IsFalse, false};
 ghost use Rattle.fleet_grid.specs.Ground.{is_passable};
 ghost use Rattle.fleet_model.specs.Chain.{IsLongestChain};
-ghost use Rattle.fleet_model.specs.Geometry.{stepped};
 ghost use Rattle.fleet_verify.specs.Parts.{IsAcceptedFor};
 ghost use Rattle.fleet_model.specs.Machine.{opening, tick, moved_in, is_ready_held, is_finished, is_ready, IsReached, place_at, count_at};
 ghost use Rattle.fleet_model.specs.Run.{IsSafeStep};
@@ -227,16 +226,6 @@ impl<'g, P: ProgramView> Fleet<'g, P> {
         ensures { result ≡ order_of (P.program self.now.accepted.program) self.now.configuration i }
     {
         self.machine.order(self.accepted.program(), i)
-    }
-
-    /// Where the order of agent `i` leads, if it has one. An order to stay leads to where it stands.
-    pub fn sent_to(&self, i: u16) -> Option<Place>
-        requires { i < length (P.program self.now.accepted.program) }
-        ensures { result ≡ option_map (stepped (place_at self.now.configuration i))
-            (order_of (P.program self.now.accepted.program) self.now.configuration i) }
-    {
-        let step = self.order(i)?;
-        Some(self.machine.agent(i).place.after(step))
     }
 
     /// The program is accepted for its ground and its tasks, so that every law of accepted programs is true of it. This

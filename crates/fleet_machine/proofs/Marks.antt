@@ -1,7 +1,6 @@
 -- How far agents have read.
-use Rattle.std.proofs.Common.{◌≡◌, ◌≢◌, ◌<◌, ◌≤◌, ℕ, ◌+◌, ◌&&◌, not, Bool, true, false, List, zero, suc, replicate, length, set, get_or, take, refl, ap, sym, ◌∙◌, subst, inl, inr, arith, below_more, get_or-set_same, get_or-set_other, length-set}
+use Rattle.std.proofs.Common.{◌≡◌, ◌≢◌, ◌<◌, ◌≤◌, ℕ, ◌+◌, ◌&&◌, not, Bool, true, false, List, zero, suc, replicate, length, set, take, refl, ap, sym, ◌∙◌, subst, inl, inr, arith, below_more, get_or-set_same, get_or-set_other, length-set}
 use Rattle.std.proofs.lemmas.Bool.{cases_Bool, lt-ltb, ltb-true}
-use Rattle.std.proofs.lemmas.List.{set-get_or}
 use Rattle.std.proofs.lemmas.List.FromFn.{fill_by_all, get_or-map-range_with_len, length-map-range_with_len}
 use Rattle.fleet_model.specs.declared.standing.Standing.{Standing}
 use Rattle.fleet_model.specs.Program.{Program, IsWellFormed, moves, awaits_of, awaits_before}

@@ -1,6 +1,6 @@
 -- An agent that is flagged anew, and put into a list or not.
 use Rattle.std.proofs.Common.{◌≡◌, ◌<◌, ◌≤◌, ◌&&◌, ℕ, true, false, Option, Some, None, set, ap, sym, ◌∙◌}
-use Rattle.std.specs.Prelude.{is_none}
+use Rattle.std.specs.Prelude.{is_none, IfSome}
 use Rattle.std.proofs.lemmas.Bool.{lt-ltb, le-ltb}
 use Rattle.std.proofs.lemmas.List.{set-get_or}
 use Rattle.std.proofs.Math.Bool.{true≢false}
@@ -11,7 +11,6 @@ use Rattle.fleet_machine.specs.declared.steps.Mark.{Mark}
 use Rattle.fleet_machine.specs.Machine.{MachineState, HasReadAll, IsLacked, IsRead, is_left, flag_of, mark_of, unread, list_of, lowered}
 use Rattle.fleet_machine.specs.WaitLists.{home_of}
 use Rattle.fleet_machine.specs.Waking.{IsPlaced}
-use Rattle.fleet_machine.proofs.Lacking.{no_await_if_none_left}
 use Rattle.fleet_machine.proofs.Ready.{no_action_left}
 
 module _ (p : Program) (m new : MachineState) (i : ℕ) (nowhere : home_of m.waiting.homes i ≡ None) where
@@ -25,7 +24,7 @@ module _ (p : Program) (m new : MachineState) (i : ℕ) (nowhere : home_of m.wai
       let none = no_action_left p m.configuration i le in
       record {
         lacked = None;
-        belongs = no_await_if_none_left p m.configuration i le;
+        belongs = rw (le-ltb (count_at m.configuration i) (moves p i) le) none;
         mark = mark_of m.marks i;
         read = read;
         all = λ ready. absurd (true≢false (sym ready ∙ none));
@@ -55,16 +54,16 @@ module _ (p : Program) (m new : MachineState) (i : ℕ) (nowhere : home_of m.wai
         }
     placed_ready (Some w) e belongs ready is = absurd (cc e)
 
-    pub placed_in_list : (lacked : Option Await) (w : Await) → lacked ≡ Some w → IsLacked p m.configuration i lacked
+    pub placed_in_list : (lacked : Option Await) (w : Await) → lacked ≡ Some w → IfSome lacked (λ _. mark ≡ record (mark_of m.marks i) { met = mark.met }) → IsLacked p m.configuration i lacked
         → is_ready p m.configuration i ≡ (is_left p m.configuration i && is_none lacked)
         → new ≡ record m {
-          marks = set m.marks i mark;
+          marks = set m.marks i (record (mark_of m.marks i) { met = mark.met });
           ready = set m.ready i false;
           waiting = record m.waiting { homes = set m.waiting.homes i (Some (list_of w)) };
           least = lowered m.least (Some w);
         } → IsPlaced p m new i
-    placed_in_list None w e belongs ready is = absurd (cc e)
-    placed_in_list (Some v) w e belongs ready is =
+    placed_in_list None w e kept belongs ready is = absurd (cc e)
+    placed_in_list (Some v) w e kept belongs ready is =
         let now : is_ready p m.configuration i ≡ false = rw is_left_now at ready in
         let same : v ≡ w = cc in
         record {
@@ -73,5 +72,5 @@ module _ (p : Program) (m new : MachineState) (i : ℕ) (nowhere : home_of m.wai
           mark = mark;
           read = read;
           all = all;
-          same = rw (now, is_left_now, left_same, same) is;
+          same = rw (now, is_left_now, left_same, same, kept) is;
         }

@@ -1,5 +1,5 @@
 -- Sets of agents, as bits of words.
-use Rattle.std.specs.Prelude.{◌≡◌, ℕ, ◌+◌, ◌/◌, ◌%◌, ◌<◌, ◌≤◌, ◌↔◌, Bool, true, false, List, length, map, slice_index, if◌then◌else◌, ◌==◌}
+use Rattle.std.specs.Prelude.{◌≡◌, ℕ, ◌+◌, ◌/◌, ◌%◌, ◌<◌, ◌≤◌, ◌↔◌, Bool, true, false, List, length, map, slice_index, if◌then◌else◌, ◌==◌, Option, MatchOption, IfSome}
 use Rattle.std.specs.Int.{bit_at}
 use Rattle.fleet_model.specs.declared.limits.TheConstants.{MAX_AGENTS}
 use Rattle.fleet_model.specs.Machine.{indices}
@@ -58,3 +58,9 @@ pub record IsCursorOf (flags : List Bool) (cursor : Cursor) : Type 0 where
   pub span : ℕ
   pub here : (k : ℕ) → k < span → flag_of flags (cursor.from + k) ≡ (bit_at cursor.bits k == 1)
   pub past : (k : ℕ) → span ≤ k → bit_at cursor.bits k ≡ 0
+
+-- this is the first member from the cursor on, if there is one, and the cursor goes on behind it
+pub record GoesOn (flags : List Bool) (old new : Cursor) (found : Option ℕ) : Type 0 where
+  pub next : MatchOption found (AreNoneFrom flags old.from) (IsNextFrom flags old.from)
+  pub behind : IfSome found (λ i. new.from ≡ i + 1)
+  pub cursor : IsCursorOf flags new

@@ -6,7 +6,7 @@ ghost use Rattle.fleet_model.specs.Geometry.{place_of, stepped};
 ghost use Rattle.fleet_model.specs.Program.{moves, awaits_of, IsWellFormed};
 ghost use Rattle.fleet_model.specs.Machine.{opening, is_finished, next_action, is_ready, is_met, tick, moved_in, is_ready_held, standing_at, count_at, indices};
 ghost use Rattle.fleet_model.specs.Claims.{order_of};
-ghost use Rattle.fleet_machine.specs.AgentSet.{AreNoneFrom, IsNextFrom, IsCursorOf};
+ghost use Rattle.fleet_machine.specs.AgentSet.{AreNoneFrom, IsNextFrom, IsCursorOf, GoesOn};
 ghost use Rattle.fleet_machine.specs.Confirmed.{all_but, AreAllReady, IsFirstUnready};
 ghost use Rattle.fleet_machine.specs.Looked.{ready_in, awaiting_in, LooksAt};
 ghost use Rattle.fleet_machine.specs.Near.{IsNear, AreNear};
@@ -158,7 +158,7 @@ impl Machine {
             (indices (length (P.program program.now))) }
     {
         let _ = program;
-        self.first_ready().is_some()
+        self.next_ready(&mut Cursor::new()).is_some()
     }
 
     /// Whether agent `i` may finish its next action.
@@ -201,6 +201,8 @@ impl Machine {
         ensures read { IsRead (P.program program.now) self.now.configuration i result.0 }
         ensures all { HasReadAll (P.program program.now) self.now.configuration i result.0 }
         ensures lacked { IsLacked (P.program program.now) self.now.configuration i result.1 }
+        ensures kept { IfSome result.1
+            (λ _. result.0 ≡ record (mark_of self.now.marks i) { met = result.0.met }) }
         ensures agent { IfSome result.1 (λ w. w.agent < MAX_AGENTS) }
         ensures list { IfSome result.1 (λ w. list_of w
             < length (P.program program.now) * LISTS_EACH) }
@@ -303,28 +305,15 @@ impl Machine {
     /// The first agent from the cursor on that the last tick moved, behind which the cursor goes on.
     pub fn moved_at(&self, cursor: &mut Cursor) -> Option<u16>
         requires { IsCursorOf self.now.moving cursor.old }
-        ensures next { MatchOption result (AreNoneFrom self.now.moving cursor.old.from)
-            (IsNextFrom self.now.moving cursor.old.from) }
-        ensures behind { IfSome result (λ i. cursor.new.from ≡ i + 1) }
-        ensures cursor { IsCursorOf self.now.moving cursor.new }
+        ensures { GoesOn self.now.moving cursor.old cursor.new result }
     {
         self.moving.next_at(cursor)
-    }
-
-    /// The first agent that is ready.
-    fn first_ready(&self) -> Option<u16>
-        ensures { MatchOption result (AreNoneFrom self.now.ready 0) (IsNextFrom self.now.ready 0) }
-    {
-        self.ready.next(0)
     }
 
     /// The first agent from the cursor on that is ready.
     fn next_ready(&self, cursor: &mut Cursor) -> Option<u16>
         requires { IsCursorOf self.now.ready cursor.old }
-        ensures next { MatchOption result (AreNoneFrom self.now.ready cursor.old.from)
-            (IsNextFrom self.now.ready cursor.old.from) }
-        ensures behind { IfSome result (λ i. cursor.new.from ≡ i + 1) }
-        ensures cursor { IsCursorOf self.now.ready cursor.new }
+        ensures { GoesOn self.now.ready cursor.old cursor.new result }
     {
         self.ready.next_at(cursor)
     }
@@ -340,10 +329,7 @@ impl Machine {
     /// The first agent from the cursor on that is due.
     fn next_due(&self, cursor: &mut Cursor) -> Option<u16>
         requires { IsCursorOf self.now.due cursor.old }
-        ensures next { MatchOption result (AreNoneFrom self.now.due cursor.old.from)
-            (IsNextFrom self.now.due cursor.old.from) }
-        ensures behind { IfSome result (λ i. cursor.new.from ≡ i + 1) }
-        ensures cursor { IsCursorOf self.now.due cursor.new }
+        ensures { GoesOn self.now.due cursor.old cursor.new result }
     {
         self.due.next_at(cursor)
     }
@@ -380,13 +366,22 @@ impl Machine {
     {
         self.set_mark(i, mark);
         if !self.ready.contains(i) {
-            self.ready.set(i, true);
+            self.make_ready(i);
         }
     }
 
-    /// Agent `i`, which has read so far, is not ready, and waits for what is awaited.
+    /// Agent `i` is ready.
     #[inline(never)]
-    fn wait(&mut self, i: u16, mark: Mark, awaited: Await)
+    fn make_ready(&mut self, i: u16)
+        requires { i < length self.old.ready }
+        ensures { self.new ≡ record self.old { ready = set self.old.ready i true } }
+    {
+        self.ready.set(i, true);
+    }
+
+    /// Agent `i`, of whose next action so many awaits are met, is not ready, and waits for what is awaited.
+    #[inline(never)]
+    fn wait(&mut self, i: u16, met: u16, awaited: Await)
         requires marks { i < length self.old.marks }
         requires ready { i < length self.old.ready }
         requires home { i < length self.old.waiting.homes }
@@ -395,7 +390,7 @@ impl Machine {
         requires list { list_of awaited < self.old.waiting.lists }
         requires least { list_of awaited < length self.old.least }
         ensures { self.new ≡ record self.old {
-          marks = set self.old.marks i mark;
+          marks = set self.old.marks i (record (mark_of self.old.marks i) { met = met });
           ready = set self.old.ready i false;
           waiting = record self.old.waiting {
             homes = set self.old.waiting.homes i (Some (list_of awaited));
@@ -403,7 +398,7 @@ impl Machine {
           least = lowered self.old.least (Some awaited);
         } }
     {
-        self.set_mark(i, mark);
+        self.marks[i as usize].met = met;
         self.ready.set(i, false);
         self.wait_for(i, awaited);
     }
@@ -451,7 +446,7 @@ impl Machine {
         let (mark, lacked) = self.read_on(program, i);
         match lacked {
             None => self.flag_ready(i, mark),
-            Some(awaited) => self.wait(i, mark, awaited),
+            Some(awaited) => self.wait(i, mark.met, awaited),
         }
     }
 
@@ -636,14 +631,6 @@ impl Machine {
         self.due.copy_from(&self.ready);
     }
 
-    /// The agents that move are due, and no others.
-    fn flag_due(&mut self)
-        requires { length self.old.due ≡ length self.old.moving }
-        ensures { self.new ≡ record self.old { due = self.old.moving } }
-    {
-        self.due.copy_from(&self.moving);
-    }
-
     /// Agent `i` is held: it does not move, and is not due.
     fn hold_back(&mut self, i: u16)
         requires moving { i < length self.old.moving }
@@ -760,7 +747,7 @@ impl Machine {
         ensures { self.new ≡ record self.old { moving = flags.now; due = flags.now } }
     {
         self.moving.set_to(flags);
-        self.flag_due();
+        self.due.copy_from(&self.moving);
     }
 
     /// The agents that move, all of which are ready, finish their next actions, and those that they wake are due.

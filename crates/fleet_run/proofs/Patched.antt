@@ -92,10 +92,6 @@ close_or_below (negsuc k) n close =
 same_tens : (m n : ℕ) → m ≤ n + 1 → n ≤ m + 1 → 48 + m % 10 ≤ 48 + n % 10 + 1 → 48 + n % 10 ≤ 48 + m % 10 + 1 → m / 10 ≡ n / 10
 same_tens m n low high digit_low digit_high = omega arith
 
--- .. and if that is the same, so is the number
-same_if : (m n : ℕ) → m ≤ n + 1 → n ≤ m + 1 → 48 + m % 10 ≡ 48 + n % 10 → m ≡ n
-same_if m n low high digit = omega arith
-
 -- ---- the text of a place
 
 -- up to the last digit of the row, which these come before
@@ -182,7 +178,7 @@ module _ (q : Place) (row : List ℕ) (at end : ℕ) (text : IsTextBeside q at e
     row_digit = digit_read row (take at row) (to_row text.other F) (drop end row) d in_row (end - 1) row_at
 
   module _ (y : ℕ) (y_is : q.y ≡ pos y) (few : y < 100000) where
-    pub row_patched : 1 ≤ y → slice_index row (end - 1) ≢ 48 + y % 10 → AreBytesClose (slice_index row (end - 1)) (48 + y % 10)
+    pub row_patched : 1 ≤ y → slice_index row (end - 1) % 2 ≢ y % 2 → AreBytesClose (slice_index row (end - 1)) (48 + y % 10)
         → IsWrittenOver q at end row (set row (end - 1) (48 + y % 10))
     row_patched first changed close = elim text.beside [
       | inl same ↦
@@ -199,7 +195,9 @@ module _ (q : Place) (row : List ℕ) (at end : ℕ) (text : IsTextBeside q at e
                 (row_at (front (m / 10)) (48 + m % 10) digits) (48 + y % 10)
                 ∙ (ap (λ l. take at row ++ (l ++ ((48 + y % 10) ∷ drop end row))) fronts ∙ ap (λ l. take at row ++ l) (sym (by_row q (front (y / 10)) (drop end row) (48 + y % 10) own)));
           }
-      | inr same ↦ absurd (changed (row_digit (front (y / 10)) (48 + y % 10) (digits_of text.other.y y (same.0 ∙ y_is) (omega (arith, few)))))
+      | inr same ↦
+          let digit = row_digit (front (y / 10)) (48 + y % 10) (digits_of text.other.y y (same.0 ∙ y_is) (omega (arith, few))) in
+          absurd (changed (omega (arith, digit)))
     ]
 
     -- the other place stands in the same row
@@ -207,13 +205,13 @@ module _ (q : Place) (row : List ℕ) (at end : ℕ) (text : IsTextBeside q at e
       at_row : text.other.y ≡ q.y
       column : AreClose text.other.x q.x
 
-    in_same_row : slice_index row (end - 1) ≡ 48 + y % 10 → IsInRow
+    in_same_row : slice_index row (end - 1) % 2 ≡ y % 2 → IsInRow
     in_same_row kept = elim text.beside [
       | inl same ↦ elim (close_or_below text.other.y y (subst (λ z. AreClose text.other.y z) y_is same.1)) [
         | inl other ↦
             let m = other.number in
             let digit = row_digit (front (m / 10)) (48 + m % 10) (digits_of text.other.y m other.is (omega (arith, other.low, few))) in
-            let equal : m ≡ y = same_if m y other.low other.high (sym digit ∙ kept) in
+            let equal : m ≡ y = omega (arith, digit, kept, other.low, other.high) in
             record { at_row = other.is ∙ (ap (λ (n : ℕ). pos n) equal ∙ sym y_is); column = record { low = rw same.0 (omega (arith, ints)); high = rw same.0 (omega (arith, ints)) } }
         | inr below ↦
             let one : signed_decimal text.other.y ≡ (45 ∷ []) ++ (49 ∷ []) = ap signed_decimal below.1 ∙ ap (λ l. 45 ∷ l) (decimal_digit 1 (omega arith)) in
@@ -223,7 +221,7 @@ module _ (q : Place) (row : List ℕ) (at end : ℕ) (text : IsTextBeside q at e
       | inr same ↦ record { at_row = same.0; column = same.1 }
     ]
 
-    pub column_patched : (x digits : ℕ) → q.x ≡ pos x → 1 ≤ x → x < 100000 → digits ≡ length (decimal y) → slice_index row (end - 1) ≡ 48 + y % 10
+    pub column_patched : (x digits : ℕ) → q.x ≡ pos x → 1 ≤ x → x < 100000 → digits ≡ length (decimal y) → slice_index row (end - 1) % 2 ≡ y % 2
         → AreBytesClose (slice_index row (end - 1 - 1 - digits)) (48 + x % 10) → IsWrittenOver q at end row (set row (end - 1 - 1 - digits) (48 + x % 10))
     column_patched x digits x_is x_first x_few digits_are kept close =
         let h = in_same_row kept in
@@ -246,7 +244,7 @@ module _ (q : Place) (row : List ℕ) (at end : ℕ) (text : IsTextBeside q at e
         }
 
     -- the column ends in the row of bytes
-    pub column_within : (digits : ℕ) → digits ≡ length (decimal y) → slice_index row (end - 1) ≡ 48 + y % 10 → 2 + digits ≤ end
+    pub column_within : (digits : ℕ) → digits ≡ length (decimal y) → slice_index row (end - 1) % 2 ≡ y % 2 → 2 + digits ≤ end
     column_within digits digits_are kept =
         let h = in_same_row kept in
         let past : length (past_column text.other) ≡ suc digits = ap (λ z. suc (length (signed_decimal z))) (h.at_row ∙ y_is) ∙ ap suc (sym digits_are) in

@@ -1,6 +1,6 @@
 //! The line of a run, kept from tick to tick.
 
-ghost use Rattle.std.specs.Prelude.{◌≡◌, ◌+◌, ◌-◌, ◌<◌, ◌≤◌, ◌^◌, ◌++◌, ◌∷◌, ℕ, true, length, take, drop, set, get_or, slice_index, if◌then◌else◌, IfSome, ◌%◌, pos};
+ghost use Rattle.std.specs.Prelude.{◌≡◌, ◌≢◌, false, ◌+◌, ◌-◌, ◌<◌, ◌≤◌, ◌^◌, ◌++◌, ◌∷◌, ℕ, true, length, take, drop, set, get_or, slice_index, if◌then◌else◌, IfSome, ◌%◌, pos};
 ghost use Rattle.std.specs.List.{copy_within};
 ghost use Rattle.fleet_model.specs.declared.standing.Standing.{Standing};
 ghost use Rattle.fleet_model.specs.Machine.{Configuration, standing_at};
@@ -50,21 +50,18 @@ fn overwrite(i: usize, place: Place, row: &mut [u8], begins: &[usize]) -> bool
     true
 }
 
-/// Writes a place over that of agent `i`, which stood beside it, if both have as many bytes, and answers whether it did.
+/// Writes the last digit of a place over that of agent `i`, which stood beside it, if no other byte changes, and answers
+/// whether it did.
+#[inline(always)]
 fn move_place(i: usize, place: Place, row: &mut [u8], begins: &[usize]) -> bool
-    requires room { length row.old ≡ LINE }
-    requires agent { i + 1 < length begins.now }
-    requires order { get_or begins.now i 0 ≤ get_or begins.now (i + 1) 0 }
-    requires within { get_or begins.now (i + 1) 0 ≤ LINE }
-    requires text { IsTextBeside place (get_or begins.now i 0) (get_or begins.now (i + 1) 0)
-        row.old }
-    ensures { WritesOver result place (get_or begins.now i 0) (get_or begins.now (i + 1) 0)
-        row.old row.new }
+    requires kept { (c : Configuration) × (IsLineKept c row.old begins.now) × (i < length c)
+        × IsBeside (standing_at c i).place place }
+    ensures kept { result ≡ true → (c : Configuration)
+        → IsLineKept c row.old begins.now → i < length c
+        → (s : Standing) → s.place ≡ place → IsLineKept (set c i s) row.new begins.now }
+    ensures same { result ≡ false → row.new ≡ row.old }
 {
-    if patch_place(place, row, begins[i], begins[i + 1]) {
-        return true;
-    }
-    overwrite(i, place, row, begins)
+    patch_place(place, row, begins[i], begins[i + 1])
 }
 
 /// How many places of a tick may become longer or shorter, one after another, before all places are written anew.
@@ -185,17 +182,17 @@ fn resize_place(i: usize, place: Place, row: &mut [u8], begins: &mut [usize]) ->
     resize_to(i, &text[at..], row, begins)
 }
 
-/// Writes a place over that of agent `i`, which stood beside it. Answers 0 if it has as many bytes, 1 if those before it
-/// were moved, and else that there is no room for that, by a number greater than `MOST_RESIZED`.
+/// Writes a place over that of agent `i`. Answers 0 if it has as many bytes, 1 if those before it were moved, and else
+/// that there is no room for that, by a number greater than `MOST_RESIZED`.
+#[inline(never)]
 fn put_place(i: usize, place: Place, row: &mut [u8], begins: &mut [usize]) -> u32
-    requires kept { (c : Configuration) × (IsLineKept c row.old begins.old) × (i < length c)
-        × IsBeside (standing_at c i).place place }
+    requires kept { (c : Configuration) × (IsLineKept c row.old begins.old) × (i < length c) }
     ensures few { result ≤ MOST_RESIZED + 1 }
     ensures kept { result ≤ MOST_RESIZED → (c : Configuration)
         → IsLineKept c row.old begins.old → i < length c
         → (s : Standing) → s.place ≡ place → IsLineKept (set c i s) row.new begins.new }
 {
-    if move_place(i, place, row, begins) {
+    if overwrite(i, place, row, begins) {
         return 0;
     }
     if resize_place(i, place, row, begins) {
@@ -229,10 +226,15 @@ pub fn write_moved(machine: &Machine, row: &mut [u8], begins: &mut [usize])
     let mut resized = 0;
     let mut cursor = Cursor::new();
     while let Some(i) = machine.moved_at(&mut cursor) {
-        resized += put_place(usize::from(i), rows[usize::from(i)].place, row, begins);
-        if resized > MOST_RESIZED {
-            write_places(rows, row, begins);
-            return;
+        let i = usize::from(i);
+        let place = rows[i].place;
+        let is_moved = move_place(i, place, row, begins);
+        if !is_moved {
+            resized += put_place(i, place, row, begins);
+            if resized > MOST_RESIZED {
+                write_places(rows, row, begins);
+                return;
+            }
         }
     }
 }
@@ -279,6 +281,14 @@ fn last_digit(number: u32) -> u8
     b'0' + (number % 10) as u8
 }
 
+/// Whether one of the two is odd and the other is even. A digit is odd if its number is.
+fn is_one_odd(byte: u8, number: u32) -> bool
+    ensures same { result ≡ false → byte % 2 ≡ number % 2 }
+    ensures apart { result ≡ true → byte % 2 ≢ number % 2 }
+{
+    u32::from(byte % 2) != number % 2
+}
+
 /// Whether a byte is a digit or stands beside it.
 fn are_close(byte: u8, digit: u8) -> bool
     requires first { 48 ≤ digit }
@@ -319,7 +329,7 @@ pub fn patch_place(place: Place, row: &mut [u8], begin: usize, end: usize) -> bo
         return false;
     };
     let last = end - 1;
-    let is_other_row = row[last] != last_digit(y);
+    let is_other_row = is_one_odd(row[last], y);
     if is_other_row {
         return patch_digit(y, row, last);
     }

@@ -1,4 +1,4 @@
-use Rattle.std.proofs.Common.{rules, ◌≡◌, pos, ◌≤◌, ◌%◌, ◌+◌, ◌-◌, ◌∙◌, arith, length, set, sym}
+use Rattle.std.proofs.Common.{rules, ◌≡◌, pos, ◌≤◌, ◌%◌, ◌+◌, ◌-◌, arith, length, set}
 use Rattle.fleet_run.proofs.Patched.{row_patched, column_patched, column_within, written_if}
 use Rattle.fleet_run.proofs.line.patch_place.Goals as goal
 
@@ -11,7 +11,7 @@ returns-then-is_other_row c =
     written_if c.patch_digit.result c.args.place c.args.begin c.args.end row (set row (c.args.end - 1) (48 + y % 10)) c.patch_digit.new.row c.patch_digit.ensures.written
     (λ is.
     let off = c.patch_digit.ensures.close is in
-    row_patched c.args.place row c.args.begin c.args.end c.requires.text within y y_is c.in-Some.ensures.1 off.first (λ same. c.if-is_other_row.true (same ∙ sym c.last_digit.ensures)) off.close)
+    row_patched c.args.place row c.args.begin c.args.end c.requires.text within y y_is c.in-Some.ensures.1 off.first (c.is_one_odd-is_other_row.ensures.apart c.if-is_other_row.true) off.close)
 
 pub overflow_sub-last-3 : goal.overflow_sub-last-3
 overflow_sub-last-3 c =
@@ -19,7 +19,7 @@ overflow_sub-last-3 c =
     let y_is : c.args.place.y ≡ pos c.in-Some.y = search rules in
     let within : c.args.end ≤ length row = omega (arith, c.requires.within, c.requires.room) in
     let high = column_within c.args.place row c.args.begin c.args.end c.requires.text within c.in-Some.y y_is c.in-Some.ensures.1 c.digit_count.result c.digit_count.ensures.digits
-    (c.if-is_other_row.false ∙ c.last_digit.ensures) in
+    (c.is_one_odd-is_other_row.ensures.same c.if-is_other_row.false) in
     omega (arith, high)
 
 pub returns : goal.returns
@@ -34,4 +34,4 @@ returns c =
     (λ is.
     let off = c.patch_digit-2.ensures.close is in
     column_patched c.args.place row c.args.begin c.args.end c.requires.text within c.in-Some.y y_is c.in-Some.ensures.1 x digits x_is off.first
-    c.in-Some-small_number.ensures.1 c.digit_count.ensures.digits (c.if-is_other_row.false ∙ c.last_digit.ensures) off.close)
+    c.in-Some-small_number.ensures.1 c.digit_count.ensures.digits (c.is_one_odd-is_other_row.ensures.same c.if-is_other_row.false) off.close)

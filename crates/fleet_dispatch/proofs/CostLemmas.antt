@@ -217,10 +217,6 @@ module _ (p : Program) (rows : List (List ℕ)) (said : List CostLine) (are : Ar
       (joined (last_cost a.agent a.number 0 said) (last_cost a.agent 0 0 said) (last_cost a.agent 0 1 said) (cost_by said a)
       (last_or p a.agent 0 1 said are) (last_or p a.agent a.number (last_cost a.agent 0 1 said) said are))
 
--- no action costs less than one
-pub at_least_one : (rows : List (List ℕ)) (a : ActionId) → 1 ≤ cost_in rows a
-at_least_one rows a = grind (arith, nat_tests)
-
 -- ---- from nothing
 
 pub row_more : (f : ℕ → List ℕ) (i : ℕ) (rows new : List (List ℕ)) (row : List ℕ) → rows ≡ map f (indices i) → new ≡ rows ++ row ∷ [] → row ≡ f i → new ≡ map f (indices (i + 1))

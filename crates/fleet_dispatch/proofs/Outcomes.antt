@@ -1,8 +1,7 @@
 -- How a dispatch goes on, and how it ends.
-use Rattle.std.proofs.Common.{◌≡◌, ℕ, ◌+◌, ◌≤◌, ◌⊎◌, ◌++◌, ◌∷◌, [], Bool, true, false, cond, List, length, take, Result, Ok, Err, refl, ap, sym, ◌∙◌, arith, subst, inl, inr, append_assoc}
+use Rattle.std.proofs.Common.{◌≡◌, ℕ, ◌+◌, ◌≤◌, ◌++◌, ◌∷◌, [], Bool, true, false, cond, List, length, take, Result, Ok, Err, refl, ap, sym, ◌∙◌, arith, subst, inl, inr, append_assoc}
 use Rattle.std.specs.Prelude.{is_err}
 use Rattle.fleet_model.specs.Program.{Program, total_moves}
-use Rattle.fleet_dispatch.specs.declared.run.TheConstants.{MAX_REPORTS}
 use Rattle.fleet_dispatch.specs.declared.fault.DispatchFault.{DispatchFault}
 use Rattle.fleet_dispatch.specs.declared.fault.DispatchFault.TheVariants as f
 use Rattle.fleet_dispatch.specs.declared.run.DispatchReport.{DispatchReport}
@@ -127,18 +126,6 @@ module _ (d : Course) (first then both : Talk → Type 0) (j : Joins first then 
         ordered = subst (λ (c : Counts). AreOrdered d.program d.ahead c r) told.done (subst (λ k. AreOrdered d.program k s.progress.done r) same ordered);
         left = unfinished;
       }
-
-      pub limit_stops : (lines ≡ MAX_REPORTS) ⊎ (s.taken ≡ MAX_REPORTS) → Dispatches d first (left_in s) (Err f.ReportLimit)
-      limit_stops limit = (
-        reports,
-        record {
-          taken = told.taken;
-          left = unfinished;
-          talk = told.talk;
-          limit = elim limit [ inl l ↦ inl (sym told.count ∙ l) | inr r ↦ inr (sym told.number ∙ r) ];
-        },
-        left_is d s reports told.done told.number,
-      )
 
       pub line_stops : (T : Type 0) (pace : Pace) (works : Type 0) (n : ℕ) (e : DispatchFault) → pace.ahead ≡ d.ahead → n ≡ lines + 1
           → TakesLine {T = T} d.program pace then works s s' n (Err e) → Dispatches d both (left_in s') (Err e)

@@ -21,7 +21,7 @@ use Rattle.fleet_machine.proofs.Waking.{fewer}
 use Rattle.fleet_dispatch.specs.declared.report.Reported.{Reported}
 use Rattle.fleet_dispatch.specs.Report.{Words, Counts, count_of, said_of}
 use Rattle.fleet_dispatch.specs.Ahead.{told_to, told_at, IsOrdered, AreOrdered, IsFirstUnordered, is_all_done}
-use Rattle.fleet_dispatch.specs.Progress.{ProgressState, AreDone, MayBeTold, LacksOf, IsSettled, HasRows, LeadsBut, Leads, AreCounts, AreTold, AreAgents, IsWoken, is_woken}
+use Rattle.fleet_dispatch.specs.Progress.{ProgressState, AreDone, MayBeTold, LacksOf, IsSettled, HasRows, LeadsBut, Leads, AreCounts, AreTold, IsWoken, is_woken}
 use Rattle.fleet_dispatch.proofs.Telling.{CannotBeTold, told_is}
 
 -- who is led has carried out no more than it is to
@@ -433,9 +433,6 @@ words_told p k s words same ordered j d l =
     let w = ordered j d l in
     let at = told_of_all p k s.told s.done (get_or words j d).agent same w.agent in
     (w.agent, omega (arith, w.told, at))
-
-pub words_agents : (p : Program) (s : ProgressState) (words : Words) → AreTold p s words → AreAgents p words
-words_agents p s words told j d l = (told j d l).0
 
 -- ---- while those that waited are looked at
 

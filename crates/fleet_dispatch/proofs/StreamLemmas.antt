@@ -1,6 +1,6 @@
 -- The next line among bytes that were read.
 use Rattle.std.proofs.Common.{◌≡◌, ℕ, ◌+◌, ◌≤◌, ◌<◌, ◌++◌, Bool, true, List, [], length, get_or, take, drop, Option, Some, None, Result, Ok, Err, ltb, refl, sym, ap, subst, ◌∙◌, arith, inl, inr, true≢false}
-use Rattle.std.proofs.lemmas.List.{append-nil, length-append, take-append-le, drop-append-le}
+use Rattle.std.proofs.lemmas.List.{length-append, take-append-le, drop-append-le}
 use Rattle.std.proofs.lemmas.Bool.{cases_Bool, cases_lt, ltb-false}
 use Rattle.std.proofs.lemmas.List.Quantifiers.{position-Some}
 use Rattle.std.proofs.lemmas.List.Sums.{position_or_len_is, fails_before_first}
@@ -8,7 +8,7 @@ use Rattle.std.proofs.Math.ListN.{get_or-append}
 use Rattle.std.specs.Prelude.{position, IfSome}
 use Rattle.std.specs.List.{position_or_len}
 use Rattle.std.specs.Str.Lines.{strip_carriage_return}
-use Rattle.std.specs.Io.KnownBytes.{prepend_known, Keeps, IsAtEnd}
+use Rattle.std.specs.Io.KnownBytes.{prepend_known, Keeps}
 use Rattle.std.specs.Result.{IsErrAnd}
 use Rattle.fleet_text.specs.Text.{is_lf}
 use Rattle.fleet_text.proofs.TextLaws.{found_nowhere}
@@ -17,7 +17,7 @@ use Rattle.fleet_dispatch.specs.declared.window.TheConstants.{LINE_ROOM}
 use Rattle.fleet_dispatch.specs.Report.{Words, Line}
 use Rattle.fleet_dispatch.specs.ReportText.{line_of}
 use Rattle.fleet_dispatch.specs.declared.report_text.LineKind.{LineKind}
-use Rattle.fleet_dispatch.specs.Stream.{HasLine, GivesLine, IsMisheard, HasNoLine}
+use Rattle.fleet_dispatch.specs.Stream.{HasLine, GivesLine, IsMisheard}
 use Rattle.fleet_dispatch.specs.Hearing.{EndsLine, HearsLine}
 use Rattle.fleet_dispatch.specs.declared.floor.HearFault.{HearFault}
 use Rattle.fleet_dispatch.specs.declared.floor.HearFault.TheVariants as h
@@ -61,14 +61,6 @@ module _ (form : ReportForm) where
   misheard (Some t) read None end k e none = absurd k
   misheard (Some t) read (Some more) end k e none =
       inl (strip_carriage_return (take end read), drop (end + 1) read ++ more, subst (λ (x : List ℕ). HasLine x (strip_carriage_return (take end read)) (drop (end + 1) read ++ more)) k (first_line read more end e), none)
-
-  -- no line, at the end
-  pub no_line : (a : Option (List ℕ)) (read : List ℕ) (left : Option (List ℕ)) → Keeps a (prepend_known read left) → position is_lf read ≡ None → IsAtEnd left → IfSome a HasNoLine
-  no_line None read left k e end = tt
-  no_line (Some t) read None k e end = absurd k
-  no_line (Some t) read (Some more) k e end =
-      let all : read ++ more ≡ read = ap (λ (x : List ℕ). read ++ x) end ∙ append-nil read in
-      subst (λ (x : List ℕ). position is_lf x ≡ None) k (ap (position is_lf) all ∙ e)
 
   -- more bytes than are heard of a line, without an end
   too_long : (read more : List ℕ) → position is_lf read ≡ None → LINE_ROOM ≤ length read → IsMisheard form (read ++ more)

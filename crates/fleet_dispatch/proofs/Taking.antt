@@ -1,5 +1,5 @@
 -- A line that was heard, and what followed from it.
-use Rattle.std.proofs.Common.{◌≡◌, ℕ, ◌+◌, ◌≤◌, ◌++◌, ◌∷◌, [], Bool, true, false, not, cond, List, length, take, Option, Some, None, Result, Ok, Err, refl, ap, sym, ◌∙◌, subst, arith}
+use Rattle.std.proofs.Common.{◌≡◌, ℕ, ◌+◌, ◌++◌, ◌∷◌, [], Bool, true, false, not, cond, List, Option, Some, None, Result, Ok, Err, refl, ap, sym, ◌∙◌, subst, arith}
 use Rattle.std.specs.Prelude.{is_err}
 use Rattle.std.proofs.lemmas.List.Elements.{All-nil}
 use Rattle.fleet_model.specs.Program.{Program}
@@ -10,10 +10,9 @@ use Rattle.fleet_dispatch.specs.declared.report_text.LineKind.TheVariants as k
 use Rattle.fleet_dispatch.specs.declared.pace.Pace.{Pace}
 use Rattle.fleet_dispatch.specs.declared.run.Session.{Session}
 use Rattle.fleet_dispatch.specs.Report.{Words, Counts, counts_after, is_repeat, Line, Reports, Asks}
-use Rattle.fleet_dispatch.specs.ReportText.{log_line}
 use Rattle.fleet_dispatch.specs.Standings.{standings_text}
 use Rattle.fleet_dispatch.specs.Ahead.{IsOrdered}
-use Rattle.fleet_dispatch.specs.Talk.{Talk, Told, Cut, Heard, Asked, Logged, Unlogged, Tells, Logs, Hears}
+use Rattle.fleet_dispatch.specs.Talk.{Talk, Told, Cut, Heard, Asked, Logged, Tells, Logs, Hears}
 use Rattle.fleet_dispatch.specs.Dispatch.{log_turns}
 use Rattle.fleet_dispatch.specs.Session.{IsReady, TakesLine, TakesReport, LogsReport}
 use Rattle.fleet_dispatch.proofs.Outcomes.{Joins}
@@ -35,13 +34,6 @@ pub logged_turns : {T E : Type 0} (talks : Talk → Type 0) (works : Type 0) (b 
 logged_turns talks works b (Err e) counts words same ok h = absurd cc
 logged_turns talks works true (Ok x) counts words same ok h = rw (sym same) h
 logged_turns talks works false (Ok x) counts words same ok h = rw (sym same) h
-
--- .. or that could not be
-pub unlogged : {T E : Type 0} (talks : Talk → Type 0) (works : Type 0) (b : Bool) (r : Result T E) (words : Words) → is_err r ≡ true → LogsReport talks works b r words
-    → (b ≡ false) × ((k : ℕ) × (k ≤ length (log_line words)) × talks (Unlogged (take k (log_line words)) ∷ []))
-unlogged talks works b (Ok x) words failed h = absurd cc
-unlogged talks works true (Err e) words failed h = absurd h
-unlogged talks works false (Err e) words failed h = (refl, h)
 
 module _ (first then both : Talk → Type 0) (j : Joins first then both) (p : Program) (pace : Pace) (works : Type 0) (s s' : Session) (n : ℕ) where
   counted_so : (b : Bool) → ◌≡◌ {A = ℕ} (cond b 0 1) (cond (not b) 1 0)

@@ -88,9 +88,6 @@ module _ (counts : Counts) (words : Words) (rising : IsRising words) where
 -- ---- repeats
 
 module _ (counts : Counts) where
-  abbrev is_old : Reported → Bool
-  is_old w = nat_le (said_of counts w) (count_of counts w.agent)
-
   all_old : (words : Words) → list_all (λ x. nat_le (said_of counts x) (count_of counts x.agent)) words ≡ true → counts_after counts words ≡ counts
   all_old [] e = refl
   all_old (w ∷ words) e =

@@ -2,16 +2,13 @@
 use Rattle.std.proofs.Common.{◌≡◌, ◌∙◌, ◌-◌, ◌≤◌, List, [], ◌∷◌, ◌++◌, length, map, take, drop, get_or, ap, sym, arith, Result, Ok, Err, IfOk, append_assoc, append-nil}
 use Rattle.std.specs.List.{fold}
 use Rattle.std.proofs.lemmas.List.{take_all}
-use Rattle.clap.specs.Words.{App, Shape, Rule, Text, new_app, AddsArg, AddsSubcommand, app_of, with_rule, with_subcommand}
+use Rattle.clap.specs.Words.{App, Rule, Text, new_app, AddsArg, app_of, with_rule}
 use Rattle.clap.specs.declared.builder.Arg.{Arg}
 use Rattle.clap.specs.declared.builder.Command.{Command}
 use Rattle.fleet_args.specs.Arguments.{IsArg, IsApp, IsLeafCommand, command}
 
 pub takes_on : (old new : Command) (arg : Arg) (rule : Rule) → IsArg rule arg → AddsArg old arg new → app_of new ≡ with_rule (app_of old) rule
 takes_on old new arg rule is adds = adds.shape is.1 ∙ ap (with_rule (app_of old)) is.0
-
-pub joins : (old sub new : Command) (shape : Shape) → IsLeafCommand shape sub → AddsSubcommand old sub new → app_of new ≡ with_subcommand (app_of old) shape
-joins old sub new shape leaf adds = adds.shape leaf.1 ∙ ap (with_subcommand (app_of old)) leaf.0
 
 -- after one step what is left is the rest of the list
 pub steps_on :

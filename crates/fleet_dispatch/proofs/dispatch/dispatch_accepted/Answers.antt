@@ -1,4 +1,4 @@
-use Rattle.std.proofs.Common.{List, Err, ap, subst}
+use Rattle.std.proofs.Common.{List, ap, subst}
 use Rattle.fleet_grid.specs.Ground.{is_passable}
 use Rattle.fleet_model.specs.Program.{Program}
 use Rattle.fleet_dispatch.specs.Report.{Words}

@@ -1,6 +1,4 @@
-use Rattle.std.proofs.Common.{◌≡◌, ◌∙◌, ap, subst, replicate, Err}
-use Rattle.fleet_dispatch.specs.Report.{Counts}
-use Rattle.fleet_dispatch.specs.Progress.{AreCounts}
+use Rattle.std.proofs.Common.{◌∙◌, ap, subst, replicate, Err}
 use Rattle.fleet_dispatch.specs.Dispatch.{Course}
 use Rattle.fleet_dispatch.specs.Session.{left_in}
 use Rattle.fleet_dispatch.specs.Replay.{Replays, IsReplayed}

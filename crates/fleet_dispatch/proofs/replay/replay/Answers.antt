@@ -1,6 +1,5 @@
-use Rattle.std.proofs.Common.{List, ℕ, sym, subst}
 use Rattle.fleet_dispatch.specs.Session.{course_in, left_in}
-use Rattle.fleet_dispatch.specs.Replay.{Replays, IsReplay}
+use Rattle.fleet_dispatch.specs.Replay.{IsReplay}
 use Rattle.fleet_dispatch.proofs.Replaying.{replays}
 use Rattle.fleet_dispatch.proofs.Said.{dispatches_more}
 use Rattle.fleet_dispatch.proofs.replay.replay.Goals as goal

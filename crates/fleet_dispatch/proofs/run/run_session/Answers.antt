@@ -9,7 +9,7 @@ use Rattle.fleet_dispatch.specs.declared.fault.DispatchFault.TheVariants as f
 use Rattle.fleet_dispatch.specs.declared.run.DispatchReport.{DispatchReport}
 use Rattle.fleet_dispatch.proofs.Reports.{more}
 use Rattle.fleet_dispatch.specs.Session.{course_in as course_of}
-use Rattle.fleet_dispatch.proofs.Outcomes.{Joins, at_start, write_stops, now_told, concludes, limit_stops, line_stops, one_line_on}
+use Rattle.fleet_dispatch.proofs.Outcomes.{Joins, at_start, write_stops, now_told, concludes, line_stops, one_line_on}
 use Rattle.fleet_dispatch.proofs.run.run_session.Given
 use Rattle.fleet_dispatch.proofs.run.run_session.Goals as goal
 

@@ -1,4 +1,4 @@
-use Rattle.std.proofs.Common.{◌≡◌, ◌∙◌, sym, refl, true, false}
+use Rattle.std.proofs.Common.{◌∙◌, sym}
 use Rattle.fleet_dispatch.proofs.Outcomes.{Joins}
 use Rattle.fleet_dispatch.proofs.Taking.{heard_report, heard_question, report_taken, report_refused, answered, unanswered}
 use Rattle.fleet_dispatch.proofs.run.take_line.Given

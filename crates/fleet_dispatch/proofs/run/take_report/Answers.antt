@@ -1,4 +1,4 @@
-use Rattle.std.proofs.Common.{◌≡◌, ◌+◌, ◌∙◌, ◌++◌, cond, length, take, drop, sym, refl, ap, arith}
+use Rattle.std.proofs.Common.{◌≡◌, ◌+◌, ◌∙◌, ◌++◌, cond, length, take, drop, sym, ap, arith}
 use Rattle.std.proofs.lemmas.Grind.{common_steps}
 use Rattle.fleet_dispatch.proofs.Steps.{words_told}
 use Rattle.fleet_dispatch.proofs.Taking.{logged_turns}

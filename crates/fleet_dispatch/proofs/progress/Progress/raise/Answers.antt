@@ -1,7 +1,7 @@
-use Rattle.std.proofs.Common.{◌≡◌, ◌<◌, ◌≤◌, ◌∙◌, ap, sym, subst, refl, arith, set}
+use Rattle.std.proofs.Common.{◌≡◌, ◌<◌, ◌∙◌, ap, sym, arith, set}
 use Rattle.std.specs.Prelude.{nat_lt}
 use Rattle.fleet_model.specs.Program.{moves}
-use Rattle.fleet_dispatch.specs.Report.{Counts, count_of}
+use Rattle.fleet_dispatch.specs.Report.{count_of}
 use Rattle.fleet_dispatch.specs.Progress.{ProgressState}
 use Rattle.fleet_dispatch.proofs.Words.{raised_same, raised_set}
 use Rattle.fleet_dispatch.proofs.Steps.{raised_leads}

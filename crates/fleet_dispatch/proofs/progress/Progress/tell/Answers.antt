@@ -1,8 +1,7 @@
-use Rattle.std.proofs.Common.{◌≡◌, ◌≢◌, ◌+◌, ◌*◌, ◌<◌, ◌≤◌, ◌∙◌, ℕ, List, false, length, set, sym, ap, subst, refl, arith, inl, inr, length-set, get_or-set_same, get_or-set_other}
+use Rattle.std.proofs.Common.{◌≢◌, ◌+◌, ◌*◌, ◌<◌, ◌≤◌, ◌∙◌, false, length, set, ap, arith, inl, inr, get_or-set_same, get_or-set_other}
 use Rattle.std.proofs.Math.Nat.{mul-le-mul_left}
 use Rattle.std.proofs.lemmas.Bool.{cases_lt, cases_eq}
 use Rattle.fleet_machine.specs.Machine.{flag_of}
-use Rattle.fleet_dispatch.specs.Report.{Counts, count_of}
 use Rattle.fleet_dispatch.specs.Ahead.{told_at}
 use Rattle.fleet_dispatch.proofs.Steps.{all_told}
 use Rattle.fleet_dispatch.proofs.Texts.{one_agent_more, all_written}

@@ -1,4 +1,4 @@
-use Rattle.std.proofs.Common.{◌≡◌, ◌+◌, ◌-◌, ◌*◌, ◌≤◌, ◌<◌, ℕ, false, length, take}
+use Rattle.std.proofs.Common.{◌≡◌, ◌-◌, ◌*◌, ◌≤◌, ◌<◌, ℕ, false, length, take}
 use Rattle.std.specs.List.{flat_map, range_with_len}
 use Rattle.fleet_machine.specs.Machine.{flag_of}
 use Rattle.fleet_dispatch.specs.Report.{count_of}

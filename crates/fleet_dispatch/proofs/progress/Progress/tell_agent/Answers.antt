@@ -1,4 +1,4 @@
-use Rattle.std.proofs.Common.{◌≡◌, ℕ, List, [], false, length-set, ◌+◌, ◌-◌, ◌*◌, ◌<◌, ◌≤◌, ◌++◌, ◌∙◌, Some, None, Contains, length, take, set, refl, sym, ap, subst, arith, append_assoc, append-nil, get_or-set_same}
+use Rattle.std.proofs.Common.{◌≡◌, ℕ, List, [], false, length-set, ◌+◌, ◌<◌, ◌≤◌, ◌++◌, ◌∙◌, Some, None, Contains, length, take, refl, sym, ap, subst, arith, append_assoc, append-nil, get_or-set_same}
 use Rattle.std.specs.Prelude.{min}
 use Rattle.fleet_model.specs.Program.{moves, path, awaits_of}
 use Rattle.fleet_machine.specs.WaitLists.{home_of, WaitState}

@@ -1,4 +1,4 @@
-use Rattle.std.proofs.Common.{◌≡◌, ℕ, length}
+use Rattle.std.proofs.Common.{◌≡◌, ℕ}
 use Rattle.std.specs.Prelude.{is_some}
 use Rattle.std.specs.List.{count_by}
 use Rattle.fleet_dispatch.specs.Progress.{LeadsBut, is_woken, HasRows}

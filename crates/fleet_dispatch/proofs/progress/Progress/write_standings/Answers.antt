@@ -1,4 +1,4 @@
-use Rattle.std.proofs.Common.{◌≡◌, ◌+◌, ◌*◌, ◌∙◌, ◌++◌, ℕ, List, length, ap, sym, arith}
+use Rattle.std.proofs.Common.{◌≡◌, ◌+◌, ◌∙◌, ◌++◌, ℕ, List, length, ap, sym, arith}
 use Rattle.std.specs.List.{flat_map, range_with_len}
 use Rattle.fleet_dispatch.specs.Standings.{left_line, standings_text}
 use Rattle.fleet_dispatch.proofs.Texts.{flat_more}

@@ -1,4 +1,4 @@
-use Rattle.std.proofs.Common.{◌≡◌, ◌+◌, ◌∙◌, take, drop, refl, ap, sym}
+use Rattle.std.proofs.Common.{◌+◌, ◌∙◌, take, drop, refl, ap, sym}
 use Rattle.std.specs.Str.Lines.{strip_carriage_return}
 use Rattle.fleet_dispatch.specs.ReportText.{line_of}
 use Rattle.fleet_dispatch.proofs.replay.LogFloorFloor.hear.Goals as goal

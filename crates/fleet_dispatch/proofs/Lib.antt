@@ -18,6 +18,7 @@ pub mod Spelling
 pub mod Kept
 pub mod Said
 mod WindowLemmas
+mod BackLemmas
 mod StreamLemmas
 pub mod Stood
 mod BreakLemmas

@@ -1,7 +1,10 @@
 -- What is carried out and told, and who is to be looked at next.
 use Rattle.std.specs.Prelude.{◌≡◌, ◌≢◌, ℕ, ◌+◌, ◌<◌, ◌≤◌, ◌⊎◌, Bool, true, false, nat_lt, ◌==◌, List, length, get_or, set, All, Contains, Option, Some, None}
 use Rattle.std.specs.Option.{option_map_or}
+use Rattle.fleet_model.specs.declared.geometry.Dir.TheVariants.{North, East, South, West}
 use Rattle.fleet_model.specs.declared.geometry.Place.{Place}
+use Rattle.fleet_model.specs.declared.geometry.Step.{Step}
+use Rattle.fleet_model.specs.declared.geometry.Step.TheVariants.{Go, Dwell}
 use Rattle.fleet_model.specs.declared.program.Await.{Await}
 use Rattle.fleet_model.specs.Program.{Program, moves, path, awaits_of}
 use Rattle.fleet_machine.specs.Machine.{flag_of}
@@ -17,6 +20,14 @@ pub record ProgressState : Type 0 where
   pub waiting : WaitState
   pub due : List Bool
   pub left : List Bool
+
+-- the step that leads back
+abbrev pub back : Step → Step
+back (Go North) = Go South
+back (Go East) = Go West
+back (Go South) = Go North
+back (Go West) = Go East
+back Dwell = Dwell
 
 -- all that action n of agent i awaits is carried out
 abbrev pub AreDone : Program → Counts → ℕ → ℕ → Type 0

@@ -11,7 +11,7 @@ ghost use Rattle.fleet_dispatch.specs.Report.{IsRising, count_of, said_of, count
 ghost use Rattle.fleet_dispatch.specs.Ahead.{is_done, told_at, IsOrdered, AreOrdered, IsFirstUnordered, is_all_done};
 ghost use Rattle.fleet_dispatch.specs.Orders.{agent_orders, new_orders, order_line};
 ghost use Rattle.fleet_dispatch.specs.Standings.{next_wait, left_line, standings_text};
-ghost use Rattle.fleet_dispatch.specs.Progress.{AreDone, IsMissing, HasRows, Leads, LeadsBut, TellsMore, AreCounts, AreAgents, AreTold, IsWoken, is_woken};
+ghost use Rattle.fleet_dispatch.specs.Progress.{AreDone, IsMissing, HasRows, Leads, LeadsBut, TellsMore, AreCounts, AreAgents, AreTold, IsWoken, back, is_woken};
 
 use crate::form::ReportForm;
 use crate::orders::{ORDER, Order, add_order};
@@ -19,7 +19,7 @@ use crate::pace::Pace;
 use crate::report::{Report, Reported};
 use crate::standings::{STANDING, Whereabouts, add_standing};
 use fleet_machine::{AgentSet, WaitLists};
-use fleet_model::{Await, Place, ProgramView};
+use fleet_model::{Await, Dir, Place, ProgramView, Step};
 use std::alloc::{AllocError, Global};
 use std::marker::Model;
 
@@ -65,6 +65,38 @@ pub fn place_after<P: ProgramView>(program: &P, i: u16, count: u32) -> Place
     let mut place = Place::from(program.start(i));
     for n in 0..count {
         place = place.after(program.step(i, n + 1));
+    }
+    place
+}
+
+/// The step that leads back.
+fn back(step: Step) -> Step
+    ensures { result ≡ back step }
+{
+    match step {
+        Step::Go(Dir::North) => Step::Go(Dir::South),
+        Step::Go(Dir::East) => Step::Go(Dir::West),
+        Step::Go(Dir::South) => Step::Go(Dir::North),
+        Step::Go(Dir::West) => Step::Go(Dir::East),
+        Step::Dwell => Step::Dwell,
+    }
+}
+
+/// Where the first `count` actions of agent `i` lead it, by the place to which its first `last` lead: it goes back from
+/// there.
+fn place_before<P: ProgramView>(program: &P, i: u16, last: u32, place: Place, count: u32) -> Place
+    requires well_formed { IsWellFormed (P.program program.now) }
+    requires agent { i < length (P.program program.now) }
+    requires within { last ≤ moves (P.program program.now) i }
+    requires before { count ≤ last }
+    requires place { place ≡ path (P.program program.now) i last }
+    ensures { result ≡ path (P.program program.now) i count }
+{
+    let mut place = place;
+    let mut at = last;
+    'steps: while at > count {
+        at -= 1;
+        place = place.after(back(program.step(i, at + 1)));
     }
     place
 }
@@ -551,7 +583,7 @@ impl Progress {
     /// Where agent `i` is, which has an action left.
     fn whereabouts<P: ProgramView>(&self, program: &P, i: u16) -> Whereabouts
         requires well_formed { IsWellFormed (P.program program.now) }
-        requires rows { HasRows (P.program program.now) self.now }
+        requires leads { (k : ℕ) × Leads (P.program program.now) k self.now }
         requires agent { i < length (P.program program.now) }
         requires left { count_of self.now.done i < moves (P.program program.now) i }
         ensures { result ≡ record {
@@ -565,7 +597,7 @@ impl Progress {
         let done = self.done_of(i);
         Whereabouts {
             agent: i,
-            place: place_after(program, i, done),
+            place: place_before(program, i, self.told_of(i), self.place_of(i), done),
             done,
             moves: program.moves(i),
             waits: self.missing(program, i, done + 1),
@@ -575,7 +607,7 @@ impl Progress {
     /// Writes where agent `i` is, if it has an action left, behind what ends at `at`, and answers where that ends.
     fn add_left<P: ProgramView>(&self, program: &P, i: u16, row: &mut [u8], at: usize) -> usize
         requires well_formed { IsWellFormed (P.program program.now) }
-        requires rows { HasRows (P.program program.now) self.now }
+        requires leads { (k : ℕ) × Leads (P.program program.now) k self.now }
         requires agent { i < length (P.program program.now) }
         requires room { at + STANDING ≤ length row.old }
         ensures high { result ≤ at + STANDING }
@@ -590,10 +622,10 @@ impl Progress {
     }
 
     /// Writes where the agents are that have an action left, in rising order, into the row from its front, and answers
-    /// where that ends. It goes from each start through all actions that are carried out.
+    /// where that ends. It goes back from where each agent is told to go, through the actions that are not carried out.
     pub fn write_standings<P: ProgramView>(&self, program: &P, row: &mut [u8]) -> usize
         requires well_formed { IsWellFormed (P.program program.now) }
-        requires rows { HasRows (P.program program.now) self.now }
+        requires leads { (k : ℕ) × Leads (P.program program.now) k self.now }
         requires room { length row.old ≡ STANDING * length (P.program program.now) }
         ensures within { result ≤ length row.new }
         ensures written { take result row.new

@@ -54,6 +54,9 @@ impl Window {
         ensures room { room_of self.new + length (window_rest self.new) ≡ LINE_ROOM }
     {
         let (start, end) = (self.start, self.end);
+        if start == 0 {
+            return;
+        }
         self.bytes.copy_within(start..end, 0);
         self.start = 0;
         self.end = end - start;

@@ -171,8 +171,8 @@ pub extern "C" fn fleet_plan(
     }
 }
 
-/// Rehearses any program that the bytes spell, under the holds, and hands over the text of the rehearsal. The status says
-/// whether it ended with all actions done or stuck.
+/// Rehearses any program that the bytes spell, under the holds, and hands over the text of the rehearsal. The status
+/// says whether it ended with all actions done or stuck.
 #[unsafe(no_mangle)]
 pub extern "C" fn fleet_rehearse(
     alloc: Global,

@@ -22,8 +22,8 @@ fn asked(agents: u16) -> Option<u16>
     if agents == 0 { None } else { Some(agents) }
 }
 
-/// The map and the instance for which the texts stand: of the scenario's agents the first `agents`, or all where that is
-/// 0.
+/// The map and the instance for which the texts stand: of the scenario's agents the first `agents`, or all where that
+/// is 0.
 pub fn read_problem(
     alloc: Global,
     map: &[u8],

@@ -151,8 +151,8 @@ fn beside(cell: Cell, dir: Dir) -> Option<Cell>
     }
 }
 
-/// Rows of cells, eight cells to a byte, the first in the lowest bit. A set bit is a passable cell, and each
-/// row begins with a byte of its own.
+/// Rows of cells, eight cells to a byte, the first in the lowest bit. A set bit is a passable cell, and each row begins
+/// with a byte of its own.
 #[derive(Drop)]
 pub(crate) struct Cells {
     pub(crate) bytes: Vec<u8>,

@@ -70,8 +70,8 @@ fn put_header(text: &mut Vec<u8>, grid: &Grid) -> Result<(), AllocError>
     Ok(())
 }
 
-/// The written form of a map, in which these cells are not passable besides: a header, and a line for each row.
-/// It fails only if memory is refused.
+/// The written form of a map, in which these cells are not passable besides: a header, and a line for each row. It
+/// fails only if memory is refused.
 pub fn write_map(alloc: Global, grid: &Grid, without: &[Cell]) -> Result<Vec<u8>, OutOfMemory>
     ensures { IfOk result (λ text. text.items ≡ map_text (ground_without grid.now without.now)) }
 {

@@ -44,8 +44,8 @@ fn lesser(least: Option<u16>, other: u16) -> u16
     }
 }
 
-/// Walks ahead from an agent to one that was walked on before, or that nobody is ahead of. The answer is the
-/// agent at which this walk met itself, if it did.
+/// Walks ahead from an agent to one that was walked on before, or that nobody is ahead of. The answer is the agent at
+/// which this walk met itself, if it did.
 fn walk(ahead: &[Option<u16>], walks: &mut [Option<u16>], number: u16, first: u16) -> Option<u16>
     requires agents { NamesAgents ahead.now }
     requires walks { length walks.old ≡ length ahead.now }

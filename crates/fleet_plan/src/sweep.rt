@@ -1,5 +1,5 @@
-//! The sweep over time for conflicts, with a table of cells in which each agent enters itself. Each step looks at
-//! the agents under way alone: one that has come to its last cell stays entered there, and is not visited again.
+//! The sweep over time for conflicts, with a table of cells in which each agent enters itself. Each step looks at the
+//! agents under way alone: one that has come to its last cell stays entered there, and is not visited again.
 
 ghost use Rattle.std.specs.Prelude.{◌≡◌, ◌≢◌, ℕ, ◌+◌, ◌<◌, ◌≤◌, ◌⊎◌, ◌↔◌, IfOk, IfSome, IfNone, length, slice_index, Some, None, All, IsTrue, false};
 ghost use Rattle.fleet_grid.specs.Ground.{is_passable};
@@ -41,8 +41,8 @@ fn fill_next(plan: &Plan, grid: &Grid, time: u32, agents: &[u16], next: &mut [us
     }
 }
 
-/// The first two agents in one place. If there are none, each agent is then entered in its place of the table. What
-/// the table held before does not matter, since an entry counts only if that agent stands there.
+/// The first two agents in one place. If there are none, each agent is then entered in its place of the table. What the
+/// table held before does not matter, since an entry counts only if that agent stands there.
 fn first_meeting(table: &mut Table<u16>, places: &[usize]) -> Result<Option<(u16, u16)>, AllocError>
     requires { length places.now ≤ MAX_AGENTS }
     ensures some { IfOk result (λ found. IfSome found

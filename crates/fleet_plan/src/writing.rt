@@ -38,8 +38,8 @@ fn put_path(text: &mut Vec<u8>, path: &Path) -> Result<(), AllocError>
     Ok(())
 }
 
-/// The written form of a plan: a line for each agent, with the cells `x,y` of its path and one space between.
-/// It fails only if memory is refused.
+/// The written form of a plan: a line for each agent, with the cells `x,y` of its path and one space between. It fails
+/// only if memory is refused.
 pub fn write_plan(alloc: Global, plan: &Plan) -> Result<Vec<u8>, OutOfMemory>
     ensures { IfOk result (λ text. text.items ≡ plan_text plan.now) }
 {

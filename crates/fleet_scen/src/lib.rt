@@ -3,8 +3,8 @@
 //! A scenario is read from the `.scen` format of the MovingAI benchmark (Sturtevant 2012).
 //!
 //! `reading` goes over the lines of a text once, in the order in which faults are judged, and over the nine words of an
-//! agent's line; `laws` says that a text stands for one instance or has one first fault, `instance` has what was
-//! read, and `writing` writes tasks.
+//! agent's line; `laws` says that a text stands for one instance or has one first fault, `instance` has what was read,
+//! and `writing` writes tasks.
 #![tactic(auto)]
 
 mod fault;

@@ -78,8 +78,8 @@ pub fn begins_after(occupancies: &[Occupancy], interval: usize, time: u32) -> bo
     time < occupancies[interval - 1].from
 }
 
-/// A safe interval of a cell: how many occupancies there are before it, and when the next one begins (`FOREVER` if
-/// none does).
+/// A safe interval of a cell: how many occupancies there are before it, and when the next one begins (`FOREVER` if none
+/// does).
 #[derive(Clone, Copy)]
 pub struct SafeInterval {
     pub number: usize,

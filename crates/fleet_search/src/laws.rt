@@ -1,4 +1,5 @@
-//! Laws of paths past reserved ones, and of plans made of earliest paths. These functions do nothing: their contracts are the laws.
+//! Laws of paths past reserved ones, and of plans made of earliest paths. These functions do nothing: their contracts
+//! are the laws.
 
 ghost use Rattle.std.specs.Prelude.{◌↔◌, ℕ, Bool, List, length};
 ghost use Rattle.fleet_model.specs.declared.geometry.Cell.{Cell};

@@ -1,5 +1,5 @@
-//! Plans made agent by agent, in the order of their numbers, or in several orders: an agent that is left without a path comes
-//! first in the next one.
+//! Plans made agent by agent, in the order of their numbers, or in several orders: an agent that is left without a path
+//! comes first in the next one.
 
 ghost use Rattle.std.specs.Prelude.{◌≡◌, ◌+◌, ◌<◌, ◌≤◌, ◌↔◌, ◌⊎◌, ◌++◌, ◌∷◌, ℕ, [], true, length, get_or, max, IfOk, IfErr, OnOk, IsTrue};
 ghost use Rattle.fleet_plan.specs.Plan.{IsConflictFree};
@@ -390,11 +390,11 @@ pub(crate) fn checked_of<'g>(
     checked(problem, plan)
 }
 
-/// Plans agent by agent in up to `tries` orders, and answers the first plan that is found and how many orders were tried
-/// for it (each order as Silver 2005). The first order is that of the agents' numbers; after an order in which an agent
-/// is left without a path that agent is planned first, and the others after it as before. In the order that made the
-/// plan each path is earliest past those of the agents before it, and arrives by the horizon, a time in steps; the plan
-/// has the agents by their numbers. One order is tried in any case.
+/// Plans agent by agent in up to `tries` orders, and answers the first plan that is found and how many orders were
+/// tried for it (each order as Silver 2005). The first order is that of the agents' numbers; after an order in which an
+/// agent is left without a path that agent is planned first, and the others after it as before. In the order that made
+/// the plan each path is earliest past those of the agents before it, and arrives by the horizon, a time in steps; the
+/// plan has the agents by their numbers. One order is tried in any case.
 ///
 /// Errors: `NoPath` with the first agent that is left without a path in the last of these orders; `OutOfMemory`.
 pub fn first_in_orders<'g>(

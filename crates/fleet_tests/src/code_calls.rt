@@ -1,4 +1,5 @@
-//! Program bytes and hexadecimal text: each change of the pair's bytes, and as many moves as version 1 has no bytes for.
+//! Program bytes and hexadecimal text: each change of the pair's bytes, and as many moves as version 1 has no bytes
+//! for.
 
 use crate::fleets::{PAIR_BYTES, PAIR_BYTES_2, PAIR_HEX};
 use crate::model_calls::told_by;

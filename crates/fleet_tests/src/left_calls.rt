@@ -1,4 +1,5 @@
-//! What is left after a log, robots that break down or are dead, what actions cost, and maps and scenarios that are written.
+//! What is left after a log, robots that break down or are dead, what actions cost, and maps and scenarios that are
+//! written.
 
 use crate::fleets::{PAIR_BYTES, pair};
 use fleet_adg::tasks_of;

@@ -1,6 +1,6 @@
 //! Tests of all crates, through their public functions, of what the built program cannot show (`tests/`). Each name of
-//! `tests/names.txt` is imported from the crate that users find it in, and each public call made, once at concrete types
-//! and with ample memory, against what is worked out by hand. Without its tests the crate has nothing.
+//! `tests/names.txt` is imported from the crate that users find it in, and each public call made, once at concrete
+//! types and with ample memory, against what is worked out by hand. Without its tests the crate has nothing.
 //!
 //! `fleet_tests` has what the built program cannot show, in few functions without type parameters: `call_tests` what
 //! users of the crates call and no command does, on the pair, on a train of 128 agents, and when a growth is refused;
@@ -16,8 +16,9 @@
 //! makes programs by hand and asks views, `text_calls` reads maps, scenarios and plans, `plan_calls` plans, compiles
 //! and thins, `code_calls` reads and writes bytes (each front of the pair's program, and each byte of it set to each
 //! other value, by both readers), `verify_calls` verifies, `kernel_calls` joins and compares rows, `run_calls` ticks,
-//! drives and rehearses (up to the most ticks of holds, and 1,024 agents of which one moves), `left_calls` goes on after a
-//! log and writes maps and scenarios, and `cli_calls` does whole commands over files in memory. `ends` has their reader, their writer and the files that fail at a call.
+//! drives and rehearses (up to the most ticks of holds, and 1,024 agents of which one moves), `left_calls` goes on
+//! after a log and writes maps and scenarios, and `cli_calls` does whole commands over files in memory. `ends` has
+//! their reader, their writer and the files that fail at a call.
 #![tactic(auto)]
 
 #[cfg(test)]

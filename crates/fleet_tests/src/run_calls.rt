@@ -16,9 +16,9 @@ use fleet_verify::{Accepted, verify};
 use std::alloc::Global;
 use std::test::Fail;
 
-/// A tick of the pair: who is held; how many agents it moves, and whether it holds a ready one; and after it the columns
-/// of both agents, how many actions they have finished, who is ready, and how many agents were looked at in all, at
-/// least and at most.
+/// A tick of the pair: who is held; how many agents it moves, and whether it holds a ready one; and after it the
+/// columns of both agents, how many actions they have finished, who is ready, and how many agents were looked at in
+/// all, at least and at most.
 type PairTick = (
     [bool; 2],
     (u16, bool),

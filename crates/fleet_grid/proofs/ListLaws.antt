@@ -5,8 +5,8 @@ use Rattle.std.specs.declared.alloc.Global.{Global}
 use Rattle.std.proofs.lemmas.Bool.{cases_eq, cases_lt}
 use Rattle.std.proofs.lemmas.List.{map-append, get_or_past, get_or_push, get_or_append_left, length-map}
 use Rattle.fleet_grid.specs.declared.lists.Key.{Key}
-use Rattle.fleet_grid.specs.Lists.{list_at, key_of_number, list_in, number_at, list_numbered, list_of, lists_by_key, HaveOwnLists, IsNumbered, HaveSameLists, IsChangedBy}
-use Rattle.fleet_grid.proofs.Pages.{page-read, page-set, page-other, places-differ}
+use Rattle.fleet_grid.specs.Lists.{list_at, list_in, number_at, list_numbered, list_of, lists_by_key, HaveOwnLists, IsNumbered, IsChangedBy}
+use Rattle.fleet_grid.proofs.Pages.{page-read, page-set, page-other}
 
 -- ---- keys
 
@@ -21,10 +21,6 @@ key_cases k l = elim (cases_eq k.row l.row) [
     | inl ep ↦ inl (key_from_parts k l er ep)
   ]
 ]
-
--- two numbers have two keys
-pub keys-differ : (k n : ℕ) → k ≢ n → key_of_number k ≢ key_of_number n
-keys-differ k n ne e = places-differ k n ne (ap (λ (z : Key). z.row) e) (ap (λ (z : Key). z.place) e)
 
 -- ---- lists of lists
 
@@ -48,9 +44,6 @@ list-other lists i k w ne = page-other lists i k w ne
 pub record AreChangedTo {V : Type 0} (f : List V → List V) (old new : List (Vec V Global)) (i : ℕ) : Type 0 where
   pub done : (k : ℕ) → k < i → list_in new k ≡ f (list_in old k)
   pub left : (k : ℕ) → i ≤ k → list_in new k ≡ list_in old k
-
-pub changed-none : {V : Type 0} (f : List V → List V) (old : List (Vec V Global)) → AreChangedTo f old old 0
-changed-none f old = record { done = λ k l. absurd (omega arith); left = λ k l. refl }
 
 pub changed-more : {V : Type 0} (f : List V → List V) (old now : List (Vec V Global)) (i : ℕ) (v w : Vec V Global) → AreChangedTo f old now i → i < length now → v ≡ get_or now i v → w.items ≡ f v.items → AreChangedTo f old (set now i w) (i + 1)
 changed-more f old now i v w h l e g = record {
@@ -161,9 +154,6 @@ list-by_key numbers lists key =
     let rows = map (λ v. v.items) numbers in
     ap (λ z. get_or z key.place []) (get_map (map (list_numbered lists)) rows key.row [] [] refl)
     ∙ get_map (list_numbered lists) (get_or rows key.row []) key.place 0 [] (numbered-none lists)
-
-pub same-by_key : {V : Type 0} (numbers old_numbers : List (Vec ℕ Global)) (lists old_lists : List (Vec V Global)) → ((k : Key) → list_of numbers lists k ≡ list_of old_numbers old_lists k) → HaveSameLists (lists_by_key old_numbers old_lists) (lists_by_key numbers lists)
-same-by_key numbers old_numbers lists old_lists h key = list-by_key numbers lists key ∙ h key ∙ sym (list-by_key old_numbers old_lists key)
 
 pub none-by_key : {V : Type 0} (numbers : List (Vec ℕ Global)) (lists : List (Vec V Global)) → numbers ≡ [] → (key : Key) → list_at (lists_by_key numbers lists) key ≡ []
 none-by_key numbers lists e key = list-by_key numbers lists key ∙ ap (list_numbered lists) (ap (λ z. number_at z key) e ∙ number-past [] key (omega arith)) ∙ numbered-none lists

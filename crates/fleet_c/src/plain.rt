@@ -14,32 +14,47 @@ use fleet_scen::ScenFault;
 use fleet_search::PlanStop;
 use fleet_verify::VerifyFault;
 
-/// The parts of the work, in the order in which they are judged.
+// The parts of the work that refuse, by the numbers that callers in C know them by.
+
+/// Want of memory.
 pub const MEMORY: u32 = 1;
 
+/// The text of a map.
 pub const MAP: u32 = 2;
 
+/// The text of a scenario.
 pub const SCEN: u32 = 3;
 
+/// The text of a plan.
 pub const TEXT: u32 = 4;
 
+/// A plan.
 pub const CHECK: u32 = 5;
 
+/// The planner.
 pub const SEARCH: u32 = 6;
 
+/// The compiler.
 pub const COMPILE: u32 = 7;
 
+/// The bytes of a program.
 pub const LOAD: u32 = 8;
 
+/// A program.
 pub const VERIFY: u32 = 9;
 
+/// A run.
 pub const RUN: u32 = 10;
 
-/// The kinds of conflict, in their order.
+// The kinds of conflict, in the order in which they are judged.
+
+/// Two agents on one cell.
 pub const VERTEX: u64 = 0;
 
+/// Two agents that change places.
 pub const SWAPPING: u64 = 1;
 
+/// A ring of agents, each of which goes to the cell of the next.
 pub const CYCLE: u64 = 2;
 
 /// How many values of a refusal a plain one has room for.

@@ -14,7 +14,7 @@
 //! it. `orders` goes from one agent to the next, in one order of the agents or in one after another with the same
 //! tables, keeps the paths that are still the earliest, and puts the paths by the agents' numbers at the end. `best`
 //! tries all orders, and keeps the first of the plans with the least `Measure`: a trait, so that a crate above can
-//! compare plans by what it makes of them. `bound` searches for each agent alone.
+//! compare plans by what it makes of them. `alone` searches for each agent alone, for the bound of the costs.
 #![tactic(auto)]
 
 mod alone;

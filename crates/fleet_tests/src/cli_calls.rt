@@ -133,7 +133,7 @@ const COMPILED_PAIR: ProgramFor<'static> = ProgramFor {
     program: "out",
 };
 
-/// A request of each command on the pair's files.
+/// A request of ten commands on the pair's files.
 const REQUESTS: [Request<'static>; 10] = [
     Request::Instance(PAIR),
     Request::Check(CheckRequest {

@@ -1,13 +1,11 @@
-//! Tests of all crates, through their public functions, of what the built program cannot show (`tests/`). Each name of
-//! `tests/names.txt` is imported from the crate that users find it in, and each public call made, once at concrete
-//! types and with ample memory, against what is worked out by hand. Without its tests the crate has nothing.
+//! Tests of all crates, through their public functions, of what the built program cannot show (`tests/`). Without its
+//! tests the crate has nothing.
 //!
-//! `fleet_tests` has what the built program cannot show, in few functions without type parameters: `call_tests` what
-//! users of the crates call and no command does, on the pair, on a train of 128 agents, and when a growth is refused;
-//! `path_tests` earliest paths past reserved ones; `changed_tests` how many texts are read, and refused with each
-//! number, that differ in one byte from the pair's; `sentence_tests` the sentences of faults; `stream_tests` runs,
-//! dispatches and inputs whose ends fail, which `streams` has, and that fleets go on after that. `fleets` has their
-//! worked fleets.
+//! In few functions without type parameters: `call_tests` what users of the crates call and no command does, on the
+//! pair, on a train of 128 agents, and when a growth is refused; `path_tests` earliest paths past reserved ones;
+//! `changed_tests` how many texts are read, and refused with each number, that differ in one byte from the pair's;
+//! `sentence_tests` the sentences of faults; `stream_tests` runs, dispatches and inputs whose ends fail, which
+//! `streams` has, and that fleets go on after that. `fleets` has their worked fleets.
 //!
 //! The other modules call the library as users do: each name of `tests/names.txt`, which is what they are promised, is
 //! imported from the crate that the list names, and each call is made once at concrete types, with ample memory,

@@ -1,4 +1,4 @@
-use Rattle.std.proofs.Common.{◌++◌, ◌∷◌, [], ap, ◌∙◌, sym, add-one}
+use Rattle.std.proofs.Common.{◌++◌, ◌∷◌, [], ap, ◌∙◌, sym}
 use Rattle.fleet_model.proofs.Indices.{indices-more}
 use Rattle.fleet_model.proofs.agents.agent_numbers.Goals as goal
 

@@ -259,11 +259,6 @@ module _ (p : Program) (t from : ℕ) where
     pub next_action : IsAction p here
     next_action = record { agent = next.agent; first = omega arith; last = (let l : count p t i < moves p i = ready_left p (run p [] t) i next.ready in omega arith) }
 
-    pub none_later : (c : ℕ) → Reaches p (record { agent = i; number = c }) here → c ≤ n
-    none_later c r =
-        let done : c ≤ count p (t + 1) i = done_reaches p (t + 1) (record { agent = i; number = c }) here next_action (omega (arith, moved)) r in
-        omega (arith, moved, done)
-
     -- an action that is finished after the tick, of an agent up to this one, was finished before it, or is its next one, or is of an agent before the others
     pub one_more : (a : ActionId) → IsAction p a → (a.number ≤ count p t a.agent) ⊎ ((a.agent < i + 1) × (a.number ≤ count p (t + 1) a.agent))
         → ((a.number ≤ count p t a.agent) ⊎ ((a.agent < from) × (a.number ≤ count p (t + 1) a.agent))) ⊎ (a ≡ here)

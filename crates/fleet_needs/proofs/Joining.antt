@@ -1,7 +1,7 @@
 -- The column of an action is made of those of the actions that it directly needs.
 use Rattle.std.proofs.Common.{◌≡◌, ◌≢◌, ℕ, ◌+◌, ◌<◌, ◌≤◌, List, length, get_or, max, refl, sym, ap, subst, ◌∙◌, arith, inl, inr, ◌⊎◌}
 use Rattle.std.specs.Prelude.{Contains, slice_get, Some}
-use Rattle.std.proofs.lemmas.Bool.{cases_lt, cases_eq}
+use Rattle.std.proofs.lemmas.Bool.{cases_lt}
 use Rattle.std.proofs.lemmas.Option.{slice_get-get_or, slice_get_within, get_or_from_slice_get, same_Some}
 use Rattle.fleet_model.specs.declared.program.ActionId.{ActionId}
 use Rattle.fleet_model.specs.declared.program.Await.{Await}
@@ -66,13 +66,6 @@ module _ (p : Program) (i b j : ℕ) where
     awaits = λ c r. absurd (none r.place r.await r.this);
   }
 
-  -- one more of the first
-  pub part_more : (k n : ℕ) (w : Await) (u : ℕ) → IsJoined (OfFirst k) p i b j n → slice_get (awaits_of p i (b + 1)) k ≡ Some w → IsColumn p (awaited w) j u → IsJoined (OfFirst (k + 1)) p i b j (max n u)
-  part_more k n w u h at col =
-      joined_more (OfFirst k) (OfFirst (k + 1)) n k w u h at col (omega arith)
-      (λ m v a s. omega arith)
-      (λ m v a t. elim (cases_lt m k) [ inl l ↦ inl l | inr g ↦ inr (omega arith) ])
-
 -- all of it, for another agent
 pub part_all : (p : Program) (i b j n : ℕ) → IsAction p (record { agent = i; number = b + 1 }) → j ≢ i → IsJoined (OfFirst (length (awaits_of p i (b + 1)))) p i b j n
     → IsColumn p (record { agent = i; number = b + 1 }) j n
@@ -134,16 +127,6 @@ pub awaited_action : (p : Program) → AreInRange p → (i n k : ℕ) (w : Await
 awaited_action p range i n k w e =
     let known = range i n w (k, slice_get_within (awaits_of p i n) k w e, get_or_from_slice_get (awaits_of p i n) k w w e) in
     record { agent = known.agent; first = known.first; last = known.last }
-
--- the row of an action from the parts of the columns of the others, and its number in its own
-pub row_whole : (p : Program) (i b j n v : ℕ) → IsAction p (record { agent = i; number = b + 1 }) → ((c : ℕ) → Reaches p (record { agent = i; number = c }) (record { agent = i; number = b + 1 }) → c ≤ b + 1)
-    → (j ≡ i → v ≡ b + 1) → (j ≢ i → v ≡ n) → IsJoined (OfFirst (length (awaits_of p i (b + 1)))) p i b j n → IsColumn p (record { agent = i; number = b + 1 }) j v
-row_whole p i b j n v k later own other part = elim (cases_eq j i) [
-  | inl e ↦
-      let here : IsColumn p (act i (b + 1)) i (b + 1) = own_column p i (b + 1) k later in
-      subst (λ (m : ℕ). IsColumn p (act i (b + 1)) m v) (sym e) (subst (λ (m : ℕ). IsColumn p (act i (b + 1)) i m) (sym (own e)) here)
-  | inr ne ↦ subst (λ (m : ℕ). IsColumn p (act i (b + 1)) j m) (sym (other ne)) (part_all p i b j n k ne part)
-]
 
 -- ---- chains found from their ends
 

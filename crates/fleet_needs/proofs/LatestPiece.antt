@@ -39,9 +39,6 @@ module _ (pieces : List Piece) (i j n bound end : ℕ) (sorted : AreSorted piece
   none_begun none y c of_pair = elim (cases_lt n y.from) [ inl l ↦ l | inr begun ↦ absurd (let l = begun_before c.0 y c.1 c.2 of_pair begun in omega arith) ]
 
   module _ (d : Piece) (some : 0 < end) where
-    last : Piece
-    last = get_or pieces (end - 1) d
-
     low : key_of (get_or pieces (end - 1) d) ≤ bound
     low = point.0 (end - 1) d (omega arith) (omega arith)
 

@@ -59,13 +59,6 @@ module _ (p : Program) (firsts : List ℕ) (h : ArePlaces p firsts) where
 pub row_ends : (w x y : ℕ) → x < y → x * w + w ≤ y * w
 row_ends w x y l = let s : (x + 1) * w ≤ y * w = mul-le (x + 1) w y w (omega arith) (omega arith) in omega arith
 
--- the counts of an action's row, from its place on
-pub row_within : (p : Program) (firsts : List ℕ) → ArePlaces p firsts → (a : ActionId) → IsAction p a → (w x : ℕ) → x + 1 ≡ slice_index firsts a.agent + a.number
-    → x * w + w ≤ total_moves p * w
-row_within p firsts h a k w x e =
-    let here : action_place firsts a < total_moves p = place_within p firsts h a k in
-    row_ends w x (total_moves p) (omega arith)
-
 pub place_is : (firsts : List ℕ) (a : ActionId) (x : ℕ) → x + 1 ≡ slice_index firsts a.agent + a.number → x ≡ action_place firsts a
 place_is firsts a x e = omega arith
 

@@ -109,9 +109,6 @@ module _ (p : Program) (range : AreInRange p) (m : SlotRows) (n : ℕ) (rows : A
   pub next_within : n < length m.schedule.now.joins.items
   next_within = slice_get_within m.schedule.now.joins.items n join next
 
-  pub base_there : IsThere m n join.base
-  base_there = record { made = is_join.sooner; within = (let l = next_within in omega arith); still = λ some. rows.schedule.still n join join.base next (inl refl) some }
-
   pub base_stands : StandsThere p m join.base join.action.agent (join.action.number - 1)
   base_stands = record { agent = is_join.action.agent; last = (let l : join.action.number ≤ moves p join.action.agent = is_join.action.last in omega arith); stands = is_join.base }
 

@@ -14,9 +14,6 @@ use Rattle.fleet_needs.specs.Settled.{IsSettled, AreSettledOf, AreMoreAsked, IsA
 use Rattle.fleet_needs.proofs.AwaitOrder.{await_below, flag_apart}
 use Rattle.fleet_needs.proofs.Joining.{own_first, by_await}
 
-abbrev act : ℕ → ℕ → ActionId
-act j c = record { agent = j; number = c }
-
 -- the answer of a search that says yes is not the one that says no
 pub no_is_not_yes : Some false ≡ Some true → ⊥
 no_is_not_yes e = false≢true (same_Some _ _ e)

@@ -5,18 +5,6 @@ use Rattle.std.proofs.lemmas.List.{get_or-set_same, get_or-set_other, length-set
 use Rattle.fleet_needs.specs.Slots.{IsStill, AreStill, AreSlotted, IsTaken}
 use Rattle.fleet_needs.specs.declared.schedule.Slots.{Slots}
 
-pub slotted_none : (lasts : List ℕ) (m : Slots) → m.outs.items ≡ [] → m.owners.items ≡ [] → AreSlotted lasts m
-slotted_none lasts m outs owners = record {
-  still = λ r n some upto l. absurd (omega (arith, none, l));
-  few = omega (arith, ap (λ (xs : List ℕ). length xs) owners);
-  within = λ n l. absurd (omega (arith, none, l));
-  latest = λ x n l on within. absurd (omega (arith, none, within));
-  live = λ r some upto l. absurd (omega (arith, none, some, upto));
-}
-  where
-    none : length m.outs.items ≡ 0
-    none = ap (λ (xs : List ℕ). length xs) outs
-
 -- the free slots are no matter
 pub slotted_same : (lasts : List ℕ) (old new : Slots) → new.outs ≡ old.outs → new.owners ≡ old.owners → AreSlotted lasts old → AreSlotted lasts new
 slotted_same lasts old new outs owners h = record {
@@ -119,28 +107,3 @@ module _ (lasts : List ℕ) (old new : Slots) (slot : ℕ) (owners : List ℕ) (
     latest = latest_on;
     live = live_on;
   }
-
--- ---- a slot for it
-
-pub taken_again : (lasts : List ℕ) (row slot : ℕ) (owners : List ℕ) → slot < length owners → slice_index lasts (slice_index owners slot) ≤ row → IsTaken lasts row slot owners owners
-taken_again lasts row slot owners within over = record {
-  within = within;
-  more = omega arith;
-  kept = λ x l. refl;
-  last = λ x l. inl l;
-  over = λ l. over;
-  few = λ l. l;
-}
-
-pub taken_new : (lasts : List ℕ) (row slot : ℕ) (owners new : List ℕ) → new ≡ owners ++ 0 ∷ [] → slot ≡ length owners → slot < 4294967295 → IsTaken lasts row slot owners new
-taken_new lasts row slot owners new put at few = record {
-  within = omega (arith, long, at);
-  more = omega (arith, long);
-  kept = λ x l. ap (λ (xs : List ℕ). slice_index xs x) put ∙ get_or_append_left owners (0 ∷ []) 0 x l;
-  last = λ x l. elim (cases_lt x (length owners)) [ inl lt ↦ inl lt | inr ge ↦ inr (omega (arith, long, at)) ];
-  over = λ l. absurd (omega (arith, at));
-  few = λ l. omega (arith, long, at);
-}
-  where
-    long : length new ≡ length owners + 1
-    long = ap (λ (xs : List ℕ). length xs) put ∙ length_push owners 0

@@ -1,14 +1,10 @@
 -- The costs of critical paths: that of an action from those of what it directly needs.
-use Rattle.std.proofs.Common.{◌≡◌, ℕ, zero, suc, ◌+◌, ◌*◌, ◌≤◌, List, [], ◌∷◌, length, max, refl, ap, sym, subst, ◌∙◌, arith, inl, inr, ◌⊎◌}
-use Rattle.std.specs.Prelude.{sum_by, slice_get, Some}
-use Rattle.std.proofs.Math.Nat.{max-eq_left, max-eq_right}
-use Rattle.std.proofs.lemmas.Bool.{cases_lt}
+use Rattle.std.proofs.Common.{◌≡◌, ℕ, zero, suc, ◌+◌, ◌*◌, ◌≤◌, List, [], ◌∷◌, refl, ap, sym, subst, arith, inl, inr, ◌⊎◌}
+use Rattle.std.specs.Prelude.{sum_by}
 use Rattle.std.proofs.lemmas.List.Sums.{sum_by-cons}
-use Rattle.std.proofs.lemmas.Option.{slice_get_within, get_or_from_slice_get, slice_get-get_or, same_Some}
-use Rattle.fleet_model.specs.declared.program.Await.{Await}
 use Rattle.fleet_model.specs.declared.program.ActionId.{ActionId}
-use Rattle.fleet_model.specs.Program.{Program, awaits_of, AreInRange}
-use Rattle.fleet_model.specs.Chain.{IsAction, DirectlyNeeds, ChainFrom, IsCriticalCost, awaited}
+use Rattle.fleet_model.specs.Program.{Program, AreInRange}
+use Rattle.fleet_model.specs.Chain.{IsAction, DirectlyNeeds, ChainFrom, IsCriticalCost}
 use Rattle.fleet_model.proofs.Chains.{need_action, ends_alone, ends_dearer}
 use Rattle.fleet_needs.specs.Critical.{IsNotedCost}
 use Rattle.fleet_needs.specs.Settled.{IsFinishedBy}

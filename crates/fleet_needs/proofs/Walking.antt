@@ -1,5 +1,5 @@
 -- Agents that go on as far as their awaits allow: that each step is right, and that they come to the end.
-use Rattle.std.proofs.Common.{◌≡◌, ◌≢◌, ℕ, zero, suc, ◌+◌, ◌-◌, ◌*◌, ◌<◌, ◌≤◌, Bool, true, false, List, [], ◌∷◌, length, max, set, slice_index, get_or, refl, sym, ap, subst, ◌∙◌, arith, inl, inr, ◌⊎◌, Contains, replicate}
+use Rattle.std.proofs.Common.{◌≡◌, ◌≢◌, ℕ, zero, suc, ◌+◌, ◌-◌, ◌*◌, ◌<◌, ◌≤◌, List, [], ◌∷◌, length, max, set, slice_index, get_or, refl, sym, ap, subst, ◌∙◌, arith, inl, inr, ◌⊎◌, replicate}
 use Rattle.std.specs.Prelude.{slice_get, Option, None, Some, IfSome, IfNone}
 use Rattle.std.proofs.Math.Nat.{max-eq_left, max-eq_right}
 use Rattle.std.proofs.lemmas.Bool.{cases_lt, cases_eq}
@@ -9,20 +9,18 @@ use Rattle.std.proofs.lemmas.Option.{slice_get_within, get_or_from_slice_get, sl
 use Rattle.fleet_model.specs.declared.program.ActionId.{ActionId}
 use Rattle.fleet_model.specs.declared.program.Await.{Await}
 use Rattle.fleet_model.specs.Program.{Program, moves, awaits_of, total_moves, AreInRange}
-use Rattle.fleet_model.specs.Machine.{run, IsFinish}
 use Rattle.fleet_model.specs.Chain.{IsAction, DirectlyNeeds, IsCriticalCost, awaited}
 use Rattle.fleet_model.proofs.Chains.{need_action}
-use Rattle.fleet_needs.specs.Places.{ArePlacesOf, place_of_action}
+use Rattle.fleet_needs.specs.Places.{ArePlacesOf}
 use Rattle.fleet_needs.specs.Order.{IsCounted}
-use Rattle.fleet_needs.specs.Critical.{IsNotedCost, AreNotedCosts, value_at}
-use Rattle.fleet_needs.specs.CostWalk.{after, next_in, IsGreatestTo, IsStage, IsReadyStage, IsWalkBy, Finishes, IsCostWalk, HaveGrown, IsOpen, IsUnmet, IsGoal}
+use Rattle.fleet_needs.specs.Critical.{IsNotedCost, value_at}
+use Rattle.fleet_needs.specs.CostWalk.{after, next_in, IsGreatestTo, IsStage, IsReadyStage, IsWalkBy, Finishes, HaveGrown, IsUnmet, IsGoal}
 use Rattle.fleet_needs.specs.declared.await_places.ActionPlaces.{ActionPlaces}
 use Rattle.fleet_needs.specs.declared.cost_walk.Stage.{Stage}
 use Rattle.fleet_needs.specs.declared.critical.TheConstants.{MAX_COST}
 use Rattle.fleet_needs.specs.declared.finish_order.TheConstants.{MAX_TICKS}
 use Rattle.fleet_needs.proofs.Free.{count, grows, needs_before, none_started, all_finished}
-use Rattle.fleet_needs.proofs.Costing.{noted_next, one_cost}
-use Rattle.fleet_needs.proofs.Joining.{awaited_action}
+use Rattle.fleet_needs.proofs.Costing.{noted_next}
 use Rattle.fleet_needs.proofs.Placed.{row_ends}
 use Rattle.fleet_needs.proofs.Ticking.{noted_more}
 

@@ -4,7 +4,7 @@ use Rattle.fleet_model.specs.declared.program.ActionId.{ActionId}
 use Rattle.fleet_model.specs.declared.program.Await.{Await}
 use Rattle.fleet_model.specs.Program.{Program, moves, awaits_of, total_moves, AreInRange}
 use Rattle.fleet_model.specs.Machine.{IsFinish}
-use Rattle.fleet_model.specs.Chain.{IsAction, DirectlyNeeds, IsCriticalCost, awaited}
+use Rattle.fleet_model.specs.Chain.{DirectlyNeeds, IsCriticalCost, awaited}
 use Rattle.fleet_needs.specs.Places.{ArePlacesOf}
 use Rattle.fleet_needs.specs.Order.{IsCounted}
 use Rattle.fleet_needs.specs.Critical.{AreNotedCosts}

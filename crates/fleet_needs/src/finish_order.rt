@@ -142,8 +142,8 @@ impl FinishOrder {
 pub(crate) struct FinishTicks {
     places: ActionPlaces,
     ticks: Vec<u32>,
-    /// From how many actions a step goes back for one await, at most.
-    steps: u8,
+    /// How many actions are looked at for one await, at most.
+    looks: u8,
 }
 
 impl Model for FinishTicks {
@@ -157,8 +157,8 @@ impl Model for FinishTicks {
 /// No run without holds has more ticks.
 pub const MAX_TICKS: u32 = u32::MAX;
 
-/// From how many actions a step goes back for one await at first.
-const STEPS: u8 = 16;
+/// How many actions are looked at for one await, until most agents are asked for.
+const LOOKS: u8 = 16;
 
 impl FinishTicks {
     /// The ticks of a program that so many ticks finish.
@@ -180,23 +180,23 @@ impl FinishTicks {
         Ok(FinishTicks {
             places,
             ticks: entries,
-            steps: STEPS,
+            looks: LOOKS,
         })
     }
 
-    /// Goes back no more once most agents are asked for, since rows answer for all these.
+    /// Looks at none any more once most agents are asked for, since rows answer for all these.
     pub(crate) fn stop_if_most(&mut self, asked: &[bool])
         ensures { self.new ≡ self.old }
     {
         let flagged = asked.iter().filter(|flag| **flag).count();
         if flagged > asked.len() / 2 {
-            self.steps = 0;
+            self.looks = 0;
         }
     }
 
-    /// From how many actions a step goes back for one await.
-    pub(crate) fn steps(&self) -> u8 {
-        self.steps
+    /// How many actions are looked at for one await.
+    pub(crate) fn looks(&self) -> u8 {
+        self.looks
     }
 
     /// The tick of an action.

@@ -249,7 +249,7 @@ fn reaches_other<P: ProgramView>(
         (record { agent = first.agent; count = first.number }) → ⊥ }
 {
     let _ = program.agents();
-    let mut steps = ticks.steps();
+    let mut steps = ticks.looks();
     let mut known = true;
     for m in 0..program.await_count(action.agent, action.number) {
         let is_other = m != k;

@@ -1,8 +1,7 @@
 use Rattle.std.proofs.Common.{◌≡◌, ◌+◌, ℕ, slice_index, ap, ◌∙◌, arith, refl}
 use Rattle.std.proofs.lemmas.List.{get_or_read}
-use Rattle.fleet_model.specs.declared.program.ActionId.{ActionId}
 use Rattle.fleet_needs.specs.CostWalk.{after}
-use Rattle.fleet_needs.proofs.Placed.{place_within, place_is}
+use Rattle.fleet_needs.proofs.Placed.{place_within}
 use Rattle.fleet_needs.proofs.Walking.{costs_here, costs_fit, finished_at, here_action}
 use Rattle.fleet_needs.proofs.cost_walk.finish.Goals as goal
 

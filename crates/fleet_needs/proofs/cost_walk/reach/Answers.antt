@@ -1,4 +1,4 @@
-use Rattle.std.proofs.Common.{◌≡◌, ◌<◌, ◌∙◌, ℕ, slice_index, sym, subst, arith}
+use Rattle.std.proofs.Common.{◌<◌, ℕ, sym, subst, arith}
 use Rattle.fleet_needs.proofs.Walking.{goes_on, waits_for, to_go}
 use Rattle.fleet_needs.proofs.cost_walk.reach.Goals as goal
 

@@ -1,4 +1,3 @@
-use Rattle.std.proofs.Common.{arith}
 use Rattle.fleet_needs.proofs.Walking.{stopped_at}
 use Rattle.fleet_needs.proofs.cost_walk.run_agent.Goals as goal
 

@@ -77,7 +77,7 @@ loop-k-preserved g c =
     let is : IsCriticalCost p cost (awaited w) c.in-Some.cost = subst (IsCriticalCost p cost (awaited w)) (sym c.in-Some.ensures.cost) (walk.noted (awaited w) act c.in-Some.ensures.met).critical in
     record {
       stage = stage_on p cost offset (IsCounted counts) i n s c.loop-k.invariant.stage w at c.in-Some.ensures.met c.in-Some.cost is (record { met = k + 1; at = c.read-reading.result.after; greatest = c.max.result })
-          (ap (λ (j : ℕ). j + 1) met) place c.max.ensures;
+          (ap (λ (j : ℕ). j + 1) met) place (omega (arith, c.max.ensures));
       met = refl;
     }
 

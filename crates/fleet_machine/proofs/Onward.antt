@@ -14,9 +14,16 @@ use Rattle.fleet_machine.proofs.Bits.{bit_shifted, flag_is}
 above : (word place j : ℕ) → bit_at (word / 2 ^ place / 2 ^ 1) j ≡ bit_at word (place + (1 + j))
 above word place j = bit_shifted (word / 2 ^ place) 1 j ∙ bit_shifted word place (1 + j)
 
--- without a bit
-pub no_bits_yet : (flags : List Bool) (from : ℕ) → IsCursorOf flags (record { from = from; bits = 0 })
-no_bits_yet flags from = record { span = 0; here = λ k lt. absurd (omega arith); past = λ k le. bit_at-zero k }
+-- with the flags of the first word
+pub cursor_at_first : (words : List ℕ) (n : ℕ) → AreBits words n → slice_index words 0 < 2 ^ 64 → IsCursorOf (flags_in words n) (record { from = 0; bits = slice_index words 0 })
+cursor_at_first words n bits fits = record {
+  span = 64;
+  here = λ k lt.
+      let word : (0 + k) / 64 ≡ 0 = omega arith in
+      let place : (0 + k) % 64 ≡ k = omega arith in
+      flag_is words n (0 + k) bits ∙ rw (word, place) refl;
+  past = λ k le. bit_at_above (slice_index words 0) 64 k fits le;
+}
 
 -- at the lowest bit
 module _ (flags : List Bool) (cursor : Cursor) (is : IsCursorOf flags cursor) (skipped : ℕ) (low : IsLowest cursor.bits skipped) where

@@ -237,6 +237,18 @@ impl AgentSet {
         Some((WORD * at + place) as u16)
     }
 
+    /// A cursor before all agents.
+    pub fn cursor(&self) -> Cursor
+        ensures from { result.from ≡ 0 }
+        ensures cursor { IsCursorOf self.now result }
+    {
+        let word = self.words[0];
+        Cursor {
+            from: 0,
+            bits: word,
+        }
+    }
+
     /// The first member from the cursor on, which goes on behind it.
     #[inline(always)]
     pub fn next_at(&self, cursor: &mut Cursor) -> Option<u16>

@@ -11,13 +11,6 @@ pub struct Cursor {
 }
 
 impl Cursor {
-    /// Before all agents.
-    pub fn new() -> Cursor
-        ensures { result ≡ record { from = 0; bits = 0 } }
-    {
-        Cursor { from: 0, bits: 0 }
-    }
-
     /// Goes on behind the agent that comes after so many, and answers it.
     pub fn pass(&mut self, skipped: u16) -> u16
         requires bit { skipped < 64 }

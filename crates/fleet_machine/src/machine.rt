@@ -6,7 +6,6 @@ ghost use Rattle.fleet_model.specs.Geometry.{place_of, stepped};
 ghost use Rattle.fleet_model.specs.Program.{moves, awaits_of, IsWellFormed};
 ghost use Rattle.fleet_model.specs.Machine.{opening, is_finished, next_action, is_ready, is_met, tick, moved_in, is_ready_held, standing_at, count_at, indices};
 ghost use Rattle.fleet_model.specs.Claims.{order_of};
-ghost use Rattle.fleet_machine.specs.AgentSet.{AreNoneFrom, IsNextFrom, IsCursorOf, GoesOn};
 ghost use Rattle.fleet_machine.specs.Confirmed.{all_but, AreAllReady, IsFirstUnready};
 ghost use Rattle.fleet_machine.specs.Looked.{ready_in, awaiting_in, LooksAt};
 ghost use Rattle.fleet_machine.specs.Near.{IsNear, AreNear};
@@ -15,12 +14,13 @@ ghost use Rattle.fleet_machine.specs.Waking.{IsWoken, is_woken_by, advanced_one,
 ghost use Rattle.fleet_machine.specs.WaitLists.{home_of};
 
 use crate::agent_set::{AgentSet, next_flag};
-use crate::cursor::Cursor;
 use crate::steps::{Mark, after_step, look_count, starts};
 use crate::wait_lists::{LISTS_EACH, WaitLists, list_of};
 use fleet_model::{Await, Instruction, MAX_AGENTS, ProgramView, Standing, Step};
 use std::alloc::{AllocError, Global};
 use std::marker::Model;
+
+mod sets;
 
 /// The outcome of a tick: how many agents finished an action, and whether some ready agent was held.
 #[derive(Clone, Copy)]
@@ -158,7 +158,7 @@ impl Machine {
             (indices (length (P.program program.now))) }
     {
         let _ = program;
-        self.next_ready(&mut Cursor::new()).is_some()
+        self.next_ready(&mut self.ready_cursor()).is_some()
     }
 
     /// Whether agent `i` may finish its next action.
@@ -292,46 +292,6 @@ impl Machine {
             from = i + 1;
         }
         None
-    }
-
-    /// The first agent from this one on that the last tick moved.
-    pub fn next_moved(&self, from: u16) -> Option<u16>
-        ensures { MatchOption result
-            (AreNoneFrom self.now.moving from) (IsNextFrom self.now.moving from) }
-    {
-        self.moving.next(from)
-    }
-
-    /// The first agent from the cursor on that the last tick moved, behind which the cursor goes on.
-    pub fn moved_at(&self, cursor: &mut Cursor) -> Option<u16>
-        requires { IsCursorOf self.now.moving cursor.old }
-        ensures { GoesOn self.now.moving cursor.old cursor.new result }
-    {
-        self.moving.next_at(cursor)
-    }
-
-    /// The first agent from the cursor on that is ready.
-    fn next_ready(&self, cursor: &mut Cursor) -> Option<u16>
-        requires { IsCursorOf self.now.ready cursor.old }
-        ensures { GoesOn self.now.ready cursor.old cursor.new result }
-    {
-        self.ready.next_at(cursor)
-    }
-
-    /// The first agent from this one on that has an action left.
-    fn next_left(&self, from: u16) -> Option<u16>
-        ensures { MatchOption result
-            (AreNoneFrom self.now.left from) (IsNextFrom self.now.left from) }
-    {
-        self.left.next(from)
-    }
-
-    /// The first agent from the cursor on that is due.
-    fn next_due(&self, cursor: &mut Cursor) -> Option<u16>
-        requires { IsCursorOf self.now.due cursor.old }
-        ensures { GoesOn self.now.due cursor.old cursor.new result }
-    {
-        self.due.next_at(cursor)
     }
 
     /// Agent `i`, which stands in no list, waits for what is awaited.
@@ -497,7 +457,7 @@ impl Machine {
         ensures count { result
             ≡ length (filter (flag_of self.old.due) (indices (length (P.program program.now)))) }
     {
-        let mut cursor = Cursor::new();
+        let mut cursor = self.due_cursor();
         let mut count = 0;
         while let Some(i) = self.next_due(&mut cursor) {
             self.judge(program, i);
@@ -680,7 +640,7 @@ impl Machine {
         let mut moved = 0;
         let mut ready = 0;
         let mut ready_held = false;
-        let mut cursor = Cursor::new();
+        let mut cursor = self.ready_cursor();
         while let Some(i) = self.next_ready(&mut cursor) {
             if held[i as usize] {
                 self.hold_back(i);
@@ -766,7 +726,7 @@ impl Machine {
         ensures { IsWoken (is_woken_by (carried_all (P.program program.now) self.old))
             (carried_all (P.program program.now) self.old) self.new }
     {
-        let mut cursor = Cursor::new();
+        let mut cursor = self.moved_cursor();
         while let Some(i) = self.moved_at(&mut cursor) {
             self.advance_one(program, i);
         }

@@ -9,7 +9,7 @@ ghost use Rattle.fleet_run.specs.Line.{AreBytesClose, IsOneDigitOff, IsBeside, I
 ghost use Rattle.fleet_run.specs.Text.{place_text};
 
 use crate::trace::{LINE, PLACE, write_count, write_place};
-use fleet_machine::{Cursor, Machine};
+use fleet_machine::Machine;
 use fleet_model::{MAX_AGENTS, Place, Standing};
 use fleet_text::write_byte;
 
@@ -215,7 +215,6 @@ pub fn write_time(time: u32, row: &mut [u8], begin: usize) -> usize
 
 /// Writes the places of the agents that the last tick moved over those before; all places anew if more than a few are
 /// longer or shorter than before.
-#[tactic(auto, using(fleet_machine::proofs::Onward::no_bits_yet))]
 pub fn write_moved(machine: &Machine, row: &mut [u8], begins: &mut [usize])
     requires agents { length machine.now.configuration ≤ MAX_AGENTS }
     requires before { IsKeptBefore machine.now row.old begins.old }
@@ -224,7 +223,7 @@ pub fn write_moved(machine: &Machine, row: &mut [u8], begins: &mut [usize])
 {
     let rows = machine.agents();
     let mut resized = 0;
-    let mut cursor = Cursor::new();
+    let mut cursor = machine.moved_cursor();
     while let Some(i) = machine.moved_at(&mut cursor) {
         let i = usize::from(i);
         let place = rows[i].place;

@@ -2,7 +2,6 @@ use Rattle.std.proofs.Common.{◌<◌, length, refl, arith, ap, sym, ◌∙◌}
 use Rattle.fleet_machine.specs.Machine.{MachineState, flag_of, is_left}
 use Rattle.fleet_machine.specs.AgentSet.{IsNextFrom, AreNoneFrom}
 use Rattle.fleet_machine.proofs.Judging.{none_judged, read_so_far, left_so_far, one_judged, some_passed, none_more_counted, one_more_counted, counted_le}
-use Rattle.fleet_machine.proofs.Onward.{no_bits_yet}
 use Rattle.fleet_machine.proofs.machine.Machine.judge_due.Goals as goal
 
 pub overflow_add-count : goal.overflow_add-count
@@ -40,7 +39,13 @@ returns-clause-count g c =
 
 pub loop-i-init : goal.loop-i-init
 loop-i-init g c =
-    rw c.new-cursor.ensures record { cursor = no_bits_yet c.args.self.now.due 0; judged = none_judged (g.P.ProgramView.program c.args.program.now) (flag_of c.args.self.now.due) c.args.self.now c.requires.rows; counted = refl; within = omega arith }
+    let from = c.due_cursor-cursor.ensures.from in
+    record {
+      cursor = c.due_cursor-cursor.ensures.cursor;
+      judged = rw from (none_judged (g.P.ProgramView.program c.args.program.now) (flag_of c.args.self.now.due) c.args.self.now c.requires.rows);
+      counted = rw from refl;
+      within = omega (arith, from);
+    }
 
 pub judge-requires-clause-read : goal.judge-requires-clause-read
 judge-requires-clause-read g c =

@@ -5,7 +5,6 @@ use Rattle.fleet_machine.specs.Waking.{IsWoken, is_woken_by}
 use Rattle.fleet_machine.proofs.Ticking.{unwoken}
 use Rattle.fleet_machine.proofs.Woken.{none_woken_at_first, all_woken_below, one_wakes}
 use Rattle.fleet_machine.proofs.Carried.{IsCarriedTo, none_carried_yet, left_if_next, one_on, all_on}
-use Rattle.fleet_machine.proofs.Onward.{no_bits_yet}
 use Rattle.fleet_machine.proofs.machine.Machine.move_all.Goals as goal
 
 pub loop-i-init : goal.loop-i-init
@@ -13,10 +12,11 @@ loop-i-init g c =
     let p = g.P.ProgramView.program c.args.program.now in
     let old = c.args.self.now in
     let same : unwoken old old ≡ old = ap (λ flags. record old { due = flags }) (sym c.requires.due) in
-    rw c.new-cursor.ensures record {
-      cursor = no_bits_yet old.moving 0;
-      carried = subst (λ (m : MachineState). IsCarriedTo p old m 0) (sym same) (none_carried_yet p old c.requires.agents c.requires.rows.marks);
-      woken = none_woken_at_first old (unwoken old old) same;
+    let from = c.moved_cursor-cursor.ensures.from in
+    record {
+      cursor = c.moved_cursor-cursor.ensures.cursor;
+      carried = rw from (subst (λ (m : MachineState). IsCarriedTo p old m 0) (sym same) (none_carried_yet p old c.requires.agents c.requires.rows.marks));
+      woken = rw from (none_woken_at_first old (unwoken old old) same);
     }
 
 pub advance_one-requires-clause-left : goal.advance_one-requires-clause-left

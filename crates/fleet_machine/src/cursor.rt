@@ -2,8 +2,8 @@
 
 ghost use Rattle.std.specs.Prelude.{◌≡◌, ◌+◌, ◌/◌, ◌<◌, ◌^◌};
 
-/// Where one goes on through the members of a set: the agent from which on the next one is looked for, and flags from it
-/// on, as bits.
+/// Where one goes on through the members of a set: the agent from which on the next one is looked for, and flags from
+/// it on, as bits.
 #[derive(Clone, Copy)]
 pub struct Cursor {
     pub from: u16,

@@ -90,8 +90,8 @@ impl Machine {
         Ok(machine)
     }
 
-    /// So many agents, which stand there and in these lists, and have read so far. Each is flagged as one with an action
-    /// left, and otherwise none.
+    /// So many agents, which stand there and in these lists, and have read so far. Each is flagged as one with an
+    /// action left, and otherwise none.
     fn with_agents(
         agents: Vec<Standing>,
         marks: Vec<Mark>,
@@ -511,8 +511,8 @@ impl Machine {
         self.least[j as usize]
     }
 
-    /// Takes all agents off the list of agent `j` in which those stand that wait for its count, if the list's least count
-    /// is reached. They are due.
+    /// Takes all agents off the list of agent `j` in which those stand that wait for its count, if the list's least
+    /// count is reached. They are due.
     fn wake_if_reached(&mut self, j: u16)
         requires few { j < MAX_AGENTS }
         requires list { j * LISTS_EACH + LISTS_EACH ≤ self.old.waiting.lists }
@@ -623,8 +623,8 @@ impl Machine {
         self.wake_if_reached(i);
     }
 
-    /// Each agent that is ready and not held finishes an action, and is due, as are those that it wakes. Answers also how
-    /// many were ready.
+    /// Each agent that is ready and not held finishes an action, and is due, as are those that it wakes. Answers also
+    /// how many were ready.
     #[tactic(auto, using(crate::proofs::Ticking::all_counted, crate::proofs::Ticking::any_held, crate::proofs::Ticking::all_ready, crate::proofs::Ticking::few_ready))]
     fn advance<P: ProgramView>(&mut self, program: &P, held: &[bool]) -> (Tick, u16)
         requires runs { Runs (P.program program.now) self.old }
@@ -638,20 +638,20 @@ impl Machine {
     {
         self.begin_tick();
         let mut moved = 0;
-        let mut ready = 0;
+        let mut kept = 0;
         let mut ready_held = false;
         let mut cursor = self.ready_cursor();
         while let Some(i) = self.next_ready(&mut cursor) {
             if held[i as usize] {
                 self.hold_back(i);
                 ready_held = true;
+                kept += 1;
             } else {
                 self.advance_one(program, i);
                 moved += 1;
             }
-            ready += 1;
         }
-        (Tick { moved, ready_held }, ready)
+        (Tick { moved, ready_held }, moved + kept)
     }
 
     /// So many agents more have been looked at.

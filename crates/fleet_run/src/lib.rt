@@ -5,10 +5,10 @@
 //! `hold_writing` writes the text that `HoldText` reads. A `Fleet` (`fleet`) has a `Machine`, and so has `rehearse`
 //! (`report`), which runs any program; both go through the one loop of `run`, a `Fleet` by `drive` and `trace`: at each
 //! time `pass_time` writes the line, and then `next_unless_over` asks the source, unless the run has ended there;
-//! `tick_row` is the tick. `trace` writes places and closing lines. A line of a run is kept from tick to tick in a row
-//! of bytes (`line`), of which mostly the last digits change, and handed to the sink whole. A sink may keep back what
-//! it took until it is flushed. `listing` is one pass over a program, which gathers its lines in a row of bytes of its
-//! own.
+//! `tick_row` is the tick. `trace` writes places and closing lines, and `times_text` times; `accepted_run` runs an
+//! accepted program in one call. A line of a run is kept from tick to tick in a row of bytes (`line`), of which mostly
+//! the last digits change, and handed to the sink whole. A sink may keep back what it took until it is flushed.
+//! `listing` is one pass over a program, which gathers its lines in a row of bytes of its own.
 #![tactic(auto)]
 
 mod accepted_run;

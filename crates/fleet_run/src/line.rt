@@ -50,8 +50,8 @@ fn overwrite(i: usize, place: Place, row: &mut [u8], begins: &[usize]) -> bool
     true
 }
 
-/// Writes the last digit of a place over that of agent `i`, which stood beside it, if no other byte changes, and answers
-/// whether it did.
+/// Writes the last digit of a place over that of agent `i`, which stood beside it, if no other byte changes, and
+/// answers whether it did.
 #[inline(always)]
 fn move_place(i: usize, place: Place, row: &mut [u8], begins: &[usize]) -> bool
     requires kept { (c : Configuration) × (IsLineKept c row.old begins.now) × (i < length c)
@@ -101,8 +101,8 @@ fn write_text(text: &[u8], row: &mut [u8], begin: usize, end: usize)
     row[begin..end].copy_from_slice(text);
 }
 
-/// Writes a text over the bytes from `to` to before `end`, after the bytes from `front` to before `begin` are moved so that
-/// they end there.
+/// Writes a text over the bytes from `to` to before `end`, after the bytes from `front` to before `begin` are moved so
+/// that they end there.
 fn resize_text(text: &[u8], row: &mut [u8], front: usize, begin: usize, to: usize, end: usize)
     requires order { front ≤ begin }
     requires begin { begin ≤ length row.old }
@@ -120,8 +120,8 @@ fn resize_text(text: &[u8], row: &mut [u8], front: usize, begin: usize, to: usiz
 /// How many bytes the longest time has, with the colon after it.
 const TIME: usize = 11;
 
-/// Where a text is to begin that ends at `end`, if there is room for the bytes from `front` to before `begin` before it,
-/// and for the time before these.
+/// Where a text is to begin that ends at `end`, if there is room for the bytes from `front` to before `begin` before
+/// it, and for the time before these.
 fn place_for(text: &[u8], front: usize, begin: usize, end: usize) -> Option<usize>
     requires order { front ≤ begin }
     requires begin { begin ≤ LINE }

@@ -82,8 +82,8 @@ pub fn put_times<O: TraceOut>(
     put_path(out, path)
 }
 
-/// Writes for each agent the number of the last action that it reaches, in a line `i: N`, and then how many agents there
-/// are, how many actions they have together, and how many of them do not arrive. It takes no memory.
+/// Writes for each agent the number of the last action that it reaches, in a line `i: N`, and then how many agents
+/// there are, how many actions they have together, and how many of them do not arrive. It takes no memory.
 ///
 /// Errors: `OutFault` if the sink fails; it has then taken a proper prefix of the text.
 pub fn put_reached<O: TraceOut>(

@@ -1,4 +1,4 @@
-use Rattle.std.proofs.Common.{◌-◌, length}
+use Rattle.std.proofs.Common.{◌+◌, ◌-◌, length}
 use Rattle.fleet_machine.specs.Machine.{flag_of}
 use Rattle.fleet_machine.specs.Waking.{IsWoken}
 use Rattle.fleet_machine.proofs.Waking.{reached_below}
@@ -11,7 +11,7 @@ invariant-loop-i g l =
     let p = g.P.ProgramView.program l.program in
     record {
       cursor : IsCursorOf l.self.ready l.cursor;
-      advanced : IsAdvancedTo p (flag_of l.held) l.fn.self (unwoken l.fn.self l.self) l.cursor.from l.moved l.ready_held l.ready;
+      advanced : IsAdvancedTo p (flag_of l.held) l.fn.self (unwoken l.fn.self l.self) l.cursor.from l.moved l.ready_held (l.moved + l.kept);
       woken : IsWoken (reached_below (unwoken l.fn.self l.self) l.cursor.from) (unwoken l.fn.self l.self) l.self;
     }
 

@@ -1,6 +1,6 @@
 -- Files that a command names, of a store that was only read before.
 use Rattle.std.proofs.Common.{ℕ, List, Option, Some, None, refl, sym, ◌∙◌, ◌≡◌, [], ◌∷◌, ◌++◌, inl, inr}
-use Rattle.fleet_cli.specs.Files.{Store, HoldsBytes, IsRead, IsUnreadable, AreUnchanged, ChangesOnly}
+use Rattle.fleet_cli.specs.Files.{Store, HoldsBytes, IsRead, IsUnreadable, AreUnchanged}
 use Rattle.std.specs.Borrow.{Bor}
 use Rattle.fleet_cli.specs.Named.{IsReadFault, IsUnread, IsGiven, given_name}
 use Rattle.fleet_cli.specs.declared.fault.Fault.{Fault}
@@ -24,13 +24,6 @@ kept_on None mid new h k = tt
 kept_on (Some files) None new h k = absurd h
 kept_on (Some files) (Some others) None h k = absurd k
 kept_on (Some files) (Some others) (Some last) h k = λ n. k n ∙ h n
-
--- a store that was only read before one file of it was changed
-pub changes_on : (old mid new : Option Store) (name : List ℕ) → AreUnchanged old mid → ChangesOnly mid new name → ChangesOnly old new name
-changes_on None mid new name h k = tt
-changes_on (Some files) None new name h k = absurd h
-changes_on (Some files) (Some others) None name h k = absurd k
-changes_on (Some files) (Some others) (Some last) name h k = λ n ne. k n ne ∙ h n
 
 pub unreadable_before : (old new : Option Store) (name : List ℕ) → AreUnchanged old new → IsUnreadable new name → IsUnreadable old name
 unreadable_before None new name kept h = tt

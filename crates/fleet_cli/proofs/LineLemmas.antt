@@ -32,12 +32,6 @@ lines_to (b ∷ bytes) zero within here none = sym (first_line b bytes (among (b
 lines_to (b ∷ bytes) (suc n) within here none =
     ap (λ (xs : List ℕ). b ∷ xs) (lines_to bytes n (omega arith) here none) ∙ sym (first_line b bytes (among (b ∷ bytes) (suc n) within here))
 
--- one byte more that is no LF
-pub still_none : (bytes : List ℕ) (n : ℕ) → n < length bytes → is_lf (get_or bytes n 0) ≡ false → list_any is_lf (drop (suc n) bytes) ≡ false → list_any is_lf (drop n bytes) ≡ false
-still_none [] n within here none = absurd (omega arith)
-still_none (b ∷ bytes) zero within here none = rw (here, none) refl
-still_none (b ∷ bytes) (suc n) within here none = still_none bytes n (omega arith) here none
-
 -- the same of the place behind it
 pub lines_before : (bytes : List ℕ) (end : ℕ) → 0 < end → end ≤ length bytes → get_or bytes (end - 1) 0 ≡ 10 → list_any is_lf (drop end bytes) ≡ false → take end bytes ≡ whole_lines bytes
 lines_before bytes zero some within here none = absurd (omega arith)

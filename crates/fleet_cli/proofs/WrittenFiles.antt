@@ -1,18 +1,11 @@
 -- Files that are written one after another.
 use Rattle.std.proofs.Common.{◌≡◌, ℕ, List, [], ◌∷◌, ◌++◌, Option, None, Some, Result, Ok, Err, inl, inr, subst}
-use Rattle.std.specs.Prelude.{OnOk, IfErr}
 use Rattle.std.specs.Borrow.{Bor}
 use Rattle.fleet_text.specs.Sink.{SinkState}
-use Rattle.fleet_cli.specs.Files.{Store, ChangesOnly, Replaces}
-use Rattle.fleet_cli.specs.Named.{IsWriteFault}
+use Rattle.fleet_cli.specs.Files.{Store}
 use Rattle.fleet_cli.specs.Output.{Prints}
 use Rattle.fleet_cli.specs.RestCommand.{given_file, WritesGiven, AreWritten, StopsWriting, WritesFiles}
 use Rattle.fleet_cli.specs.declared.fault.Fault.{Fault}
-
-pub file_given : (files after : Option Store) (name : Bor (List ℕ)) (bytes : List ℕ) (r : Result (Unit {0}) Fault) → OnOk r (Replaces files after name.now bytes) → IfErr r (IsWriteFault name.now)
-    → ChangesOnly files after name.now → WritesGiven files after (Some name) bytes r
-file_given files after name bytes (Ok _) h fault others = h
-file_given files after name bytes (Err e) h fault others = (fault, others)
 
 pub written_given : (files mid after : Option Store) (name : Option (Bor (List ℕ))) (bytes : List ℕ) (list : List (List ℕ × List ℕ)) → WritesGiven files mid name bytes (Ok tt) → AreWritten mid after list
     → AreWritten files after (given_file name bytes ++ list)

@@ -69,10 +69,14 @@ IsOutRefusal files after name bytes out out' text fault =
     (IsWriteFault name fault × ChangesOnly files after name × IsUnwritten out out')
     ⊎ (Replaces files after name bytes × IsOutFault fault × FailsAfter out out' text)
 
--- What a command answers that makes a value, writes its bytes to a file and then prints a text of it. A refusal of the value, before
--- anything is written: every file is as before. Or the value was made, and the file could not be written or the output failed
+-- the bytes were written to the file, the text was printed, and 0 is answered; or one of the two was refused
+abbrev pub Stores : (files after : Option Store) → (name bytes text : List ℕ) → (out out' : SinkState) → Result ℕ Fault → Type 0
+Stores files after name bytes text out out' (Ok status) = WritesOut files after name bytes out out' text × (status ≡ 0)
+Stores files after name bytes text out out' (Err fault) = IsOutRefusal files after name bytes out out' text fault
+
+-- What a command answers that makes a value, writes its bytes to a file and then prints a text of it. The value was made, and this came of
+-- the writing; or it was refused, before anything is written: every file is as before
 abbrev pub AnswersOut : {A : Type 0} → (files after : Option Store) → (name : List ℕ) → (A → Type 0) → (Fault → Type 0) → (A → List ℕ) → (A → List ℕ) → (out out' : SinkState) → Result ℕ Fault → Type 0
-AnswersOut {A} files after name Makes Refuses bytes text out out' (Ok status) = (made : A) × Makes made × WritesOut files after name (bytes made) out out' (text made) × (status ≡ 0)
-AnswersOut {A} files after name Makes Refuses bytes text out out' (Err fault) =
-    (Refuses fault × AreUnchanged files after × IsUnwritten out out')
-    ⊎ ((made : A) × Makes made × IsOutRefusal files after name (bytes made) out out' (text made) fault)
+AnswersOut {A} files after name Makes Refuses bytes text out out' result =
+    ((made : A) × Makes made × Stores files after name (bytes made) (text made) out out' result)
+    ⊎ ((fault : Fault) × (result ≡ Err fault) × Refuses fault × AreUnchanged files after × IsUnwritten out out')

@@ -1,8 +1,8 @@
 //! What several commands print or write in the same way: counts, and a file OUT with counts of it.
 
-ghost use Rattle.std.specs.Prelude.{◌≡◌, ℕ, List, MatchResult};
+ghost use Rattle.std.specs.Prelude.{ℕ, List};
 ghost use Rattle.fleet_text.specs.Sink.{IsWorking, SinkState, TakesAll, Delivers};
-ghost use Rattle.fleet_cli.specs.Output.{with_labels, count_lines, report, Prints, WritesOut, IsOutRefusal};
+ghost use Rattle.fleet_cli.specs.Output.{with_labels, count_lines, report, Prints, Stores};
 
 use crate::fault::Fault;
 use crate::files::Files;
@@ -23,6 +23,7 @@ fn put_counts<O: TraceOut>(out: &mut O, counts: &[(&'static str, u64)]) -> Resul
 }
 
 /// Prints the counts, and has the sink hand them on.
+#[tactic(auto, using(crate::proofs::RunLemmas::delivers_after))]
 pub(crate) fn print_counts<O: Flush>(
     out: &mut O,
     counts: &[(&'static str, u64)],
@@ -50,6 +51,7 @@ fn put_report<O: TraceOut>(
 }
 
 /// Prints a word in a line of its own, and then the counts, and has the sink hand all on.
+#[tactic(auto, using(crate::proofs::RunLemmas::delivers_after))]
 pub(crate) fn print_report<O: Flush>(
     out: &mut O,
     title: &'static str,
@@ -83,11 +85,8 @@ pub(crate) fn write_out<'a, F: Files, O: Flush>(
     counts: &[(&'static str, u64)],
 ) -> Result<u8, Fault<'a>>
     requires { IsWorking (O.state out.old) }
-    ensures { MatchResult result
-        (λ status. WritesOut (F.contents files.old) (F.contents files.new) name.entry.now bytes.now
-        (O.state out.old) (O.state out.new) (count_lines (with_labels counts.now)) × (status ≡ 0))
-        (IsOutRefusal (F.contents files.old) (F.contents files.new) name.entry.now bytes.now
-        (O.state out.old) (O.state out.new) (count_lines (with_labels counts.now))) }
+    ensures { Stores (F.contents files.old) (F.contents files.new) name.entry.now bytes.now
+        (count_lines (with_labels counts.now)) (O.state out.old) (O.state out.new) result }
 {
     write_file(files, name, bytes)?;
     status_after_print(print_counts(out, counts))

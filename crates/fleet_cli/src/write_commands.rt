@@ -1,10 +1,9 @@
 //! The commands that write a program to a file OUT, and then print its numbers: `compile`, `thin` and `migrate`.
 
-ghost use Rattle.std.specs.Prelude.{◌≡◌, ℕ, List, IfOk, IfErr, MatchResult};
+ghost use Rattle.std.specs.Prelude.{ℕ, List, IfOk, IfErr};
 ghost use Rattle.fleet_text.specs.Sink.{IsWorking};
 ghost use Rattle.fleet_code.specs.Spelling.{SpellsShortest};
-ghost use Rattle.fleet_cli.specs.Output.{WritesOut, IsOutRefusal};
-ghost use Rattle.fleet_cli.specs.WriteCommands.{CompilesBytes, IsCompileFault, compiled_numbers, AnswersCompile, ThinsTexts, thinned_text, AnswersThin, MigratesBytes, migrated_text, AnswersMigrate};
+ghost use Rattle.fleet_cli.specs.WriteCommands.{CompilesBytes, IsCompileFault, AnswersCompile, ThinsTexts, AnswersThin, MigratesBytes, AnswersMigrate};
 ghost use Rattle.fleet_model.specs.Program.{total_awaits};
 ghost use Rattle.fleet_cli.specs.Steps.{IsTextsRefusal, IsLoadRefusal};
 
@@ -49,36 +48,6 @@ fn compile_texts<'a>(
     }
 }
 
-/// Writes the bytes of the program to the file OUT, and prints its numbers.
-fn write_compiled<'a, F: Files, O: Flush>(
-    files: &mut F,
-    name: &'a str,
-    compiled: &CompiledBytes,
-    out: &mut O,
-) -> Result<u8, Fault<'a>>
-    requires { IsWorking (O.state out.old) }
-    ensures { MatchResult result
-        (λ status. WritesOut (F.contents files.old) (F.contents files.new) name.entry.now
-        compiled.now.bytes.items (O.state out.old) (O.state out.new) (compiled_numbers compiled.now)
-        × (status ≡ 0))
-        (IsOutRefusal (F.contents files.old) (F.contents files.new) name.entry.now
-        compiled.now.bytes.items (O.state out.old) (O.state out.new)
-        (compiled_numbers compiled.now)) }
-{
-    write_out(
-        files,
-        name,
-        &compiled.bytes,
-        out,
-        &[
-            ("agents", compiled.agents as u64),
-            ("moves", compiled.moves as u64),
-            ("awaits", compiled.awaits),
-            ("bytes", compiled.bytes.len() as u64),
-        ],
-    )
-}
-
 /// The command `compile`: writes the bytes of the plan's program to the file OUT once all before it succeeded, and prints
 /// the program's numbers to `out`. Answers 0.
 #[inline(never)]
@@ -94,7 +63,18 @@ pub(crate) fn do_compile<'a, F: Files, O: Flush>(
         (O.state out.old) (O.state out.new) result }
 {
     let compiled = compile_texts(alloc, request, texts)?;
-    write_compiled(files, request.out, &compiled, out)
+    write_out(
+        files,
+        request.out,
+        &compiled.bytes,
+        out,
+        &[
+            ("agents", compiled.agents as u64),
+            ("moves", compiled.moves as u64),
+            ("awaits", compiled.awaits),
+            ("bytes", compiled.bytes.len() as u64),
+        ],
+    )
 }
 
 /// The bytes of a thinned program, and how many awaits there were before and are after.
@@ -146,34 +126,6 @@ fn thin_texts<'a>(
     })
 }
 
-/// Writes the bytes of the thinned program to the file OUT, and prints its awaits before and after.
-fn write_thinned<'a, F: Files, O: Flush>(
-    files: &mut F,
-    name: &'a str,
-    thinned: &Thinned,
-    out: &mut O,
-) -> Result<u8, Fault<'a>>
-    requires { IsWorking (O.state out.old) }
-    ensures { MatchResult result
-        (λ status. WritesOut (F.contents files.old) (F.contents files.new) name.entry.now
-        thinned.now.bytes.items (O.state out.old) (O.state out.new)
-        (thinned_text thinned.now.before thinned.now.after) × (status ≡ 0))
-        (IsOutRefusal (F.contents files.old) (F.contents files.new) name.entry.now
-        thinned.now.bytes.items (O.state out.old) (O.state out.new)
-        (thinned_text thinned.now.before thinned.now.after)) }
-{
-    write_out(
-        files,
-        name,
-        &thinned.bytes,
-        out,
-        &[
-            ("awaits", thinned.before as u64),
-            ("awaits", thinned.after as u64),
-        ],
-    )
-}
-
 /// The command `thin`: writes the bytes of the program without its implied awaits to the file OUT once all before it
 /// succeeded, and prints its awaits before and after to `out`. Answers 0.
 #[inline(never)]
@@ -189,7 +141,16 @@ pub(crate) fn do_thin<'a, F: Files, O: Flush>(
         (O.state out.old) (O.state out.new) result }
 {
     let thinned = thin_texts(alloc, request, texts)?;
-    write_thinned(files, request.out, &thinned, out)
+    write_out(
+        files,
+        request.out,
+        &thinned.bytes,
+        out,
+        &[
+            ("awaits", thinned.before as u64),
+            ("awaits", thinned.after as u64),
+        ],
+    )
 }
 
 /// The bytes, in version 2, of the program that these spell in either version.
@@ -207,30 +168,6 @@ fn migrate_bytes<'a>(alloc: Global, bytes: &[u8]) -> Result<Vec<u8>, Fault<'a>>
     }
 }
 
-/// Writes the bytes to the file OUT, and prints how many they are.
-fn write_migrated<'a, F: Files, O: Flush>(
-    files: &mut F,
-    name: &'a str,
-    migrated: &[u8],
-    out: &mut O,
-) -> Result<u8, Fault<'a>>
-    requires { IsWorking (O.state out.old) }
-    ensures { MatchResult result
-        (λ status. WritesOut (F.contents files.old) (F.contents files.new) name.entry.now
-        migrated.now (O.state out.old) (O.state out.new) (migrated_text migrated.now)
-        × (status ≡ 0))
-        (IsOutRefusal (F.contents files.old) (F.contents files.new) name.entry.now migrated.now
-        (O.state out.old) (O.state out.new) (migrated_text migrated.now)) }
-{
-    write_out(
-        files,
-        name,
-        migrated,
-        out,
-        &[("bytes", migrated.len() as u64)],
-    )
-}
-
 /// The command `migrate`: writes the program, of either version, to the file OUT in version 2 once all before it
 /// succeeded, and prints how many bytes it has to `out`. Answers 0.
 #[inline(never)]
@@ -246,5 +183,6 @@ pub(crate) fn do_migrate<'a, F: Files, O: Flush>(
         (O.state out.old) (O.state out.new) result }
 {
     let migrated = migrate_bytes(alloc, &texts.subject)?;
-    write_migrated(files, request.out, &migrated, out)
+    let counts = [("bytes", migrated.len() as u64)];
+    write_out(files, request.out, &migrated, out, &counts)
 }

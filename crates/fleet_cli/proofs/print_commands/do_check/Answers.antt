@@ -1,9 +1,8 @@
 use Rattle.std.proofs.Common.{List, ℕ, Option, ap, inl, inr, refl, subst}
-use Rattle.std.proofs.lemmas.Result.{err_from_is_err_and}
 use Rattle.fleet_text.specs.Sink.{Delivers}
 use Rattle.fleet_plan.specs.Plan.{Plan}
 use Rattle.fleet_plan.specs.PlanText.{IsPlanText}
-use Rattle.fleet_cli.proofs.RunLemmas.{keeps_self}
+use Rattle.fleet_cli.proofs.OutputLemmas.{does_nothing}
 use Rattle.fleet_cli.proofs.print_commands.do_check.Goals as goal
 use Rattle.fleet_cli.specs.Steps.{IsProblemRefusal}
 use Rattle.fleet_cli.specs.PrintCommands.{IsPlanRefusal, check_text}
@@ -28,9 +27,7 @@ plan_refuses map scen plan asked (f.Times x) h = absurd h
 plan_refuses map scen plan asked (f.File x) h = absurd h
 
 pub returns-in_err-problem : goal.returns-in_err-problem
-returns-in_err-problem g c =
-    let e = err_from_is_err_and c.from_residual.result c.from_residual.ensures.1 in
-    rw (e.1, e.2) (inr (_, refl, plan_refuses c.args.texts.map.items c.args.texts.scen.items c.args.texts.subject.items c.args.request.now.tasks.agents _ c.in_err-problem.ensures.fault, record { kept = keeps_self _; working = c.requires }))
+returns-in_err-problem g c = does_nothing _ _ _ _ c.from_residual.ensures.1 c.requires (plan_refuses c.args.texts.map.items c.args.texts.scen.items c.args.texts.subject.items c.args.request.now.tasks.agents _ c.in_err-problem.ensures.fault)
 
 pub returns-in-Err-check : goal.returns-in-Err-check
 returns-in-Err-check g c =

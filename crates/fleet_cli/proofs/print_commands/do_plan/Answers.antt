@@ -1,8 +1,7 @@
 use Rattle.std.proofs.Common.{List, ℕ, Option, Result, ap, ◌∙◌, inl, inr, refl, subst}
-use Rattle.std.proofs.lemmas.Result.{err_from_is_err_and}
 use Rattle.fleet_plan.specs.PlanText.{plan_text}
 use Rattle.fleet_text.specs.Sink.{Delivers}
-use Rattle.fleet_cli.proofs.RunLemmas.{keeps_self}
+use Rattle.fleet_cli.proofs.OutputLemmas.{does_nothing}
 use Rattle.fleet_cli.proofs.print_commands.do_plan.Goals as goal
 use Rattle.fleet_args.specs.declared.commands.Tries.{Tries}
 use Rattle.fleet_cli.specs.Steps.{IsProblemRefusal}
@@ -28,9 +27,7 @@ search_refuses map scen asked horizon tries (f.Times x) h = absurd h
 search_refuses map scen asked horizon tries (f.File x) h = absurd h
 
 pub returns-in_err-problem : goal.returns-in_err-problem
-returns-in_err-problem g c =
-    let e = err_from_is_err_and c.from_residual.result c.from_residual.ensures.1 in
-    rw (e.1, e.2) (inr (_, refl, search_refuses c.args.texts.map.items c.args.texts.scen.items c.args.request.now.tasks.agents c.args.request.now.horizon c.args.request.now.tries _ c.in_err-problem.ensures.fault, record { kept = keeps_self _; working = c.requires }))
+returns-in_err-problem g c = does_nothing _ _ _ _ c.from_residual.ensures.1 c.requires (search_refuses c.args.texts.map.items c.args.texts.scen.items c.args.request.now.tasks.agents c.args.request.now.horizon c.args.request.now.tries _ c.in_err-problem.ensures.fault)
 
 pub returns-in-Err : goal.returns-in-Err
 returns-in-Err g c =

@@ -4,20 +4,15 @@ use Rattle.fleet_code.specs.Offsets.{Viewed}
 use Rattle.fleet_grid.specs.Ground.{is_passable}
 use Rattle.fleet_verify.specs.Faults.{IsFault}
 use Rattle.fleet_verify.specs.Broken.{IsBrokenBy}
-use Rattle.std.proofs.lemmas.Result.{err_from_is_err_and}
 use Rattle.fleet_cli.proofs.PrintLemmas.{returned_accepts}
-use Rattle.fleet_cli.proofs.RunLemmas.{keeps_self}
+use Rattle.fleet_cli.proofs.OutputLemmas.{does_nothing}
 use Rattle.fleet_cli.proofs.print_commands.do_verify.Goals as goal
 
 pub returns-in_err-problem : goal.returns-in_err-problem
-returns-in_err-problem g c =
-    let e = err_from_is_err_and c.from_residual.result c.from_residual.ensures.1 in
-    rw (e.1, e.2) (inl (inr (_, refl, inl c.in_err-problem.ensures.fault, record { kept = keeps_self _; working = c.requires })))
+returns-in_err-problem g c = inl (does_nothing _ _ _ _ c.from_residual.ensures.1 c.requires (inl c.in_err-problem.ensures.fault))
 
 pub returns-in_err-program : goal.returns-in_err-program
-returns-in_err-program g c =
-    let e = err_from_is_err_and c.from_residual-in_err-program.result c.from_residual-in_err-program.ensures.1 in
-    rw (e.1, e.2) (inl (inr (_, refl, inr (_, _, c.in_ok-problem.ensures.read, c.in_err-program.ensures.fault), record { kept = keeps_self _; working = c.requires })))
+returns-in_err-program g c = inl (does_nothing _ _ _ _ c.from_residual-in_err-program.ensures.1 c.requires (inr (_, _, c.in_ok-problem.ensures.read, c.in_err-program.ensures.fault)))
 
 pub returns-in-Err : goal.returns-in-Err
 returns-in-Err g c =

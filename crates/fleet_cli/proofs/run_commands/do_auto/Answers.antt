@@ -3,12 +3,11 @@ use Rattle.std.proofs.lemmas.Result.{err_from_is_err_and}
 use Rattle.fleet_cli.specs.Steps.{SpellsMade}
 use Rattle.fleet_cli.specs.RunCommands.{Runs}
 use Rattle.fleet_cli.proofs.RunLemmas.{keeps_self, made}
+use Rattle.fleet_cli.proofs.OutputLemmas.{does_nothing}
 use Rattle.fleet_cli.proofs.run_commands.do_auto.Goals as goal
 
 pub returns-in_err-problem : goal.returns-in_err-problem
-returns-in_err-problem g c =
-    let e = err_from_is_err_and c.from_residual.result c.from_residual.ensures.1 in
-    rw (e.1, e.2) (inr (_, refl, inl c.in_err-problem.ensures.fault, record { kept = keeps_self _; working = c.requires }))
+returns-in_err-problem g c = does_nothing _ _ _ _ c.from_residual.ensures.1 c.requires (inl c.in_err-problem.ensures.fault)
 
 pub returns-in-Err : goal.returns-in-Err
 returns-in-Err g c =

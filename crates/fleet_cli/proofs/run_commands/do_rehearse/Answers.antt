@@ -1,13 +1,10 @@
 use Rattle.std.proofs.Common.{List, ℕ, inl, inr, refl, subst}
-use Rattle.std.proofs.lemmas.Result.{err_from_is_err_and}
 use Rattle.fleet_cli.specs.RunCommands.{RehearsesProgram}
-use Rattle.fleet_cli.proofs.RunLemmas.{keeps_self}
+use Rattle.fleet_cli.proofs.OutputLemmas.{does_nothing}
 use Rattle.fleet_cli.proofs.run_commands.do_rehearse.Goals as goal
 
 pub returns-in_err-program : goal.returns-in_err-program
-returns-in_err-program g c =
-    let e = err_from_is_err_and c.from_residual.result c.from_residual.ensures.1 in
-    rw (e.1, e.2) (inr (_, refl, c.in_err-program.ensures.fault, record { kept = keeps_self _; working = c.requires }))
+returns-in_err-program g c = does_nothing _ _ _ _ c.from_residual.ensures.1 c.requires c.in_err-program.ensures.fault
 
 pub returns : goal.returns
 returns g c =

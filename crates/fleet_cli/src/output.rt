@@ -1,7 +1,7 @@
 //! What several commands print or write in the same way: counts, and a file OUT with counts of it.
 
 ghost use Rattle.std.specs.Prelude.{ℕ, List};
-ghost use Rattle.fleet_text.specs.Sink.{IsWorking, SinkState, TakesAll, Delivers};
+ghost use Rattle.fleet_text.specs.Sink.{IsWorking, SinkState, TakesAll};
 ghost use Rattle.fleet_cli.specs.Output.{with_labels, count_lines, report, Prints, Stores};
 
 use crate::fault::Fault;
@@ -11,7 +11,10 @@ use fleet_run::{Flush, OutFault, TraceOut};
 use fleet_text::{Word, put_count, put_line};
 
 /// Writes a line for each count: its label and its number.
-fn put_counts<O: TraceOut>(out: &mut O, counts: &[(&'static str, u64)]) -> Result<(), OutFault>
+pub(crate) fn put_counts<O: TraceOut>(
+    out: &mut O,
+    counts: &[(&'static str, u64)],
+) -> Result<(), OutFault>
     requires { IsWorking (O.state out.old) }
     ensures { TakesAll (O.state out.old) (O.state out.new) result
         (count_lines (with_labels counts.now)) }
@@ -22,22 +25,8 @@ fn put_counts<O: TraceOut>(out: &mut O, counts: &[(&'static str, u64)]) -> Resul
     Ok(())
 }
 
-/// Prints the counts, and has the sink hand them on.
-#[tactic(auto, using(crate::proofs::RunLemmas::delivers_after))]
-pub(crate) fn print_counts<O: Flush>(
-    out: &mut O,
-    counts: &[(&'static str, u64)],
-) -> Result<(), OutFault>
-    requires { IsWorking (O.state out.old) }
-    ensures { Delivers (O.state out.old) (O.state out.new) result
-        (count_lines (with_labels counts.now)) }
-{
-    put_counts(out, counts)?;
-    out.flush()
-}
-
 /// Writes a word in a line of its own, and then a line for each count.
-fn put_report<O: TraceOut>(
+pub(crate) fn put_report<O: TraceOut>(
     out: &mut O,
     title: &'static str,
     counts: &[(&'static str, u64)],
@@ -50,30 +39,18 @@ fn put_report<O: TraceOut>(
     put_counts(out, counts)
 }
 
-/// Prints a word in a line of its own, and then the counts, and has the sink hand all on.
-#[tactic(auto, using(crate::proofs::RunLemmas::delivers_after))]
-pub(crate) fn print_report<O: Flush>(
+/// Has the sink hand on the text that was written. Answers 0, or the refusal of the standard output.
+pub(crate) fn hand_on<'a, O: Flush>(
     out: &mut O,
-    title: &'static str,
-    counts: &[(&'static str, u64)],
-) -> Result<(), OutFault>
-    requires { IsWorking (O.state out.old) }
-    ensures { Delivers (O.state out.old) (O.state out.new) result
-        (report title.now (with_labels counts.now)) }
+    written: Result<(), OutFault>,
+) -> Result<u8, Fault<'a>>
+    ensures { (before : SinkState) → (text : List ℕ) → TakesAll before (O.state out.old) written text
+        → Prints text before (O.state out.new) result }
 {
-    put_report(out, title, counts)?;
-    out.flush()
-}
-
-/// The status of a command that was to print: 0, or the refusal of the standard output.
-pub(crate) fn status_after_print<'a>(done: Result<(), OutFault>) -> Result<u8, Fault<'a>>
-    ensures { (out out' : SinkState) → (text : List ℕ) → Delivers out out' done text
-        → Prints text out out' result }
-{
-    match done {
-        Ok(()) => Ok(0),
-        Err(OutFault) => Err(Fault::File("-")),
+    if written.is_err() || out.failed() || out.flush().is_err() {
+        return Err(Fault::File("-"));
     }
+    Ok(0)
 }
 
 /// Writes the bytes to the file OUT, and then prints the counts. Answers 0.
@@ -89,5 +66,6 @@ pub(crate) fn write_out<'a, F: Files, O: Flush>(
         (count_lines (with_labels counts.now)) (O.state out.old) (O.state out.new) result }
 {
     write_file(files, name, bytes)?;
-    status_after_print(print_counts(out, counts))
+    let printed = put_counts(out, counts);
+    hand_on(out, printed)
 }

@@ -1,15 +1,14 @@
 //! The commands that print what they find: `instance`, `check`, `plan`, `verify` and `list`.
 
 ghost use Rattle.std.specs.Prelude.{◌<◌, ◌∷◌, [], length, List, ℕ, IfOk};
-ghost use Rattle.fleet_text.specs.Sink.{IsWorking, TakesAll, Delivers};
+ghost use Rattle.fleet_text.specs.Sink.{IsWorking, TakesAll};
 ghost use Rattle.fleet_cli.specs.PrintCommands.{task_line, task_lines, map_line, instance_text, AnswersInstance, check_text, IsAskedBound, AnswersCheck, AnswersPlan, accepted_text, SpellsBreakingHolds, ReportsRefused, AnswersVerify, AnswersList};
 ghost use Rattle.fleet_model.specs.declared.geometry.Place.{Place};
 ghost use Rattle.fleet_verify.specs.Broken.{MeetUnordered, IsBrokenBy};
-ghost use Rattle.fleet_run.specs.Listing.{program_text};
 
 use crate::fault::Fault;
 use crate::named::FileTexts;
-use crate::output::{print_report, status_after_print};
+use crate::output::{hand_on, put_report};
 use crate::steps::{plan_by, read_problem, view_subject};
 use fleet_args::{CheckRequest, PlanRequest, ProgramFor, Tasks};
 use fleet_grid::Grid;
@@ -18,7 +17,7 @@ use fleet_plan::{Checked, Plan, check, read_plan, write_plan};
 use fleet_run::{Flush, OutFault, TraceOut, put_program, write_holds};
 use fleet_scen::Instance;
 use fleet_search::bound;
-use fleet_text::{Word, deliver, put_count, put_line};
+use fleet_text::{Word, deliver, put_all, put_count, put_line};
 use fleet_verify::{Accepted, Refused, VerifyFault, breaking_holds, verify};
 use std::alloc::Global;
 
@@ -68,16 +67,6 @@ fn put_instance<O: TraceOut>(out: &mut O, grid: &Grid, instance: &Instance) -> R
     put_tasks(out, instance)
 }
 
-/// Prints the instance, and has the sink hand it on.
-fn print_instance<O: Flush>(out: &mut O, grid: &Grid, instance: &Instance) -> Result<(), OutFault>
-    requires { IsWorking (O.state out.old) }
-    ensures { Delivers (O.state out.old) (O.state out.new) result
-        (instance_text grid.now instance.now) }
-{
-    put_instance(out, grid, instance)?;
-    out.flush()
-}
-
 /// The command `instance`: prints to `out` the sizes of the map, its passable cells, and the start and the goal of each
 /// agent. Answers 0.
 #[inline(never)]
@@ -91,16 +80,17 @@ pub(crate) fn do_instance<'a, O: Flush>(
     ensures { AnswersInstance request.now texts (O.state out.old) (O.state out.new) result }
 {
     let problem = read_problem(alloc, &texts, request.agents)?;
-    status_after_print(print_instance(out, &problem.grid, &problem.instance))
+    let printed = put_instance(out, &problem.grid, &problem.instance);
+    hand_on(out, printed)
 }
 
-/// Prints that the plan is free of conflict, with its agents and steps and, if its bound is given, its other numbers.
-fn print_check<O: Flush>(out: &mut O, plan: &Plan, bound: Option<u32>) -> Result<(), OutFault>
+/// Writes that the plan is free of conflict, with its agents and steps and, if its bound is given, its other numbers.
+fn put_check<O: TraceOut>(out: &mut O, plan: &Plan, bound: Option<u32>) -> Result<(), OutFault>
     requires { IsWorking (O.state out.old) }
-    ensures { Delivers (O.state out.old) (O.state out.new) result (check_text plan.now bound) }
+    ensures { TakesAll (O.state out.old) (O.state out.new) result (check_text plan.now bound) }
 {
     match bound {
-        None => print_report(
+        None => put_report(
             out,
             "conflict-free",
             &[
@@ -108,7 +98,7 @@ fn print_check<O: Flush>(out: &mut O, plan: &Plan, bound: Option<u32>) -> Result
                 ("steps", plan.steps() as u64),
             ],
         ),
-        Some(bound) => print_report(
+        Some(bound) => put_report(
             out,
             "conflict-free",
             &[
@@ -163,7 +153,8 @@ pub(crate) fn do_check<'a, O: Flush>(
     let Ok(bound) = asked_bound(alloc, &checked, request.numbers) else {
         return Err(Fault::Memory);
     };
-    status_after_print(print_check(out, checked.plan(), bound))
+    let printed = put_check(out, checked.plan(), bound);
+    hand_on(out, printed)
 }
 
 /// The command `plan`: prints to `out` a plan in which each agent's path is the earliest against those of the agents
@@ -194,20 +185,21 @@ pub(crate) fn do_plan<'a, O: Flush>(
         Ok(text) => text,
         Err(OutOfMemory) => return Err(Fault::Memory),
     };
-    status_after_print(deliver(out, &text))
+    let printed = put_all(out, &text);
+    hand_on(out, printed)
 }
 
-/// Prints that the program is accepted, with its numbers.
-fn print_accepted<P: ProgramView, O: Flush>(
+/// Writes that the program is accepted, with its numbers.
+fn put_accepted<P: ProgramView, O: TraceOut>(
     out: &mut O,
     accepted: &Accepted<'_, P>,
 ) -> Result<(), OutFault>
     requires { IsWorking (O.state out.old) }
-    ensures { Delivers (O.state out.old) (O.state out.new) result
+    ensures { TakesAll (O.state out.old) (O.state out.new) result
         (accepted_text (P.program accepted.now.program) accepted.now.chain) }
 {
     let program = accepted.program();
-    print_report(
+    put_report(
         out,
         "accepted",
         &[
@@ -276,18 +268,8 @@ pub(crate) fn do_verify<'a, O: Flush>(
         Ok(accepted) => accepted,
         Err(refused) => return Err(report_refused(alloc, refused, out)),
     };
-    status_after_print(print_accepted(out, &accepted))
-}
-
-/// Prints the program as text, and has the sink hand it on.
-#[tactic(auto, using(crate::proofs::RunLemmas::delivers_after))]
-fn print_program<P: ProgramView, O: Flush>(out: &mut O, program: &P) -> Result<(), OutFault>
-    requires { IsWorking (O.state out.old) }
-    ensures { Delivers (O.state out.old) (O.state out.new) result
-        (program_text (P.program program.now)) }
-{
-    put_program(out, program)?;
-    out.flush()
+    let printed = put_accepted(out, &accepted);
+    hand_on(out, printed)
 }
 
 /// The command `list`: prints the program that the file spells to `out`, as text. Answers 0.
@@ -301,5 +283,6 @@ pub(crate) fn do_list<'a, O: Flush>(
     ensures { AnswersList texts (O.state out.old) (O.state out.new) result }
 {
     let program = view_subject(alloc, &texts)?;
-    status_after_print(print_program(out, &program))
+    let printed = put_program(out, &program);
+    hand_on(out, printed)
 }

@@ -2,13 +2,13 @@
 
 ghost use Rattle.std.specs.Prelude.{◌≡◌, ◌<◌, IfOk, IfErr, IfSome, length};
 ghost use Rattle.fleet_scen.specs.ScenWriting.{scen_text};
-ghost use Rattle.fleet_text.specs.Sink.{IsWorking, Delivers};
+ghost use Rattle.fleet_text.specs.Sink.{IsWorking, TakesAll};
 ghost use Rattle.fleet_cli.specs.RestCommand.{IsRestOf, IsRestFault, IsDead, IsDeadRefusal, IsMapAround, AreOthers, RestsTexts, IsRestRefusal, rest_text, rest_files, WritesGiven, WritesFiles, AnswersRest};
 
 use crate::fault::Fault;
 use crate::files::Files;
 use crate::named::{FileTexts, write_file};
-use crate::output::{print_counts, status_after_print};
+use crate::output::{hand_on, put_counts};
 use crate::steps::{accept, read_problem};
 use fleet_adg::{accepted_tasks_are_an_instance, rest, tasks_of};
 use fleet_args::RestRequest;
@@ -16,7 +16,7 @@ use fleet_code::encode_shortest;
 use fleet_dispatch::{DeadRobot, TimesFault, dead_robot_of, standings_after};
 use fleet_grid::{Grid, write_map};
 use fleet_model::{OutOfMemory, Program, ProgramView, Task, total_awaits, total_moves};
-use fleet_run::{Flush, OutFault};
+use fleet_run::{Flush, OutFault, TraceOut};
 use fleet_scen::{a_written_scenario_is_read, write_scen};
 use fleet_verify::{Accepted, rests_are_accepted};
 use std::alloc::Global;
@@ -184,13 +184,13 @@ fn write_given<'a, F: Files>(
     }
 }
 
-/// Prints the numbers of the program.
-fn print_rest<O: Flush>(out: &mut O, rest: &Rest) -> Result<(), OutFault>
+/// Writes the numbers of the program.
+fn put_rest<O: TraceOut>(out: &mut O, rest: &Rest) -> Result<(), OutFault>
     requires { IsWorking (O.state out.old) }
-    ensures { Delivers (O.state out.old) (O.state out.new) result
+    ensures { TakesAll (O.state out.old) (O.state out.new) result
         (rest_text rest.now.program rest.now.bytes.items) }
 {
-    print_counts(
+    put_counts(
         out,
         &[
             ("agents", u64::from(rest.program.agents())),
@@ -219,7 +219,8 @@ fn write_rest<'a, F: Files, O: Flush>(
     write_given(files, request.map_out, &rest.map)?;
     write_given(files, request.others_out, &rest.others)?;
     write_file(files, request.program_out, &rest.bytes)?;
-    status_after_print(print_rest(out, rest))
+    let printed = put_rest(out, rest);
+    hand_on(out, printed)
 }
 
 /// The command `rest`: writes what is left of an accepted program after the reports of a log, its tasks to the file

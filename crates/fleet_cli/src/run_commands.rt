@@ -9,7 +9,7 @@ ghost use Rattle.fleet_cli.specs.RunCommands.{FlushesRun, Runs, AutoRuns, Answer
 use crate::fault::{AutoFault, Fault, finish, in_step, step_fault};
 use crate::input::{FileFault, read_whole};
 use crate::named::FileTexts;
-use crate::output::{print_counts, status_after_print};
+use crate::output::{hand_on, put_counts};
 use crate::steps::{
     ONE_TRY, PlanNumbers, accept, accept_made, made_bytes, read_problem, view_program, view_subject,
 };
@@ -125,14 +125,13 @@ fn tell_numbers<'a, O: Flush>(
     if !asked {
         return Ok(0);
     }
-    status_after_print(print_counts(
-        out,
-        &[
-            ("tries", numbers.tried as u64),
-            ("steps", numbers.steps as u64),
-            ("cost", numbers.cost as u64),
-        ],
-    ))
+    let counts = [
+        ("tries", numbers.tried as u64),
+        ("steps", numbers.steps as u64),
+        ("cost", numbers.cost as u64),
+    ];
+    let printed = put_counts(out, &counts);
+    hand_on(out, printed)
 }
 
 /// The command `auto`: plans for the map and the scenario, compiles the plan, and writes the trace of the program, under

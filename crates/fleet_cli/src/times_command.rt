@@ -2,53 +2,19 @@
 
 ghost use Rattle.std.specs.Prelude.{◌≤◌, IfOk, IfErr};
 ghost use Rattle.fleet_model.specs.declared.program.ActionId.{ActionId};
-ghost use Rattle.fleet_text.specs.Sink.{IsWorking, Delivers};
-ghost use Rattle.fleet_run.specs.TimesText.{times_text, reached_text};
+ghost use Rattle.fleet_text.specs.Sink.{IsWorking};
 ghost use Rattle.fleet_cli.specs.TimesCommand.{IsTimetable, HasTimetable, HasReached, IsCostsRefusal, IsBreaksRefusal, TellsTimes, TellsReached, AnswersTimes};
 
 use crate::fault::Fault;
 use crate::named::FileTexts;
-use crate::output::status_after_print;
+use crate::output::hand_on;
 use crate::steps::{accept, read_problem};
 use fleet_args::TimesRequest;
 use fleet_dispatch::{breaks_of, costs_of};
 use fleet_model::{ActionId, OutOfMemory, ProgramView, total_moves};
-use fleet_run::{Flush, OutFault, put_reached, put_times};
+use fleet_run::{Flush, put_reached, put_times};
 use fleet_verify::{Accepted, ActionCosts, OneEach, Times, reached_counts, stopped_agents};
 use std::alloc::Global;
-
-/// Prints when agents arrive, and has the sink hand it on.
-#[tactic(auto, using(crate::proofs::RunLemmas::delivers_after))]
-fn print_times<O: Flush>(
-    out: &mut O,
-    arrivals: &[u64],
-    moves: u32,
-    last: u64,
-    path: &[ActionId],
-) -> Result<(), OutFault>
-    requires { IsWorking (O.state out.old) }
-    ensures { Delivers (O.state out.old) (O.state out.new) result
-        (times_text arrivals.now moves last path.now) }
-{
-    put_times(out, arrivals, moves, last, path)?;
-    out.flush()
-}
-
-/// Prints how far each agent comes, and has the sink hand it on.
-#[tactic(auto, using(crate::proofs::RunLemmas::delivers_after))]
-fn print_reached<O: Flush>(
-    out: &mut O,
-    counts: &[u32],
-    moves: u32,
-    stopped: u16,
-) -> Result<(), OutFault>
-    requires { IsWorking (O.state out.old) }
-    ensures { Delivers (O.state out.old) (O.state out.new) result
-        (reached_text counts.now moves stopped) }
-{
-    put_reached(out, counts, moves, stopped)?;
-    out.flush()
-}
 
 /// When the agents of a program arrive, when all have, and a chain of actions that takes so long.
 #[derive(Drop)]
@@ -138,7 +104,8 @@ fn tell_times<'a, P: ProgramView, O: Flush>(
 {
     let table = timetable_by(alloc, accepted, costs, text)?;
     let moves = total_moves(accepted.program());
-    status_after_print(print_times(out, &table.arrivals, moves, table.last, &table.path))
+    let printed = put_times(out, &table.arrivals, moves, table.last, &table.path);
+    hand_on(out, printed)
 }
 
 /// Prints how far each agent comes if the actions that the line names are never ended. Answers 0.
@@ -155,7 +122,8 @@ fn tell_reached<'a, P: ProgramView, O: Flush>(
     let counts = reached_by(alloc, accepted, line)?;
     let program = accepted.program();
     let stopped = stopped_agents(program, &counts);
-    status_after_print(print_reached(out, &counts, total_moves(program), stopped))
+    let printed = put_reached(out, &counts, total_moves(program), stopped);
+    hand_on(out, printed)
 }
 
 /// The command `times`: prints to `out` when each agent of an accepted program arrives, or, if some robots break down,

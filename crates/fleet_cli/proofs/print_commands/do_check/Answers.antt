@@ -1,8 +1,8 @@
 use Rattle.std.proofs.Common.{List, ℕ, Option, ap, inl, inr, refl, subst}
-use Rattle.fleet_text.specs.Sink.{Delivers}
+use Rattle.fleet_text.specs.Sink.{TakesAll}
 use Rattle.fleet_plan.specs.Plan.{Plan}
 use Rattle.fleet_plan.specs.PlanText.{IsPlanText}
-use Rattle.fleet_cli.proofs.OutputLemmas.{does_nothing}
+use Rattle.fleet_cli.proofs.OutputLemmas.{does_nothing, nothing_written}
 use Rattle.fleet_cli.proofs.print_commands.do_check.Goals as goal
 use Rattle.fleet_cli.specs.Steps.{IsProblemRefusal}
 use Rattle.fleet_cli.specs.PrintCommands.{IsPlanRefusal, check_text}
@@ -11,20 +11,9 @@ use Rattle.fleet_cli.specs.declared.fault.Fault.TheVariants as f
 
 -- what is refused of a map and a scenario is refused of a plan for them
 plan_refuses : (map scen plan : List ℕ) (asked : Option ℕ) (fault : Fault) → IsProblemRefusal map scen asked fault → IsPlanRefusal map scen plan asked fault
-plan_refuses map scen plan asked f.Memory h = h
-plan_refuses map scen plan asked (f.Map x) h = h
-plan_refuses map scen plan asked (f.Scen x) h = h
 plan_refuses map scen plan asked (f.Text x) h = absurd h
 plan_refuses map scen plan asked (f.Check x) h = absurd h
-plan_refuses map scen plan asked (f.Search x) h = absurd h
-plan_refuses map scen plan asked (f.Hex x) h = absurd h
-plan_refuses map scen plan asked (f.Load x) h = absurd h
-plan_refuses map scen plan asked (f.Compile x) h = absurd h
-plan_refuses map scen plan asked (f.Verify x) h = absurd h
-plan_refuses map scen plan asked (f.Run x) h = absurd h
-plan_refuses map scen plan asked (f.Dispatch x) h = absurd h
-plan_refuses map scen plan asked (f.Times x) h = absurd h
-plan_refuses map scen plan asked (f.File x) h = absurd h
+plan_refuses map scen plan asked _ h = h
 
 pub returns-in_err-problem : goal.returns-in_err-problem
 returns-in_err-problem g c = does_nothing _ _ _ _ c.from_residual.ensures.1 c.requires (plan_refuses c.args.texts.map.items c.args.texts.scen.items c.args.texts.subject.items c.args.request.now.tasks.agents _ c.in_err-problem.ensures.fault)
@@ -32,14 +21,14 @@ returns-in_err-problem g c = does_nothing _ _ _ _ c.from_residual.ensures.1 c.re
 pub returns-in-Err-check : goal.returns-in-Err-check
 returns-in-Err-check g c =
     let found = subst (λ text. IsPlanText text c.in-Ok.plan) c.deref.ensures.value c.in-Ok.ensures.found in
-    inr (_, refl, (c.in_ok-problem.problem.grid, c.in_ok-problem.problem.instance, c.in-Ok.plan, record { instance = c.in_ok-problem.ensures.read; plan_read = found }, c.in-Err-check.ensures.fault), record { kept = keeps_self _; working = c.requires })
+    inr (_, refl, (c.in_ok-problem.problem.grid, c.in_ok-problem.problem.instance, c.in-Ok.plan, record { instance = c.in_ok-problem.ensures.read; plan_read = found }, c.in-Err-check.ensures.fault), nothing_written _ c.requires)
 
 pub returns : goal.returns
 returns g c =
     let found = subst (λ text. IsPlanText text c.in-Ok.plan) c.deref.ensures.value c.in-Ok.ensures.found in
     let same = ap (λ k. k.plan) c.in-Ok-check.ensures.checked in
-    let delivered = subst (λ (paths : Plan). Delivers (g.O.TraceOut.state c.args.out.now) (g.O.TraceOut.state c.print_check.new.out) c.print_check.result (check_text paths c.in-Ok-asked_bound.bound))
-    c.plan.ensures.value c.print_check.ensures in
+    let written = subst (λ (paths : Plan). TakesAll (g.O.TraceOut.state c.args.out.now) (g.O.TraceOut.state c.put_check-printed.new.out) c.put_check-printed.result (check_text paths c.in-Ok-asked_bound.bound))
+    c.plan.ensures.value c.put_check-printed.ensures in
     inl (
       record {
         ground = c.in_ok-problem.problem.grid;
@@ -50,5 +39,5 @@ returns g c =
         bound = c.in-Ok-asked_bound.bound;
         asked_bound = rw (ap (λ k. k.grid) c.in-Ok-check.ensures.checked, ap (λ k. k.instance) c.in-Ok-check.ensures.checked) at c.in-Ok-asked_bound.ensures;
       },
-      c.status_after_print.ensures _ _ _ delivered,
+      c.hand_on.ensures _ _ written,
     )

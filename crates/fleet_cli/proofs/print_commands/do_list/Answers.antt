@@ -6,4 +6,4 @@ pub returns-in_err-program : goal.returns-in_err-program
 returns-in_err-program g c = does_nothing _ _ _ _ c.from_residual.ensures.1 c.requires c.in_err-program.ensures.fault
 
 pub returns : goal.returns
-returns g c = inl (record { program = c.in_ok-program.program.program; spelled = c.in_ok-program.ensures.spelled }, c.status_after_print.ensures _ _ _ c.print_program.ensures)
+returns g c = inl (record { program = c.in_ok-program.program.program; spelled = c.in_ok-program.ensures.spelled }, c.hand_on.ensures _ _ c.put_program-printed.ensures)

@@ -1,7 +1,7 @@
 use Rattle.std.proofs.Common.{List, ℕ, Option, Result, ap, ◌∙◌, inl, inr, refl, subst}
 use Rattle.fleet_plan.specs.PlanText.{plan_text}
-use Rattle.fleet_text.specs.Sink.{Delivers}
-use Rattle.fleet_cli.proofs.OutputLemmas.{does_nothing}
+use Rattle.fleet_text.specs.Sink.{TakesAll}
+use Rattle.fleet_cli.proofs.OutputLemmas.{does_nothing, nothing_written}
 use Rattle.fleet_cli.proofs.print_commands.do_plan.Goals as goal
 use Rattle.fleet_args.specs.declared.commands.Tries.{Tries}
 use Rattle.fleet_cli.specs.Steps.{IsProblemRefusal}
@@ -11,32 +11,20 @@ use Rattle.fleet_cli.specs.declared.fault.Fault.TheVariants as f
 
 -- what is refused of a map and a scenario is refused of a plan for them
 search_refuses : (map scen : List ℕ) (asked : Option ℕ) (horizon : ℕ) (tries : Tries) (fault : Fault) → IsProblemRefusal map scen asked fault → IsSearchRefusal map scen asked horizon tries fault
-search_refuses map scen asked horizon tries f.Memory h = h
-search_refuses map scen asked horizon tries (f.Map x) h = h
-search_refuses map scen asked horizon tries (f.Scen x) h = h
-search_refuses map scen asked horizon tries (f.Text x) h = absurd h
-search_refuses map scen asked horizon tries (f.Check x) h = absurd h
 search_refuses map scen asked horizon tries (f.Search x) h = absurd h
-search_refuses map scen asked horizon tries (f.Hex x) h = absurd h
-search_refuses map scen asked horizon tries (f.Load x) h = absurd h
-search_refuses map scen asked horizon tries (f.Compile x) h = absurd h
-search_refuses map scen asked horizon tries (f.Verify x) h = absurd h
-search_refuses map scen asked horizon tries (f.Run x) h = absurd h
-search_refuses map scen asked horizon tries (f.Dispatch x) h = absurd h
-search_refuses map scen asked horizon tries (f.Times x) h = absurd h
-search_refuses map scen asked horizon tries (f.File x) h = absurd h
+search_refuses map scen asked horizon tries _ h = h
 
 pub returns-in_err-problem : goal.returns-in_err-problem
 returns-in_err-problem g c = does_nothing _ _ _ _ c.from_residual.ensures.1 c.requires (search_refuses c.args.texts.map.items c.args.texts.scen.items c.args.request.now.tasks.agents c.args.request.now.horizon c.args.request.now.tries _ c.in_err-problem.ensures.fault)
 
 pub returns-in-Err : goal.returns-in-Err
 returns-in-Err g c =
-    inr (_, refl, (c.in_ok-problem.problem.grid, c.in_ok-problem.problem.instance, c.in_ok-problem.ensures.read, c.in-Err.ensures.no_path), record { kept = keeps_self _; working = c.requires })
+    inr (_, refl, (c.in_ok-problem.problem.grid, c.in_ok-problem.problem.instance, c.in_ok-problem.ensures.read, c.in-Err.ensures.no_path), nothing_written _ c.requires)
 
 pub returns : goal.returns
 returns g c =
     let bytes = c.deref.ensures.value ∙ (c.in-Ok-write_plan.ensures ∙ ap plan_text c.plan.ensures.value) in
-    let delivered = subst (λ (text : List ℕ). Delivers (g.O.TraceOut.state c.args.out.now) (g.O.TraceOut.state c.deliver.new.out) c.deliver.result text) bytes c.deliver.ensures in
+    let written = subst (λ (text : List ℕ). TakesAll (g.O.TraceOut.state c.args.out.now) (g.O.TraceOut.state c.put_all-printed.new.out) c.put_all-printed.result text) bytes c.put_all-printed.ensures in
     inl (
       record {
         ground = c.in_ok-problem.problem.grid;
@@ -46,5 +34,5 @@ returns g c =
         tried = c.in-Ok.found.tried;
         planned = c.in-Ok.ensures.planned;
       },
-      c.status_after_print.ensures _ _ _ delivered,
+      c.hand_on.ensures _ _ written,
     )

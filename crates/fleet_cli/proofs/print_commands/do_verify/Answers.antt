@@ -44,5 +44,5 @@ returns g c =
         chain = c.in-Ok.accepted.chain;
         accepts = returned_accepts c.args.texts.subject.items c.in_ok-problem.problem.grid c.in_ok-problem.problem.instance _ c.in-Ok.accepted.program.program c.in-Ok.accepted.chain c.in_ok-program.ensures.spelled (ap (λ (w : Viewed). w.program) c.in-Ok.ensures.kept.0) c.in-Ok.ensures.accepted;
       },
-      c.status_after_print.ensures _ _ _ c.print_accepted.ensures,
+      c.hand_on.ensures _ _ c.put_accepted-printed.ensures,
     ))

@@ -43,6 +43,6 @@ returns g c =
     let all : AreWritten (g.F.Files.contents c.args.files.now) after (rest_files r rest.scen.items rest.map.items rest.others.items rest.bytes.items) =
     (g.F.Files.contents c.write_file.new.files, one, written_given _ _ _ _ _ _ two (written_given _ _ _ _ _ _ three last)) in
     let before = g.O.TraceOut.state c.args.out.now in
-    let then = g.O.TraceOut.state c.print_rest.new.out in
+    let then = g.O.TraceOut.state c.hand_on.new.out in
     let text = rest_text rest.program rest.bytes.items in
-    printed (g.F.Files.contents c.args.files.now) after (rest_files r rest.scen.items rest.map.items rest.others.items rest.bytes.items) text before then c.status_after_print.result all (c.status_after_print.ensures before then text c.print_rest.ensures)
+    printed (g.F.Files.contents c.args.files.now) after (rest_files r rest.scen.items rest.map.items rest.others.items rest.bytes.items) text before then c.hand_on.result all (c.hand_on.ensures before text c.put_rest-printed.ensures)

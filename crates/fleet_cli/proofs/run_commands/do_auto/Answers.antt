@@ -2,8 +2,8 @@ use Rattle.std.proofs.Common.{List, ℕ, Ok, Err, inl, inr, refl, subst}
 use Rattle.std.proofs.lemmas.Result.{err_from_is_err_and}
 use Rattle.fleet_cli.specs.Steps.{SpellsMade}
 use Rattle.fleet_cli.specs.RunCommands.{Runs}
-use Rattle.fleet_cli.proofs.RunLemmas.{keeps_self, made}
-use Rattle.fleet_cli.proofs.OutputLemmas.{does_nothing}
+use Rattle.fleet_cli.proofs.RunLemmas.{made}
+use Rattle.fleet_cli.proofs.OutputLemmas.{does_nothing, nothing_written}
 use Rattle.fleet_cli.proofs.run_commands.do_auto.Goals as goal
 
 pub returns-in_err-problem : goal.returns-in_err-problem
@@ -11,7 +11,7 @@ returns-in_err-problem g c = does_nothing _ _ _ _ c.from_residual.ensures.1 c.re
 
 pub returns-in-Err : goal.returns-in-Err
 returns-in-Err g c =
-    rw c.step_fault.ensures (inr (_, refl, inr (_, _, c.in-Err.fault, refl, c.in_ok-problem.ensures.read, c.in-Err.ensures.fault), record { kept = keeps_self _; working = c.requires }))
+    rw c.step_fault.ensures (inr (_, refl, inr (_, _, c.in-Err.fault, refl, c.in_ok-problem.ensures.read, c.in-Err.ensures.fault), nothing_written _ c.requires))
 
 pub tell_numbers-requires : goal.tell_numbers-requires
 tell_numbers-requires g c = c.in_ok-run_flushed.ensures.1.0.written.working

@@ -19,5 +19,5 @@ returns g c =
     ap (λ xs. reached_text xs k n) c.deref-2.ensures.value ∙ (ap (λ m. reached_text counts m n) moves ∙ ap (reached_text counts (total_moves p)) few) in
     inl (
       record { counts = counts; has = c.in_ok-counts.ensures.reached },
-      subst (λ (text : List ℕ). Prints text (g.O.TraceOut.state c.args.out.now) (g.O.TraceOut.state c.print_reached.new.out) c.status_after_print.result) same (c.status_after_print.ensures _ _ _ c.print_reached.ensures),
+      subst (λ (text : List ℕ). Prints text (g.O.TraceOut.state c.args.out.now) (g.O.TraceOut.state c.hand_on.new.out) c.hand_on.result) same (c.hand_on.ensures _ _ c.put_reached-printed.ensures),
     )

@@ -16,5 +16,5 @@ returns g c =
     ∙ (ap (λ m. times_text t.arrivals.items m t.last c.deref-2.result.now) moves ∙ ap (times_text t.arrivals.items (total_moves p) t.last) c.deref-2.ensures.value) in
     inl (
       record { arrivals = t.arrivals.items; last = t.last; path = t.path.items; has = c.in_ok-table.ensures.made },
-      subst (λ (text : List ℕ). Prints text (g.O.TraceOut.state c.args.out.now) (g.O.TraceOut.state c.print_times.new.out) c.status_after_print.result) same (c.status_after_print.ensures _ _ _ c.print_times.ensures),
+      subst (λ (text : List ℕ). Prints text (g.O.TraceOut.state c.args.out.now) (g.O.TraceOut.state c.hand_on.new.out) c.hand_on.result) same (c.hand_on.ensures _ _ c.put_times-printed.ensures),
     )

@@ -1,20 +1,19 @@
 -- A dispatch that gives one order at a time is a run of the machine.
-use Rattle.std.proofs.Common.{◌≡◌, ℕ, zero, suc, ◌+◌, ◌<◌, ◌≤◌, ◌⊎◌, Bool, true, false, not, ◌&&◌, cond, List, [], ◌∷◌, ◌++◌, length, Contains, get_or, take, map, refl, ap, sym, ◌∙◌, subst, arith, inl, inr, add-one, take_all, lt-ltb, ltb-true, le-leb, ltb, leb}
-use Rattle.std.specs.Prelude.{nat_lt, nat_le, IsTrue}
-use Rattle.std.specs.List.{flat_map, list_all}
-use Rattle.std.proofs.lemmas.Bool.{cases_Bool, cases_lt}
+use Rattle.std.proofs.Common.{◌≡◌, ℕ, zero, suc, ◌+◌, ◌<◌, ◌≤◌, Bool, true, false, not, ◌&&◌, cond, List, [], ◌∷◌, ◌++◌, length, Contains, get_or, take, refl, ap, sym, ◌∙◌, subst, arith, inl, inr, add-one, take_all, lt-ltb, ltb-true}
+use Rattle.std.specs.Prelude.{nat_lt, nat_le}
+use Rattle.std.specs.List.{list_all}
+use Rattle.std.proofs.lemmas.Bool.{cases_lt}
 use Rattle.std.proofs.lemmas.List.{ext_get_or, get_or_past}
 use Rattle.std.proofs.lemmas.List.FromFn.{get_or-map-range_with_len, length-map-range_with_len}
 use Rattle.fleet_model.specs.declared.geometry.Place.{Place}
 use Rattle.fleet_model.specs.declared.standing.Standing.{Standing}
 use Rattle.fleet_model.specs.Program.{Program, moves, path, awaits_of}
-use Rattle.fleet_model.specs.Machine.{Configuration, Holds, indices, is_among, is_held, run, standing_at, place_at, count_at, is_ready, is_finished}
-use Rattle.fleet_model.specs.Claims.{holds_of, is_new}
+use Rattle.fleet_model.specs.Machine.{Configuration, Holds, indices, is_among, is_held, run, standing_at, count_at, is_ready, is_finished}
 use Rattle.fleet_machine.specs.Confirmed.{AreAllReady}
 use Rattle.fleet_model.proofs.Tick.{length-run}
 use Rattle.fleet_verify.proofs.RunCounts.{count_opening, count_past, run_place, agents_held}
 use Rattle.fleet_verify.proofs.Claimed.{reports_hold}
-use Rattle.fleet_verify.proofs.Waiting.{IsReadyTo, ready_says, ready_from, Moves, StaysBehind, step}
+use Rattle.fleet_verify.proofs.Waiting.{IsReadyTo, ready_says, ready_from, step}
 use Rattle.fleet_dispatch.specs.declared.form.ReportForm.{ReportForm}
 use Rattle.fleet_dispatch.specs.Report.{Words, Counts, count_of, counts_after}
 use Rattle.fleet_dispatch.specs.Ahead.{told_to, told_at, is_all_done}

@@ -1,5 +1,5 @@
 -- A step back after a step.
-use Rattle.std.proofs.Common.{◌≡◌, ◌∙◌, ◌+◌, ℕ, Some, refl, ap, sym, arith}
+use Rattle.std.proofs.Common.{◌≡◌, ◌∙◌, ◌+◌, ℕ, Some, refl, ap, arith}
 use Rattle.std.specs.Prelude.{ℤ, ◌+ℤ◌, ◌-ℤ◌, pos}
 use Rattle.std.proofs.lemmas.Int.{ints}
 use Rattle.fleet_model.specs.declared.geometry.Place.{Place}

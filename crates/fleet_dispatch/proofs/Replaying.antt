@@ -1,5 +1,5 @@
 -- A dispatch over a log: its talk, how it ends, and what it has carried out.
-use Rattle.std.proofs.Common.{◌≡◌, ℕ, ◌<◌, ◌≤◌, ◌⊎◌, ◌++◌, List, [], ◌∷◌, length, Option, Some, None, Result, Ok, Err, refl, ap, sym, ◌∙◌, subst, inl, inr, arith, take_all, append_assoc}
+use Rattle.std.proofs.Common.{◌≡◌, ℕ, ◌++◌, List, [], ◌∷◌, length, Result, Ok, Err, ap, sym, ◌∙◌, subst, inl, inr, arith, take_all, append_assoc}
 use Rattle.std.specs.Result.{IsErrAnd}
 use Rattle.fleet_model.specs.Program.{Program, IsWellFormed}
 use Rattle.fleet_dispatch.specs.declared.fault.DispatchFault.{DispatchFault}
@@ -7,7 +7,7 @@ use Rattle.fleet_dispatch.specs.declared.fault.DispatchFault.TheVariants as f
 use Rattle.fleet_dispatch.specs.declared.form.ReportForm.{ReportForm}
 use Rattle.fleet_dispatch.specs.declared.pace.Pace.{Pace}
 use Rattle.fleet_dispatch.specs.declared.run.DispatchReport.{DispatchReport}
-use Rattle.fleet_dispatch.specs.Report.{Words, Counts, count_of, Line}
+use Rattle.fleet_dispatch.specs.Report.{Words, Counts, Line}
 use Rattle.fleet_dispatch.specs.Progress.{AreCounts}
 use Rattle.fleet_dispatch.specs.Talk.{Turn, Talk, Heard, Cut, Unlogged, Unheard}
 use Rattle.fleet_dispatch.specs.Dispatch.{Course, Left, left_by, counts_by, reports_in, Dispatches, AreTaken, AreHeard}

@@ -1,5 +1,5 @@
 -- A line that is read as a report is the line of that report, and no line's end is in it.
-use Rattle.std.proofs.Common.{◌≡◌, ◌≢◌, ◌∙◌, ℕ, zero, suc, ◌+◌, ◌-◌, ◌<◌, ◌≤◌, ◌^◌, ◌&&◌, Bool, true, false, cond, List, [], ◌∷◌, ◌++◌, length, map, get_or, take, drop, Option, None, Some, nat_le, nat_lt, eqb, refl, sym, ap, subst, inl, inr, arith, eqb-true, ltb-true, append_assoc, append-nil, decimal, ltb, add-one, length-append}
+use Rattle.std.proofs.Common.{◌≡◌, ◌∙◌, ℕ, zero, suc, ◌+◌, ◌-◌, ◌<◌, ◌≤◌, ◌&&◌, true, cond, List, [], ◌∷◌, ◌++◌, length, map, get_or, take, drop, Option, None, Some, nat_le, nat_lt, refl, sym, ap, subst, inl, inr, arith, eqb-true, ltb-true, append_assoc, append-nil, decimal, ltb, add-one, length-append}
 use Rattle.std.specs.Prelude.{codes, option_map, option_and_then, position}
 use Rattle.std.specs.List.{slice_split, join_with_byte, AllByRecursion, position_or_len}
 use Rattle.std.specs.Str.Lines.{strip_carriage_return}
@@ -22,7 +22,7 @@ use Rattle.fleet_dispatch.specs.declared.form.ReportForm.{ReportForm}
 use Rattle.fleet_dispatch.specs.declared.form.ReportForm.TheVariants.{Numbered, Unnumbered}
 use Rattle.fleet_dispatch.specs.declared.number.TheConstants.{TOO_LONG}
 use Rattle.fleet_dispatch.specs.declared.report.Reported.{Reported}
-use Rattle.fleet_dispatch.specs.Report.{Words, Line, Reports, Asks}
+use Rattle.fleet_dispatch.specs.Report.{Words, Reports, Asks}
 use Rattle.fleet_dispatch.specs.ReportText.{word_text, report_line, log_line, long_number, is_colon, word_of, words_of, report_of, is_question, line_of}
 use Rattle.fleet_dispatch.specs.Stream.{HasLine}
 

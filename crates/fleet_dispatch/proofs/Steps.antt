@@ -1,8 +1,8 @@
 -- How progress goes on: agents are told more, and carry out more.
-use Rattle.std.proofs.Common.{◌≡◌, ◌≢◌, ℕ, zero, suc, ◌+◌, ◌-◌, ◌<◌, ◌≤◌, ◌⊎◌, Bool, true, false, not, List, [], ◌∷◌, length, get_or, set, take, replicate, All, Option, Some, None, Contains, refl, ap, sym, ◌∙◌, subst, arith, inl, inr, add-one, eq-eqb, leb-true, get_or-set_same, get_or-set_other, length-set}
-use Rattle.std.specs.Prelude.{nat_lt, nat_le, min, is_none, is_some, IfSome, IfNone, slice_get, MatchOption, MatchBool, ◌==◌}
+use Rattle.std.proofs.Common.{◌≡◌, ◌≢◌, ℕ, zero, suc, ◌+◌, ◌<◌, ◌≤◌, Bool, true, false, not, List, [], ◌∷◌, length, get_or, set, take, replicate, All, Option, Some, None, Contains, refl, ap, sym, ◌∙◌, subst, arith, inl, inr, eq-eqb, leb-true, get_or-set_same, get_or-set_other, length-set}
+use Rattle.std.specs.Prelude.{nat_lt, nat_le, min, is_some, IfSome, IfNone, slice_get, MatchOption, MatchBool, ◌==◌}
 use Rattle.std.specs.Option.{option_map_or}
-use Rattle.std.specs.List.{list_all, count_by}
+use Rattle.std.specs.List.{count_by}
 use Rattle.std.proofs.lemmas.Bool.{cases_lt, cases_eq, ne_eqb, le-leb, leb-false, ltb-false, ltb-true}
 use Rattle.std.proofs.lemmas.List.{ext_get_or, take_more, take_all, get_or-replicate, get_or_past, length-replicate}
 use Rattle.std.proofs.lemmas.List.Elements.{All-append}
@@ -16,12 +16,12 @@ use Rattle.fleet_model.specs.Program.{Program, moves, path, awaits_of}
 use Rattle.fleet_model.specs.Machine.{indices}
 use Rattle.fleet_machine.specs.AgentSet.{AreNoneFrom, IsNextFrom}
 use Rattle.fleet_machine.specs.Machine.{flag_of}
-use Rattle.fleet_machine.specs.WaitLists.{WaitState, home_of}
+use Rattle.fleet_machine.specs.WaitLists.{home_of}
 use Rattle.fleet_machine.proofs.Waking.{fewer}
 use Rattle.fleet_dispatch.specs.declared.report.Reported.{Reported}
 use Rattle.fleet_dispatch.specs.Report.{Words, Counts, count_of, said_of}
 use Rattle.fleet_dispatch.specs.Ahead.{told_to, told_at, IsOrdered, AreOrdered, IsFirstUnordered, is_all_done}
-use Rattle.fleet_dispatch.specs.Progress.{ProgressState, AreDone, MayBeTold, LacksOf, IsSettled, HasRows, LeadsBut, Leads, AreCounts, AreTold, IsWoken, is_woken}
+use Rattle.fleet_dispatch.specs.Progress.{ProgressState, AreDone, MayBeTold, IsSettled, HasRows, LeadsBut, Leads, AreCounts, AreTold, IsWoken, is_woken}
 use Rattle.fleet_dispatch.proofs.Telling.{CannotBeTold, told_is}
 
 -- who is led has carried out no more than it is to

@@ -1,9 +1,10 @@
 -- The next line among bytes that were read.
-use Rattle.std.proofs.Common.{◌≡◌, ℕ, ◌+◌, ◌≤◌, ◌<◌, ◌++◌, Bool, true, List, [], length, get_or, take, drop, Option, Some, None, Result, Ok, Err, ltb, refl, sym, ap, subst, ◌∙◌, arith, inl, inr, true≢false}
-use Rattle.std.proofs.lemmas.List.{length-append, take-append-le, drop-append-le}
-use Rattle.std.proofs.lemmas.Bool.{cases_Bool, cases_lt, ltb-false}
+use Rattle.std.proofs.Common.{◌≡◌, ℕ, ◌+◌, ◌≤◌, ◌<◌, ◌++◌, Bool, true, false, not, List, length, take, drop, Option, Some, None, Result, Ok, Err, ltb, refl, sym, ap, subst, ◌∙◌, arith, inl, inr}
+use Rattle.std.proofs.lemmas.List.{length-append, take-append-le, drop-append-le, take-append-drop, length-take-le, length-drop}
+use Rattle.std.proofs.lemmas.List.Folds.{prefix_len-append}
+use Rattle.std.proofs.lemmas.Bool.{cases_Bool, ltb-false, lt-ltb, le-ltb, eq-eqb, cond-true}
 use Rattle.std.proofs.lemmas.List.Quantifiers.{position-Some}
-use Rattle.std.proofs.lemmas.List.Sums.{position_or_len_is, fails_before_first}
+use Rattle.std.proofs.lemmas.List.Sums.{position_or_len_is, fails_before_first, prefix_len-le-length}
 use Rattle.std.proofs.Math.ListN.{get_or-append}
 use Rattle.std.specs.Prelude.{position, IfSome}
 use Rattle.std.specs.List.{position_or_len}
@@ -11,7 +12,7 @@ use Rattle.std.specs.Str.Lines.{strip_carriage_return}
 use Rattle.std.specs.Io.KnownBytes.{prepend_known, Keeps}
 use Rattle.std.specs.Result.{IsErrAnd}
 use Rattle.fleet_text.specs.Text.{is_lf}
-use Rattle.fleet_text.proofs.TextLaws.{found_nowhere}
+use Rattle.fleet_text.proofs.TextLaws.{found_at, found_nowhere}
 use Rattle.fleet_dispatch.specs.declared.form.ReportForm.{ReportForm}
 use Rattle.fleet_dispatch.specs.declared.window.TheConstants.{LINE_ROOM}
 use Rattle.fleet_dispatch.specs.Report.{Words, Line}
@@ -21,6 +22,27 @@ use Rattle.fleet_dispatch.specs.Stream.{HasLine, GivesLine, IsMisheard}
 use Rattle.fleet_dispatch.specs.Hearing.{EndsLine, HearsLine}
 use Rattle.fleet_dispatch.specs.declared.floor.HearFault.{HearFault}
 use Rattle.fleet_dispatch.specs.declared.floor.HearFault.TheVariants as h
+
+-- where the first byte that passes stands, if none of the first k bytes passes
+position_behind : (p : ℕ → Bool) (xs : List ℕ) (k : ℕ) → k ≤ length xs → position p (take k xs) ≡ None → position_or_len p xs ≡ k + position_or_len p (drop k xs)
+position_behind p xs k le none =
+    let long : length (take k xs) ≡ k = length-take-le k xs le in
+    let all : position_or_len p (take k xs) ≡ length (take k xs) = omega (arith, found_nowhere p (take k xs) none, prefix_len-le-length (λ x. not (p x)) (take k xs)) in
+    ap (position_or_len p) (sym (take-append-drop k xs)) ∙ prefix_len-append (λ x. not (p x)) (take k xs) (drop k xs)
+    ∙ cond-true _ _ _ (eq-eqb (position_or_len p (take k xs)) (length (take k xs)) all) ∙ ap (λ n. n + position_or_len p (drop k xs)) long
+
+pub some_behind : (p : ℕ → Bool) (xs : List ℕ) (k i : ℕ) → k ≤ length xs → position p (take k xs) ≡ None → position p (drop k xs) ≡ Some i → position p xs ≡ Some (k + i)
+some_behind p xs k i le none e =
+    let at = found_at p (drop k xs) i e in
+    let here : position_or_len p xs ≡ k + i = position_behind p xs k le none ∙ ap (λ n. k + n) at.0 in
+    let within : ltb (k + i) (length xs) ≡ true = lt-ltb _ _ (omega (arith, at, length-drop k xs)) in
+    rw (here, within) refl
+
+pub none_behind : (p : ℕ → Bool) (xs : List ℕ) (k : ℕ) → k ≤ length xs → position p (take k xs) ≡ None → position p (drop k xs) ≡ None → position p xs ≡ None
+none_behind p xs k le none e =
+    let past = found_nowhere p (drop k xs) e in
+    let outside : ltb (position_or_len p xs) (length xs) ≡ false = le-ltb _ _ (omega (arith, past, length-drop k xs, position_behind p xs k le none)) in
+    rw outside refl
 
 found_before : (p : ℕ → Bool) (xs ys : List ℕ) (i : ℕ) → position p xs ≡ Some i → position p (xs ++ ys) ≡ Some i
 found_before p xs ys i e =

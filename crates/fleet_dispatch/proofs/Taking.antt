@@ -1,5 +1,5 @@
 -- A line that was heard, and what followed from it.
-use Rattle.std.proofs.Common.{◌≡◌, ℕ, ◌+◌, ◌++◌, ◌∷◌, [], Bool, true, false, not, cond, List, Option, Some, None, Result, Ok, Err, refl, ap, sym, ◌∙◌, subst, arith}
+use Rattle.std.proofs.Common.{◌≡◌, ℕ, ◌+◌, ◌++◌, ◌∷◌, [], Bool, true, false, not, cond, Option, Some, None, Result, Ok, Err, refl, ap, sym, ◌∙◌, subst, arith}
 use Rattle.std.specs.Prelude.{is_err}
 use Rattle.std.proofs.lemmas.List.Elements.{All-nil}
 use Rattle.fleet_model.specs.Program.{Program}
@@ -9,10 +9,10 @@ use Rattle.fleet_dispatch.specs.declared.report_text.LineKind.{LineKind}
 use Rattle.fleet_dispatch.specs.declared.report_text.LineKind.TheVariants as k
 use Rattle.fleet_dispatch.specs.declared.pace.Pace.{Pace}
 use Rattle.fleet_dispatch.specs.declared.run.Session.{Session}
-use Rattle.fleet_dispatch.specs.Report.{Words, Counts, counts_after, is_repeat, Line, Reports, Asks}
+use Rattle.fleet_dispatch.specs.Report.{Words, Counts, is_repeat, Reports, Asks}
 use Rattle.fleet_dispatch.specs.Standings.{standings_text}
 use Rattle.fleet_dispatch.specs.Ahead.{IsOrdered}
-use Rattle.fleet_dispatch.specs.Talk.{Talk, Told, Cut, Heard, Asked, Logged, Tells, Logs, Hears}
+use Rattle.fleet_dispatch.specs.Talk.{Talk, Heard, Asked, Tells, Hears}
 use Rattle.fleet_dispatch.specs.Dispatch.{log_turns}
 use Rattle.fleet_dispatch.specs.Session.{IsReady, TakesLine, TakesReport, LogsReport}
 use Rattle.fleet_dispatch.proofs.Outcomes.{Joins}
@@ -71,6 +71,11 @@ module _ (first then both : Talk → Type 0) (j : Joins first then both) (p : Pr
   report_refused T U words f.ReportLimit h t = absurd t
   report_refused T U words (f.Log line) h t = absurd t
   report_refused T U words f.Input h t = absurd t
+
+  -- .. or either
+  pub report_ends : (T : Type 0) (words : Words) (r : Result T DispatchFault) → first (Heard words ∷ []) → TakesReport {T = T} p pace then works (record s { report = words }) s' n words r → TakesLine {T = T} p pace both works s s' n r
+  report_ends T words (Ok x) h t = report_taken T T words x x h t
+  report_ends T words (Err e) h t = report_refused T T words e h t
 
   -- the question, and its answer
   module _ (ready : IsReady p pace s') (done : s'.progress ≡ s.progress) (taken : s'.taken ≡ s.taken) (h : first (Asked ∷ [])) where

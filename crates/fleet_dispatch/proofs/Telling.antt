@@ -1,21 +1,18 @@
 -- How many of its actions an agent is told.
-use Rattle.std.proofs.Common.{◌≡◌, ◌≢◌, ℕ, zero, suc, ◌+◌, ◌-◌, ◌<◌, ◌≤◌, ◌⊎◌, Bool, true, false, not, cond, List, [], ◌∷◌, length, get_or, map, take, drop, Option, Some, None, slice_get, Contains, refl, ap, sym, ◌∙◌, subst, arith, inl, inr, add-one, le-leb, leb-true, leb-false, length-take, length-drop, rules}
+use Rattle.std.proofs.Common.{◌≡◌, ℕ, ◌+◌, ◌-◌, ◌<◌, ◌≤◌, Bool, true, false, not, List, [], length, get_or, drop, Contains, refl, ap, sym, ◌∙◌, subst, arith, add-one, leb-true, leb-false, length-take, length-drop}
 use Rattle.std.specs.Prelude.{min}
-use Rattle.std.specs.List.{list_all, position_or_len, range_with_len}
-use Rattle.std.proofs.lemmas.Bool.{cases_Bool, cases_lt}
-use Rattle.std.proofs.lemmas.List.{ext_get_or, length-map, get_or-take, get_or-drop}
+use Rattle.std.specs.List.{position_or_len}
+use Rattle.std.proofs.lemmas.List.{get_or-take, get_or-drop}
 use Rattle.std.proofs.lemmas.List.Elements.{All-contains}
-use Rattle.std.proofs.lemmas.List.FromFn.{get_or-map-range_with_len, length-map-range_with_len}
 use Rattle.std.proofs.lemmas.List.Sums.{AllPass-from_list_all, position_or_len_is, prefix_len-le-length, fails_before_first, passes_at_first}
 use Rattle.std.proofs.lemmas.Option.{slice_get-get_or}
 use Rattle.fleet_model.specs.declared.program.Action.{Action}
 use Rattle.fleet_model.specs.declared.geometry.Step.TheVariants.{Dwell}
 use Rattle.fleet_model.specs.declared.program.Await.{Await}
 use Rattle.fleet_model.specs.Program.{Program, actions_of, moves, awaits_of}
-use Rattle.fleet_model.specs.Machine.{indices}
 use Rattle.fleet_model.proofs.Tick.{fails_at}
 use Rattle.fleet_dispatch.specs.Report.{Counts, count_of}
-use Rattle.fleet_dispatch.specs.Ahead.{is_done, is_open, next_actions, told_to, told_at}
+use Rattle.fleet_dispatch.specs.Ahead.{is_done, is_open, next_actions, told_to}
 use Rattle.fleet_dispatch.specs.Progress.{AreDone, MayBeTold}
 
 any_action : Action

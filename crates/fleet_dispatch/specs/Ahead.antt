@@ -1,5 +1,5 @@
 -- Orders that are given ahead: how many of its next actions an agent is told.
-use Rattle.std.specs.Prelude.{◌≡◌, ℕ, ◌+◌, ◌-◌, ◌<◌, ◌≤◌, Bool, not, List, [], ◌∷◌, length, get_or, map, take, drop, nat_le, All, slice_get, Some}
+use Rattle.std.specs.Prelude.{◌≡◌, ℕ, ◌+◌, ◌<◌, ◌≤◌, Bool, not, List, length, map, take, drop, nat_le, All, slice_get, Some}
 use Rattle.std.specs.List.{list_all, position_or_len}
 use Rattle.fleet_model.specs.declared.program.Await.{Await}
 use Rattle.fleet_model.specs.declared.program.Action.{Action}

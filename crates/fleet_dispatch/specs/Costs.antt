@@ -1,5 +1,5 @@
 -- What the actions of a program cost, by the lines of a text.
-use Rattle.std.specs.Prelude.{◌≡◌, ℕ, ◌+◌, ◌<◌, ◌≤◌, Bool, true, ◌&&◌, ◌==◌, nat_le, nat_lt, max, List, [], ◌∷◌, ◌++◌, length, map, set, get_or, replicate, position, take, drop, All, Option, None, Some, Result, Ok, Err, Vec, option_and_then, option_map, if◌then◌else◌, ⊤}
+use Rattle.std.specs.Prelude.{◌≡◌, ℕ, ◌+◌, ◌<◌, ◌≤◌, Bool, true, ◌&&◌, ◌==◌, nat_le, nat_lt, max, List, [], ◌∷◌, ◌++◌, length, map, set, get_or, replicate, position, take, drop, Option, None, Some, Result, Ok, Err, Vec, option_and_then, option_map, if◌then◌else◌, ⊤}
 use Rattle.std.specs.Option.{option_or, option_map_or}
 use Rattle.std.specs.declared.alloc.Global.{Global}
 use Rattle.fleet_model.specs.declared.program.ActionId.{ActionId}

@@ -1,5 +1,5 @@
 -- Which robot is dead, and on which cells it stands, by a text.
-use Rattle.std.specs.Prelude.{◌≡◌, ℕ, ◌+◌, ◌==◌, Bool, nat_lt, List, [], ◌∷◌, position, take, drop, Option, None, Some, option_and_then, option_map, if◌then◌else◌}
+use Rattle.std.specs.Prelude.{ℕ, ◌+◌, ◌==◌, Bool, nat_lt, position, take, drop, Option, None, Some, option_and_then, option_map, if◌then◌else◌}
 use Rattle.fleet_model.specs.declared.geometry.Cell.{Cell}
 use Rattle.fleet_text.specs.Text.{Bytes}
 use Rattle.fleet_dispatch.specs.declared.dead_robot.DeadRobot.{DeadRobot}

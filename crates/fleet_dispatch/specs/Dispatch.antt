@@ -1,8 +1,7 @@
 -- What dispatching a fleet says, hears and answers.
-use Rattle.std.specs.Prelude.{◌≡◌, ℕ, ◌+◌, ◌≤◌, ◌⊎◌, Bool, true, false, List, [], ◌∷◌, ◌++◌, length, take, map, Result, Ok, Err, IfOk, if◌then◌else◌}
+use Rattle.std.specs.Prelude.{◌≡◌, ℕ, ◌+◌, ◌≤◌, ◌⊎◌, true, false, List, [], ◌∷◌, ◌++◌, length, take, map, Result, Ok, Err, if◌then◌else◌}
 use Rattle.fleet_model.specs.Program.{Program, total_moves, path}
 use Rattle.fleet_model.specs.Machine.{Configuration, indices}
-use Rattle.fleet_run.specs.Fleet.{AreOnGoals}
 use Rattle.fleet_dispatch.specs.declared.form.ReportForm.{ReportForm}
 use Rattle.fleet_dispatch.specs.declared.run.TheConstants.{MAX_REPORTS}
 use Rattle.fleet_dispatch.specs.declared.fault.DispatchFault.{DispatchFault}

@@ -1,5 +1,5 @@
 -- A dispatch under way, line by line.
-use Rattle.std.specs.Prelude.{◌≡◌, ℕ, ◌+◌, ◌*◌, ◌≤◌, Bool, true, false, List, [], ◌∷◌, ◌++◌, length, take, replicate, Result, Ok, Err, if◌then◌else◌}
+use Rattle.std.specs.Prelude.{◌≡◌, ℕ, ◌+◌, ◌*◌, ◌≤◌, Bool, true, false, [], ◌∷◌, ◌++◌, length, take, replicate, Result, Ok, Err, if◌then◌else◌}
 use Rattle.fleet_model.specs.Program.{Program}
 use Rattle.fleet_dispatch.specs.declared.orders.TheConstants.{ORDER}
 use Rattle.fleet_dispatch.specs.declared.log_text.TheConstants.{LOG_LINE}
@@ -9,14 +9,14 @@ use Rattle.fleet_dispatch.specs.declared.run.Session.{Session}
 use Rattle.fleet_dispatch.specs.declared.fault.DispatchFault.{DispatchFault}
 use Rattle.fleet_dispatch.specs.declared.fault.DispatchFault.TheVariants.{Form, NotOrdered, Ended, Write, LogWrite, Input}
 use Rattle.fleet_dispatch.specs.declared.run.DispatchReport.{DispatchReport}
-use Rattle.fleet_dispatch.specs.Report.{Words, IsRising, Counts, counts_after, is_repeat, Line, Reports, words_in, is_taken}
+use Rattle.fleet_dispatch.specs.Report.{Words, IsRising, Counts, counts_after, is_repeat, Line, words_in, is_taken}
 use Rattle.fleet_dispatch.specs.ReportText.{log_line}
 use Rattle.fleet_dispatch.specs.Standings.{standings_text}
 use Rattle.fleet_dispatch.specs.Ahead.{AreOrdered, IsFirstUnordered}
 use Rattle.fleet_dispatch.specs.Progress.{Leads}
 use Rattle.fleet_dispatch.specs.Dispatch.{Course, Left, IsCut, log_turns, turns_of}
 use Rattle.fleet_dispatch.specs.Orders.{closing}
-use Rattle.fleet_dispatch.specs.Talk.{Talk, Logs, Told, Cut, Heard, Asked, Logged, Unlogged, Misheard, NoMore, Unheard}
+use Rattle.fleet_dispatch.specs.Talk.{Talk, Logs, Told, Cut, Heard, Asked, Unlogged, Misheard, NoMore, Unheard}
 
 -- what is told may be told at this pace, and there is room for all orders of one time, for a line of the log, and for where all agents are
 pub record IsReady (p : Program) (pace : Pace) (s : Session) : Type 0 where

@@ -21,19 +21,33 @@ pub fn end_in(bytes: &[u8]) -> Option<usize>
     bytes.iter().position(|b| *b == b'\n')
 }
 
+/// Where the first line of the bytes ends, of which the first `front` end none, if it ends within them.
+fn end_behind(bytes: &[u8], front: usize) -> Option<usize>
+    requires front { front ≤ length bytes.now }
+    requires none { position is_lf (take front bytes.now) ≡ None }
+    ensures { result ≡ position is_lf bytes.now }
+{
+    let Some(end) = end_in(&bytes[front..]) else {
+        return None;
+    };
+    Some(front + end)
+}
+
 /// Reads until a line ends in the window, and answers where; nowhere at the end of the input, where what was read ends
-/// no line. A line that the window cannot hold is no report.
+/// no line. A line that the window cannot hold is no report. Each byte is looked at once.
 fn find_line<R: Read>(input: &mut R, window: &mut Window) -> Result<Option<usize>, HearFault>
     ensures { FindsLine (R.remaining input.old) (R.remaining input.new) (window_rest window.old)
         (window_rest window.new) result }
 {
+    let mut front = 0;
     'reads: loop {
-        if let Some(end) = end_in(window.rest()) {
+        if let Some(end) = end_behind(window.rest(), front) {
             return Ok(Some(end));
         }
         if window.rest().len() >= LINE_ROOM {
             return Err(HearFault::Form);
         }
+        front = window.rest().len();
         window.move_to_front();
         match window.read_from(input) {
             Ok(0) => return Ok(None),

@@ -210,12 +210,7 @@ fn take_line<P: ProgramView, F: Floor>(
         (F.works floor.new) session.old session.new line result }
 {
     match floor.hear(&mut session.report) {
-        Ok(Some(LineKind::Report)) => {
-            if let Err(fault) = take_report(session, program, pace, floor, line) {
-                return Err(fault);
-            }
-            Ok(())
-        }
+        Ok(Some(LineKind::Report)) => take_report(session, program, pace, floor, line),
         Ok(Some(LineKind::Question)) => {
             if answer_question(session, program, pace, floor).is_err() {
                 return Err(DispatchFault::Write);

@@ -1,9 +1,9 @@
-//! Why no times are told of an accepted program.
+//! Why no times are told of an accepted program, or no rest of it is written.
 
 use fleet_text::{OutFault, Refusal, TraceOut, put_memory, put_named, put_named_at};
 use thiserror::Error;
 
-/// Why no times are told of an accepted program.
+/// Why no times are told of an accepted program, or no rest of it is written.
 #[derive(Clone, Copy, Debug, Error)]
 pub enum TimesFault {
     #[error("out of memory")]

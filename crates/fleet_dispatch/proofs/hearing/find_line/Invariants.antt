@@ -1,11 +1,17 @@
-use Rattle.std.proofs.Common.{◌-◌, length}
+use Rattle.std.proofs.Common.{◌≡◌, ◌-◌, ◌≤◌, None, length, take}
+use Rattle.std.specs.Prelude.{position}
 use Rattle.std.specs.Io.KnownBytes.{prepend_known, Keeps}
+use Rattle.fleet_text.specs.Text.{is_lf}
 use Rattle.fleet_dispatch.specs.Window.{window_rest}
 use Rattle.fleet_dispatch.specs.declared.window.TheConstants.{LINE_ROOM}
 use Rattle.fleet_dispatch.proofs.hearing.find_line.Given as goal
 
 abbrev pub invariant-reads : goal.invariant-reads
-invariant-reads g l = Keeps (prepend_known (window_rest l.initial.window) (g.R.Read.remaining l.initial.input)) (prepend_known (window_rest l.window) (g.R.Read.remaining l.input))
+invariant-reads g l = record {
+  kept : Keeps (prepend_known (window_rest l.initial.window) (g.R.Read.remaining l.initial.input)) (prepend_known (window_rest l.window) (g.R.Read.remaining l.input));
+  front : l.front ≤ length (window_rest l.window);
+  none : position is_lf (take l.front (window_rest l.window)) ≡ None;
+}
 
 abbrev pub decreases-reads : goal.decreases-reads
 decreases-reads g l = LINE_ROOM - length (window_rest l.window)

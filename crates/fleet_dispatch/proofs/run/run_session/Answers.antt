@@ -1,11 +1,8 @@
-use Rattle.std.proofs.Common.{◌≡◌, ◌+◌, ◌⊎◌, [], false, true, refl, ap, sym, ◌∙◌, subst, Bool, Result, Err, Ok, inl, inr, arith}
+use Rattle.std.proofs.Common.{◌≡◌, ◌+◌, [], refl, sym, ◌∙◌, subst, Result, Err, Ok}
 use Rattle.std.specs.Result.{IsErrAnd}
-use Rattle.fleet_model.specs.Program.{total_moves}
 use Rattle.fleet_dispatch.specs.Talk.{Talk}
 use Rattle.fleet_dispatch.specs.Dispatch.{Course, Left, Dispatches}
-use Rattle.fleet_dispatch.specs.declared.run.TheConstants.{MAX_REPORTS}
 use Rattle.fleet_dispatch.specs.declared.fault.DispatchFault.{DispatchFault}
-use Rattle.fleet_dispatch.specs.declared.fault.DispatchFault.TheVariants as f
 use Rattle.fleet_dispatch.specs.declared.run.DispatchReport.{DispatchReport}
 use Rattle.fleet_dispatch.proofs.Reports.{more}
 use Rattle.fleet_dispatch.specs.Session.{course_in as course_of}

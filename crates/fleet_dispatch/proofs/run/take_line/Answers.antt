@@ -1,6 +1,6 @@
 use Rattle.std.proofs.Common.{◌∙◌, sym}
 use Rattle.fleet_dispatch.proofs.Outcomes.{Joins}
-use Rattle.fleet_dispatch.proofs.Taking.{heard_report, heard_question, report_taken, report_refused, answered, unanswered}
+use Rattle.fleet_dispatch.proofs.Taking.{heard_report, heard_question, report_ends, answered, unanswered}
 use Rattle.fleet_dispatch.proofs.run.take_line.Given
 use Rattle.fleet_dispatch.proofs.run.take_line.Goals as goal
 
@@ -8,15 +8,10 @@ use Rattle.fleet_dispatch.proofs.run.take_line.Goals as goal
 joins : (g : Given.Over) (a b d : g.row.F.Denot) → Joins (g.F.Floor.talks a b) (g.F.Floor.talks b d) (g.F.Floor.talks a d)
 joins g a b d = record { join = g.met.F.Floor.joined a b d }
 
-pub returns-in-Err : goal.returns-in-Err
-returns-in-Err g c =
-    report_refused _ _ _ (joins g c.args.floor.now c.hear.new.self c.take_report.new.floor) (g.P.ProgramView.program c.args.program.now) c.args.pace (g.F.Floor.works c.take_report.new.floor) c.args.session.now c.take_report.new.session c.args.line
-    (Unit {0}) (Unit {0}) c.hear.new.report c.in-Err.fault (heard_report (g.F.Floor.talks c.args.floor.now c.hear.new.self) (g.F.Floor.works c.hear.new.self) c.hear.new.report c.in-Ok-Some-Report.field-0 (cc) c.in-Ok-Some-Report.ensures).0 c.in-Err.ensures
-
-pub returns-in_default : goal.returns-in_default
-returns-in_default g c =
-    report_taken _ _ _ (joins g c.args.floor.now c.hear.new.self c.take_report.new.floor) (g.P.ProgramView.program c.args.program.now) c.args.pace (g.F.Floor.works c.take_report.new.floor) c.args.session.now c.take_report.new.session c.args.line
-    (Unit {0}) (Unit {0}) c.hear.new.report tt tt (heard_report (g.F.Floor.talks c.args.floor.now c.hear.new.self) (g.F.Floor.works c.hear.new.self) c.hear.new.report c.in-Ok-Some-Report.field-0 (cc) c.in-Ok-Some-Report.ensures).0 c.in_default.ensures
+pub returns-in-Ok-Some-Report : goal.returns-in-Ok-Some-Report
+returns-in-Ok-Some-Report g c =
+    report_ends _ _ _ (joins g c.args.floor.now c.hear.new.self c.take_report.new.floor) (g.P.ProgramView.program c.args.program.now) c.args.pace (g.F.Floor.works c.take_report.new.floor) c.args.session.now c.take_report.new.session c.args.line
+    (Unit {0}) c.hear.new.report c.take_report.result (heard_report (g.F.Floor.talks c.args.floor.now c.hear.new.self) (g.F.Floor.works c.hear.new.self) c.hear.new.report c.in-Ok-Some-Report.field-0 (cc) c.in-Ok-Some-Report.ensures).0 c.take_report.ensures
 
 pub returns-then-is_err : goal.returns-then-is_err
 returns-then-is_err g c =

@@ -32,9 +32,8 @@ fi
 EOF
 
 # growths COMMAND..: with each growth refused in turn. Prints wrong answers, and `each` if memory lacked each time, or
-# all but three times: the buffer of the output can be done without, and the row of an agent that awaits others need not
-# be cut to its length (two agents do so here at most). A dispatch, which copies the counts of its agents four times,
-# can do without the room that is asked for at once for each copy: so many growths $spare has.
+# all but once: the buffer of the output can be done without. A dispatch, which copies the counts of its agents four
+# times, can do without the room that is asked for at once for each copy: so many growths $spare has.
 cat > "$work/bin/growths" <<'EOF'
 #!/bin/sh
 . due
@@ -48,7 +47,7 @@ while [ "$n" -le "$all" ]; do
     [ "$was" != killed ] || echo "$limits: status $status"
     n=$((n + 1))
 done
-if [ "$lacking" -ge 10 ] && [ "$((all - lacking))" -le "$((3 + ${spare:-0}))" ]; then echo each; else echo "memory lacked in $lacking of $all"; fi
+if [ "$lacking" -ge 10 ] && [ "$((all - lacking))" -le "$((1 + ${spare:-0}))" ]; then echo each; else echo "memory lacked in $lacking of $all"; fi
 EOF
 
 # within SPACE COMMAND..: in an address space of so many KB.

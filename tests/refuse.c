@@ -2,44 +2,15 @@
 // REFUSE fails, counted from 1, and the file named by GROWTHS, if any, gets how many were asked for. A block that is
 // made smaller is no growth.
 #define _GNU_SOURCE
+#include "library/blocks.h"
 #include <dlfcn.h>
 #include <errno.h>
 #include <fcntl.h>
-#include <stdint.h>
 #include <stdio.h>
 #include <stdlib.h>
 #include <unistd.h>
 
-enum { ROOM = 1 << 16 };
-
 static long growths;
-
-// The blocks that were given out, each at the first place from that of its address which has no other, and how many
-// places are taken. One is always left.
-static struct {
-    void *at;
-    size_t size;
-} blocks[ROOM];
-static size_t taken;
-
-static size_t place_of(void *at)
-{
-    size_t place = (uintptr_t)at / 16 % ROOM;
-    while (blocks[place].at && blocks[place].at != at)
-        place = (place + 1) % ROOM;
-    return place;
-}
-
-static void *note(void *at, size_t size)
-{
-    size_t place = place_of(at);
-    if (!at || (!blocks[place].at && taken + 1 == ROOM))
-        return at;
-    taken += !blocks[place].at;
-    blocks[place].at = at;
-    blocks[place].size = size;
-    return at;
-}
 
 // Whether this growth is the one that is refused.
 static int is_refused(void)
@@ -65,8 +36,7 @@ void *realloc(void *old, size_t size)
     static void *(*next)(void *, size_t);
     if (!next)
         next = (void *(*)(void *, size_t))dlsym(RTLD_NEXT, "realloc");
-    int grows = !old || size > blocks[place_of(old)].size;
-    return grows && is_refused() ? NULL : note(next(old, size), size);
+    return is_growth(old, size) && is_refused() ? NULL : note(next(old, size), size);
 }
 
 __attribute__((destructor)) static void tell(void)

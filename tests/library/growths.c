@@ -1,8 +1,9 @@
 /*
  * Each growth of each call refused in turn:  growths MAP SCEN PLAN PROGRAM HOLDS
- * A call whose growth is refused fails for want of memory, and what it was lent is as before; or it can do without, and
- * answers as ever. Link with --wrap=malloc and --wrap=realloc, through which libfleet asks for memory.
+ * A call whose growth is refused fails for want of memory, and what it was lent is as before. Link with --wrap=malloc
+ * and --wrap=realloc, through which libfleet asks for memory.
  */
+#include "blocks.h"
 #include "library.h"
 
 enum { MOST = 1 << 16 };
@@ -12,8 +13,14 @@ static long growths, refuse;
 void *__real_malloc(size_t size);
 void *__real_realloc(void *old, size_t size);
 
-void *__wrap_malloc(size_t size) { return ++growths == refuse ? NULL : __real_malloc(size); }
-void *__wrap_realloc(void *old, size_t size) { return ++growths == refuse ? NULL : __real_realloc(old, size); }
+static int is_refused(void) { return ++growths == refuse; }
+
+void *__wrap_malloc(size_t size) { return is_refused() ? NULL : note(__real_malloc(size), size); }
+
+void *__wrap_realloc(void *old, size_t size)
+{
+    return is_growth(old, size) && is_refused() ? NULL : note(__real_realloc(old, size), size);
+}
 
 /* What a call is lent: a buffer, its length, numbers and a fault. */
 struct lent {
@@ -83,7 +90,7 @@ int main(int words, char **word)
             else if (status != FLEET_DONE || !is_same(&got, &due))
                 return printf("%s, growth %ld of %ld: status %u\n", names[call], n, all, status), 1;
         }
-        if (lacking < 5 || all - lacking > 2)
+        if (lacking < 5 || all != lacking)
             return printf("%s: memory lacked in %ld of %ld\n", names[call], lacking, all), 1;
         printf("%s: each growth\n", names[call]);
     }

@@ -20,7 +20,7 @@ use Rattle.fleet_run.specs.HoldText.{is_space, is_dash, plain_number}
 use Rattle.fleet_run.proofs.HoldLaws.{plain_is_decimal}
 use Rattle.fleet_dispatch.specs.declared.form.ReportForm.{ReportForm}
 use Rattle.fleet_dispatch.specs.declared.form.ReportForm.TheVariants.{Numbered, Unnumbered}
-use Rattle.fleet_dispatch.specs.declared.number.TheConstants.{TOO_LONG}
+use Rattle.fleet_text.specs.declared.numbers.TheConstants.{TOO_LONG}
 use Rattle.fleet_dispatch.specs.declared.report.Reported.{Reported}
 use Rattle.fleet_dispatch.specs.Report.{Words, Reports, Asks}
 use Rattle.fleet_dispatch.specs.ReportText.{word_text, report_line, log_line, long_number, is_colon, word_of, words_of, report_of, is_question, line_of}

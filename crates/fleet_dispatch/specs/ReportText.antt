@@ -7,7 +7,7 @@ use Rattle.fleet_text.specs.Text.{Bytes}
 use Rattle.fleet_run.specs.HoldText.{is_space, is_dash, plain_number}
 use Rattle.fleet_dispatch.specs.declared.form.ReportForm.{ReportForm}
 use Rattle.fleet_dispatch.specs.declared.form.ReportForm.TheVariants.{Numbered, Unnumbered}
-use Rattle.fleet_dispatch.specs.declared.number.TheConstants.{TOO_LONG}
+use Rattle.fleet_text.specs.declared.numbers.TheConstants.{TOO_LONG}
 use Rattle.fleet_dispatch.specs.declared.report.Reported.{Reported}
 use Rattle.fleet_dispatch.specs.declared.report_text.LineKind.{LineKind}
 use Rattle.fleet_dispatch.specs.declared.report_text.LineKind.TheVariants.{Report, Question}

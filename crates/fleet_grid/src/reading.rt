@@ -13,7 +13,7 @@ ghost use Rattle.std.specs.Simd.Lanes.{mask_l};
 use crate::fault::MapFault;
 use crate::grid::{Cells, Grid, MAX_SIDE};
 use fleet_text::{
-    ByteClass, Cursor, TOO_LARGE, first_of, from_front, is_blank, next_word, number_of,
+    ByteClass, Cursor, TOO_LONG, first_of, from_front, is_blank, next_word, number_of,
 };
 use std::alloc::Global;
 use std::simd::prelude::*;
@@ -41,8 +41,8 @@ fn field<'a>(keyword: &[u8], line: &'a [u8]) -> Option<&'a [u8]>
 
 /// The number of the next line, one of the header, after its keyword.
 #[tactic(auto, unfolding(crate::specs::MapReading::number_field))]
-fn number_field(keyword: &[u8], lines: &mut Cursor) -> Option<u32>
-    ensures value { result ≡ option_map (λ n. min n TOO_LARGE)
+fn number_field(keyword: &[u8], lines: &mut Cursor) -> Option<u64>
+    ensures value { result ≡ option_map (λ n. min n TOO_LONG)
         (number_field keyword.now (line_at lines.old 0)) }
     ensures rest { lines.new ≡ drop 1 lines.old }
 {
@@ -60,14 +60,14 @@ fn is_alone(keyword: &[u8], lines: &mut Cursor) -> bool
     }
 }
 
-fn is_side(n: u32) -> bool
+fn is_side(n: u64) -> bool
     ensures { result ≡ is_side n }
 {
-    (1..=MAX_SIDE).contains(&n)
+    (1..=u64::from(MAX_SIDE)).contains(&n)
 }
 
 /// These numbers as width and height, if both are sides of a map.
-fn sizes_of(width: u32, height: u32) -> Result<(u16, u16), MapFault>
+fn sizes_of(width: u64, height: u64) -> Result<(u16, u16), MapFault>
     ensures value { result
         ≡ (if is_side height && is_side width then Ok (width, height) else Err MapFault.Size) }
     ensures sizes { IfOk result (λ sizes. IsSide sizes.0 × IsSide sizes.1) }

@@ -32,6 +32,8 @@ pub use hold_writing::write_holds;
 pub use listing::put_program;
 pub use report::{Rehearsal, rehearse};
 pub use run::{End, MAX_RUN_TICKS, RunFault};
-pub use source::{HoldSource, HoldText, SourceFault, a_tick_line_is_read, clear, cut, set_tick};
+pub use source::{
+    HoldSource, HoldText, SourceFault, a_tick_line_is_read, clear, cut, plain_number_of, set_tick,
+};
 pub use times_text::{put_reached, put_times};
 pub use trace::{PLACE, Report, write_bytes, write_count, write_number_line, write_place};

@@ -7,7 +7,7 @@ ghost use Rattle.std.specs.List.{slice_split};
 ghost use Rattle.fleet_text.specs.Text.{lines};
 ghost use Rattle.fleet_run.specs.HoldText.{is_space, is_dash, plain_number, agents_of, tick_of, IsTickLine};
 
-use fleet_text::{TOO_LARGE, next_line, number_of};
+use fleet_text::{TOO_LONG, next_line, number_of};
 use std::marker::Model;
 
 /// How a source failed: it broke off, or the line that was asked for is no tick's.
@@ -165,7 +165,7 @@ fn set_agents(line: &[u8], agents: u16, flags: &mut [bool]) -> bool
         let Some(agent) = plain_number_of(word) else {
             return false;
         };
-        if agent < least || agent >= agents as u32 {
+        if agent < least || agent >= u64::from(agents) {
             return false;
         }
         let has_flag = (agent as usize) < flags.len();
@@ -200,9 +200,9 @@ fn space_in(line: &[u8]) -> Option<usize>
     line.iter().position(|b| *b == b' ')
 }
 
-/// The number that a word spells without a leading zero. From `TOO_LARGE` on it is `TOO_LARGE`.
-fn plain_number_of(word: &[u8]) -> Option<u32>
-    ensures { result ≡ option_map (λ n. min n TOO_LARGE) (plain_number word.now) }
+/// The number that a word spells without a leading zero. From `TOO_LONG` on it is `TOO_LONG`.
+pub fn plain_number_of(word: &[u8]) -> Option<u64>
+    ensures { result ≡ option_map (λ n. min n TOO_LONG) (plain_number word.now) }
 {
     match word {
         [b'0', _, ..] => None,

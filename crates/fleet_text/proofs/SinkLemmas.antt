@@ -7,7 +7,7 @@ use Rattle.std.specs.Io.KnownBytes.{Keeps, Appends}
 use Rattle.fleet_text.specs.Sink.{SinkState, Takes, StopsWithin, TakesAll, IsWorking}
 use Rattle.fleet_text.specs.Row.{PassesOn, Gathers}
 use Rattle.fleet_text.specs.declared.writing.Word.{Word}
-use Rattle.fleet_text.specs.Words.{word_text, with_spaces, line_text, next_words}
+use Rattle.fleet_text.specs.Words.{word_text, with_spaces, next_words}
 
 -- what is kept has grown by nothing
 pub appends_nothing : (a b : Option (List ℕ)) → Keeps a b → Appends a b []

@@ -20,7 +20,7 @@ pub use lines::{
     BLOCK, ByteClass, Cursor, first_of, from_front, is_blank, next_line, next_word, without_cr,
 };
 pub use numbers::{
-    TOO_LARGE, number_of, small_number_front, small_number_of, write_byte, write_number,
+    TOO_LARGE, TOO_LONG, number_of, small_number_front, small_number_of, write_byte, write_number,
     write_small_number,
 };
 pub use refusal::{Refusal, put_memory, put_named, put_named_at, put_named_by};

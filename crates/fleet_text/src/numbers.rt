@@ -7,11 +7,14 @@ ghost use Rattle.std.specs.Fmt.{decimal};
 /// What is answered for every number that is too large: the least number above 65,535.
 pub const TOO_LARGE: u32 = 65_536;
 
-/// The number in front of a text, and what follows its digits, however many they are. A number above `TOO_LARGE` is
-/// answered as `TOO_LARGE`; if no digit stands in front, there is none.
-fn number_front(text: &[u8]) -> Option<(u32, &[u8])>
+/// What is answered for every number that 32 bits do not hold: the least of them.
+pub const TOO_LONG: u64 = 4_294_967_296;
+
+/// The number in front of a text, and what follows its digits, however many they are. A number above `TOO_LONG` is
+/// answered as `TOO_LONG`; if no digit stands in front, there is none.
+fn number_front(text: &[u8]) -> Option<(u64, &[u8])>
     ensures { option_map (λ x. (x.0, x.1.now)) result
-        ≡ option_map (at_most TOO_LARGE) (number_front text.now) }
+        ≡ option_map (at_most TOO_LONG) (number_front text.now) }
 {
     let [first, after @ ..] = text else {
         return None;
@@ -19,22 +22,22 @@ fn number_front(text: &[u8]) -> Option<(u32, &[u8])>
     if !first.is_ascii_digit() {
         return None;
     }
-    let mut number = u32::from(*first - b'0');
+    let mut number = u64::from(*first - b'0');
     let mut rest = after;
     while let [digit, after @ ..] = rest {
         if !digit.is_ascii_digit() {
             return Some((number, rest));
         }
-        number = (10 * number + u32::from(*digit - b'0')).min(TOO_LARGE);
+        number = (10 * number + u64::from(*digit - b'0')).min(TOO_LONG);
         rest = after;
     }
     Some((number, rest))
 }
 
-/// The number that a word of digits spells, however many they are. A number above `TOO_LARGE` is answered as
-/// `TOO_LARGE`; an empty word, or one with another byte, spells none.
-pub fn number_of(word: &[u8]) -> Option<u32>
-    ensures { result ≡ option_map (λ n. min n TOO_LARGE) (number word.now) }
+/// The number that a word of digits spells, however many they are. A number above `TOO_LONG` is answered as
+/// `TOO_LONG`; an empty word, or one with another byte, spells none.
+pub fn number_of(word: &[u8]) -> Option<u64>
+    ensures { result ≡ option_map (λ n. min n TOO_LONG) (number word.now) }
 {
     let (number, rest) = number_front(word)?;
     if rest.is_empty() { Some(number) } else { None }
@@ -46,7 +49,7 @@ pub fn small_number_of(word: &[u8]) -> Option<u16>
     ensures { result ≡ small_number word.now }
 {
     let number = number_of(word)?;
-    if number < TOO_LARGE {
+    if number < u64::from(TOO_LARGE) {
         Some(number as u16)
     } else {
         None

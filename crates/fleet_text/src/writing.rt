@@ -1,11 +1,11 @@
 //! Words of a line, written to a sink without memory.
 
-ghost use Rattle.std.specs.Prelude.{◌≡◌, ◌++◌, ◌∷◌, [], map, decimal};
+ghost use Rattle.std.specs.Prelude.{◌≡◌, ◌≤◌, ◌++◌, ◌∷◌, [], map, drop, decimal};
 ghost use Rattle.fleet_text.specs.Sink.{IsWorking, TakesAll};
 ghost use Rattle.fleet_text.specs.Row.{Gathers};
 ghost use Rattle.fleet_text.specs.Words.{word_text, with_spaces, line_text, count_line};
 
-use crate::numbers::write_number;
+use crate::numbers::{write_byte, write_number};
 use crate::row::Row;
 use crate::sink::{OutFault, TraceOut};
 
@@ -24,6 +24,9 @@ pub enum Word<'a> {
 
 /// How many digits the longest number of 64 bits has.
 const DIGITS: usize = 20;
+
+/// How many bytes two such numbers have, with a byte before each.
+const ROOM: usize = 2 * (1 + DIGITS);
 
 /// Adds a number in base ten to the row.
 fn put_number<O: TraceOut>(row: &mut Row, out: &mut O, number: u64) -> Result<(), OutFault>
@@ -46,8 +49,21 @@ fn put_number_then<O: TraceOut>(
     ensures { Gathers (O.state out.old) (O.state out.new) result row.old row.new
         (decimal number ++ after ∷ []) }
 {
-    put_number(row, out, number)?;
-    row.add(out, &[after])
+    let mut bytes = [0; DIGITS + 1];
+    let end = write_byte(after, &mut bytes, DIGITS + 1);
+    let start = write_number(number, &mut bytes, end);
+    row.add(out, &bytes[start..])
+}
+
+/// Writes two numbers with a byte between them at the end of the row, and answers where they begin.
+#[inline(always)]
+fn write_two(first: u64, between: u8, second: u64, row: &mut [u8; ROOM]) -> usize
+    ensures start { 1 ≤ result }
+    ensures written { drop result row.new ≡ (decimal first ++ between ∷ []) ++ decimal second }
+{
+    let end = write_number(second, row, ROOM);
+    let end = write_byte(between, row, end);
+    write_number(first, row, end)
 }
 
 /// Adds two numbers with a byte between them to the row.
@@ -62,8 +78,27 @@ fn put_two<O: TraceOut>(
     ensures { Gathers (O.state out.old) (O.state out.new) result row.old row.new
         ((decimal first ++ between ∷ []) ++ decimal second) }
 {
-    put_number_then(row, out, first, between)?;
-    put_number(row, out, second)
+    let mut bytes = [0; ROOM];
+    let start = write_two(first, between, second, &mut bytes);
+    row.add(out, &bytes[start..])
+}
+
+/// Adds a space and two numbers with a byte between them to the row, in one piece.
+fn put_next_two<O: TraceOut>(
+    row: &mut Row,
+    out: &mut O,
+    first: u64,
+    between: u8,
+    second: u64,
+) -> Result<(), OutFault>
+    requires { IsWorking (O.state out.old) }
+    ensures { Gathers (O.state out.old) (O.state out.new) result row.old row.new
+        (32 ∷ (decimal first ++ between ∷ []) ++ decimal second) }
+{
+    let mut bytes = [0; ROOM];
+    let start = write_two(first, between, second, &mut bytes);
+    let start = write_byte(b' ', &mut bytes, start);
+    row.add(out, &bytes[start..])
 }
 
 /// Adds a word to the row.
@@ -91,8 +126,16 @@ pub fn put_next_word<O: TraceOut>(
     ensures { Gathers (O.state out.old) (O.state out.new) result row.old row.new
         (32 ∷ word_text word.entry) }
 {
-    row.add(out, b" ")?;
-    put_word(row, out, word)
+    match word {
+        Word::Pair(x, y) => put_next_two(row, out, u64::from(x), b',', u64::from(y)),
+        Word::Of(owner, number) => {
+            put_next_two(row, out, u64::from(owner), b':', u64::from(number))
+        }
+        _ => {
+            row.add(out, b" ")?;
+            put_word(row, out, word)
+        }
+    }
 }
 
 /// Adds the words to the row, with one space between two, and no line's end.

@@ -12,12 +12,14 @@ use Rattle.fleet_needs.specs.Counts.{counts_of, are_narrow, CanHold, AreAlike}
 use Rattle.fleet_needs.specs.Joins.{AreQuiet, need_of, row_taken, IsJoin, AreOwn}
 use Rattle.fleet_needs.specs.declared.joins.Need.{Need}
 use Rattle.fleet_needs.specs.Rows.{IsColumn, IsJoined, OfFirst, OfOthers, OfOthersOrFirst}
-use Rattle.fleet_needs.specs.Schedule.{IsSchedule, AreColumnsOf, AreCounts, AreRowsTo, IsRowFor, IsThere, StandsThere, AreJoinedWith, count_in_slot}
-use Rattle.fleet_needs.specs.JoinPass.{IsNextRow}
+use Rattle.fleet_needs.specs.Schedule.{IsNext, joins_in, IsSchedule, AreColumnsOf, AreCounts, AreRowsTo, IsRowFor, IsThere, StandsThere, AreJoinedWith, count_in_slot}
 use Rattle.fleet_needs.specs.Slots.{IsStill}
 use Rattle.fleet_needs.specs.declared.schedule.Columns.{Columns}
 use Rattle.fleet_needs.specs.declared.joins.Join.{Join}
+use Rattle.fleet_needs.specs.declared.join_pass.JoinRow.{JoinRow}
 use Rattle.fleet_needs.specs.declared.join_pass.SlotRows.{SlotRows}
+use Rattle.fleet_needs.specs.declared.schedule.Schedule.{Schedule}
+use Rattle.fleet_needs.specs.JoinPass.{AreOthers, IsOthersRow, IsWholeRow, IsJoinRow, HasOthers, HasWhole}
 use Rattle.fleet_needs.specs.declared.counts.Counts.{Counts}
 use Rattle.fleet_needs.proofs.Placed.{row_ends}
 use Rattle.fleet_needs.proofs.Joining.{column_none, joined_none, part_all, own_column, awaited_action}
@@ -102,7 +104,7 @@ counts_joined p columns i b f old new joined h j k has = (
 
 -- ---- the rows that the next join takes
 
-module _ (p : Program) (range : AreInRange p) (m : SlotRows) (n : ℕ) (rows : AreRowsTo p m n) (join : Join) (next : IsNextRow m n join) where
+module _ (p : Program) (range : AreInRange p) (m : SlotRows) (n : ℕ) (rows : AreRowsTo p m n) (join : Join) (next : IsNext m.schedule.now n join) where
   pub is_join : IsJoin p m.schedule.now.joins.items m.schedule.now.needs.items n join
   is_join = rows.schedule.joins n join next
 
@@ -132,12 +134,55 @@ module _ (p : Program) (range : AreInRange p) (m : SlotRows) (n : ℕ) (rows : A
   number_on = (let f : 1 ≤ join.action.number = is_join.action.first in omega arith)
 
 -- what need k waits for is await k of the action
-pub need_awaits : (p : Program) (m : SlotRows) (join : Join) (n : ℕ) → IsJoin p m.schedule.now.joins.items m.schedule.now.needs.items n join → (k : ℕ) (need : Need) → need ≡ need_of m.schedule.now.needs.items join k
+pub need_awaits : (p : Program) (s : Schedule) (join : Join) (n : ℕ) → IsJoin p s.joins.items s.needs.items n join → (k : ℕ) (need : Need) → need ≡ need_of s.needs.items join k
     → k < length (awaits_of p join.action.agent join.action.number) → slice_get (awaits_of p join.action.agent join.action.number) k ≡ Some need.wait
-need_awaits p m join n is k need read l =
+need_awaits p s join n is k need read l =
     let w : Await = get_or (awaits_of p join.action.agent join.action.number) k (record { agent = 0; count = 0 }) in
     let at : slice_get (awaits_of p join.action.agent join.action.number) k ≡ Some w = slice_get-get_or (awaits_of p join.action.agent join.action.number) k (record { agent = 0; count = 0 }) l in
     at ∙ ap Some (sym (ap (λ (x : Need). x.wait) read ∙ is.waits k w at))
+
+-- ---- the row of a join, as it is made
+
+-- the join after n others
+pub next_join : (s : Schedule) (n : ℕ) → n < joins_in s → (j : Join) × IsNext s n j
+next_join s n l = (get_or s.joins.items n none, slice_get-get_or s.joins.items n none l)
+  where
+    none : Join
+    none = record { action = record { agent = 0; number = 0 }; base = 0; first = 0; count = 0 }
+
+module _ (p : Program) (s : Schedule) (columns : Columns) (n : ℕ) (counts : Counts) (next : n < joins_in s) (row : JoinRow) (is_in : row.columns.now ≡ columns) (has : row.counts.now ≡ counts)
+    (of : (j : Join) → IsNext s n j → row.action ≡ j.action) where
+  pub row_others : IsOthersRow p s columns n (counts_of counts) → HasOthers p row
+  row_others others =
+      let j = next_join s n next in
+      subst (λ (a : ActionId). AreOthers p row.columns.now a (counts_of row.counts.now)) (sym (of j.0 j.1))
+      (subst (λ (x : Columns). AreOthers p x j.0.action (counts_of row.counts.now)) (sym is_in) (subst (λ (x : Counts). AreOthers p columns j.0.action (counts_of x)) (sym has) (others j.0 j.1)))
+
+  pub row_whole : IsWholeRow p s columns n (counts_of counts) → HasWhole p row
+  row_whole whole =
+      let j = next_join s n next in
+      subst (λ (a : ActionId). AreCounts p row.columns.now a.agent a.number (slice_index (counts_of row.counts.now))) (sym (of j.0 j.1))
+      (subst (λ (x : Columns). AreCounts p x j.0.action.agent j.0.action.number (slice_index (counts_of row.counts.now))) (sym is_in)
+      (subst (λ (x : Counts). AreCounts p columns j.0.action.agent j.0.action.number (slice_index (counts_of x))) (sym has) (whole j.0 j.1)))
+
+module _ (p : Program) (row : JoinRow) (is : IsJoinRow p row) (join : Join) (next : IsNext row.schedule.now row.n join) where
+  pub row_action : IsAction p row.action
+  row_action = subst (IsAction p) (sym (is.of join next)) (is.schedule.joins row.n join next).action
+
+  pub row_count : join.count ≡ length (awaits_of p row.action.agent row.action.number)
+  row_count = (is.schedule.joins row.n join next).count ∙ ap (λ (x : ActionId). length (awaits_of p x.agent x.number)) (sym (is.of join next))
+
+  pub row_awaits : (k : ℕ) (need : Need) → need ≡ need_of row.schedule.now.needs.items join k → k < length (awaits_of p row.action.agent row.action.number)
+      → slice_get (awaits_of p row.action.agent row.action.number) k ≡ Some need.wait
+  row_awaits k need read l =
+      subst (λ (x : ActionId). slice_get (awaits_of p x.agent x.number) k ≡ Some need.wait) (sym (is.of join next))
+      (need_awaits p row.schedule.now join row.n (is.schedule.joins row.n join next) k need read (subst (λ (x : ActionId). k < length (awaits_of p x.agent x.number)) (is.of join next) l))
+
+-- .. of the program
+pub row_of_action : (p : Program) (row : JoinRow) → IsJoinRow p row → IsAction p row.action
+row_of_action p row is =
+    let j = next_join row.schedule.now row.n is.next in
+    row_action p row is j.0 j.1
 
 -- ---- the row of an action, await by await
 

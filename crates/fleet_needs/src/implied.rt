@@ -7,18 +7,17 @@ ghost use Rattle.fleet_model.specs.Machine.{IsFinish};
 ghost use Rattle.fleet_model.specs.Chain.{IsAction};
 ghost use Rattle.fleet_needs.specs.Implied.{IsImplied, AreAwaitPlaces};
 ghost use Rattle.fleet_needs.specs.Settled.{AreSettled};
-ghost use Rattle.fleet_needs.specs.Schedule.{IsSchedule, AreRowsTo, IsRowFor};
+ghost use Rattle.fleet_needs.specs.Schedule.{IsSchedule};
 ghost use Rattle.fleet_needs.specs.Flags.{AreImplied, flags_of, AreFlags, AreFlagged};
 ghost use Rattle.fleet_needs.specs.Block.{HasColumn};
-ghost use Rattle.fleet_needs.specs.JoinPass.{AreOthers, IsNextRow};
+ghost use Rattle.fleet_needs.specs.JoinPass.{IsJoinRow, HasOthers};
 ghost use Rattle.fleet_needs.specs.Columns.{agents_in, column_of};
 ghost use Rattle.fleet_needs.specs.Counts.{counts_of};
 
 use crate::await_places::AwaitPlaces;
 use crate::counts::Counts;
 use crate::finish_order::FinishOrder;
-use crate::join_pass::{JoinUse, SlotRows, others_row, use_joins, whole_row};
-use crate::joins::Join;
+use crate::join_pass::{JoinRow, JoinUse, use_joins};
 use crate::questions::is_any;
 use crate::schedule::{Columns, Schedule};
 use crate::settled::settle_all;
@@ -161,25 +160,21 @@ fn flag_all<P: ProgramView>(
 }
 
 impl JoinUse for ImpliedAwaits {
-    ghost use Rattle.std.proofs.Common.{refl, ◌∙◌};
+    ghost use Rattle.std.proofs.Common.{refl, ◌∙◌, ◌+◌};
     ghost use Rattle.fleet_needs.specs.Flags.{AreLeft, AreAwaitFlags, flags_of};
 
     ghost used = { AreAwaitFlags };
 
+    ghost seen = { λ p s columns n. AreAwaitFlags p s columns (n + 1) };
+
     ghost keeps = { λ p columns old new. AreLeft p columns (flags_of old) (flags_of new) };
 
-    /// Makes the row of the action, and flags its awaits on the way.
-    fn use_join<P: ProgramView>(
-        &mut self,
-        program: &P,
-        rows: &SlotRows<'_>,
-        n: usize,
-        row: &mut Counts,
-    ) -> Result<(), OutOfMemory> {
-        let join = rows.schedule.joins[n];
-        others_row(program, rows, n, &join, row);
-        flag_awaits(program, rows, n, &join, row, self);
-        whole_row(program, rows, n, &join, row);
+    fn see_others<P: ProgramView>(&mut self, program: &P, row: &JoinRow<'_>) {
+        flag_awaits(program, row, self);
+    }
+
+    /// The awaits are flagged already.
+    fn use_row<P: ProgramView>(&mut self, _: &P, _: &JoinRow<'_>) -> Result<(), OutOfMemory> {
         Ok(())
     }
 
@@ -188,31 +183,26 @@ impl JoinUse for ImpliedAwaits {
     ghost joined = { λ p columns s t u h g a is k w at none. g a is k w at none ∙ h a is k w at none };
 }
 
-/// Flags the awaits of a join's action whose agents have a column: whether others imply them.
+/// Flags the awaits of the action whose agents have a column: whether others imply them.
 pub(crate) fn flag_awaits<P: ProgramView>(
     program: &P,
-    rows: &SlotRows<'_>,
-    n: usize,
-    join: &Join,
-    row: &Counts,
+    row: &JoinRow<'_>,
     implied: &mut ImpliedAwaits,
 )
     requires range { AreInRange (P.program program.now) }
-    requires rows { AreRowsTo (P.program program.now) rows.now n }
-    requires next { IsNextRow rows.now n join.now }
-    requires row { IsRowFor rows.now row.now }
-    requires others { AreOthers
-        (P.program program.now) rows.now.columns join.now.action (counts_of row.now) }
+    requires row { IsJoinRow (P.program program.now) row.now }
+    requires others { HasOthers (P.program program.now) row.now }
     requires flags { AreFlags (P.program program.now) implied.old }
     ensures flags { AreFlags (P.program program.now) implied.new }
-    ensures flagged { AreFlagged (P.program program.now) rows.now.columns join.now.action
+    ensures flagged { AreFlagged (P.program program.now) row.now.columns.now row.now.action
         (flags_of implied.old) (flags_of implied.new) }
 {
     let _ = program.agents();
+    let join = row.join();
     for k in 0..join.count {
-        let need = rows.schedule.need(join, k);
-        if let Some(count) = count_in(&rows.columns, row, need.wait.agent) {
-            let first = implied.places.first(program, join.action);
+        let need = row.schedule.need(&join, k);
+        if let Some(count) = count_in(row.columns, row.counts, need.wait.agent) {
+            let first = implied.places.first(program, row.action);
             implied.flag_await(first + usize::from(k), need.wait.count, count);
         }
     }

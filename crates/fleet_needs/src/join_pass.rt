@@ -7,14 +7,57 @@ ghost use Rattle.fleet_needs.specs.Block.{HasColumn};
 ghost use Rattle.fleet_model.specs.Program.{AreInRange};
 ghost use Rattle.fleet_needs.specs.Counts.{counts_of, CanHold, AreAlike, are_narrow};
 ghost use Rattle.fleet_needs.specs.Schedule.{IsSchedule, AreColumnsOf, AreRowsTo, IsRowFor, joins_in, AreCounts, IsThere, StandsThere, AreJoinedWith, IsNext, HasSlot, slot_of};
-ghost use Rattle.fleet_needs.specs.JoinPass.{IsNextRow, AreOthers, IsRowMade};
+ghost use Rattle.fleet_needs.specs.JoinPass.{IsOthersRow, IsWholeRow, IsJoinRow, HasOthers, HasWhole};
 ghost use Rattle.fleet_needs.specs.declared.joins.Join.{Join};
 
 use crate::counts::Counts;
 use crate::joins::Join;
 use crate::schedule::{Columns, Schedule};
-use fleet_model::{OutOfMemory, ProgramView};
+use fleet_model::{ActionId, OutOfMemory, ProgramView};
 use std::alloc::Global;
+
+/// The row of a join as it is made: that of the join after n others, in the columns of a block.
+#[derive(Clone, Copy)]
+pub struct JoinRow<'a> {
+    pub(crate) schedule: &'a Schedule,
+    pub(crate) columns: &'a Columns,
+    pub(crate) n: usize,
+    pub(crate) action: ActionId,
+    pub(crate) counts: &'a Counts,
+}
+
+impl<'a> JoinRow<'a> {
+    /// The row with these counts of the join after n others.
+    fn new(
+        schedule: &'a Schedule,
+        columns: &'a Columns,
+        n: usize,
+        counts: &'a Counts,
+    ) -> JoinRow<'a>
+        requires { n < joins_in schedule.now }
+        ensures schedule { result.schedule ≡ schedule.entry }
+        ensures columns { result.columns ≡ columns.entry }
+        ensures n { result.n ≡ n }
+        ensures action { (j : Join) → IsNext schedule.now n j → result.action ≡ j.action }
+        ensures counts { result.counts ≡ counts.entry }
+    {
+        JoinRow {
+            schedule,
+            columns,
+            n,
+            action: schedule.join_after(n).action,
+            counts,
+        }
+    }
+
+    /// The join that it is made for.
+    pub(crate) fn join(&self) -> Join
+        requires { self.now.n < joins_in self.now.schedule.now }
+        ensures { IsNext self.now.schedule.now self.now.n result }
+    {
+        self.schedule.join_after(self.n)
+    }
+}
 
 /// A use of the rows of a block, which come in the order of the schedule.
 pub trait JoinUse {
@@ -26,30 +69,34 @@ pub trait JoinUse {
     /// The state of the use once so many rows were used.
     ghost used: { Program → Schedule → Columns → ℕ → Self → Type 0 };
 
+    /// .. and what the next action needs was seen.
+    ghost seen: { Program → Schedule → Columns → ℕ → Self → Type 0 };
+
     /// The part of the state that the rows of a block leave as it was.
     ghost keeps: { Program → Columns → Self → Self → Type 0 };
 
-    /// Makes the row of the join after n others, and uses it.
-    fn use_join<P: ProgramView>(
-        &mut self,
-        program: &P,
-        rows: &SlotRows<'_>,
-        n: usize,
-        row: &mut Counts,
-    ) -> Result<(), OutOfMemory>
+    /// Sees what the action needs: its row, but for the count of each awaited action's own agent.
+    fn see_others<P: ProgramView>(&mut self, program: &P, row: &JoinRow<'_>)
         requires range { AreInRange (P.program program.now) }
-        requires rows { AreRowsTo (P.program program.now) rows.now n }
-        requires next { n < joins_in rows.now.schedule.now }
-        requires row { IsRowFor rows.now row.old }
-        requires used { used (P.program program.now) rows.now.schedule.now rows.now.columns
-            n self.old }
-        ensures row { OnOk result (IsRowFor rows.now row.new) }
-        ensures made { OnOk result (IsRowMade
-            (P.program program.now) rows.now n (counts_of row.new)) }
+        requires row { IsJoinRow (P.program program.now) row.now }
+        requires others { HasOthers (P.program program.now) row.now }
+        requires used { used (P.program program.now)
+            row.now.schedule.now row.now.columns.now row.now.n self.old }
+        ensures seen { seen (P.program program.now)
+            row.now.schedule.now row.now.columns.now row.now.n self.new }
+        ensures keeps { keeps (P.program program.now) row.now.columns.now self.old self.new };
+
+    /// Uses the row of the action.
+    fn use_row<P: ProgramView>(&mut self, program: &P, row: &JoinRow<'_>) -> Result<(), OutOfMemory>
+        requires range { AreInRange (P.program program.now) }
+        requires row { IsJoinRow (P.program program.now) row.now }
+        requires made { HasWhole (P.program program.now) row.now }
+        requires seen { seen (P.program program.now)
+            row.now.schedule.now row.now.columns.now row.now.n self.old }
         ensures used { OnOk result (used (P.program program.now)
-            rows.now.schedule.now rows.now.columns (n + 1) self.new) }
+            row.now.schedule.now row.now.columns.now (row.now.n + 1) self.new) }
         ensures keeps { OnOk result (keeps
-            (P.program program.now) rows.now.columns self.old self.new) };
+            (P.program program.now) row.now.columns.now self.old self.new) };
 
     /// If no row is used, that part is as it was.
     ghost same: { (p : Program) (c : Columns) (s : Self) → keeps p c s s };
@@ -98,56 +145,78 @@ fn use_all<P: ProgramView, U: JoinUse>(
         (P.program program.now) rows.old.columns uses.old uses.new) }
 {
     for n in 0..rows.schedule.joins.len() {
-        uses.use_join(program, rows, n, row)?;
+        make_row(program, rows, n, row, uses)?;
         rows.keep_row(program, n, row);
     }
     Ok(())
 }
 
-/// Makes the row of all that the action of a join directly needs, but for the count of each awaited action's own agent.
-pub(crate) fn others_row<P: ProgramView>(
+/// Makes the row of the join after n others, and uses it.
+fn make_row<P: ProgramView, U: JoinUse>(
     program: &P,
     rows: &SlotRows<'_>,
     n: usize,
-    join: &Join,
     row: &mut Counts,
-)
+    uses: &mut U,
+) -> Result<(), OutOfMemory>
     requires range { AreInRange (P.program program.now) }
     requires rows { AreRowsTo (P.program program.now) rows.now n }
-    requires next { IsNextRow rows.now n join.now }
+    requires next { n < joins_in rows.now.schedule.now }
+    requires row { IsRowFor rows.now row.old }
+    requires used { U.used (P.program program.now) rows.now.schedule.now rows.now.columns
+        n uses.old }
+    ensures row { OnOk result (IsRowFor rows.now row.new) }
+    ensures made { OnOk result (IsWholeRow (P.program program.now)
+        rows.now.schedule.now rows.now.columns n (counts_of row.new)) }
+    ensures used { OnOk result (U.used (P.program program.now) rows.now.schedule.now
+        rows.now.columns (n + 1) uses.new) }
+    ensures keeps { OnOk result (U.keeps
+        (P.program program.now) rows.now.columns uses.old uses.new) }
+{
+    join_others(program, rows, n, row);
+    let others = JoinRow::new(rows.schedule, &rows.columns, n, row);
+    uses.see_others(program, &others);
+    raise_awaited(program, rows, n, row);
+    let whole = JoinRow::new(rows.schedule, &rows.columns, n, row);
+    uses.use_row(program, &whole)
+}
+
+/// Makes the row of all that the action of the join after n others directly needs, but for the count of each awaited
+/// action's own agent.
+fn join_others<P: ProgramView>(program: &P, rows: &SlotRows<'_>, n: usize, row: &mut Counts)
+    requires range { AreInRange (P.program program.now) }
+    requires rows { AreRowsTo (P.program program.now) rows.now n }
+    requires next { n < joins_in rows.now.schedule.now }
     requires row { IsRowFor rows.now row.old }
     ensures row { IsRowFor rows.now row.new }
-    ensures others { AreOthers
-        (P.program program.now) rows.now.columns join.now.action (counts_of row.new) }
+    ensures others { IsOthersRow (P.program program.now)
+        rows.now.schedule.now rows.now.columns n (counts_of row.new) }
 {
     let _ = program.agents();
+    let join = rows.schedule.join_after(n);
     rows.begin_row(program, n, join.base, row);
     for k in 0..join.count {
-        let need = rows.schedule.need(join, k);
+        let need = rows.schedule.need(&join, k);
         rows.join_row(program, n, need.row, row);
     }
 }
 
-/// Makes the row that `others_row` leaves the row of the join's action.
-pub(crate) fn whole_row<P: ProgramView>(
-    program: &P,
-    rows: &SlotRows<'_>,
-    n: usize,
-    join: &Join,
-    row: &mut Counts,
-)
+/// Makes the row that this leaves the row of the action.
+fn raise_awaited<P: ProgramView>(program: &P, rows: &SlotRows<'_>, n: usize, row: &mut Counts)
     requires range { AreInRange (P.program program.now) }
     requires rows { AreRowsTo (P.program program.now) rows.now n }
-    requires next { IsNextRow rows.now n join.now }
+    requires next { n < joins_in rows.now.schedule.now }
     requires row { IsRowFor rows.now row.old }
-    requires others { AreOthers
-        (P.program program.now) rows.now.columns join.now.action (counts_of row.old) }
+    requires others { IsOthersRow (P.program program.now)
+        rows.now.schedule.now rows.now.columns n (counts_of row.old) }
     ensures row { IsRowFor rows.now row.new }
-    ensures made { IsRowMade (P.program program.now) rows.now n (counts_of row.new) }
+    ensures made { IsWholeRow (P.program program.now)
+        rows.now.schedule.now rows.now.columns n (counts_of row.new) }
 {
     let _ = program.agents();
+    let join = rows.schedule.join_after(n);
     for k in 0..join.count {
-        let need = rows.schedule.need(join, k);
+        let need = rows.schedule.need(&join, k);
         raise_own(&rows.columns, row, need.wait.agent, need.wait.count);
     }
     clear_own(&rows.columns, row, join.action.agent);

@@ -15,7 +15,7 @@ ghost use Rattle.fleet_needs.specs.Joins.{AreOwn};
 
 use crate::counts::Counts;
 use crate::finish_order::FinishOrder;
-use crate::join_pass::{JoinUse, SlotRows, others_row, use_joins, whole_row};
+use crate::join_pass::{JoinRow, JoinUse, use_joins};
 use crate::schedule::{Columns, Schedule};
 use fleet_model::{ActionId, OutOfMemory, ProgramView};
 use std::alloc::Global;
@@ -219,19 +219,19 @@ impl<'a> JoinUse for Answering<'a> {
 
     ghost used = { IsAnswering };
 
+    ghost seen = { IsAnswering };
+
     ghost keeps = { AreOthersLeft };
 
-    fn use_join<P: ProgramView>(
+    /// The whole row alone is used.
+    fn see_others<P: ProgramView>(&mut self, _: &P, _: &JoinRow<'_>) {}
+
+    fn use_row<P: ProgramView>(
         &mut self,
         program: &P,
-        rows: &SlotRows<'_>,
-        n: usize,
-        row: &mut Counts,
+        row: &JoinRow<'_>,
     ) -> Result<(), OutOfMemory> {
-        let join = rows.schedule.joins[n];
-        others_row(program, rows, n, &join, row);
-        whole_row(program, rows, n, &join, row);
-        self.answer_next(program, &rows.columns, row, join.action);
+        self.answer_next(program, row.columns, row.counts, row.action);
         Ok(())
     }
 

@@ -10,7 +10,7 @@ ghost use Rattle.fleet_needs.specs.Asked.{IsQuestion};
 ghost use Rattle.fleet_needs.specs.Joins.{IsWanted, need_of};
 ghost use Rattle.fleet_needs.specs.Order.{IsOrder};
 ghost use Rattle.fleet_needs.specs.Places.{ArePlacesOf, place_of_action};
-ghost use Rattle.fleet_needs.specs.Schedule.{IsSchedule, HasRows};
+ghost use Rattle.fleet_needs.specs.Schedule.{IsSchedule, HasRows, IsNext, joins_in};
 ghost use Rattle.fleet_needs.specs.Slots.{AreSlotted, IsTaken};
 ghost use Rattle.fleet_needs.specs.Columns.{AreColumns, agents_in, column_of};
 
@@ -80,6 +80,14 @@ impl Schedule {
             slots: count,
             is_narrow: is_narrow(program),
         })
+    }
+
+    /// The join after n others.
+    pub(crate) fn join_after(&self, n: usize) -> Join
+        requires { n < joins_in self.now }
+        ensures { IsNext self.now n result }
+    {
+        self.joins[n]
     }
 
     /// Need `k` of a join.

@@ -2,7 +2,7 @@ use Rattle.std.proofs.Common.{◌-◌}
 use Rattle.fleet_needs.specs.Counts.{counts_of}
 use Rattle.fleet_needs.specs.Schedule.{IsRowFor}
 use Rattle.fleet_needs.proofs.RowsMade.{AreOwnTo}
-use Rattle.fleet_needs.proofs.join_pass.whole_row.Given as goal
+use Rattle.fleet_needs.proofs.join_pass.raise_awaited.Given as goal
 
 abbrev pub invariant-loop-k : goal.invariant-loop-k
 invariant-loop-k g l = record {

@@ -1,0 +1,43 @@
+use Rattle.std.proofs.Common.{◌≡◌, ◌+◌, length, sym, subst, ◌∙◌, ap, arith}
+use Rattle.std.specs.Prelude.{slice_get, Some}
+use Rattle.std.proofs.lemmas.Option.{slice_get-get_or}
+use Rattle.fleet_needs.specs.Asked.{AreQuestions}
+use Rattle.fleet_model.specs.declared.program.ActionId.{ActionId}
+use Rattle.fleet_needs.specs.Answering.{AreAnsweredTo, IsAsked}
+use Rattle.fleet_needs.specs.JoinPass.{IsMade}
+use Rattle.fleet_needs.specs.Schedule.{HasRows}
+use Rattle.fleet_needs.proofs.Answered.{answers_on, others_on, made_here, made_still, made_back, made_sooner}
+use Rattle.fleet_needs.proofs.RowsMade.{next_join}
+use Rattle.fleet_needs.proofs.questions.AnsweringJoinUse.use_row.Goals as goal
+
+pub returns-clause-used : goal.returns-clause-used
+returns-clause-used g c =
+    let p = g.P.ProgramView.program c.args.program.now in
+    let row = c.args.row.now in
+    let s = row.schedule.now in
+    let columns = row.columns.now in
+    let is = c.requires.row.schedule in
+    let j = next_join s row.n c.requires.row.next in
+    let of = c.requires.row.of j.0 j.1 in
+    let old = c.args.self.now in
+    let new = c.answer_next.new.self in
+    let was = c.requires.seen in
+    let e = sym c.answer_next.ensures.questions in
+    record {
+      questions = subst (λ q. AreQuestions p q.now) e was.questions;
+      rows = subst (λ q. HasRows s q.now) e was.rows;
+      flags = c.answer_next.ensures.flags ∙ was.flags ∙ ap (λ q. length q.now) e;
+      answers = subst (λ q. AreAnsweredTo p columns q.now (IsMade s (row.n + 1)) new.flags.items new.next) e
+          (answers_on p columns old.questions.now was.questions (IsMade s row.n) (IsMade s (row.n + 1)) j.0.action (made_here p s is row.n j.0 j.1) (made_still p s is row.n j.0 j.1) (made_back p s is row.n j.0 j.1)
+          (made_sooner p s is row.n j.0 j.1 old.questions.now was.questions was.rows) old.next new.next old.flags.items new.flags.items was.answers (subst (λ (a : ActionId). IsAsked p columns old.questions.now a old.next old.flags.items new.flags.items new.next) of c.answer_next.ensures.asked));
+    }
+
+pub returns-clause-keeps : goal.returns-clause-keeps
+returns-clause-keeps g c =
+    let p = g.P.ProgramView.program c.args.program.now in
+    let old = c.args.self.now in
+    let new = c.answer_next.new.self in
+    record {
+      questions = c.answer_next.ensures.questions;
+      flags = others_on p c.args.row.now.columns.now old.questions.now c.args.row.now.action old.next new.next old.flags.items new.flags.items c.answer_next.ensures.asked;
+    }

@@ -6,3 +6,4 @@ pub mod Taken
 pub mod Row
 pub mod Words
 pub mod Refusals
+pub mod Digits

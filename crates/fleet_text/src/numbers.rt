@@ -4,6 +4,8 @@ ghost use Rattle.std.specs.Prelude.{◌≡◌, ◌-◌, ◌<◌, true, false, So
 ghost use Rattle.fleet_text.specs.Text.{is_digit, number_front, at_most, number, small_number, small_number_front};
 ghost use Rattle.std.specs.Fmt.{decimal};
 
+use itoa::write_digits;
+
 /// What is answered for every number that is too large: the least number above 65,535.
 pub const TOO_LARGE: u32 = 65_536;
 
@@ -152,13 +154,7 @@ pub fn write_number(number: u64, row: &mut [u8], end: usize) -> usize
     ensures start { result + length (decimal number) ≡ end }
     ensures written { drop result row.new ≡ decimal number ++ drop end row.old }
 {
-    let mut left = number;
-    let mut at = end;
-    while left >= 10 {
-        at = write_byte(b'0' + (left % 10) as u8, row, at);
-        left /= 10;
-    }
-    write_byte(b'0' + left as u8, row, at)
+    write_digits(number, row, end)
 }
 
 /// Writes the digits of a number of 16 bits, of which there are five at most, so that they end before `end`, and

@@ -1,14 +1,21 @@
 //! A row of bytes in which a line is put together, so that a sink gets it in one piece, or in large ones.
 
-ghost use Rattle.std.specs.Prelude.{◌≡◌, ◌+◌, ◌≤◌, ◌∷◌, [], ◌++◌, length, OnOk};
+ghost use Rattle.std.specs.Prelude.{◌≡◌, ◌+◌, ◌≤◌, ◌∷◌, [], ◌++◌, length, decimal, OnOk};
 ghost use Rattle.fleet_text.specs.Sink.{IsWorking, TakesAll};
 ghost use Rattle.fleet_text.specs.Row.{Gathers};
 
+use crate::digits::{write_next, write_next_number};
 use crate::sink::{OutFault, TraceOut, put_all};
 use std::marker::Model;
 
 /// How many bytes a row has room for.
 const ROOM: usize = 4_096;
+
+/// How many bytes the longest number of 16 bits and the longest of 32 have, with a byte between them.
+const TWO: usize = 5 + 1 + 10;
+
+/// How many these have with a byte before them.
+const NEXT_TWO: usize = 1 + TWO;
 
 /// The bytes of a line that are not yet handed on.
 #[derive(Drop)]
@@ -77,6 +84,75 @@ impl Row {
             return put_all(out, bytes);
         }
         self.append(bytes);
+        Ok(())
+    }
+
+    /// Has the sink take what is in the row, unless there is room for so many bytes more.
+    fn make_room<O: TraceOut>(&mut self, out: &mut O, bytes: usize) -> Result<(), OutFault>
+        requires working { IsWorking (O.state out.old) }
+        requires bytes { bytes ≤ ROOM }
+        ensures gathered { Gathers (O.state out.old) (O.state out.new) result self.old self.new [] }
+        ensures room { OnOk result (length self.new + bytes ≤ ROOM) }
+    {
+        let has_room = bytes <= ROOM - self.len;
+        if has_room {
+            return Ok(());
+        }
+        self.hand_on(out)
+    }
+
+    /// Adds a byte for which there is room.
+    fn append_byte(&mut self, byte: u8)
+        requires { length self.old + 1 ≤ ROOM }
+        ensures { self.new ≡ self.old ++ byte ∷ [] }
+    {
+        self.len = write_next(byte, &mut self.bytes, self.len);
+    }
+
+    /// Adds two numbers with a byte between them, for which there is room.
+    #[inline(always)]
+    fn append_two(&mut self, first: u16, between: u8, second: u32)
+        requires { length self.old + TWO ≤ ROOM }
+        ensures { self.new ≡ self.old ++ ((decimal first ++ between ∷ []) ++ decimal second) }
+    {
+        let after = write_next_number(u32::from(first), &mut self.bytes, self.len);
+        let after = write_next(between, &mut self.bytes, after);
+        self.len = write_next_number(second, &mut self.bytes, after);
+    }
+
+    /// Adds two numbers with a byte between them.
+    pub fn add_two<O: TraceOut>(
+        &mut self,
+        out: &mut O,
+        first: u16,
+        between: u8,
+        second: u32,
+    ) -> Result<(), OutFault>
+        requires { IsWorking (O.state out.old) }
+        ensures { Gathers (O.state out.old) (O.state out.new) result self.old self.new
+            ((decimal first ++ between ∷ []) ++ decimal second) }
+    {
+        self.make_room(out, TWO)?;
+        self.append_two(first, between, second);
+        Ok(())
+    }
+
+    /// Adds a space and two numbers with a byte between them.
+    #[inline(always)]
+    pub fn add_next_two<O: TraceOut>(
+        &mut self,
+        out: &mut O,
+        first: u16,
+        between: u8,
+        second: u32,
+    ) -> Result<(), OutFault>
+        requires { IsWorking (O.state out.old) }
+        ensures { Gathers (O.state out.old) (O.state out.new) result self.old self.new
+            (32 ∷ (decimal first ++ between ∷ []) ++ decimal second) }
+    {
+        self.make_room(out, NEXT_TWO)?;
+        self.append_byte(b' ');
+        self.append_two(first, between, second);
         Ok(())
     }
 

@@ -1,6 +1,6 @@
 //! Words of a line, written to a sink without memory.
 
-ghost use Rattle.std.specs.Prelude.{◌≡◌, ◌≤◌, ◌++◌, ◌∷◌, [], map, drop, decimal};
+ghost use Rattle.std.specs.Prelude.{◌++◌, ◌∷◌, [], map, decimal};
 ghost use Rattle.fleet_text.specs.Sink.{IsWorking, TakesAll};
 ghost use Rattle.fleet_text.specs.Row.{Gathers};
 ghost use Rattle.fleet_text.specs.Words.{word_text, with_spaces, line_text, count_line};
@@ -24,9 +24,6 @@ pub enum Word<'a> {
 
 /// How many digits the longest number of 64 bits has.
 const DIGITS: usize = 20;
-
-/// How many bytes two such numbers have, with a byte before each.
-const ROOM: usize = 2 * (1 + DIGITS);
 
 /// Adds a number in base ten to the row.
 fn put_number<O: TraceOut>(row: &mut Row, out: &mut O, number: u64) -> Result<(), OutFault>
@@ -55,52 +52,6 @@ fn put_number_then<O: TraceOut>(
     row.add(out, &bytes[start..])
 }
 
-/// Writes two numbers with a byte between them at the end of the row, and answers where they begin.
-#[inline(always)]
-fn write_two(first: u64, between: u8, second: u64, row: &mut [u8; ROOM]) -> usize
-    ensures start { 1 ≤ result }
-    ensures written { drop result row.new ≡ (decimal first ++ between ∷ []) ++ decimal second }
-{
-    let end = write_number(second, row, ROOM);
-    let end = write_byte(between, row, end);
-    write_number(first, row, end)
-}
-
-/// Adds two numbers with a byte between them to the row.
-fn put_two<O: TraceOut>(
-    row: &mut Row,
-    out: &mut O,
-    first: u64,
-    between: u8,
-    second: u64,
-) -> Result<(), OutFault>
-    requires { IsWorking (O.state out.old) }
-    ensures { Gathers (O.state out.old) (O.state out.new) result row.old row.new
-        ((decimal first ++ between ∷ []) ++ decimal second) }
-{
-    let mut bytes = [0; ROOM];
-    let start = write_two(first, between, second, &mut bytes);
-    row.add(out, &bytes[start..])
-}
-
-/// Adds a space and two numbers with a byte between them to the row, in one piece.
-fn put_next_two<O: TraceOut>(
-    row: &mut Row,
-    out: &mut O,
-    first: u64,
-    between: u8,
-    second: u64,
-) -> Result<(), OutFault>
-    requires { IsWorking (O.state out.old) }
-    ensures { Gathers (O.state out.old) (O.state out.new) result row.old row.new
-        (32 ∷ (decimal first ++ between ∷ []) ++ decimal second) }
-{
-    let mut bytes = [0; ROOM];
-    let start = write_two(first, between, second, &mut bytes);
-    let start = write_byte(b' ', &mut bytes, start);
-    row.add(out, &bytes[start..])
-}
-
 /// Adds a word to the row.
 fn put_word<O: TraceOut>(row: &mut Row, out: &mut O, word: Word<'_>) -> Result<(), OutFault>
     requires { IsWorking (O.state out.old) }
@@ -111,8 +62,8 @@ fn put_word<O: TraceOut>(row: &mut Row, out: &mut O, word: Word<'_>) -> Result<(
         Word::Text(text) => row.add(out, text.as_bytes()),
         Word::Number(number) => put_number(row, out, number),
         Word::Label(number) => put_number_then(row, out, number, b':'),
-        Word::Pair(x, y) => put_two(row, out, u64::from(x), b',', u64::from(y)),
-        Word::Of(owner, number) => { put_two(row, out, u64::from(owner), b':', u64::from(number)) }
+        Word::Pair(x, y) => row.add_two(out, x, b',', u32::from(y)),
+        Word::Of(owner, number) => row.add_two(out, owner, b':', number),
     }
 }
 
@@ -127,10 +78,8 @@ pub fn put_next_word<O: TraceOut>(
         (32 ∷ word_text word.entry) }
 {
     match word {
-        Word::Pair(x, y) => put_next_two(row, out, u64::from(x), b',', u64::from(y)),
-        Word::Of(owner, number) => {
-            put_next_two(row, out, u64::from(owner), b':', u64::from(number))
-        }
+        Word::Pair(x, y) => row.add_next_two(out, x, b',', u32::from(y)),
+        Word::Of(owner, number) => row.add_next_two(out, owner, b':', number),
         _ => {
             row.add(out, b" ")?;
             put_word(row, out, word)

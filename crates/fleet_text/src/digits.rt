@@ -72,8 +72,12 @@ fn write_next_middle(number: u32, row: &mut [u8], at: usize) -> usize
     if is_short {
         return write_next_short(number, row, at);
     }
-    let after = write_next_short(number / 100, row, at);
-    write_next_pair(number % 100, row, after)
+    let has_three = number < 1_000;
+    if has_three {
+        let after = write_next(b'0' + (number / 100) as u8, row, at);
+        return write_next_pair(number % 100, row, after);
+    }
+    write_next_four(number, row, at)
 }
 
 /// The same of a number below 100,000,000.

@@ -2,9 +2,9 @@
 use Rattle.std.proofs.Common.{◌≡◌, ◌≢◌, ◌<◌, ◌≤◌, ◌+◌, ◌-◌, ◌*◌, ◌/◌, ◌%◌, ◌^◌, ℕ, Bool, true, false, List, length, set, replicate, get_or, slice_index, refl, ap, sym, ◌∙◌, inl, inr, arith, get_or-set_same, get_or-set_other, length-set}
 use Rattle.std.specs.Int.{bit_at, trailing_zeros, w64}
 use Rattle.std.specs.Prelude.{◌==◌, bit_and, bit_or}
-use Rattle.std.proofs.lemmas.Nat.Bits.{bit_at-trailing_zeros, bit_at-zero, bit_at_above, bit_at_set_same, bit_at_set_other, bit_at_clear_same, shr_and_one, bit_at_clear_other}
-use Rattle.std.proofs.Math.Nat.{div-div-eq-div-mul}
-use Rattle.std.proofs.lemmas.Nat.{pow-add, and_le_l}
+use Rattle.std.proofs.lemmas.Nat.Bits.{bit_at-trailing_zeros, bit_at-zero, bit_at_above, bit_at_set_same, bit_at_set_other, bit_at_clear_same, shr_and_one, bit_at_clear_other, bit_at_and, bit_at_cat_low, bit_at_cat_high, bit_at-pow_same, bit_at-pow_other, bit_at_ones_above, same_from_bits}
+use Rattle.std.proofs.Math.Nat.{div-div-eq-div-mul, div-add-mod, mod-lt}
+use Rattle.std.proofs.lemmas.Nat.{pow-add, pow_pos, and_le_l}
 use Rattle.std.specs.Int.Bits.{or_zero_r}
 use Rattle.std.proofs.lemmas.Bool.{cases_eq, cases_lt, true≢false}
 use Rattle.std.proofs.lemmas.List.{ext_get_or, get_or_past, get_or-replicate, length-replicate}
@@ -51,6 +51,69 @@ module _ (word place : ℕ) (within : place < 64) where
     where
       no_bit_put : 0 * 2 ^ place % 2 ^ 64 ≡ 0
       no_bit_put = omega arith
+
+-- the lowest bit taken off
+module _ (word place : ℕ) (low : IsLowest word place) where
+  high_part : ℕ
+  high_part = word / 2 ^ (place + 1)
+
+  low_part : ℕ
+  low_part = word % 2 ^ (place + 1)
+
+  low_lt : low_part < 2 ^ (place + 1)
+  unfolding low_part
+  low_lt = mod-lt word (pow_pos (place + 1))
+
+  parts : word ≡ high_part * 2 ^ (place + 1) + low_part
+  unfolding high_part low_part
+  parts = omega (arith, div-add-mod word (2 ^ (place + 1)))
+
+  low_here : bit_at low_part place ≡ 1
+  low_here = sym (bit_at_cat_low high_part (place + 1) low_part place (omega arith)) ∙ (ap (λ n. bit_at n place) (sym parts) ∙ low.is_set)
+
+  low_bits : (i : ℕ) → bit_at low_part i ≡ bit_at (2 ^ place) i
+  low_bits i =
+      elim (cases_lt i place) [
+        | inl lt ↦
+            let other : i ≢ place = omega arith in
+            sym (bit_at_cat_low high_part (place + 1) low_part i (omega arith)) ∙ (ap (λ n. bit_at n i) (sym parts) ∙ (low.lower i lt ∙ sym (bit_at-pow_other place i other)))
+        | inr le ↦ elim (cases_eq i place) [
+          | inl e ↦ ap (bit_at low_part) e ∙ (low_here ∙ (sym (bit_at-pow_same place) ∙ ap (bit_at (2 ^ place)) (sym e)))
+          | inr other ↦ bit_at_above low_part (place + 1) i low_lt (omega arith) ∙ sym (bit_at-pow_other place i other)
+        ]
+      ]
+
+  low_is : low_part ≡ 2 ^ place
+  low_is = same_from_bits low_part (2 ^ place) low_bits
+
+  parts_less : word - 1 ≡ high_part * 2 ^ (place + 1) + (low_part - 1)
+  parts_less = omega (arith, parts, low_is, pow_pos place)
+
+  less_lt : low_part - 1 < 2 ^ (place + 1)
+  less_lt = omega (arith, low_lt)
+
+  less_here : bit_at (word - 1) place ≡ 0
+  less_here =
+      ap (λ n. bit_at n place) parts_less ∙ (bit_at_cat_low high_part (place + 1) (low_part - 1) place (omega arith)
+      ∙ (ap (λ n. bit_at (n - 1) place) low_is ∙ bit_at_ones_above place place (omega arith)))
+
+  less_high : (k : ℕ) → place < k → bit_at (word - 1) k ≡ bit_at word k
+  less_high k later =
+      ap (λ n. bit_at n k) parts_less ∙ (bit_at_cat_high high_part (place + 1) (low_part - 1) k less_lt (omega arith)
+      ∙ (sym (bit_at_cat_high high_part (place + 1) low_part k low_lt (omega arith)) ∙ ap (λ n. bit_at n k) (sym parts)))
+
+  pub some_bit : 1 ≤ word
+  some_bit = omega (arith, parts, low_is, pow_pos place)
+
+  pub lowest_cut : bit_at (bit_and word (word - 1)) place ≡ 0
+  lowest_cut = omega (arith, bit_at_and word (word - 1) place, less_here)
+
+  pub lowest_others : (k : ℕ) → k ≢ place → bit_at (bit_and word (word - 1)) k ≡ bit_at word k
+  lowest_others k other =
+      elim (cases_lt k place) [
+        | inl lt ↦ omega (arith, bit_at_and word (word - 1) k, low.lower k lt)
+        | inr le ↦ let later : place < k = omega arith in omega (arith, bit_at_and word (word - 1) k, less_high k later)
+      ]
 
 pub bit_is : (b : Bool) → (bit_if b == 1) ≡ b
 bit_is true = refl

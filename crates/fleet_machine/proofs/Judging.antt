@@ -94,6 +94,9 @@ module _ (p : Program) (test : ℕ → Bool) (old now : MachineState) (i : ℕ) 
   pub home_so_far : home_of now.waiting.homes i ≡ home_of old.waiting.homes i
   home_so_far = (before.later i (omega arith)).home
 
+  pub ready_so_far : flag_of now.ready i ≡ flag_of old.ready i
+  ready_so_far = (before.later i (omega arith)).ready
+
   pub read_so_far : IsRead p old.configuration i (mark_of old.marks i) → IsRead p now.configuration i (mark_of now.marks i)
   read_so_far read = rw (ap (λ (m : MachineState). m.configuration) before.same, (before.later i (omega arith)).mark) read
 

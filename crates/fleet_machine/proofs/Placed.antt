@@ -39,10 +39,13 @@ module _ (p : Program) (m new : MachineState) (i : ℕ) (nowhere : home_of m.wai
     left_same : set m.left i true ≡ m.left
     left_same = ap (λ b. set m.left i b) (sym (flagged is_left_now)) ∙ set-get_or m.left i false
 
+    ready_same : flag_of m.ready i ≡ true → set m.ready i true ≡ m.ready
+    ready_same was = ap (λ b. set m.ready i b) (sym was) ∙ set-get_or m.ready i false
+
     pub placed_ready : (lacked : Option Await) → lacked ≡ None → IsLacked p m.configuration i lacked
         → is_ready p m.configuration i ≡ (is_left p m.configuration i && is_none lacked)
-        → new ≡ record m { marks = set m.marks i mark; ready = set m.ready i true } → IsPlaced p m new i
-    placed_ready None e belongs ready is =
+        → flag_of m.ready i ≡ true → new ≡ record m { marks = set m.marks i mark } → IsPlaced p m new i
+    placed_ready None e belongs ready was is =
         let now : is_ready p m.configuration i ≡ true = rw is_left_now at ready in
         record {
           lacked = None;
@@ -50,9 +53,9 @@ module _ (p : Program) (m new : MachineState) (i : ℕ) (nowhere : home_of m.wai
           mark = mark;
           read = read;
           all = all;
-          same = rw (now, is_left_now, left_same, home_same) is;
+          same = rw (now, is_left_now, left_same, ready_same was, home_same) is;
         }
-    placed_ready (Some w) e belongs ready is = absurd (cc e)
+    placed_ready (Some w) e belongs ready was is = absurd (cc e)
 
     pub placed_in_list : (lacked : Option Await) (w : Await) → lacked ≡ Some w → IfSome lacked (λ _. mark ≡ record (mark_of m.marks i) { met = mark.met }) → IsLacked p m.configuration i lacked
         → is_ready p m.configuration i ≡ (is_left p m.configuration i && is_none lacked)

@@ -1,5 +1,5 @@
 -- Sets of agents, as bits of words.
-use Rattle.std.specs.Prelude.{◌≡◌, ℕ, ◌+◌, ◌/◌, ◌%◌, ◌<◌, ◌≤◌, ◌↔◌, Bool, true, false, List, length, map, slice_index, if◌then◌else◌, ◌==◌, Option, MatchOption, IfSome}
+use Rattle.std.specs.Prelude.{◌≡◌, ℕ, ◌+◌, ◌-◌, ◌/◌, ◌%◌, ◌<◌, ◌≤◌, ◌↔◌, Bool, true, false, List, length, map, slice_index, if◌then◌else◌, ◌==◌, Option, MatchOption, IfSome}
 use Rattle.std.specs.Int.{bit_at}
 use Rattle.fleet_model.specs.declared.limits.TheConstants.{MAX_AGENTS}
 use Rattle.fleet_model.specs.Machine.{indices}
@@ -53,11 +53,14 @@ pub record IsNextFrom (flags : List Bool) (from i : ℕ) : Type 0 where
   pub member : flag_of flags i ≡ true
   pub between : (k : ℕ) → from ≤ k → k < i → flag_of flags k ≡ false
 
--- the bits of the cursor are the flags from its agent on up to some agent, and none is set from there on
+-- the bits of the cursor are the flags of a word from its agent on, and no bit before or behind them is set
 pub record IsCursorOf (flags : List Bool) (cursor : Cursor) : Type 0 where
-  pub span : ℕ
-  pub here : (k : ℕ) → k < span → flag_of flags (cursor.from + k) ≡ (bit_at cursor.bits k == 1)
-  pub past : (k : ℕ) → span ≤ k → bit_at cursor.bits k ≡ 0
+  pub few : cursor.first ≤ MAX_AGENTS
+  pub word : cursor.first % 64 ≡ 0
+  pub later : cursor.first ≤ cursor.from
+  pub within : cursor.from ≤ cursor.first + 64
+  pub here : (k : ℕ) → cursor.from ≤ k → k < cursor.first + 64 → flag_of flags k ≡ (bit_at cursor.bits (k - cursor.first) == 1)
+  pub only : (k : ℕ) → bit_at cursor.bits k ≡ 1 → (cursor.from ≤ cursor.first + k) × (k < 64)
 
 -- this is the first member from the cursor on, if there is one, and the cursor goes on behind it
 pub record GoesOn (flags : List Bool) (old new : Cursor) (found : Option ℕ) : Type 0 where

@@ -1,6 +1,6 @@
 //! Sets of agents, a bit for each agent. The next member is found at a look at three words.
 
-ghost use Rattle.std.specs.Prelude.{◌≡◌, ◌≢◌, ◌<◌, ◌≤◌, ◌+◌, ◌^◌, ℕ, length, set, replicate, true, false, MatchOption, IfSome};
+ghost use Rattle.std.specs.Prelude.{◌≡◌, ◌≢◌, ◌<◌, ◌≤◌, ◌+◌, ◌^◌, ◌||◌, ℕ, bit_or, length, set, slice_index, replicate, true, false, MatchOption, IfSome};
 ghost use Rattle.std.specs.Int.{bit_at};
 ghost use Rattle.fleet_machine.specs.Machine.{flag_of};
 ghost use Rattle.fleet_machine.specs.AgentSet.{bit_if, IsLowest, IsNextFrom, AreNoneFrom, AreNoneIn, AreMarks, IsCursorOf};
@@ -95,6 +95,22 @@ fn copy_words(words: &mut [u64], others: &[u64], marks: u64)
     let mut left = marks;
     while let Some(at) = lowest(left) {
         words[at] = others[at];
+        left = without_bit(left, at as u16);
+    }
+}
+
+/// Adds the bits of the words that are marked, which are all that have a bit.
+fn add_words(words: &mut [u64], others: &[u64], marks: u64)
+    requires few { length others.now ≤ 64 }
+    requires long { length words.old ≡ length others.now }
+    requires marked { AreMarks others.now marks }
+    ensures long { length words.new ≡ length words.old }
+    ensures added { (k : ℕ) → slice_index words.new k
+        ≡ bit_or (slice_index words.old k) (slice_index others.now k) }
+{
+    let mut left = marks;
+    while let Some(at) = lowest(left) {
+        words[at] |= others[at];
         left = without_bit(left, at as u16);
     }
 }
@@ -200,6 +216,18 @@ impl AgentSet {
         self.filled = other.filled;
     }
 
+    /// The members of the other set are members too from now on. It costs as much as there are words with members of the
+    /// other.
+    pub fn add(&mut self, other: &AgentSet)
+        requires { length self.old ≡ length other.now }
+        ensures agents { length self.new ≡ length self.old }
+        ensures members { (i : ℕ) → flag_of self.new i
+            ≡ (flag_of self.old i || flag_of other.now i) }
+    {
+        add_words(&mut self.words, &other.words, other.filled);
+        self.filled |= other.filled;
+    }
+
     /// The members are the flagged agents from now on.
     pub fn set_to(&mut self, flags: &[bool])
         requires few { length flags.now ≤ MAX_AGENTS }
@@ -245,6 +273,7 @@ impl AgentSet {
         let word = self.words[0];
         Cursor {
             from: 0,
+            first: 0,
             bits: word,
         }
     }
@@ -260,25 +289,29 @@ impl AgentSet {
     {
         let _ = &self.words;
         match lowest(cursor.bits) {
-            Some(skipped) => Some(cursor.pass(skipped as u16)),
+            Some(place) => Some(cursor.pass(place as u16)),
             None => self.next_apart(cursor),
         }
     }
 
-    /// The first member from the cursor on, which goes on behind it, and with the flags that stand in its word.
+    /// The first member from the cursor on, whose bits are used up. It goes on behind the member, with the flags of the
+    /// member's word.
     fn next_apart(&self, cursor: &mut Cursor) -> Option<u16>
-        requires { IsCursorOf self.now cursor.old }
+        requires cursor { IsCursorOf self.now cursor.old }
+        requires empty { cursor.old.bits ≡ 0 }
         ensures next { MatchOption result
             (AreNoneFrom self.now cursor.old.from) (IsNextFrom self.now cursor.old.from) }
         ensures behind { IfSome result (λ i. cursor.new.from ≡ i + 1) }
         ensures cursor { IsCursorOf self.now cursor.new }
     {
-        let i = self.next(cursor.from)?;
+        let i = self.next(cursor.first + 64)?;
+        let place = i % 64;
         let word = self.words[i as usize / WORD];
         *cursor = Cursor {
-            from: i + 1,
-            bits: word >> (i % 64) >> 1,
+            from: i,
+            first: i - place,
+            bits: word,
         };
-        Some(i)
+        Some(cursor.pass(place))
     }
 }

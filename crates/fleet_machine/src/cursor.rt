@@ -1,28 +1,43 @@
 //! Where one goes on through the members of a set.
 
-ghost use Rattle.std.specs.Prelude.{◌≡◌, ◌+◌, ◌/◌, ◌<◌, ◌^◌};
+ghost use Rattle.std.specs.Prelude.{◌≡◌, ◌≢◌, ◌+◌, ◌<◌, ℕ};
+ghost use Rattle.std.specs.Int.{bit_at};
+ghost use Rattle.fleet_machine.specs.AgentSet.{IsLowest};
 
-/// Where one goes on through the members of a set: the agent from which on the next one is looked for, and flags from
-/// it on, as bits.
+/// Where one goes on through the members of a set: the agent from which on the next one is looked for, and the flags of
+/// its word from it on, as bits, of which the lowest one is that of the first agent of the word.
 #[derive(Clone, Copy)]
 pub struct Cursor {
     pub from: u16,
+    pub first: u16,
     pub bits: u64,
 }
 
+/// The word without its lowest bit, which has this place.
+fn without_lowest(word: u64, place: u16) -> u64
+    requires { IsLowest word place }
+    ensures here { bit_at result place ≡ 0 }
+    ensures others { (k : ℕ) → k ≢ place → bit_at result k ≡ bit_at word k }
+{
+    let _ = place;
+    word & (word - 1)
+}
+
 impl Cursor {
-    /// Goes on behind the agent that comes after so many, and answers it.
-    pub fn pass(&mut self, skipped: u16) -> u16
-        requires bit { skipped < 64 }
-        requires fit { self.old.from + skipped < 65535 }
-        ensures agent { result ≡ self.old.from + skipped }
-        ensures behind { self.new ≡ record {
-          from = self.old.from + skipped + 1;
-          bits = self.old.bits / 2 ^ skipped / 2 ^ 1;
+    /// Goes on behind the agent of the lowest bit, which has this place, and answers the agent.
+    pub fn pass(&mut self, place: u16) -> u16
+        requires lowest { IsLowest self.old.bits place }
+        requires fit { self.old.first + place < 65535 }
+        ensures agent { result ≡ self.old.first + place }
+        ensures behind { self.new ≡ record self.old {
+          from = self.old.first + place + 1;
+          bits = self.new.bits;
         } }
+        ensures here { bit_at self.new.bits place ≡ 0 }
+        ensures others { (k : ℕ) → k ≢ place → bit_at self.new.bits k ≡ bit_at self.old.bits k }
     {
-        let i = self.from + skipped;
-        self.bits = self.bits >> skipped >> 1;
+        let i = self.first + place;
+        self.bits = without_lowest(self.bits, place);
         self.from = i + 1;
         i
     }

@@ -90,8 +90,8 @@ impl Machine {
         Ok(machine)
     }
 
-    /// So many agents, which stand there and in these lists, and have read so far. Each is flagged as one with an
-    /// action left, and otherwise none.
+    /// So many agents, which stand there and in these lists, and have read so far. Each is flagged as ready and as one
+    /// with an action left, and otherwise none.
     fn with_agents(
         agents: Vec<Standing>,
         marks: Vec<Mark>,
@@ -105,7 +105,7 @@ impl Machine {
           configuration = agents.items;
           marks = marks.items;
           moving = replicate count false;
-          ready = replicate count false;
+          ready = replicate count true;
           left = replicate count true;
           due = replicate count false;
           waiting = waiting;
@@ -117,7 +117,7 @@ impl Machine {
             agents,
             marks,
             moving: AgentSet::new(count),
-            ready: AgentSet::new(count),
+            ready: AgentSet::of_all(count),
             left: AgentSet::of_all(count),
             due: AgentSet::new(count),
             waiting,
@@ -314,31 +314,6 @@ impl Machine {
         self.least[list as usize] = least.min(awaited.count);
     }
 
-    /// Agent `i`, which has read so far, is ready. A bit that is set already is not written.
-    #[inline(always)]
-    fn flag_ready(&mut self, i: u16, mark: Mark)
-        requires marks { i < length self.old.marks }
-        requires ready { i < length self.old.ready }
-        ensures { self.new ≡ record self.old {
-          marks = set self.old.marks i mark;
-          ready = set self.old.ready i true;
-        } }
-    {
-        self.set_mark(i, mark);
-        if !self.ready.contains(i) {
-            self.make_ready(i);
-        }
-    }
-
-    /// Agent `i` is ready.
-    #[inline(never)]
-    fn make_ready(&mut self, i: u16)
-        requires { i < length self.old.ready }
-        ensures { self.new ≡ record self.old { ready = set self.old.ready i true } }
-    {
-        self.ready.set(i, true);
-    }
-
     /// Agent `i`, of whose next action so many awaits are met, is not ready, and waits for what is awaited.
     #[inline(never)]
     fn wait(&mut self, i: u16, met: u16, awaited: Await)
@@ -385,7 +360,7 @@ impl Machine {
         self.marks[i as usize] = mark;
     }
 
-    /// Flags agent `i` anew, which stands in no list, and puts it into the one in which it belongs.
+    /// Flags agent `i` anew, which is flagged as ready and stands in no list, and puts it into the one in which it belongs.
     #[inline(always)]
     fn judge<P: ProgramView>(&mut self, program: &P, i: u16)
         requires well_formed { IsWellFormed (P.program program.now) }
@@ -395,6 +370,7 @@ impl Machine {
         requires read { IsRead (P.program program.now) self.old.configuration i (mark_of self.old.marks i) }
         requires flagged { is_left (P.program program.now) self.old.configuration i ≡ true
             → flag_of self.old.left i ≡ true }
+        requires ready { flag_of self.old.ready i ≡ true }
         requires nowhere { home_of self.old.waiting.homes i ≡ None }
         ensures { IsPlaced (P.program program.now) self.old self.new i }
     {
@@ -405,7 +381,7 @@ impl Machine {
         }
         let (mark, lacked) = self.read_on(program, i);
         match lacked {
-            None => self.flag_ready(i, mark),
+            None => self.set_mark(i, mark),
             Some(awaited) => self.wait(i, mark.met, awaited),
         }
     }
@@ -420,6 +396,8 @@ impl Machine {
             → IsRead (P.program program.now) self.old.configuration i (mark_of self.old.marks i) }
         requires flagged { (i : ℕ) → i < length (P.program program.now)
             → flag_of self.old.left i ≡ true }
+        requires ready { (i : ℕ) → i < length (P.program program.now)
+            → flag_of self.old.ready i ≡ true }
         requires nowhere { (i : ℕ) → home_of self.old.waiting.homes i ≡ None }
         ensures runs { Runs (P.program program.now) self.new }
         ensures configuration { self.new.configuration ≡ self.old.configuration }
@@ -428,6 +406,54 @@ impl Machine {
         for i in 0..program.agents() {
             self.judge(program, i);
         }
+    }
+
+    /// Judges the agents that are due, each of which is flagged as ready, and answers how many they are.
+    fn judge_supposed<P: ProgramView>(&mut self, program: &P) -> u16
+        requires well_formed { IsWellFormed (P.program program.now) }
+        requires agents { length self.old.configuration ≡ length (P.program program.now) }
+        requires rows { HasRows (length (P.program program.now)) self.old }
+        requires read { (i : ℕ) → i < length (P.program program.now)
+            → IsRead (P.program program.now) self.old.configuration i (mark_of self.old.marks i) }
+        requires flagged { (i : ℕ) → i < length (P.program program.now)
+            → is_left (P.program program.now) self.old.configuration i ≡ true
+            → flag_of self.old.left i ≡ true }
+        requires ready { (i : ℕ) → flag_of self.old.due i ≡ true → flag_of self.old.ready i ≡ true }
+        requires nowhere { (i : ℕ) → flag_of self.old.due i ≡ true
+            → home_of self.old.waiting.homes i ≡ None }
+        ensures same { self.new ≡ record self.old {
+          ready = self.new.ready;
+          left = self.new.left;
+          marks = self.new.marks;
+          waiting = self.new.waiting;
+          least = self.new.least;
+        } }
+        ensures rows { HasRows (length (P.program program.now)) self.new }
+        ensures judged { (i : ℕ) → i < length (P.program program.now)
+            → flag_of self.old.due i ≡ true → IsJudged (P.program program.now) self.new i }
+        ensures others { (i : ℕ) → flag_of self.old.due i ≡ false
+            → IsAsBefore self.old self.new i }
+        ensures count { result
+            ≡ length (filter (flag_of self.old.due) (indices (length (P.program program.now)))) }
+    {
+        let mut cursor = self.due_cursor();
+        let mut count = 0;
+        while let Some(i) = self.next_due(&mut cursor) {
+            self.judge(program, i);
+            count += 1;
+        }
+        count
+    }
+
+    /// The agents that are due are flagged as ready, as most of them are, until they are judged.
+    fn suppose_ready(&mut self)
+        requires { length self.old.ready ≡ length self.old.due }
+        ensures same { self.new ≡ record self.old { ready = self.new.ready } }
+        ensures long { length self.new.ready ≡ length self.old.ready }
+        ensures ready { (i : ℕ) → flag_of self.new.ready i
+            ≡ (flag_of self.old.ready i || flag_of self.old.due i) }
+    {
+        self.ready.add(&self.due);
     }
 
     /// Judges the agents that are due, and answers how many they are.
@@ -457,13 +483,8 @@ impl Machine {
         ensures count { result
             ≡ length (filter (flag_of self.old.due) (indices (length (P.program program.now)))) }
     {
-        let mut cursor = self.due_cursor();
-        let mut count = 0;
-        while let Some(i) = self.next_due(&mut cursor) {
-            self.judge(program, i);
-            count += 1;
-        }
-        count
+        self.suppose_ready();
+        self.judge_supposed(program)
     }
 
     /// Takes the first agent off list `j`, if one stands there. It is due.
@@ -511,9 +532,10 @@ impl Machine {
         self.least[j as usize]
     }
 
-    /// Takes all agents off the list of agent `j` in which those stand that wait for its count, if the list's least
-    /// count is reached. They are due.
-    fn wake_if_reached(&mut self, j: u16)
+    /// Takes all agents off the list of agent `j` in which those stand that wait for its count, which is this one, if the
+    /// list's least count is reached. They are due.
+    fn wake_if_reached(&mut self, j: u16, count: u32)
+        requires count { count ≡ count_at self.old.configuration j }
         requires few { j < MAX_AGENTS }
         requires list { j * LISTS_EACH + LISTS_EACH ≤ self.old.waiting.lists }
         requires least { j * LISTS_EACH + LISTS_EACH ≤ length self.old.least }
@@ -521,7 +543,6 @@ impl Machine {
         requires due { length self.old.due ≡ length self.old.waiting.homes }
         ensures { IsWoken (λ k. (agent_of k == j) && is_reached self.old k) self.old self.new }
     {
-        let count = self.agent(j).count;
         let list = list_of(Await { agent: j, count });
         let is_early = count < self.least_count(list);
         if is_early {
@@ -558,9 +579,9 @@ impl Machine {
         };
     }
 
-    /// Agent `i` finishes its next action, up to whose step it has read.
+    /// Agent `i` finishes its next action, up to whose step it has read. Answers how many it has finished then.
     #[inline(always)]
-    fn finish_action<P: ProgramView>(&mut self, program: &P, i: u16)
+    fn finish_action<P: ProgramView>(&mut self, program: &P, i: u16) -> u32
         requires well_formed { IsWellFormed (P.program program.now) }
         requires agent { i < length (P.program program.now) }
         requires standing { i < length self.old.configuration }
@@ -568,7 +589,8 @@ impl Machine {
         requires left { count_at self.old.configuration i < moves (P.program program.now) i }
         requires read { IsReadToStep (P.program program.now) self.old.configuration i
             (mark_of self.old.marks i) }
-        ensures { self.new ≡ record self.old {
+        ensures count { result ≡ count_at self.new.configuration i }
+        ensures finished { self.new ≡ record self.old {
           configuration =
               set self.old.configuration i (after_next
               (P.program program.now) self.old.configuration i);
@@ -579,6 +601,7 @@ impl Machine {
         let finished = after_step(self.agent(i), step);
         self.pass(i);
         self.set_agent(i, finished);
+        finished.count
     }
 
     /// The agents that are ready are to move and are due, and no others.
@@ -619,8 +642,8 @@ impl Machine {
             (λ k. (agent_of k == i) && is_reached (advanced_one (P.program program.now) self.old i) k)
             (advanced_one (P.program program.now) self.old i) self.new }
     {
-        self.finish_action(program, i);
-        self.wake_if_reached(i);
+        let count = self.finish_action(program, i);
+        self.wake_if_reached(i, count);
     }
 
     /// Each agent that is ready and not held finishes an action, and is due, as are those that it wakes. Answers also

@@ -14,8 +14,8 @@ returns-in-None g c =
     let p = g.P.ProgramView.program c.args.program.now in
     let count = ap (λ (s : Standing). s.count) c.agent.ensures.standing in
     let on = c.read_on-lacked in
-    placed_ready p c.args.self.now c.flag_ready.new.self c.args.i c.requires.nowhere (omega (arith, count, c.if-has_finished.false)) c.requires.flagged
-    on.result.0 on.ensures.read on.ensures.all on.result.1 c.in-None.is on.ensures.lacked on.ensures.ready c.flag_ready.ensures
+    placed_ready p c.args.self.now c.set_mark.new.self c.args.i c.requires.nowhere (omega (arith, count, c.if-has_finished.false)) c.requires.flagged
+    on.result.0 on.ensures.read on.ensures.all on.result.1 c.in-None.is on.ensures.lacked on.ensures.ready c.requires.ready c.set_mark.ensures
 
 pub returns-in-Some : goal.returns-in-Some
 returns-in-Some g c =

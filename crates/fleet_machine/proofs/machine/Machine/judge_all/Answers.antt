@@ -1,6 +1,6 @@
 use Rattle.std.proofs.Common.{◌<◌, ◌∙◌, ap, length, refl, true, arith}
 use Rattle.fleet_machine.specs.Machine.{MachineState}
-use Rattle.fleet_machine.proofs.Judging.{none_judged, home_so_far, read_so_far, left_so_far, one_judged}
+use Rattle.fleet_machine.proofs.Judging.{none_judged, home_so_far, read_so_far, left_so_far, ready_so_far, one_judged}
 use Rattle.fleet_machine.proofs.machine.Machine.judge_all.Goals as goal
 
 pub loop-i-init : goal.loop-i-init
@@ -47,3 +47,9 @@ returns-clause-configuration g c = ap (λ (m : MachineState). m.configuration) c
 
 pub returns-clause-looked : goal.returns-clause-looked
 returns-clause-looked g c = ap (λ (m : MachineState). m.looked) c.loop-i.invariant.same
+
+pub judge-requires-clause-ready : goal.judge-requires-clause-ready
+judge-requires-clause-ready g c =
+    let p = g.P.ProgramView.program c.args.program.now in
+    let agent : c.loop-i.i < length p = omega (arith, c.agents-i-end.ensures.count) in
+    ready_so_far p (λ k. true) c.args.self.now c.loop-i.self c.loop-i.i c.loop-i.invariant ∙ c.requires.ready c.loop-i.i agent

@@ -30,7 +30,7 @@ judge_all-requires-clause-rows g c =
     record {
       marks = ap (λ (m : MachineState). length m.marks) made
           ∙ (ap length (c.in_ok-marks.ensures.items_if_clones_equal (λ y k. search rules)) ∙ (length-replicate c.agents-count.result _ ∙ count));
-      ready = ap (λ (m : MachineState). length m.ready) made ∙ flags;
+      ready = ap (λ (m : MachineState). length m.ready) made ∙ (length-replicate c.agents-count.result true ∙ count);
       left = ap (λ (m : MachineState). length m.left) made ∙ (length-replicate c.agents-count.result true ∙ count);
       due = ap (λ (m : MachineState). length m.due) made ∙ flags;
       lists = ap (λ (m : MachineState). m.waiting.lists) made ∙ (ap (λ (w : WaitState). w.lists) c.in_ok-waiting.ensures ∙ ap (λ (n : ℕ). n * 8) count);
@@ -67,3 +67,7 @@ judge_all-requires-clause-read g c =
 pub judge_all-requires-clause-flagged : goal.judge_all-requires-clause-flagged
 judge_all-requires-clause-flagged g c =
     λ i agent. ap (λ (m : MachineState). flag_of m.left i) c.with_agents-machine.ensures ∙ all_flags c.agents-count.result i (omega (arith, c.agents-count.ensures.count))
+
+pub judge_all-requires-clause-ready : goal.judge_all-requires-clause-ready
+judge_all-requires-clause-ready g c =
+    λ i agent. ap (λ (m : MachineState). flag_of m.ready i) c.with_agents-machine.ensures ∙ all_flags c.agents-count.result i (omega (arith, c.agents-count.ensures.count))

@@ -3,7 +3,7 @@ use Rattle.fleet_model.specs.Machine.{indices}
 use Rattle.fleet_machine.specs.Machine.{flag_of}
 use Rattle.fleet_machine.proofs.Judging.{AreJudgedTo}
 use Rattle.fleet_machine.specs.AgentSet.{IsCursorOf}
-use Rattle.fleet_machine.proofs.machine.Machine.judge_due.Given as goal
+use Rattle.fleet_machine.proofs.machine.Machine.judge_supposed.Given as goal
 
 abbrev pub invariant-loop-i : goal.invariant-loop-i
 invariant-loop-i g l =

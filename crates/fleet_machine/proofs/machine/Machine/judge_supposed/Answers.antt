@@ -1,8 +1,8 @@
 use Rattle.std.proofs.Common.{◌<◌, length, refl, arith, ap, sym, ◌∙◌}
 use Rattle.fleet_machine.specs.Machine.{MachineState, flag_of, is_left}
 use Rattle.fleet_machine.specs.AgentSet.{IsNextFrom, AreNoneFrom}
-use Rattle.fleet_machine.proofs.Judging.{none_judged, read_so_far, left_so_far, one_judged, some_passed, none_more_counted, one_more_counted, counted_le}
-use Rattle.fleet_machine.proofs.machine.Machine.judge_due.Goals as goal
+use Rattle.fleet_machine.proofs.Judging.{none_judged, read_so_far, left_so_far, ready_so_far, one_judged, some_passed, none_more_counted, one_more_counted, counted_le}
+use Rattle.fleet_machine.proofs.machine.Machine.judge_supposed.Goals as goal
 
 pub overflow_add-count : goal.overflow_add-count
 overflow_add-count g c =
@@ -95,3 +95,14 @@ returns-clause-judged g c =
     let before = c.loop-i.invariant in
     let none : AreNoneFrom old.due c.loop-i.cursor.from = rw (ap (λ (m : MachineState). m.due) before.judged.same) at c.in_default.ensures.next in
     (some_passed p (flag_of old.due) old c.loop-i.self c.loop-i.cursor.from (length p) before.within (λ k later below. none k later) before.judged).judged
+
+pub judge-requires-clause-ready : goal.judge-requires-clause-ready
+judge-requires-clause-ready g c =
+    let p = g.P.ProgramView.program c.args.program.now in
+    let old = c.args.self.now in
+    let due = flag_of old.due in
+    let before = c.loop-i.invariant in
+    let i = c.in-Some.i in
+    let next : IsNextFrom old.due c.loop-i.cursor.from i = rw (ap (λ (m : MachineState). m.due) before.judged.same) at c.in-Some.ensures.next in
+    let here = some_passed p due old c.loop-i.self c.loop-i.cursor.from i next.later next.between before.judged in
+    ready_so_far p due old c.loop-i.self i here ∙ c.requires.ready i next.member

@@ -21,15 +21,15 @@ cut_nowhere line e = split_none is_space line (found_nowhere is_space line e)
 
 -- ---- the first of the words
 
-some_capped : (o : Option ℕ) (i : ℕ) → option_map (λ (n : ℕ). min n 65536) o ≡ Some i → (n : ℕ) × (o ≡ Some n) × (min n 65536 ≡ i)
-some_capped None i e = absurd cc
-some_capped (Some n) i e = (n, refl, cc)
+some_capped : (most : ℕ) (o : Option ℕ) (i : ℕ) → option_map (λ (n : ℕ). min n most) o ≡ Some i → (n : ℕ) × (o ≡ Some n) × (min n most ≡ i)
+some_capped most None i e = absurd cc
+some_capped most (Some n) i e = (n, refl, cc)
 
--- the number of an agent
-pub word_inside : (n least i : ℕ) (word : Bytes) (words : List Bytes) → n < 65536 → option_map (λ (k : ℕ). min k 65536) (plain_number word) ≡ Some i
+-- the number of an agent, where numbers from a greater one on are answered as that one
+pub word_inside : (most n least i : ℕ) (word : Bytes) (words : List Bytes) → n ≤ most → option_map (λ (k : ℕ). min k most) (plain_number word) ≡ Some i
     → least ≤ i → i < n → agents_of n least (word ∷ words) ≡ option_map (λ (others : List ℕ). i ∷ others) (agents_of n (i + 1) words)
-word_inside n least i word words small e low high =
-    let s = some_capped (plain_number word) i e in
+word_inside most n least i word words small e low high =
+    let s = some_capped most (plain_number word) i e in
     let same : s.0 ≡ i = omega (arith, s.2) in
     let here : plain_number word ≡ Some i = s.1 ∙ ap (λ (k : ℕ). Some k) same in
     rw (here, le-leb least i low, lt-ltb i n high) refl

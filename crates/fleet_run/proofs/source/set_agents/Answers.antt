@@ -1,6 +1,7 @@
 use Rattle.std.proofs.Common.{◌≡◌, ◌+◌, ◌++◌, ◌∷◌, [], List, ℕ, sym, arith}
 use Rattle.std.specs.Prelude.{option_map}
 use Rattle.std.specs.List.{slice_split}
+use Rattle.fleet_text.specs.declared.numbers.TheConstants.{TOO_LONG}
 use Rattle.fleet_run.specs.Source.{AreFlagsOf}
 use Rattle.fleet_run.specs.HoldText.{is_space, agents_of}
 use Rattle.fleet_run.proofs.SourceLemmas.{flags_set, flags_past}
@@ -15,7 +16,7 @@ words-preserved c =
     let cut = rw c.in-Some-after.is at c.cut.ensures.words in
     let part : agents_of c.args.agents c.words.least (slice_split is_space c.words.rest.now)
     ≡ option_map (λ (others : List ℕ). i ∷ others) (agents_of c.args.agents (i + 1) (slice_split is_space c.in-Some-after.after.now)) =
-    rw cut (word_inside c.args.agents c.words.least i c.cut.result.0.now (slice_split is_space c.in-Some-after.after.now) (omega arith) (sym c.in-Some.ensures) c.if-agent-least.false c.if-agent-agents.false) in
+    rw cut (word_inside TOO_LONG c.args.agents c.words.least i c.cut.result.0.now (slice_split is_space c.in-Some-after.after.now) (omega arith) (sym c.in-Some.ensures) c.if-agent-least.false (omega (arith, c.if-agent-from.false, c.from.ensures))) in
     let flags : AreFlagsOf (before.0 ++ i ∷ []) c.if-has_flag.flags =
     elim c.if-has_flag.branch [
       | then-has_flag w ↦ rw w.flags-is (flags_set before.0 i c.words.flags w.if-has_flag.true before.1)

@@ -1,7 +1,7 @@
 -- What the pass over the bytes finds, action by action and agent by agent.
-use Rattle.std.proofs.Common.{◌≡◌, ℕ, suc, ◌-◌, ◌+◌, ◌≤◌, ◌<◌, List, [], ◌∷◌, ◌++◌, length, Option, Some, None, Ok, Err, refl, sym, ap, ◌∙◌, append_assoc, arith}
+use Rattle.std.proofs.Common.{◌≡◌, ℕ, suc, ◌-◌, ◌+◌, ◌≤◌, ◌<◌, List, [], ◌∷◌, ◌++◌, length, take, set, replicate, Option, Some, None, Ok, Err, refl, sym, ap, ◌∙◌, append_assoc, arith}
 use Rattle.std.proofs.Math.Nat.{sub-zero}
-use Rattle.std.proofs.lemmas.List.{append-nil, length-append}
+use Rattle.std.proofs.lemmas.List.{append-nil, length-append, take_more_set}
 use Rattle.fleet_model.specs.declared.geometry.Step.{Step}
 use Rattle.fleet_model.specs.declared.program.Action.{Action}
 use Rattle.fleet_model.specs.declared.program.AgentProgram.{AgentProgram}
@@ -134,3 +134,18 @@ agent_length v whole n i total bytes x fits e = ap length (agent_takes v whole n
 pub ends_length : (at : ℕ) (actions : List Action) → length (ends_of at actions) ≡ length actions
 ends_length at [] = refl
 ends_length at (a ∷ actions) = ap suc (ends_length (at + opcodes a) actions)
+
+-- ---- a row that is filled from the front
+
+-- before an action is read, one offset is known
+pub ends_begin : (v : Version) (whole n i count most : ℕ) (bytes row : List ℕ) → row ≡ replicate (most + 1) 0
+    → EndsGoOn v whole n i count 0 bytes (take 1 row) 0 (with_ends (0 ∷ []) 0 (actions_at v count whole n i bytes))
+ends_begin v whole n i count most bytes row e =
+    let more : most + 1 ≡ suc most = omega arith in
+    let first : take 1 row ≡ 0 ∷ [] = ap (take 1) (e ∙ ap (λ (m : ℕ). replicate m 0) more) in
+    let all : count - 0 ≡ count = omega arith in
+    record { gives = rw (first, all) refl }
+
+-- one offset more is written
+pub one_filled : (row : List ℕ) (k end : ℕ) → k + 1 < length row → take (k + 1) row ++ end ∷ [] ≡ take (k + 1 + 1) (set row (k + 1) end)
+one_filled row k end lt = sym (take_more_set row (k + 1) end lt)

@@ -1,6 +1,7 @@
 //! The fixed bytes of the format, and what its versions have of their own.
 
-ghost use Rattle.std.specs.Prelude.{◌≡◌};
+ghost use Rattle.std.specs.Prelude.{◌≡◌, ◌≤◌, Some};
+ghost use Rattle.fleet_model.specs.declared.geometry.Step.TheVariants.{Go};
 ghost use Rattle.fleet_code.specs.Spelling.{opcode};
 ghost use Rattle.fleet_code.specs.Reading.{step_at};
 
@@ -18,6 +19,12 @@ pub const MAGIC_LEN: usize = 4;
 /// The opcode of an await. An agent and a count follow it.
 pub const AWAIT: u8 = 0x10;
 
+/// The greatest opcode of a move.
+const LAST_MOVE: u8 = 3;
+
+/// The opcode of a stay.
+const DWELL: u8 = 4;
+
 /// How many bytes stand before the first agent: the magic and the number of agents.
 pub const HEAD_LEN: usize = 6;
 
@@ -29,9 +36,6 @@ pub const CELL_LEN: usize = 2 * NUMBER_LEN;
 
 /// How many bytes an agent takes at least: one without actions, in version 1.
 pub const LEAST_AGENT_LEN: usize = 10;
-
-/// How many bytes an action takes at least: its step.
-pub const LEAST_ACTION_LEN: usize = 1;
 
 /// A version of the bytes. The versions differ in the magic, in how wide a number of actions and a count are, in the
 /// most actions of an agent, and in that version 2 alone has a byte for a stay.
@@ -114,16 +118,31 @@ pub fn opcode_of(step: Step) -> u8
     }
 }
 
-/// The step that has this opcode in the version, if one has it.
+/// The step that has this opcode in the version, if one has it. The opcode chooses a direction and no way through the
+/// code, since a processor foresees no step.
+#[inline(always)]
 pub fn step_of(version: Version, opcode: u8) -> Option<Step>
     ensures { result ≡ step_at version opcode }
 {
+    if opcode <= LAST_MOVE {
+        return Some(Step::Go(dir_of(opcode)));
+    }
     match (version, opcode) {
-        (_, 0) => Some(Step::Go(Dir::North)),
-        (_, 1) => Some(Step::Go(Dir::East)),
-        (_, 2) => Some(Step::Go(Dir::South)),
-        (_, 3) => Some(Step::Go(Dir::West)),
-        (Version::Two, 4) => Some(Step::Dwell),
+        (Version::Two, DWELL) => Some(Step::Dwell),
         _ => None,
+    }
+}
+
+/// The direction of a move that has this opcode.
+#[inline(always)]
+fn dir_of(opcode: u8) -> Dir
+    requires { opcode ≤ LAST_MOVE }
+    ensures { step_at Version.One opcode ≡ Some (Go result) }
+{
+    match opcode {
+        0 => Dir::North,
+        1 => Dir::East,
+        2 => Dir::South,
+        _ => Dir::West,
     }
 }

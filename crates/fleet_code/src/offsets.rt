@@ -1,6 +1,6 @@
 //! Where the actions of an agent stand in the bytes.
 
-ghost use Rattle.std.specs.Prelude.{◌≡◌, ◌<◌, ◌≤◌, ◌+◌, ◌-◌, ◌/◌, ◌∷◌, [], min, true, length, vec_len, vec_capacity, IfOk, ◌^◌, All, slice_index_or};
+ghost use Rattle.std.specs.Prelude.{◌≡◌, ◌<◌, ◌≤◌, ◌+◌, ◌-◌, ◌/◌, ◌∷◌, [], min, replicate, true, length, vec_len, vec_capacity, IfOk, ◌^◌, All, slice_index_or};
 ghost use Rattle.fleet_model.specs.Answer.{IsDueUnless};
 ghost use Rattle.fleet_code.specs.Spelling.{action, agent};
 ghost use Rattle.fleet_code.specs.Heads.{head_at, agent_head_at};
@@ -9,7 +9,7 @@ ghost use Rattle.fleet_code.specs.Offsets.{Finds, AreBare, head_len, opcodes, en
 ghost use Rattle.std.specs.List.{range_with_len};
 
 use crate::fault::LoadFault;
-use crate::format::{AWAIT, HEAD_LEN, LEAST_ACTION_LEN, LEAST_AGENT_LEN, Version, step_of};
+use crate::format::{AWAIT, HEAD_LEN, LEAST_AGENT_LEN, Version, step_of};
 use crate::loader::{after_magic, await_of, cell_of, count_of, number_of};
 use fleet_model::{Cell, MAX_AGENTS, MAX_MOVES, MAX_MOVES_IN_ALL, OutOfMemory};
 use std::alloc::Global;
@@ -73,6 +73,14 @@ fn list_for<T>(
     Ok(Vec::with_capacity(alloc, (count as usize).min(bytes.len() / item_len) + 1)?)
 }
 
+/// So many zeros.
+fn zeros(alloc: Global, count: usize) -> Result<Vec<u32>, OutOfMemory>
+    ensures items { IfOk result (λ v. v.items ≡ replicate count 0) }
+    ensures len { IfOk result (λ v. vec_len v ≡ count) }
+{
+    Ok(vec![in alloc; 0; count]?)
+}
+
 /// What is known of the bytes before the first agent is read: their version, how many they are, and how many agents
 /// there are.
 #[derive(Clone, Copy)]
@@ -92,6 +100,7 @@ fn after_action(head: Head, own: u16, bytes: &[u8]) -> Result<(u32, &[u8]), Load
         × (length bytes.now ≡ length (action head.version due.0) + length x.1.now))
         result (action_at head.version (length bytes.now) head.whole head.agents own 0 bytes.now) }
     ensures few { IfOk result (λ x. x.0 ≤ MAX_AGENTS + 1) }
+    ensures shorter { IfOk result (λ x. length x.1.now < length bytes.now) }
 {
     let mut least = 0;
     let mut opcodes = 1;
@@ -114,7 +123,7 @@ fn after_action(head: Head, own: u16, bytes: &[u8]) -> Result<(u32, &[u8]), Load
 }
 
 /// How many opcodes stand before each of the next `count` actions of agent `own`, counted from here, and last how many
-/// they have together.
+/// they have together. A number that the bytes announce takes no more memory than the bytes that are there can fill.
 fn actions_after(
     alloc: Global,
     head: Head,
@@ -129,14 +138,13 @@ fn actions_after(
         result (actions_at head.version count head.whole head.agents own bytes.now) }
     ensures count { IfOk result (λ x. vec_len x.0 ≡ count + 1) }
 {
-    let mut offsets = list_for(alloc, count, LEAST_ACTION_LEN, bytes)?;
-    offsets.push(0).map_err(OutOfMemory::from)?;
+    let mut offsets = zeros(alloc, (count as usize).min(bytes.len()) + 1)?;
     let mut end = 0;
     let mut rest = bytes;
-    for _ in 0..count {
+    for done in 0..count {
         let (opcodes, after) = after_action(head, own, rest)?;
         end += opcodes;
-        offsets.push(end).map_err(OutOfMemory::from)?;
+        offsets[done as usize + 1] = end;
         rest = after;
     }
     Ok((offsets, rest))

@@ -1,9 +1,10 @@
 -- Actions finished in any order that respects needs: their levels, and the visits that have begun.
-use Rattle.std.specs.Prelude.{◌≡◌, ◌≢◌, ℕ, ◌+◌, ◌-◌, ◌<◌, ◌≤◌, ◌⊎◌, Bool, Some, List, [], ◌∷◌, ◌++◌, length, get_or, set, slice_index, Option, Contains, IfSome, IsTrue}
+use Rattle.std.specs.Prelude.{◌≡◌, ◌≢◌, ℕ, ◌+◌, ◌-◌, ◌<◌, ◌≤◌, ◌⊎◌, Bool, Some, List, [], ◌∷◌, ◌++◌, length, get_or, set, slice_index, Option, Contains, IsTrue}
 use Rattle.std.specs.List.{AllPairs}
 use Rattle.fleet_model.specs.declared.geometry.Cell.{Cell}
 use Rattle.fleet_model.specs.declared.geometry.Place.{Place}
 use Rattle.fleet_model.specs.declared.program.ActionId.{ActionId}
+use Rattle.fleet_model.specs.declared.program.Await.{Await}
 use Rattle.fleet_model.specs.declared.program.Visit.{Visit}
 use Rattle.fleet_model.specs.Geometry.{place_of}
 use Rattle.fleet_model.specs.Program.{Program, origin, moves, path, awaits_of, step_of, IsCell}
@@ -113,10 +114,14 @@ pub record IsRunner (passable : Place → Bool) (p : Program) (offset : (i finis
   pub at : r.at ≡ offset i r.finished 0
   pub ahead : IsAheadBy passable p (climbed_in a.rows.items i r.finished) (set a.cells.items i r.cell) (kept_at a.last) a.pairs.items
 
+-- the await is one of those of action n of agent i, or of agent i itself
+abbrev pub IsLatest : Program → (i n : ℕ) → Await → Type 0
+IsLatest p i n w = (w.agent ≡ i) ⊎ Contains (awaits_of p i n) w
+
 -- what the action of agent i after so many says, all of whose awaits are met, and where the next action stands
 pub record AreNeeds (p : Program) (offset : (i finished k : ℕ) → ℕ) (rows : List (List ℕ)) (i finished : ℕ) (needs : Needs) : Type 0 where
   pub level : IsNextLevel p rows i needs.level
-  pub latest : IfSome needs.latest (Contains (awaits_of p i (finished + 1)))
+  pub latest : IsLatest p i (finished + 1) needs.latest
   pub step : step_of p i (finished + 1) ≡ Some needs.step
   pub after : needs.after ≡ offset i (finished + 1) 0
 
@@ -126,7 +131,7 @@ pub record IsArrival (p : Program) (s : PlacedVisit) (needs : Needs) : Type 0 wh
   pub last : s.visit.position ≤ moves p s.visit.agent
   pub here : place_of s.cell ≡ path p s.visit.agent s.visit.position
   pub step : step_of p s.visit.agent s.visit.position ≡ Some needs.step
-  pub latest : IfSome needs.latest (Contains (awaits_of p s.visit.agent s.visit.position))
+  pub latest : IsLatest p s.visit.agent s.visit.position needs.latest
 
 -- ---- the ends
 

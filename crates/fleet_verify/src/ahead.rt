@@ -9,7 +9,7 @@ ghost use Rattle.fleet_model.specs.Program.{Program, start_of, moves, path, awai
 ghost use Rattle.fleet_model.specs.Visit.{IsVisit, ComesAfterByAwait, leaving};
 ghost use Rattle.fleet_grid.specs.Ground.{is_passable};
 ghost use Rattle.fleet_model.specs.Chain.{awaited};
-ghost use Rattle.fleet_verify.specs.Ahead.{IsRanked, IsAhead, IsNext, IsRunner, AreNeeds, AddsLevel, AreDone, AreOnGround, IsArrival, count_in, level_in, climbed_in};
+ghost use Rattle.fleet_verify.specs.Ahead.{IsRanked, IsAhead, IsNext, IsRunner, AreNeeds, AddsLevel, AreDone, AreOnGround, IsArrival, IsLatest, count_in, level_in, climbed_in};
 ghost use Rattle.fleet_verify.specs.Rising.{climbed, last_level};
 ghost use Rattle.fleet_verify.specs.Faults.{HasStarts};
 ghost use Rattle.fleet_verify.specs.LastVisits.{kept_at};
@@ -21,6 +21,7 @@ use crate::last_visits::LastVisits;
 use crate::level_row::{LevelRow, row_of};
 use crate::order::{OpenPair, PlacedVisit, begins_visit, is_left_by, open_unless_after};
 use crate::path::next_cell;
+use crate::queue::Queue;
 use crate::unheld_run::Stop;
 use fleet_grid::Grid;
 use fleet_model::{
@@ -28,7 +29,6 @@ use fleet_model::{
 };
 use fleet_scen::Instance;
 use std::alloc::Global;
-use std::marker::Model;
 
 /// Agents that have run ahead: for each agent the levels of its finished actions, and the cell that it is on; of the
 /// visits that have begun the last one of each cell, and the open pairs.
@@ -70,11 +70,19 @@ pub struct Runner {
 pub struct Needs {
     /// The level of the action.
     pub level: u32,
-    /// The last of its awaits.
-    pub latest: Option<Await>,
+    /// The last of its awaits, or one of the agent itself if it has none.
+    pub latest: Await,
     pub step: Step,
     /// Where the first instruction of the next action stands.
     pub after: usize,
+}
+
+/// An await of the agent itself, as none has.
+#[inline(always)]
+fn no_await(agent: u16) -> Await
+    ensures { result.agent ≡ agent }
+{
+    Await { agent, count: 0 }
 }
 
 /// No action has a greater level.
@@ -103,7 +111,7 @@ fn needs_of<P: ProgramView>(
         ..
     } = runner;
     let mut least = u64::from(level);
-    let mut latest = None;
+    let mut latest = no_await(agent);
     let mut at = at;
     let mut k = 0;
     'instructions: loop {
@@ -112,7 +120,7 @@ fn needs_of<P: ProgramView>(
             Instruction::Await(awaited) => match greater_level(rows, least, awaited) {
                 Some(level) => {
                     least = level;
-                    latest = Some(awaited);
+                    latest = awaited;
                     at = reading.after;
                     k += 1;
                 }
@@ -136,8 +144,8 @@ fn needs_of<P: ProgramView>(
     }
 }
 
-/// Finishes the agent's next action, whose awaits are met, if it leads to passable ground, and answers how far the agent
-/// has come then.
+/// Finishes the agent's next action, whose awaits are met, if it leads to passable ground, and answers how far the
+/// agent has come then.
 #[inline(always)]
 fn finish_next<P: ProgramView>(
     program: &P,
@@ -168,8 +176,8 @@ fn finish_next<P: ProgramView>(
     })
 }
 
-/// The agent's next action has this level. It is noted in its row only if it is not the one above the level before: a row
-/// climbs by itself.
+/// The agent's next action has this level. It is noted in its row only if it is not the one above the level before: a
+/// row climbs by itself.
 #[inline(always)]
 fn raise(
     rows: &mut Vec<LevelRow>,
@@ -270,11 +278,11 @@ fn enter<P: ProgramView>(
     last: &mut LastVisits,
     pairs: &mut Vec<OpenPair>,
     placed: PlacedVisit,
-    latest: Option<Await>,
+    latest: Await,
 ) -> Result<(), Stop>
     requires visit { IsVisit (P.program program.now) placed.visit }
-    requires latest { IfSome latest (Contains
-        (awaits_of (P.program program.now) placed.visit.agent placed.visit.position)) }
+    requires latest { IsLatest (P.program program.now) placed.visit.agent placed.visit.position
+        latest }
     requires ground { AreOnGround (is_passable grid.now) (kept_at last.old) }
     ensures ground { OnOk result (IsTrue (is_passable grid.now (place_of placed.cell))) }
     ensures here { OnOk result (kept_at last.new placed.cell ≡ Some placed.visit) }
@@ -303,19 +311,18 @@ fn enter<P: ProgramView>(
 
 /// Whether the visit is a later one by the agent of the one before, or the await is met only if that is left.
 #[inline(always)]
-fn follows<P: ProgramView>(program: &P, first: Visit, second: Visit, latest: Option<Await>) -> bool
-    requires latest { IfSome latest
-        (Contains (awaits_of (P.program program.now) second.agent second.position)) }
+fn follows<P: ProgramView>(program: &P, first: Visit, second: Visit, latest: Await) -> bool
+    requires latest { IsLatest (P.program program.now) second.agent second.position latest }
     ensures { IsTrue result → ComesAfterByAwait (P.program program.now) first second }
 {
     let _agents = program.agents();
     if first.agent == second.agent {
         return first.position < second.position;
     }
-    match latest {
-        Some(awaited) => is_left_if_met(program, first, awaited),
-        None => false,
+    if latest.agent == second.agent {
+        return false;
     }
+    is_left_if_met(program, first, latest)
 }
 
 /// Whether the await is met only if the visit is left.
@@ -345,24 +352,24 @@ fn add_visit<P: ProgramView>(
         (kept_at last.new) pairs.new.items) }
 {
     if begins_visit(program, placed.visit) {
-        keep_visit(program, last, pairs, placed, None)?;
+        keep_visit(program, last, pairs, placed, no_await(placed.visit.agent))?;
     }
     Ok(())
 }
 
-/// Keeps the visit as the last one of its cell. Unless it comes after the one before it, the two are an open pair. Mostly
-/// one await of the action that enters it shows that it does.
+/// Keeps the visit as the last one of its cell. Unless it comes after the one before it, the two are an open pair.
+/// Mostly one await of the action that enters it shows that it does.
 #[inline(always)]
 fn keep_visit<P: ProgramView>(
     program: &P,
     last: &mut LastVisits,
     pairs: &mut Vec<OpenPair>,
     placed: PlacedVisit,
-    latest: Option<Await>,
+    latest: Await,
 ) -> Result<(), OutOfMemory>
     requires visit { IsVisit (P.program program.now) placed.visit }
-    requires latest { IfSome latest (Contains
-        (awaits_of (P.program program.now) placed.visit.agent placed.visit.position)) }
+    requires latest { IsLatest (P.program program.now) placed.visit.agent placed.visit.position
+        latest }
     ensures here { OnOk result (kept_at last.new placed.cell ≡ Some placed.visit) }
     ensures others { OnOk result ((c : Cell) → IsCell c → c ≢ placed.cell
         → kept_at last.new c ≡ kept_at last.old c) }
@@ -383,12 +390,12 @@ fn open_unless_follows<P: ProgramView>(
     program: &P,
     first: Visit,
     placed: PlacedVisit,
-    latest: Option<Await>,
+    latest: Await,
     pairs: &mut Vec<OpenPair>,
 ) -> Result<(), OutOfMemory>
     requires visit { IsVisit (P.program program.now) placed.visit }
-    requires latest { IfSome latest (Contains
-        (awaits_of (P.program program.now) placed.visit.agent placed.visit.position)) }
+    requires latest { IsLatest (P.program program.now) placed.visit.agent placed.visit.position
+        latest }
     ensures { OnOk result (IsOpenNext (ComesAfterByAwait (P.program program.now)) (Some first)
         placed pairs.old.items pairs.new.items) }
 {
@@ -473,6 +480,62 @@ fn begin_agent<P: ProgramView>(
     Ok(())
 }
 
+/// What the agent's next action says, if it awaits nothing.
+#[inline(always)]
+fn bare_needs<P: ProgramView>(
+    program: &P,
+    rows: &Vec<LevelRow>,
+    agent: u16,
+    runner: Runner,
+) -> Option<Needs>
+    requires rows { length rows.now.items ≡ length (P.program program.now) }
+    requires next { IsNext (P.program program.now) (P.offset program.now) rows.now.items agent
+        runner }
+    ensures { IfSome result (AreNeeds (P.program program.now) (P.offset program.now)
+        (climbed_in rows.now.items agent runner.finished) agent runner.finished) }
+{
+    let _ = rows;
+    if runner.level == u32::MAX {
+        return None;
+    }
+    let reading = program.read(agent, runner.finished, 0, runner.at);
+    match reading.instruction {
+        Instruction::Await(_) => None,
+        Instruction::Step(step) => Some(Needs {
+            level: runner.level + 1,
+            latest: no_await(agent),
+            step,
+            after: reading.after,
+        }),
+    }
+}
+
+/// Lets the agent run on along actions that await nothing.
+#[inline(never)]
+fn run_bare<P: ProgramView>(
+    program: &P,
+    grid: &Grid,
+    ahead: &mut Ahead,
+    agent: u16,
+    runner: Runner,
+) -> Result<Runner, Stop>
+    requires runner { IsRunner (is_passable grid.now) (P.program program.now) (P.offset program.now)
+        ahead.old agent runner }
+    ensures runner { IfOk result (IsRunner (is_passable grid.now) (P.program program.now)
+        (P.offset program.now) ahead.new agent) }
+    ensures finished { IfOk result (λ r. runner.finished ≤ r.finished) }
+{
+    let moves = program.moves(agent);
+    let mut runner = runner;
+    while runner.finished < moves {
+        let Some(needs) = bare_needs(program, &ahead.rows, agent, runner) else {
+            return Ok(runner);
+        };
+        runner = finish_next(program, grid, ahead, agent, runner, needs)?;
+    }
+    Ok(runner)
+}
+
 /// Lets an agent run on as far as its awaits allow, and answers the await that it then waits for, if any.
 #[inline(never)]
 fn run_agent<P: ProgramView>(
@@ -490,9 +553,17 @@ fn run_agent<P: ProgramView>(
     let _agents = program.agents();
     let moves = program.moves(agent);
     let mut runner = runner_of(program, ahead, agent);
+    let mut was_bare = true;
     while runner.finished < moves {
         match needs_of(program, &ahead.rows, agent, runner) {
-            Ok(needs) => runner = finish_next(program, grid, ahead, agent, runner, needs)?,
+            Ok(needs) => {
+                runner = finish_next(program, grid, ahead, agent, runner, needs)?;
+                let is_bare = needs.latest.agent == agent;
+                if is_bare && was_bare {
+                    runner = run_bare(program, grid, ahead, agent, runner)?;
+                }
+                was_bare = is_bare;
+            }
             Err(awaited) => {
                 stop_at(ahead, agent, runner);
                 return Ok(Some(awaited));
@@ -539,131 +610,6 @@ fn stop_at(ahead: &mut Ahead, agent: u16, runner: Runner)
 {
     ahead.cells[usize::from(agent)] = runner.cell;
     ahead.rows[usize::from(agent)].climb(runner.finished, runner.level);
-}
-
-/// Agents that may go on, and agents that wait for others. It only says who is looked at next.
-#[derive(Drop)]
-struct Queue {
-    agents: u16,
-    /// Those that may go on, the next one last.
-    work: Vec<u16>,
-    /// For each agent the first of those that wait for it; `NOBODY` if there are none.
-    first: Vec<u16>,
-    /// For each agent the one after it among those that wait for the same one.
-    next: Vec<u16>,
-    /// For each agent the count that it waits for.
-    count: Vec<u32>,
-    /// For each agent the least count that is waited for.
-    least: Vec<u32>,
-}
-
-/// No agent.
-const NOBODY: u16 = u16::MAX;
-
-impl Model for Queue {
-    ghost use Rattle.std.specs.Prelude.{ℕ, ◌≡◌, length};
-
-    ghost Value = { ℕ };
-
-    ghost view = { λ q. q.agents };
-
-    ghost invariant = { λ q. (length q.first.items ≡ q.agents) × (length q.next.items ≡ q.agents)
-        × (length q.count.items ≡ q.agents) × (length q.least.items ≡ q.agents) };
-}
-
-impl Queue {
-    /// All of so many agents may go on, the first one next.
-    fn new(alloc: Global, agents: u16) -> Result<Queue, OutOfMemory>
-        ensures { IfOk result (λ q. q ≡ agents) }
-    {
-        let mut work = Vec::new(alloc);
-        for agent in 0..agents {
-            work.push(agents - 1 - agent)?;
-        }
-        let first = vec![in alloc; NOBODY; usize::from(agents)]?;
-        let next = vec![in alloc; NOBODY; usize::from(agents)]?;
-        let count = vec![in alloc; 0; usize::from(agents)]?;
-        let least = vec![in alloc; u32::MAX; usize::from(agents)]?;
-        Ok(Queue {
-            agents,
-            work,
-            first,
-            next,
-            count,
-            least,
-        })
-    }
-
-    /// An agent that may go on.
-    fn pop(&mut self) -> Option<u16>
-        ensures agent { IfSome result (λ i. i < self.old) }
-        ensures same { self.new ≡ self.old }
-    {
-        let agent = self.work.pop()?;
-        if agent < self.agents {
-            Some(agent)
-        } else {
-            None
-        }
-    }
-
-    /// An agent waits until another one has finished so many actions.
-    fn wait(&mut self, agent: u16, awaited: Await)
-        requires agent { agent < self.old }
-        requires other { awaited.agent < self.old }
-        ensures { self.new ≡ self.old }
-    {
-        let other = usize::from(awaited.agent);
-        self.next[usize::from(agent)] = self.first[other];
-        self.count[usize::from(agent)] = awaited.count;
-        self.first[other] = agent;
-        if awaited.count < self.least[other] {
-            self.least[other] = awaited.count;
-        }
-    }
-
-    /// An agent has finished so many actions: of those that wait for it, each that waits for no more may go on.
-    fn wake(&mut self, agent: u16, count: u32) -> Result<(), OutOfMemory>
-        requires { agent < self.old }
-        ensures { self.new ≡ self.old }
-    {
-        if count < self.least[usize::from(agent)] {
-            return Ok(());
-        }
-        let mut waiting = self.first[usize::from(agent)];
-        self.first[usize::from(agent)] = NOBODY;
-        self.least[usize::from(agent)] = u32::MAX;
-        for _ in 0..self.agents {
-            if waiting >= self.agents {
-                return Ok(());
-            }
-            let next = self.next[usize::from(waiting)];
-            self.wake_if_reached(waiting, agent, count)?;
-            waiting = next;
-        }
-        Ok(())
-    }
-
-    /// One that waited for an agent, which has finished so many actions, may go on, or waits for it again.
-    fn wake_if_reached(&mut self, waiting: u16, agent: u16, count: u32) -> Result<(), OutOfMemory>
-        requires waiting { waiting < self.old }
-        requires agent { agent < self.old }
-        ensures { self.new ≡ self.old }
-    {
-        let awaited = self.count[usize::from(waiting)];
-        if count < awaited {
-            self.wait(
-                waiting,
-                Await {
-                    agent,
-                    count: awaited,
-                },
-            );
-            return Ok(());
-        }
-        self.work.push(waiting)?;
-        Ok(())
-    }
 }
 
 /// Lets the agents run on until nobody can, or so many looks at an agent are made.

@@ -20,7 +20,7 @@ pub struct LevelQuestion {
     pub question: Question,
 }
 
-/// More than there are agents.
+/// An agent's number has 16 bits, so it is below this.
 const AGENTS: u64 = 65_536;
 
 impl LevelQuestion {
@@ -94,8 +94,8 @@ fn answer_asked<P: ProgramView>(
     Ok(is_none(&flags))
 }
 
-/// Gives the memory of the list back, all but that of one item before the list ends: an allocator that gets much back at
-/// once may keep as much for itself from then on.
+/// Gives the memory of the list back, all but that of one item before the list ends: an allocator that gets much back
+/// at once may keep as much for itself from then on.
 fn let_go<T: Drop>(list: Vec<T>) {
     let mut list = list;
     list.truncate(1);

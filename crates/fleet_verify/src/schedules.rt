@@ -18,8 +18,8 @@ ghost use Rattle.fleet_model.specs.Dispatch.{Dispatch, OrdersAwait, IsCarriedOut
 ghost use Rattle.fleet_model.specs.Run.{RunsRight};
 
 /// Whatever time each action of an accepted program takes, and whenever it begins once what it directly needs has
-/// ended, no two agents are ever on one place, not even in part, and all that an agent is on is passable. At any time an
-/// agent is on one place of its path, or has begun to move and is on this and the next.
+/// ended, no two agents are ever on one place, not even in part, and all that an agent is on is passable. At any time
+/// an agent is on one place of its path, or has begun to move and is on this and the next.
 pub fn schedules_are_safe()
     ensures apart { (passable : Place → Bool) (tasks : List Task) (p : Program)
         → IsAcceptedBy ComesAfterByChain passable tasks p → (s : Schedule) → IsSchedule p s

@@ -1,5 +1,5 @@
-//! When the actions of an accepted program end at the soonest, if each takes a time of its own: the critical path method
-//! (Kelley and Walker 1959).
+//! When the actions of an accepted program end at the soonest, if each takes a time of its own: the critical path
+//! method (Kelley and Walker 1959).
 
 ghost use Rattle.std.specs.Prelude.{◌≡◌, ℕ, ◌<◌, ◌≤◌, IfOk, IfSome, IfNone, length};
 ghost use Rattle.fleet_model.specs.declared.program.ActionId.{ActionId};
@@ -175,8 +175,9 @@ impl<'a, P: ProgramView, C: ActionCosts> Times<'a, P, C> {
         }
     }
 
-    /// A dearest chain of needs, from its first action to its last, which ends last of all: if any of these takes longer
-    /// than it costs, the fleet arrives so much later. Empty if there are no actions. It fails only if memory is refused.
+    /// A dearest chain of needs, from its first action to its last, which ends last of all: if any of these takes
+    /// longer than it costs, the fleet arrives so much later. Empty if there are no actions. It fails only if memory is
+    /// refused.
     pub fn critical_path(&self, alloc: Global) -> Result<Vec<ActionId>, OutOfMemory>
         requires { (a : ActionId) → 1 ≤ C.cost self.now.costs a }
         ensures { IfOk result (λ path. IsCriticalPath

@@ -1,5 +1,5 @@
-//! The verifier: all that is judged of a program, in the order of the faults, and its answers: an accepted program, or a
-//! refused one.
+//! The verifier: all that is judged of a program, in the order of the faults, and its answers: an accepted program, or
+//! a refused one.
 
 ghost use Rattle.std.specs.Prelude.{◌≡◌, IfOk, IfErr};
 ghost use Rattle.fleet_model.specs.Program.{IsWellFormed};

@@ -1,4 +1,4 @@
-use Rattle.std.proofs.Common.{◌≡◌, ◌-◌, ◌+◌, ◌<◌, ◌∙◌, ℕ, List, length, slice_index, sym, ap, arith}
+use Rattle.std.proofs.Common.{◌≡◌, ◌-◌, ◌+◌, ◌<◌, ◌∙◌, ℕ, List, length, slice_index, sym, ap, arith, inl, inr}
 use Rattle.std.proofs.lemmas.Option.{slice_get_within, get_or_from_slice_get}
 use Rattle.fleet_model.specs.Chain.{awaited}
 use Rattle.fleet_model.specs.Program.{awaits_of}
@@ -21,7 +21,7 @@ instructions-init g c =
       within = omega arith;
       least = least_begins p (climbed_in rows c.args.agent c.args.runner.finished) c.args.agent (c.args.runner.finished + 1) c.from-least.result (omega (arith, count))
           (c.from-least.ensures ∙ next.level ∙ ap last_level (sym (own_row rows c.args.agent c.args.runner.finished lt)));
-      latest = tt;
+      latest = inl c.no_await-latest.ensures;
       at = next.at;
     }
 
@@ -69,7 +69,7 @@ instructions-preserved g c =
     record {
       within = omega (arith, within);
       least = least_max p (climbed_in rows i c.args.runner.finished) i n c.instructions.k c.instructions.least c.instructions.invariant.least w here found.met.first (omega (arith, found.met.last, long)) (level_in rows (awaited w)) level c.in-Some.level found.greater;
-      latest = (c.instructions.k, within, get_or_from_slice_get (awaits_of p i n) c.instructions.k w w here);
+      latest = inr (c.instructions.k, within, get_or_from_slice_get (awaits_of p i n) c.instructions.k w w here);
       at = rw c.in-Await.is at c.read-reading.ensures.after;
     }
 

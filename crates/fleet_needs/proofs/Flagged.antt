@@ -1,6 +1,7 @@
 -- The flags of awaits, one action and one block more.
-use Rattle.std.proofs.Common.{◌≡◌, ◌≢◌, ℕ, ◌+◌, ◌-◌, ◌<◌, ◌≤◌, Bool, false, List, length, get_or, refl, sym, ap, subst, ◌∙◌, arith, inl, inr, ◌⊎◌}
-use Rattle.std.specs.Prelude.{slice_get, slice_index, Some, None, Option, nat_le}
+use Rattle.std.proofs.Common.{◌≡◌, ◌≢◌, ℕ, ◌+◌, ◌-◌, ◌<◌, ◌≤◌, Bool, true, false, List, [], ◌∷◌, length, get_or, refl, sym, ap, subst, ◌∙◌, arith, inl, inr, ◌⊎◌}
+use Rattle.std.specs.Borrow.{Bor}
+use Rattle.std.specs.Prelude.{not, slice_get, slice_index, Some, None, Option, nat_le}
 use Rattle.std.proofs.lemmas.Bool.{cases_lt, cases_eq, false≢true}
 use Rattle.std.proofs.lemmas.Option.{slice_get_within, get_or_from_slice_get, same_Some}
 use Rattle.fleet_model.specs.declared.program.ActionId.{ActionId}
@@ -10,18 +11,18 @@ use Rattle.fleet_model.specs.Chain.{IsAction}
 use Rattle.fleet_needs.specs.Block.{HasColumn}
 use Rattle.fleet_needs.specs.Columns.{AreColumns}
 use Rattle.fleet_needs.specs.JoinPass.{AreOthers, IsMade}
-use Rattle.fleet_needs.specs.Joins.{HasAllRows}
+use Rattle.fleet_needs.specs.Joins.{AddsNone, HasRowOr}
 use Rattle.fleet_needs.specs.declared.schedule.Columns.{Columns}
 use Rattle.fleet_needs.specs.declared.joins.Join.{Join}
 use Rattle.fleet_needs.specs.declared.schedule.Schedule.{Schedule}
 use Rattle.fleet_needs.proofs.Passing.{same_or_not}
-use Rattle.fleet_needs.specs.Implied.{AreAwaitPlaces, IsImpliedFlag, first_await}
-use Rattle.fleet_needs.specs.Settled.{AreSettled}
+use Rattle.fleet_needs.specs.Implied.{AreAwaitPlaces, IsImplied, IsImpliedFlag, first_await}
+use Rattle.fleet_needs.specs.Settled.{AreSettled, IsSettled}
 use Rattle.fleet_needs.proofs.AwaitOrder.{flag_apart}
-use Rattle.fleet_needs.specs.Flags.{AreFlags, AreFlagged, AreFlaggedFor, AreLeft, AreAllFlagged, AreAwaitFlags, AreFlaggedTo, AreImplied, flags_of}
+use Rattle.fleet_needs.specs.Flags.{AreSure, AreSureIf, IsFirstSet, IsPassed, AreSet, AreFlags, AreFlagged, AreFlaggedFor, AreLeft, AreAllFlagged, AreAwaitFlags, AreFlaggedTo, AreImplied, flags_of}
 use Rattle.fleet_needs.specs.Schedule.{AreColumnsOf, IsSchedule}
 use Rattle.fleet_needs.specs.declared.implied.ImpliedAwaits.{ImpliedAwaits}
-use Rattle.fleet_needs.proofs.Joining.{awaited_action}
+use Rattle.fleet_needs.proofs.Joining.{awaited_action, adds_none_if_implied}
 use Rattle.fleet_needs.proofs.RowFlags.{flagged}
 
 -- an action awaits others than its own agent
@@ -108,13 +109,31 @@ flagged_on p columns Done Next a old new is back apart h before b kb next k c w 
       (h.flagged k c w (subst (λ (x : ActionId). slice_get (awaits_of p x.agent x.number) k ≡ Some w) e at) has)
 ]
 
-pub left_on : (p : Program) (columns : Columns) (a : ActionId) (old new : List Bool) → IsAction p a → AreFlagged p columns a old new → AreLeft p columns old new
-left_on p columns a old new is h b kb k w at none = elim (same_or_not b a) [
+left_here : (p : Program) (columns : Columns) (a : ActionId) (old new : List Bool) → IsAction p a → AreFlagged p columns a old new
+    → (b : ActionId) → IsAction p b → (k : ℕ) (w : Await) → slice_get (awaits_of p b.agent b.number) k ≡ Some w → get_or columns.of_agent.items w.agent None ≡ None → get_or new (first_await p b + k) false ≡ get_or old (first_await p b + k) false
+left_here p columns a old new is h b kb k w at none = elim (same_or_not b a) [
   | inr ne ↦ h.others (first_await p b + k) (flag_apart p b a kb is ne k (slice_get_within (awaits_of p b.agent b.number) k w at))
   | inl e ↦
       subst (λ (x : ActionId). get_or new (first_await p x + k) false ≡ get_or old (first_await p x + k) false) (sym e)
       (h.none k w (subst (λ (x : ActionId). slice_get (awaits_of p x.agent x.number) k ≡ Some w) e at) none)
 ]
+
+set_on : (p : Program) (columns : Columns) (a : ActionId) (old new : List Bool) → IsAction p a → AreFlagged p columns a old new
+    → (b : ActionId) → IsAction p b → (k : ℕ) (w : Await) → slice_get (awaits_of p b.agent b.number) k ≡ Some w → IsImplied p b w → get_or old (first_await p b + k) false ≡ true → get_or new (first_await p b + k) false ≡ true
+set_on p columns a old new is h b kb k w at implied was = elim (same_or_not b a) [
+  | inr ne ↦ h.others (first_await p b + k) (flag_apart p b a kb is ne k (slice_get_within (awaits_of p b.agent b.number) k w at)) ∙ was
+  | inl e ↦
+      let there : slice_get (awaits_of p a.agent a.number) k ≡ Some w = subst (λ (x : ActionId). slice_get (awaits_of p x.agent x.number) k ≡ Some w) e at in
+      subst (λ (x : ActionId). get_or new (first_await p x + k) false ≡ true) (sym e)
+      (here (get_or columns.of_agent.items w.agent None) refl there (subst (λ (x : ActionId). IsImplied p x w) e implied) (subst (λ (x : ActionId). get_or old (first_await p x + k) false ≡ true) e was))
+]
+  where
+    here : (o : Option ℕ) → get_or columns.of_agent.items w.agent None ≡ o → slice_get (awaits_of p a.agent a.number) k ≡ Some w → IsImplied p a w → get_or old (first_await p a + k) false ≡ true → get_or new (first_await p a + k) false ≡ true
+    here (Some c) f there implied was = (h.flagged k c w there f).1 implied
+    here None f there implied was = h.none k w there f ∙ was
+
+pub left_on : (p : Program) (columns : Columns) (a : ActionId) (old new : List Bool) → IsAction p a → AreFlagged p columns a old new → AreLeft p columns old new
+left_on p columns a old new is h = record { others = left_here p columns a old new is h; set = set_on p columns a old new is h }
 
 pub flagged_made : (p : Program) (s : Schedule) (columns : Columns) (n : ℕ) (join : Join) (old new : List Bool) → IsAction p join.action → slice_get s.joins.items n ≡ Some join
     → AreFlagged p columns join.action old new → AreFlaggedFor p columns (IsMade s n) old → AreFlaggedFor p columns (IsMade s (n + 1)) new
@@ -138,13 +157,34 @@ flagged_made p s columns n join old new is at h before =
 pub flagged_none : (p : Program) (s : Schedule) (columns : Columns) (flags : List Bool) → AreFlaggedFor p columns (IsMade s 0) flags
 flagged_none p s columns flags a is (r, le, row) = absurd (omega (arith, le, row.some))
 
--- all awaits are of actions that have rows
-pub flagged_all : (p : Program) (s : Schedule) (columns : Columns) (flags : List Bool) → HasAllRows p s.joins.items (IsAction p) → AreFlaggedFor p columns (IsMade s (length s.joins.items)) flags
+-- awaits are of actions that have rows, or whose flags are set
+pub flagged_all : (p : Program) (s : Schedule) (columns : Columns) (flags : List Bool) → HasRowOr (λ a. (k : ℕ) (w : Await) → slice_get (awaits_of p a.agent a.number) k ≡ Some w → IsImpliedFlag p a w (get_or flags (first_await p a + k) false)) p s.joins.items (IsAction p)
+    → AreFlaggedFor p columns (IsMade s (length s.joins.items)) flags
     → (a : ActionId) → IsAction p a → (k c : ℕ) (w : Await) → slice_get (awaits_of p a.agent a.number) k ≡ Some w → HasColumn columns w.agent c → IsImpliedFlag p a w (get_or flags (first_await p a + k) false)
-flagged_all p s columns flags rows h a is k c w at has =
-    let made = rows a is is (let l = slice_get_within (awaits_of p a.agent a.number) k w at in omega (arith, l)) in
-    let low : made.0 - 1 < length s.joins.items = slice_get_within s.joins.items (made.0 - 1) made.1.join made.1.at in
-    h a is (made.0, (let some : 1 ≤ made.0 = made.1.some in omega (arith, low, some)), made.1) k c w at has
+flagged_all p s columns flags rows h a is k c w at has = elim (rows a is is) [
+  | inr told ↦ told k w at
+  | inl made ↦
+      let low : made.0 - 1 < length s.joins.items = slice_get_within s.joins.items (made.0 - 1) made.1.join made.1.at in
+      h a is (made.0, (let some : 1 ≤ made.0 = made.1.some in omega (arith, low, some)), made.1) k c w at has
+]
+
+-- a flag is set only of an await that others imply
+pub sure_of : (p : Program) (asked flags : List Bool) → AreSettled p asked flags → (a : ActionId) → IsAction p a → (k : ℕ) (w : Await) → slice_get (awaits_of p a.agent a.number) k ≡ Some w → get_or flags (first_await p a + k) false ≡ true → IsImplied p a w
+sure_of p asked flags settled a is k w at set = elim (settled a is is k w at) [ inl it ↦ it.1 set | inr told ↦ told.0 set ]
+
+-- .. and those that are set stay so
+pub passed_on : (p : Program) (s : Schedule) (asked : List Bool) (columns : Columns) (old new : List Bool) → AreSettled p asked old → AreLeft p columns old new → HasRowOr (AreSet p old) p s.joins.items (IsAction p) → HasRowOr (AreSet p new) p s.joins.items (IsAction p)
+passed_on p s asked columns old new settled left rows a is these = elim (rows a is these) [
+  | inl row ↦ inl row
+  | inr set ↦ inr (λ k w at. left.set a is k w at (sure_of p asked old settled a is k w at (set k w at)) (set k w at))
+]
+
+pub passed_told : (p : Program) (s : Schedule) (asked : List Bool) (columns : Columns) (old new : List Bool) → AreSettled p asked old → AreLeft p columns old new → HasRowOr (AreSet p old) p s.joins.items (IsAction p)
+    → HasRowOr (λ a. (k : ℕ) (w : Await) → slice_get (awaits_of p a.agent a.number) k ≡ Some w → IsImpliedFlag p a w (get_or new (first_await p a + k) false)) p s.joins.items (IsAction p)
+passed_told p s asked columns old new settled left rows a is these = elim (rows a is these) [
+  | inl row ↦ inl row
+  | inr set ↦ inr (λ k w at. (let implied = sure_of p asked old settled a is k w at (set k w at) in ((λ f. implied), (λ i. left.set a is k w at implied (set k w at)))))
+]
 
 -- ---- the flags of one block more
 
@@ -152,11 +192,11 @@ flagged_all p s columns flags rows h a is k c w at has =
 pub settled_after : (p : Program) (asked : List Bool) (columns : Columns) (old new : List Bool)
     → ((a : ActionId) → IsAction p a → (k c : ℕ) (w : Await) → slice_get (awaits_of p a.agent a.number) k ≡ Some w → HasColumn columns w.agent c → IsImpliedFlag p a w (get_or new (first_await p a + k) false))
     → AreLeft p columns old new → AreSettled p asked old → AreSettled p asked new
-settled_after p asked columns old new here left before a is too k w at = elim (before a is too k w at) [ inl set ↦ inl set | inr was ↦ inr (go was (get_or columns.of_agent.items w.agent None) refl) ]
+settled_after p asked columns old new here left before a is too k w at = go (get_or columns.of_agent.items w.agent None) refl
   where
-    go : IsImpliedFlag p a w (get_or old (first_await p a + k) false) → (o : Option ℕ) → get_or columns.of_agent.items w.agent None ≡ o → IsImpliedFlag p a w (get_or new (first_await p a + k) false)
-    go was (Some c) f = here a is k c w at f
-    go was None f = subst (IsImpliedFlag p a w) (sym (left a is k w at f)) was
+    go : (o : Option ℕ) → get_or columns.of_agent.items w.agent None ≡ o → IsSettled p asked a w (get_or new (first_await p a + k) false)
+    go (Some c) f = inr (here a is k c w at f)
+    go None f = subst (IsSettled p asked a w) (sym (left.others a is k w at f)) (before a is too k w at)
 
 pub flagged_to : (p : Program) (asked : List Bool) (from : ℕ) (columns : Columns) → AreColumns asked from columns → (old new : List Bool)
     → ((a : ActionId) → IsAction p a → (k c : ℕ) (w : Await) → slice_get (awaits_of p a.agent a.number) k ≡ Some w → HasColumn columns w.agent c → IsImpliedFlag p a w (get_or new (first_await p a + k) false))
@@ -167,14 +207,14 @@ flagged_to p asked from columns h old new here left settled before a is k w at l
   where
     go : (o : Option ℕ) → get_or columns.of_agent.items w.agent None ≡ o → IsImpliedFlag p a w (get_or new (first_await p a + k) false)
     go (Some c) f = here a is k c w at f
-    go None f = subst (IsImpliedFlag p a w) (sym (left a is k w at f)) (elim (cases_lt w.agent from) [
+    go None f = subst (IsImpliedFlag p a w) (sym (left.others a is k w at f)) (elim (cases_lt w.agent from) [
       | inl low ↦ before a is k w at low
-      | inr high ↦ elim (settled a is is k w at) [ inl set ↦ absurd (h.chosen w.agent high l set f) | inr was ↦ was ]
+      | inr high ↦ elim (settled a is is k w at) [ inl set ↦ absurd (h.chosen w.agent high l set.0 f) | inr was ↦ was ]
     ])
 
 -- if no agent is asked for, all flags say whether their await is implied
 pub flagged_if_none : (p : Program) (asked flags : List Bool) → ((j : ℕ) → get_or asked j false ≡ false) → AreSettled p asked flags → AreAllFlagged p flags
-flagged_if_none p asked flags none settled a is k w at = elim (settled a is is k w at) [ inr was ↦ was | inl set ↦ absurd (false≢true (sym (none w.agent) ∙ set)) ]
+flagged_if_none p asked flags none settled a is k w at = elim (settled a is is k w at) [ inr was ↦ was | inl set ↦ absurd (false≢true (sym (none w.agent) ∙ set.0)) ]
 
 -- ---- block by block
 
@@ -183,29 +223,55 @@ pub columns_of : (p : Program) (asked : List Bool) (from : ℕ) (columns : Colum
 columns_of p asked from columns all h = record { agents = h.agents ∙ all; within = h.within; apart = h.apart }
 
 -- before the first block
-pub flags_first : (p : Program) (asked : List Bool) (m : ImpliedAwaits) → AreAwaitPlaces p m.places → length m.flags.items ≡ total_awaits p → AreSettled p asked m.flags.items → AreFlaggedTo p asked 0 m
-flags_first p asked m places all settled = record { places = places; all = all; settled = settled; flagged = λ a is k w at l. absurd (omega arith) }
+pub flags_first : (p : Program) (s : Schedule) (asked : List Bool) (m : ImpliedAwaits) → AreAwaitPlaces p m.places → length m.flags.items ≡ total_awaits p → AreSettled p asked m.flags.items → HasRowOr (AreSet p m.flags.items) p s.joins.items (IsAction p)
+    → AreFlaggedTo p s asked 0 m
+flags_first p s asked m places all settled passed = record { places = places; all = all; settled = settled; passed = passed; flagged = λ a is k w at l. absurd (omega arith) }
 
 -- .. and before the first row of each
-pub flags_begun : (p : Program) (s : Schedule) (asked : List Bool) (from : ℕ) (columns : Columns) (m : ImpliedAwaits) → AreFlaggedTo p asked from m → AreAwaitFlags p s columns 0 m
+pub flags_begun : (p : Program) (s : Schedule) (asked : List Bool) (from : ℕ) (columns : Columns) (m : ImpliedAwaits) → AreFlaggedTo p s asked from m → AreAwaitFlags p s columns 0 m
 flags_begun p s asked from columns m h = record { places = h.places; all = h.all; flagged = flagged_none p s columns m.flags.items }
 
 -- one block more
-pub flags_on : (p : Program) (s : Schedule) (asked : List Bool) (from : ℕ) (columns : Columns) (old new : ImpliedAwaits) → IsSchedule p s → AreColumns asked from columns → AreFlaggedTo p asked from old
-    → AreAwaitFlags p s columns (length s.joins.items) new → AreLeft p columns old.flags.items new.flags.items → AreFlaggedTo p asked columns.end new
+pub flags_on : (p : Program) (s : Schedule) (asked : List Bool) (from : ℕ) (columns : Columns) (old new : ImpliedAwaits) → IsSchedule p s → AreColumns asked from columns → AreFlaggedTo p s asked from old
+    → AreAwaitFlags p s columns (length s.joins.items) new → AreLeft p columns old.flags.items new.flags.items → AreFlaggedTo p s asked columns.end new
 flags_on p s asked from columns old new schedule chosen was made left =
-    let all = flagged_all p s columns new.flags.items schedule.rows made.flagged in
+    let all = flagged_all p s columns new.flags.items (passed_told p s asked columns old.flags.items new.flags.items was.settled left was.passed) made.flagged in
     record {
       places = made.places;
       all = made.all;
       settled = settled_after p asked columns old.flags.items new.flags.items all left was.settled;
+      passed = passed_on p s asked columns old.flags.items new.flags.items was.settled left was.passed;
       flagged = flagged_to p asked from columns chosen old.flags.items new.flags.items all left was.settled was.flagged;
     }
 
 -- after the last block
-pub flags_end : (p : Program) → AreInRange p → (asked : List Bool) (from : ℕ) (m : ImpliedAwaits) → length p ≤ from → AreFlaggedTo p asked from m → AreImplied p m
-flags_end p range asked from m end h = record {
+pub flags_end : (p : Program) → AreInRange p → (s : Schedule) (asked : List Bool) (from : ℕ) (m : ImpliedAwaits) → length p ≤ from → AreFlaggedTo p s asked from m → AreImplied p m
+flags_end p range s asked from m end h = record {
   places = h.places;
   all = h.all;
   flagged = λ a is k w at. (let there = awaited_action p range a.agent a.number k w at in h.flagged a is k w at (omega (arith, there.agent, end)));
 }
+
+-- ---- an action of one await, the flag of which is set
+
+none_if_set_of : (p : Program) (m : ImpliedAwaits) (a : ActionId) → AreSure p m → IsAction p a → (ws : List Await) → ws ≡ awaits_of p a.agent a.number → length ws ≡ 1 → get_or (flags_of m) (first_await p a) false ≡ true → AddsNone p a.agent a.number
+none_if_set_of p m a sure is [] e one set = absurd (omega arith)
+none_if_set_of p m a sure is (w ∷ ws) e one set =
+    let at : slice_get (awaits_of p a.agent a.number) 0 ≡ Some w = ap (λ (x : List Await). slice_get x 0) (sym e) in
+    let flag : get_or (flags_of m) (first_await p a + 0) false ≡ true = (let f : first_await p a + 0 ≡ first_await p a = omega arith in ap (λ (n : ℕ). get_or (flags_of m) n false) f ∙ set) in
+    adds_none_if_implied p a w (ap (λ (x : List Await). length x) (sym e) ∙ one) at (sure.sure a is 0 w at flag)
+
+pub none_if_set : (p : Program) (implied : Option (Bor ImpliedAwaits)) (a : ActionId) → AreSureIf p implied → IsAction p a → length (awaits_of p a.agent a.number) ≡ 1 → IsFirstSet p implied a → AddsNone p a.agent a.number
+none_if_set p implied a sure is one first =
+    none_if_set_of p first.of.now a (subst (AreSureIf p) first.some sure) is (awaits_of p a.agent a.number) refl one first.set
+
+pub passed_if_set : (p : Program) (implied : Option (Bor ImpliedAwaits)) (a : ActionId) → length (awaits_of p a.agent a.number) ≡ 1 → IsFirstSet p implied a → IsPassed p implied a
+passed_if_set p implied a one first = subst (λ (o : Option (Bor ImpliedAwaits)). IsPassed p o a) (sym first.some) (λ k w at.
+    let l : k < length (awaits_of p a.agent a.number) = slice_get_within (awaits_of p a.agent a.number) k w at in
+    let e : first_await p a + k ≡ first_await p a = omega (arith, l, one) in
+    ap (λ (n : ℕ). get_or (flags_of first.of.now) n false) e ∙ first.set)
+
+-- what is not unset is set
+pub is_set : (flag : Bool) → not flag ≡ false → flag ≡ true
+is_set true e = refl
+is_set false e = absurd (false≢true (sym e))

@@ -11,7 +11,7 @@ use Rattle.fleet_model.specs.Chain.{IsAction, IsLevel, awaited}
 use Rattle.fleet_needs.specs.Order.{IsCounted, IsNextAction}
 use Rattle.fleet_needs.specs.Asked.{IsSoonerAction}
 use Rattle.fleet_needs.specs.Places.{place_of_action}
-use Rattle.fleet_needs.specs.Joins.{IsRow, StandsFor, need_at, need_of, row_taken, IsJoin, AreJoins, Takes, AreLasts, row_of, IsStanding, AreSound, AreJoinsOf, CanJoin, AreTaken, HasJoined, IsAdded}
+use Rattle.fleet_needs.specs.Joins.{AddsNone, HasRowOr, IsWanted, IsRow, StandsFor, need_at, need_of, row_taken, IsJoin, AreJoins, Takes, AreLasts, row_of, IsStanding, AreSound, AreJoinsOf, CanJoin, AreTaken, HasJoined, IsAdded}
 use Rattle.fleet_needs.specs.Joins.{AreRaised}
 use Rattle.fleet_needs.specs.declared.await_places.ActionPlaces.{ActionPlaces}
 use Rattle.fleet_needs.specs.declared.joins.Join.{Join}
@@ -57,14 +57,14 @@ stands_kept p old new h r i n s = record {
   row = elim s.row [ inl none ↦ inl none | inr k ↦ inr (row_kept old new h r (record { agent = i; number = s.number }) k) ];
 }
 
--- the last action of the agent that awaits nothing has the row of the one before
-pub stands_on : (p : Program) (joins : List Join) (r : ℕ) (a : ActionId) → 1 ≤ a.number → awaits_of p a.agent a.number ≡ [] → StandsFor p joins r a.agent (a.number - 1) → StandsFor p joins r a.agent a.number
+-- an action that adds no chain has the row of the one before
+pub stands_on : (p : Program) (joins : List Join) (r : ℕ) (a : ActionId) → 1 ≤ a.number → AddsNone p a.agent a.number → StandsFor p joins r a.agent (a.number - 1) → StandsFor p joins r a.agent a.number
 stands_on p joins r a some none s = record {
   number = s.number;
   upto = (let l : s.number ≤ a.number - 1 = s.upto in omega arith);
   quiet = λ m from upto. elim (cases_lt m a.number) [
     | inl l ↦ s.quiet m from (omega arith)
-    | inr l ↦ (let e : m ≡ a.number = omega arith in ap (awaits_of p a.agent) e ∙ none)
+    | inr l ↦ (let e : a.number ≡ m = omega arith in subst (AddsNone p a.agent) e none)
   ];
   row = s.row;
 }
@@ -151,8 +151,8 @@ module _ (p : Program) (places : ActionPlaces) (a : ActionId) (old new : Joins) 
   newest_row : IsRow new.joins.items (length old.joins.items + 1) a
   newest_row = record { join = one; some = omega arith; at = (let e : length old.joins.items + 1 - 1 ≡ length old.joins.items = omega arith in ap (slice_get new.joins.items) e ∙ newest); of = refl }
 
-  pub joined_on : (wanted : Bool) → HasJoined p places a wanted (length old.joins.items + 1) old new
-  joined_on wanted = record {
+  pub joined_on : (made : Bool) → HasJoined p places a made (length old.joins.items + 1) old new
+  joined_on made = record {
     sound = record {
       right = can.sound.right;
       joins = λ n j at. join_on n j (parts n j at);
@@ -165,8 +165,7 @@ module _ (p : Program) (places : ActionPlaces) (a : ActionId) (old new : Joins) 
     still = still;
     within = omega (arith, long);
     stands = record { number = a.number; upto = omega arith; quiet = λ m from upto. absurd (omega arith); row = inr newest_row };
-    here = λ some. newest_row;
-    asked = λ e. newest_row;
+    here = λ e. newest_row;
     parts = λ n j at. elim (parts n j at) [ inl was ↦ inl was | inr is ↦ inr (is.0, ap (λ (x : Join). x.action) is.1) ];
   }
 
@@ -229,7 +228,7 @@ module _ (p : Program) (places : ActionPlaces) (a : ActionId) (old : Joins) wher
 pub joined_by : (p : Program) (places : ActionPlaces) (a : ActionId) (old mid low new : Joins) (base first count : ℕ) → CanJoin p places old a → base ≤ length old.joins.items → StandsFor p old.joins.items base a.agent (a.number - 1)
     → AreTaken p places a old mid → low.joins ≡ mid.joins → low.needs ≡ mid.needs → low.standing ≡ mid.standing → AreRaised mid.lasts.items low.lasts.items → length old.joins.items + 1 ≤ slice_index low.lasts.items base
     → new.lasts.items ≡ low.lasts.items ++ 0 ∷ [] → first ≡ length old.needs.items → count ≡ length (awaits_of p a.agent a.number) → new.joins.items ≡ low.joins.items ++ record { action = a; base = base; first = first; count = count } ∷ [] → new.needs ≡ low.needs → new.standing ≡ low.standing
-    → (wanted : Bool) → HasJoined p places a wanted (length old.joins.items + 1) old new
+    → (made : Bool) → HasJoined p places a made (length old.joins.items + 1) old new
 joined_by p places a old mid low new base first count can within stands taken joins needs standing raised based putl at many putj same_needs same_standing =
     joined_on p places a old new base count can within stands many
     (putj ∙ ap (λ (n : ℕ). low.joins.items ++ record { action = a; base = base; first = n; count = count } ∷ []) at ∙ ap (λ xs. xs.items ++ record { action = a; base = base; first = length old.needs.items; count = count } ∷ []) (joins ∙ taken.joins))
@@ -251,29 +250,24 @@ joined_by p places a old mid low new base first count can within stands taken jo
       | inr l ↦ omega (arith, get_or_past low.lasts.items r 0 l)
     ]
 
--- an action that awaits nothing has no row of its own
-pub joined_none : (p : Program) (places : ActionPlaces) (a : ActionId) (wanted : Bool) (m : Joins) (base : ℕ) → wanted ≡ false → CanJoin p places m a → base ≤ length m.joins.items → StandsFor p m.joins.items base a.agent (a.number - 1)
-    → length (awaits_of p a.agent a.number) ≡ 0 → HasJoined p places a wanted base m m
-joined_none p places a wanted m base left can within stands none = record {
+-- an action that adds no chain has no row of its own
+pub joined_none : (p : Program) (places : ActionPlaces) (a : ActionId) (made : Bool) (m : Joins) (base : ℕ) → made ≡ false → CanJoin p places m a → base ≤ length m.joins.items → StandsFor p m.joins.items base a.agent (a.number - 1)
+    → AddsNone p a.agent a.number → HasJoined p places a made base m m
+joined_none p places a made m base left can within stands none = record {
   sound = can.sound;
   standing = refl;
   more = omega arith;
   kept = λ x s k. k;
   still = λ n j at. at;
   within = within;
-  stands = stands_on p m.joins.items base a can.action.first (empty (awaits_of p a.agent a.number) none) stands;
-  here = λ some. absurd (omega (arith, none, some));
-  asked = λ set. absurd (false≢true (sym left ∙ set));
+  stands = stands_on p m.joins.items base a can.action.first none stands;
+  here = λ set. absurd (false≢true (sym left ∙ set));
   parts = λ n j at. inl at;
 }
-  where
-    empty : (ws : List Await) → length ws ≡ 0 → ws ≡ []
-    empty [] e = refl
-    empty (w ∷ ws) e = absurd (omega arith)
 
 -- ---- the row of the action is noted
 
-module _ (p : Program) (places : ActionPlaces) (a : ActionId) (wanted : Bool) (r : ℕ) (old mid new : Joins) (is : IsAction p a) (h : HasJoined p places a wanted r old mid)
+module _ (p : Program) (places : ActionPlaces) (a : ActionId) (made : Bool) (r : ℕ) (old mid new : Joins) (is : IsAction p a) (h : HasJoined p places a made r old mid)
     (joins : new.joins ≡ mid.joins) (needs : new.needs ≡ mid.needs) (lasts : new.lasts ≡ mid.lasts) (put : new.standing.items ≡ set mid.standing.items (place_of_action places a) r) where
   place_in : place_of_action places a < length mid.standing.items
   place_in = omega (arith, place_within p places h.sound.right a is, h.sound.room)
@@ -299,7 +293,7 @@ module _ (p : Program) (places : ActionPlaces) (a : ActionId) (wanted : Bool) (r
     room = ap (λ (xs : List ℕ). length xs) put ∙ length-set mid.standing.items (place_of_action places a) r ∙ h.sound.room;
   }
 
-  pub added : IsAdded p places a wanted old new
+  pub added : IsAdded p places a made old new
   added = record {
     sound = sound_on;
     kept = λ x k ne s.
@@ -315,15 +309,19 @@ module _ (p : Program) (places : ActionPlaces) (a : ActionId) (wanted : Bool) (r
       within = omega (arith, at_own, h.within, ap (λ (xs : List Join). length xs) same_joins);
       stands = subst (λ (xs : List Join). StandsFor p xs (row_of places new a) a.agent a.number) (sym same_joins) (subst (λ (s : ℕ). StandsFor p mid.joins.items s a.agent a.number) (sym at_own) h.stands);
     };
-    row = λ some. (r, subst (λ (xs : List Join). IsRow xs r a) (sym same_joins) (h.here some));
-    asked = λ set. (r, subst (λ (xs : List Join). IsRow xs r a) (sym same_joins) (h.asked set));
+    row = λ set. (r, subst (λ (xs : List Join). IsRow xs r a) (sym same_joins) (h.here set));
     parts = λ n j at. h.parts n j (ap (λ (xs : List Join). slice_get xs n) (sym same_joins) ∙ at);
   }
 
 -- ---- one action more
 
-module _ (p : Program) (places : ActionPlaces) (wanted : List Bool) (counts : List ℕ) (a : ActionId) (is : IsAction p a) (next : IsNextAction p counts a) (old new : Joins)
-    (h : AreJoinsOf p places wanted (IsCounted counts) old) (added : IsAdded p places a (get_or wanted (place_of_action places a) false) old new) where
+-- what holds if a flag is set, or if it is not
+by_flag : (R S : Type 0) (flag : Bool) → (flag ≡ true → R) → (flag ≡ false → S) → R ⊎ S
+by_flag R S true f g = inl (f refl)
+by_flag R S false f g = inr (g refl)
+
+module _ (p : Program) (places : ActionPlaces) (wanted : List Bool) (Passed : ActionId → Type 0) (counts : List ℕ) (a : ActionId) (is : IsAction p a) (next : IsNextAction p counts a) (old new : Joins) (made : Bool)
+    (none : made ≡ false → AddsNone p a.agent a.number) (passed : made ≡ false → Passed a) (asked : IsWanted places wanted a → made ≡ true) (h : AreJoinsOf p places wanted Passed (IsCounted counts) old) (added : IsAdded p places a made old new) where
   back : (x : ActionId) → IsCounted (set counts a.agent a.number) x → IsCounted counts x ⊎ (x ≡ a)
   back = counted_back counts a next.agent next.number
 
@@ -365,20 +363,25 @@ module _ (p : Program) (places : ActionPlaces) (wanted : List Bool) (counts : Li
   rising_on m n x y (inr (e, same)) (inl there) l agents = absurd (let w = slice_get_within old.joins.items n y there in omega (arith, w, e, l))
   rising_on m n x y (inr (e, same)) (inr (f, also)) l agents = absurd (omega (arith, e, f, l))
 
-  pub joins_more : AreJoinsOf p places wanted (IsCounted (set counts a.agent a.number)) new
+  -- an action has a row, or it is so of it
+  rows_on : (Else : ActionId → Type 0) → (made ≡ false → Else a) → HasRowOr Else p old.joins.items (IsCounted counts) → HasRowOr Else p new.joins.items (IsCounted (set counts a.agent a.number))
+  rows_on Else or before x k done = elim (back x done) [
+    | inl was ↦ elim (before x k was) [ inl row ↦ inl (row.0, added.rows x row.0 row.1) | inr other ↦ inr other ]
+    | inr e ↦ subst (λ (y : ActionId). ((r : ℕ) × IsRow new.joins.items r y) ⊎ Else y) (sym e) (by_flag ((r : ℕ) × IsRow new.joins.items r a) (Else a) made added.row or)
+  ]
+
+  pub joins_more : AreJoinsOf p places wanted Passed (IsCounted (set counts a.agent a.number)) new
   joins_more = record {
     sound = added.sound;
     standing = λ x k done. elim (back x done) [
       | inl before ↦ added.kept x k (counted_apart counts a next.agent next.number x before) (h.standing x k before)
       | inr e ↦ subst (IsStanding p places new) (sym e) added.here
     ];
-    rows = λ x k done some. elim (back x done) [
-      | inl before ↦ (let was = h.rows x k before some in (was.0, added.rows x was.0 was.1))
-      | inr e ↦ (let made = added.row (subst (λ (y : ActionId). 1 ≤ length (awaits_of p y.agent y.number)) e some) in (made.0, subst (IsRow new.joins.items made.0) (sym e) made.1))
-    ];
+    rows = rows_on (λ x. AddsNone p x.agent x.number) none h.rows;
+    passed = rows_on Passed passed h.passed;
     asked = λ x k done set. elim (back x done) [
       | inl before ↦ (let was = h.asked x k before set in (was.0, added.rows x was.0 was.1))
-      | inr e ↦ (let made = added.asked (subst (λ (y : ActionId). get_or wanted (place_of_action places y) false ≡ true) e set) in (made.0, subst (IsRow new.joins.items made.0) (sym e) made.1))
+      | inr e ↦ (let row = added.row (asked (subst (IsWanted places wanted) e set)) in (row.0, subst (IsRow new.joins.items row.0) (sym e) row.1))
     ];
     ordered = λ level levels m n x y at there. ordered_on level levels m n x y (added.parts m x at) (added.parts n y there);
     rising = λ m n x y at there. rising_on m n x y (added.parts m x at) (added.parts n y there);

@@ -15,9 +15,9 @@ use Rattle.fleet_needs.proofs.Free.{next_action, all_finished, count, moves_on, 
 use Rattle.fleet_needs.proofs.GatheredAll.{own_later}
 use Rattle.fleet_needs.proofs.Joining.{awaited_action}
 
-pub joins_none : (p : Program) (places : ActionPlaces) (wanted : List Bool) (m : Joins) (n : ℕ) → ArePlacesOf p places → m.joins.items ≡ [] → length m.lasts.items ≡ 1 → length m.standing.items ≡ total_moves p
-    → AreJoinsOf p places wanted (IsCounted (replicate n 0)) m
-joins_none p places wanted m n right none one room = record {
+pub joins_none : (p : Program) (places : ActionPlaces) (wanted : List Bool) (Passed : ActionId → Type 0) (m : Joins) (n : ℕ) → ArePlacesOf p places → m.joins.items ≡ [] → length m.lasts.items ≡ 1 → length m.standing.items ≡ total_moves p
+    → AreJoinsOf p places wanted Passed (IsCounted (replicate n 0)) m
+joins_none p places wanted Passed m n right none one room = record {
   sound = record {
     right = right;
     joins = λ k j at. absurd (let l = slice_get_within m.joins.items k j at in omega (arith, l, empty));
@@ -25,7 +25,8 @@ joins_none p places wanted m n right none one room = record {
     room = room;
   };
   standing = λ a is done. absurd (none_counted n a is.first done);
-  rows = λ a is done some. absurd (none_counted n a is.first done);
+  rows = λ a is done. absurd (none_counted n a is.first done);
+  passed = λ a is done. absurd (none_counted n a is.first done);
   asked = λ a is done set. absurd (none_counted n a is.first done);
   ordered = λ level levels k l x y at there. absurd (let w = slice_get_within m.joins.items k x at in omega (arith, w, empty));
   rising = λ k l x y at. absurd (let w = slice_get_within m.joins.items k x at in omega (arith, w, empty));
@@ -36,11 +37,13 @@ joins_none p places wanted m n right none one room = record {
     empty : length m.joins.items ≡ 0
     empty = ap (λ xs. length xs) none
 
-pub joins_end : (p : Program) (t : ℕ) (counts : List ℕ) (places : ActionPlaces) (wanted : List Bool) (m : Joins) → is_finished p (run p [] t) ≡ true → AreMid p t 0 counts → AreJoinsOf p places wanted (IsCounted counts) m → AreJoinsEnd p places wanted m
-joins_end p t counts places wanted m finished mid h = record {
+pub joins_end : (p : Program) (t : ℕ) (counts : List ℕ) (places : ActionPlaces) (wanted : List Bool) (Passed : ActionId → Type 0) (m : Joins) → is_finished p (run p [] t) ≡ true → AreMid p t 0 counts → AreJoinsOf p places wanted Passed (IsCounted counts) m
+    → AreJoinsEnd p places wanted Passed m
+joins_end p t counts places wanted Passed m finished mid h = record {
   joins = h.sound.joins;
   lasts = h.sound.lasts;
-  rows = λ a is these some. h.rows a is (all_counted p t counts finished mid a is) some;
+  rows = λ a is these. h.rows a is (all_counted p t counts finished mid a is);
+  passed = λ a is these. h.passed a is (all_counted p t counts finished mid a is);
   asked = λ a is set. h.asked a is (all_counted p t counts finished mid a is) set;
   ordered = h.ordered;
   rising = h.rising;
@@ -58,8 +61,8 @@ module _ (p : Program) (t from : ℕ) (counts : List ℕ) (mid : AreMid p t from
   is_next = next_action p t from i next n number
 
   -- rows stand for all that the next action directly needs
-  pub can_join : AreInRange p → (places : ActionPlaces) (wanted : List Bool) (m : Joins) → AreJoinsOf p places wanted (IsCounted counts) m → CanJoin p places m (record { agent = i; number = n })
-  can_join range places wanted m h = record {
+  pub can_join : AreInRange p → (places : ActionPlaces) (wanted : List Bool) (Passed : ActionId → Type 0) (m : Joins) → AreJoinsOf p places wanted Passed (IsCounted counts) m → CanJoin p places m (record { agent = i; number = n })
+  can_join range places wanted Passed m h = record {
     sound = h.sound;
     action = is_next;
     before = λ b is same e. h.standing b is (let at : slice_index counts b.agent ≡ slice_index counts i = ap (slice_index counts) same in omega (arith, at, more, e));

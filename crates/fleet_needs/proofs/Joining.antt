@@ -1,12 +1,14 @@
 -- The column of an action is made of those of the actions that it directly needs.
-use Rattle.std.proofs.Common.{◌≡◌, ◌≢◌, ℕ, ◌+◌, ◌<◌, ◌≤◌, List, length, get_or, max, refl, sym, ap, subst, ◌∙◌, arith, inl, inr, ◌⊎◌}
+use Rattle.std.proofs.Common.{◌≡◌, ◌≢◌, ℕ, ◌+◌, ◌-◌, ◌<◌, ◌≤◌, List, length, get_or, max, refl, sym, ap, subst, ◌∙◌, arith, inl, inr, ◌⊎◌}
 use Rattle.std.specs.Prelude.{Contains, slice_get, Some}
 use Rattle.std.proofs.lemmas.Bool.{cases_lt}
 use Rattle.std.proofs.lemmas.Option.{slice_get-get_or, slice_get_within, get_or_from_slice_get, same_Some}
 use Rattle.fleet_model.specs.declared.program.ActionId.{ActionId}
 use Rattle.fleet_model.specs.declared.program.Await.{Await}
 use Rattle.fleet_model.specs.Program.{Program, moves, awaits_of, AreInRange}
-use Rattle.fleet_model.specs.Chain.{IsAction, Reaches, awaited}
+use Rattle.fleet_model.specs.Chain.{IsAction, DirectlyNeeds, Reaches, awaited}
+use Rattle.fleet_needs.specs.Implied.{IsImplied}
+use Rattle.fleet_needs.specs.Joins.{AddsNone}
 use Rattle.fleet_needs.specs.Rows.{IsColumn, ByOneOf, IsJoined, OfFirst}
 use Rattle.fleet_model.proofs.Chains.{own_reach, LastStep, chain_ends_by_step, Reaches-trans, Reaches-first, Reaches-last, Reaches-need}
 
@@ -121,6 +123,59 @@ own_column p i n k later c = (
   (λ r. ((Reaches-first p (act i c) (act i n) r).first, later c r)),
   (λ b. own_reach p i c n k.agent b.0 b.1 k.last),
 )
+
+-- ---- actions that add no chain
+
+-- if all that it awaits is needed by the action before, too
+pub adds_none : (p : Program) (i n : ℕ) → ((w : Await) → Contains (awaits_of p i n) w → Reaches p (awaited w) (record { agent = i; number = n - 1 })) → AddsNone p i n
+adds_none p i n awaits j c ne (cs, h) = elim (chain_ends_by_step p (act j c) cs (act i n) h) [
+  | inl e ↦ absurd (ne (ap (λ (x : ActionId). x.agent) e))
+  | inr l ↦ by l.before l.needs l.reaches
+]
+  where
+    by : (b : ActionId) → DirectlyNeeds p (act i n) b → Reaches p (act j c) b → Reaches p (act j c) (record { agent = i; number = n - 1 })
+    by b (inl (same, number, some)) r =
+        let e : b ≡ act i (n - 1) = same_action b (act i (n - 1)) (sym same) (omega arith) in
+        subst (Reaches p (act j c)) e r
+      where
+        same_action : (x y : ActionId) → x.agent ≡ y.agent → x.number ≡ y.number → x ≡ y
+        same_action x y e g = λ t. record { agent = e t; number = g t }
+    by b (inr w) r = Reaches-trans p (act j c) b (act i (n - 1)) r (awaits (record { agent = b.agent; count = b.number }) w)
+
+-- if it awaits nothing
+pub adds_none_if_quiet : (p : Program) (i n : ℕ) → length (awaits_of p i n) ≡ 0 → AddsNone p i n
+adds_none_if_quiet p i n none = adds_none p i n (λ w at. absurd (let l : at.0 < length (awaits_of p i n) = at.1 in omega (arith, l, none)))
+
+-- if it has one await, which others imply: only the action before can do so
+pub adds_none_if_implied : (p : Program) (a : ActionId) (w : Await) → length (awaits_of p a.agent a.number) ≡ 1 → slice_get (awaits_of p a.agent a.number) 0 ≡ Some w → IsImplied p a w → AddsNone p a.agent a.number
+adds_none_if_implied p a w one at (b, apart, needs, reaches) = adds_none p a.agent a.number (λ v c. by v c needs)
+  where
+    only : (v : Await) → Contains (awaits_of p a.agent a.number) v → v ≡ w
+    only v (k, l, e) =
+        let first : k ≡ 0 = omega (arith, l, one) in
+        same_Some v w (sym (slice_get-get_or (awaits_of p a.agent a.number) k v l ∙ ap Some e) ∙ ap (slice_get (awaits_of p a.agent a.number)) first ∙ at)
+
+    by : (v : Await) → Contains (awaits_of p a.agent a.number) v → DirectlyNeeds p a b → Reaches p (awaited v) (record { agent = a.agent; number = a.number - 1 })
+    by v c (inr x) = absurd (apart (ap awaited (only (record { agent = b.agent; count = b.number }) x)))
+    by v c (inl (same, number, some)) =
+        let e : b ≡ act a.agent (a.number - 1) = (λ t. record { agent = (sym same) t; number = (minus number) t }) in
+        subst (λ (x : Await). Reaches p (awaited x) (act a.agent (a.number - 1))) (sym (only v c)) (subst (Reaches p (awaited w)) e reaches)
+      where
+        minus : a.number ≡ b.number + 1 → b.number ≡ a.number - 1
+        minus e = omega arith
+
+-- the counts of other agents stay where none is added
+pub column_stays : (p : Program) (i b j v : ℕ) → IsAction p (record { agent = i; number = b + 1 }) → j ≢ i → AddsNone p i (b + 1) → IsColumn p (record { agent = i; number = b }) j v → IsColumn p (record { agent = i; number = b + 1 }) j v
+column_stays p i b j v is ne none h c = (
+  (λ r. (h c).0 (subst (λ (n : ℕ). Reaches p (act j c) (act i n)) less (none j c ne r))),
+  (λ l.
+      let r = (h c).1 l in
+      let m = Reaches-last p (act j c) (act i b) r in
+      Reaches-trans p (act j c) (act i b) (act i (b + 1)) r (Reaches-need p (act i b) (act i (b + 1)) m is (inl (refl, refl, m.first)))),
+)
+  where
+    less : b + 1 - 1 ≡ b
+    less = omega arith
 
 -- an awaited action is one of the program
 pub awaited_action : (p : Program) → AreInRange p → (i n k : ℕ) (w : Await) → slice_get (awaits_of p i n) k ≡ Some w → IsAction p (awaited w)

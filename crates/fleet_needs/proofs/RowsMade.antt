@@ -1,5 +1,5 @@
 -- The counts of rows that are made of rows in their slots.
-use Rattle.std.proofs.Common.{◌≡◌, ◌≢◌, ℕ, zero, suc, ◌+◌, ◌-◌, ◌*◌, ◌<◌, ◌≤◌, List, [], length, get_or, max, slice_index, refl, sym, ap, subst, ◌∙◌, arith, inl, inr}
+use Rattle.std.proofs.Common.{◌≡◌, ◌≢◌, ℕ, zero, suc, ◌+◌, ◌-◌, ◌*◌, ◌<◌, ◌≤◌, List, length, get_or, max, slice_index, refl, sym, ap, subst, ◌∙◌, arith, inl, inr}
 use Rattle.std.specs.Prelude.{slice_get, Some}
 use Rattle.std.proofs.lemmas.Bool.{cases_lt, cases_eq}
 use Rattle.std.proofs.lemmas.Option.{slice_get_within, slice_get-get_or}
@@ -11,7 +11,7 @@ use Rattle.fleet_needs.specs.Block.{HasColumn}
 use Rattle.fleet_needs.specs.Counts.{counts_of, are_narrow, CanHold, AreAlike}
 use Rattle.fleet_needs.specs.Joins.{AreQuiet, need_of, row_taken, IsJoin, AreOwn}
 use Rattle.fleet_needs.specs.declared.joins.Need.{Need}
-use Rattle.fleet_needs.specs.Rows.{IsColumn, IsJoined, OfFirst, OfOthers, OfOthersOrFirst}
+use Rattle.fleet_needs.specs.Rows.{IsColumn, IsJoined, OfOthers, OfOthersOrFirst}
 use Rattle.fleet_needs.specs.Schedule.{IsNext, joins_in, IsSchedule, AreColumnsOf, AreCounts, AreRowsTo, IsRowFor, IsThere, StandsThere, AreJoinedWith, count_in_slot}
 use Rattle.fleet_needs.specs.Slots.{IsStill}
 use Rattle.fleet_needs.specs.declared.schedule.Columns.{Columns}
@@ -22,25 +22,19 @@ use Rattle.fleet_needs.specs.declared.schedule.Schedule.{Schedule}
 use Rattle.fleet_needs.specs.JoinPass.{AreOthers, IsOthersRow, IsWholeRow, IsJoinRow, HasOthers, HasWhole}
 use Rattle.fleet_needs.specs.declared.counts.Counts.{Counts}
 use Rattle.fleet_needs.proofs.Placed.{row_ends}
-use Rattle.fleet_needs.proofs.Joining.{column_none, joined_none, part_all, own_column, awaited_action}
+use Rattle.fleet_needs.proofs.Joining.{column_stays, column_none, joined_none, part_all, own_column, awaited_action}
 use Rattle.fleet_needs.proofs.OthersJoined.{others_more, others_same, first_none, first_more, first_same, first_all}
 
--- ---- actions that await nothing
+-- ---- actions that add no chain
 
 module _ (p : Program) (i j : ℕ) (agent : i < length p) (ne : j ≢ i) where
-  quiet_next : (b v : ℕ) → b + 1 ≤ moves p i → awaits_of p i (b + 1) ≡ [] → IsColumn p (record { agent = i; number = b }) j v → IsColumn p (record { agent = i; number = b + 1 }) j v
-  quiet_next b v last none h =
-      let zero_long : 0 ≡ length (awaits_of p i (b + 1)) = sym (ap (λ (ws : List Await). length ws) none) in
-      part_all p i b j v (record { agent = agent; first = omega arith; last = last }) ne
-      (subst (λ (n : ℕ). IsJoined (OfFirst n) p i b j v) zero_long (joined_none p i b j (OfFirst 0) v (λ k w l. omega arith) h))
-
-  -- the counts of other agents stay as long as nothing is awaited
+  -- the counts of other agents stay as long as none is added
   quiet_by : (q d v : ℕ) → q + d ≤ moves p i → AreQuiet p i q (q + d) → IsColumn p (record { agent = i; number = q }) j v → IsColumn p (record { agent = i; number = q + d }) j v
   quiet_by q zero v last quiet h = let e : q ≡ q + zero = omega arith in subst (λ (n : ℕ). IsColumn p (record { agent = i; number = n }) j v) e h
   quiet_by q (suc d) v last quiet h =
       let e : q + d + 1 ≡ q + suc d = omega arith in
       subst (λ (n : ℕ). IsColumn p (record { agent = i; number = n }) j v) e
-      (quiet_next (q + d) v (omega arith) (quiet (q + d + 1) (omega arith) (omega arith)) (quiet_by q d v (omega arith) (λ m from upto. quiet m from (omega arith)) h))
+      (column_stays p i (q + d) j v (record { agent = agent; first = omega arith; last = omega arith }) ne (quiet (q + d + 1) (omega arith) (omega arith)) (quiet_by q d v (omega arith) (λ m from upto. quiet m from (omega arith)) h))
 
   pub quiet_to : (q n v : ℕ) → q ≤ n → n ≤ moves p i → AreQuiet p i q n → IsColumn p (record { agent = i; number = q }) j v → IsColumn p (record { agent = i; number = n }) j v
   quiet_to q n v upto last quiet h =

@@ -152,7 +152,7 @@ told_by p a w known false e is isnt = ((λ f. absurd (false≢true f)), (λ i. a
 
 module _ (p : Program) (a : ActionId) (first k : ℕ) (oldAsked newAsked old new : List Bool) (more : AreMoreAsked oldAsked newAsked) (others : (n : ℕ) → n ≢ first + k → get_or new n false ≡ get_or old n false) where
   still_settled : (w : Await) (x : ℕ) → x ≢ first + k → IsSettled p oldAsked a w (get_or old x false) → IsSettled p newAsked a w (get_or new x false)
-  still_settled w x ne (inl set) = inl (more w.agent set)
+  still_settled w x ne (inl set) = inl (more w.agent set.0, (λ f. set.1 (sym (others x ne) ∙ f)))
   still_settled w x ne (inr told) = inr (subst (IsImpliedFlag p a w) (sym (others x ne)) told)
 
   pub settled_more : ((w : Await) → slice_get (awaits_of p a.agent a.number) k ≡ Some w → IsSettled p newAsked a w (get_or new (first + k) false))
@@ -173,10 +173,13 @@ settled_on p These Next a oldAsked newAsked old new is back apart h before b kb 
   | inl these ↦ go these (before b kb these k w at)
 ]
   where
+    stays : These b → get_or new (first_await p b + k) false ≡ get_or old (first_await p b + k) false
+    stays these = h.others (first_await p b + k) (flag_apart p b a kb is (apart b these) k (slice_get_within (awaits_of p b.agent b.number) k w at))
+
     go : These b → IsSettled p oldAsked b w (get_or old (first_await p b + k) false) → IsSettled p newAsked b w (get_or new (first_await p b + k) false)
-    go these (inl set) = inl (h.asked w.agent set)
+    go these (inl set) = inl (h.asked w.agent set.0, (λ f. set.1 (sym (stays these) ∙ f)))
     go these (inr told) =
-        inr (subst (IsImpliedFlag p b w) (sym (h.others (first_await p b + k) (flag_apart p b a kb is (apart b these) k (slice_get_within (awaits_of p b.agent b.number) k w at)))) told)
+        inr (subst (IsImpliedFlag p b w) (sym (stays these)) told)
 
 pub one_up : (i n : ℕ) (b : ActionId) → IsUpTo i (n + 1) b → IsUpTo i n b ⊎ (b ≡ record { agent = i; number = n + 1 })
 one_up i n b (inl low) = inl (inl low)

@@ -1,5 +1,5 @@
 -- Rows that are made, and the rows that they are joined of.
-use Rattle.std.specs.Prelude.{◌≡◌, ◌≢◌, ℕ, ◌+◌, ◌-◌, ◌<◌, ◌≤◌, ◌⊎◌, Bool, true, false, List, [], length, get_or, slice_index, slice_get, Some}
+use Rattle.std.specs.Prelude.{◌≡◌, ◌≢◌, ℕ, ◌+◌, ◌-◌, ◌<◌, ◌≤◌, ◌⊎◌, Bool, true, false, List, length, get_or, slice_index, slice_get, Some}
 use Rattle.fleet_model.specs.declared.program.Await.{Await}
 use Rattle.fleet_model.specs.declared.program.ActionId.{ActionId}
 use Rattle.fleet_model.specs.Program.{Program, awaits_of, total_moves}
@@ -11,9 +11,13 @@ use Rattle.fleet_needs.specs.declared.joins.Join.{Join}
 use Rattle.fleet_needs.specs.declared.joins.Need.{Need}
 use Rattle.fleet_needs.specs.declared.joins.Joins.{Joins}
 
--- agent i awaits nothing after its action q, up to action n
+-- whatever reaches action n of agent i from another agent reaches the action before: no chain is added there
+abbrev pub AddsNone : Program → ℕ → ℕ → Type 0
+AddsNone p i n = (j c : ℕ) → j ≢ i → Reaches p (record { agent = j; number = c }) (record { agent = i; number = n }) → Reaches p (record { agent = j; number = c }) (record { agent = i; number = n - 1 })
+
+-- agent i adds no chain after its action q, up to action n
 abbrev pub AreQuiet : Program → ℕ → ℕ → ℕ → Type 0
-AreQuiet p i q n = (m : ℕ) → q < m → m ≤ n → awaits_of p i m ≡ []
+AreQuiet p i q n = (m : ℕ) → q < m → m ≤ n → AddsNone p i m
 
 -- row r is that of the action
 pub record IsRow (joins : List Join) (r : ℕ) (a : ActionId) : Type 0 where
@@ -22,8 +26,8 @@ pub record IsRow (joins : List Join) (r : ℕ) (a : ActionId) : Type 0 where
   pub at : slice_get joins (r - 1) ≡ Some join
   pub of : join.action ≡ a
 
--- row r stands for action n of agent i: it is that of the agent's last action up to there that awaits something, or none
--- does, and r is 0
+-- row r stands for action n of agent i: it is that of an action of the agent after which no chain is added up to there,
+-- or there is none, and r is 0
 pub record StandsFor (p : Program) (joins : List Join) (r i n : ℕ) : Type 0 where
   pub number : ℕ
   pub upto : number ≤ n
@@ -65,9 +69,13 @@ pub record AreLasts (p : Program) (joins : List Join) (needs : List Need) (lasts
   pub all : length lasts ≡ length joins + 1
   pub each : (n : ℕ) (j : Join) (r : ℕ) → slice_get joins n ≡ Some j → Takes p needs j r → n + 1 ≤ slice_index lasts r
 
--- the actions that await something have rows
+-- each of these actions has a row, or there is that to say of it
+abbrev pub HasRowOr : (ActionId → Type 0) → Program → List Join → (ActionId → Type 0) → Type 0
+HasRowOr Else p joins These = (a : ActionId) → IsAction p a → These a → ((r : ℕ) × IsRow joins r a) ⊎ Else a
+
+-- those that add a chain have rows
 abbrev pub HasAllRows : Program → List Join → (ActionId → Type 0) → Type 0
-HasAllRows p joins These = (a : ActionId) → IsAction p a → These a → 1 ≤ length (awaits_of p a.agent a.number) → (r : ℕ) × IsRow joins r a
+HasAllRows p joins These = HasRowOr (λ a. AddsNone p a.agent a.number) p joins These
 
 -- no action needs a later one of its agent
 abbrev pub AreOwn : Program → Type 0
@@ -135,10 +143,11 @@ pub record AreSound (p : Program) (places : ActionPlaces) (m : Joins) : Type 0 w
   pub room : length m.standing.items ≡ total_moves p
 
 -- the joins of these actions, which are the first ones of a run without holds
-pub record AreJoinsOf (p : Program) (places : ActionPlaces) (wanted : List Bool) (These : ActionId → Type 0) (m : Joins) : Type 0 where
+pub record AreJoinsOf (p : Program) (places : ActionPlaces) (wanted : List Bool) (Passed These : ActionId → Type 0) (m : Joins) : Type 0 where
   pub sound : AreSound p places m
   pub standing : (a : ActionId) → IsAction p a → These a → IsStanding p places m a
   pub rows : HasAllRows p m.joins.items These
+  pub passed : HasRowOr Passed p m.joins.items These
   pub asked : (a : ActionId) → IsAction p a → These a → IsWanted places wanted a → (r : ℕ) × IsRow m.joins.items r a
   pub ordered : AreOrdered p m.joins.items
   pub rising : AreRising m.joins.items
@@ -165,7 +174,7 @@ pub record AreTaken (p : Program) (places : ActionPlaces) (a : ActionId) (old ne
       → length old.joins.items + 1 ≤ slice_index new.lasts.items (row_of places old (awaited w))
 
 -- rows have come, none has gone, and the row r is that of the action or stands for it
-pub record HasJoined (p : Program) (places : ActionPlaces) (a : ActionId) (wanted : Bool) (r : ℕ) (old new : Joins) : Type 0 where
+pub record HasJoined (p : Program) (places : ActionPlaces) (a : ActionId) (made : Bool) (r : ℕ) (old new : Joins) : Type 0 where
   pub sound : AreSound p places new
   pub standing : new.standing ≡ old.standing
   pub more : length old.joins.items ≤ length new.joins.items
@@ -173,25 +182,24 @@ pub record HasJoined (p : Program) (places : ActionPlaces) (a : ActionId) (wante
   pub still : (n : ℕ) (j : Join) → slice_get old.joins.items n ≡ Some j → slice_get new.joins.items n ≡ Some j
   pub within : r ≤ length new.joins.items
   pub stands : StandsFor p new.joins.items r a.agent a.number
-  pub here : 1 ≤ length (awaits_of p a.agent a.number) → IsRow new.joins.items r a
-  pub asked : wanted ≡ true → IsRow new.joins.items r a
+  pub here : made ≡ true → IsRow new.joins.items r a
   pub parts : (n : ℕ) (j : Join) → slice_get new.joins.items n ≡ Some j → (slice_get old.joins.items n ≡ Some j) ⊎ ((n ≡ length old.joins.items) × (j.action ≡ a))
 
 -- the action has been added: rows have come, and none has gone
-pub record IsAdded (p : Program) (places : ActionPlaces) (a : ActionId) (wanted : Bool) (old new : Joins) : Type 0 where
+pub record IsAdded (p : Program) (places : ActionPlaces) (a : ActionId) (made : Bool) (old new : Joins) : Type 0 where
   pub sound : AreSound p places new
   pub kept : (x : ActionId) → IsAction p x → x ≢ a → IsStanding p places old x → IsStanding p places new x
   pub rows : (x : ActionId) (r : ℕ) → IsRow old.joins.items r x → IsRow new.joins.items r x
   pub here : IsStanding p places new a
-  pub row : 1 ≤ length (awaits_of p a.agent a.number) → (r : ℕ) × IsRow new.joins.items r a
-  pub asked : wanted ≡ true → (r : ℕ) × IsRow new.joins.items r a
+  pub row : made ≡ true → (r : ℕ) × IsRow new.joins.items r a
   pub parts : (n : ℕ) (j : Join) → slice_get new.joins.items n ≡ Some j → (slice_get old.joins.items n ≡ Some j) ⊎ ((n ≡ length old.joins.items) × (j.action ≡ a))
 
 -- the joins of all actions of the program, in which no action needs a later one of its agent
-pub record AreJoinsEnd (p : Program) (places : ActionPlaces) (wanted : List Bool) (m : Joins) : Type 0 where
+pub record AreJoinsEnd (p : Program) (places : ActionPlaces) (wanted : List Bool) (Passed : ActionId → Type 0) (m : Joins) : Type 0 where
   pub joins : AreJoins p m.joins.items m.needs.items
   pub lasts : AreLasts p m.joins.items m.needs.items m.lasts.items
   pub rows : HasAllRows p m.joins.items (IsAction p)
+  pub passed : HasRowOr Passed p m.joins.items (IsAction p)
   pub asked : (a : ActionId) → IsAction p a → IsWanted places wanted a → (r : ℕ) × IsRow m.joins.items r a
   pub ordered : AreOrdered p m.joins.items
   pub rising : AreRising m.joins.items

@@ -15,8 +15,7 @@ use Rattle.fleet_needs.specs.declared.questions.Question.{Question}
 use Rattle.fleet_needs.specs.declared.schedule.Schedule.{Schedule}
 use Rattle.fleet_needs.specs.declared.join_pass.SlotRows.{SlotRows}
 
--- the rows of a program: each action that awaits something has one, and each row is still in its slot whenever it is
--- taken
+-- the rows of a program: each action that adds a chain has one, and each row is still in its slot whenever it is taken
 pub record IsSchedule (p : Program) (s : Schedule) : Type 0 where
   pub joins : AreJoins p s.joins.items s.needs.items
   pub rows : HasAllRows p s.joins.items (IsAction p)

@@ -8,7 +8,7 @@ use Rattle.fleet_model.specs.Chain.{IsAction, IsNumbering}
 use Rattle.fleet_needs.specs.Places.{ArePlacesOf, place_of_action}
 use Rattle.fleet_needs.specs.declared.await_places.ActionPlaces.{ActionPlaces}
 use Rattle.fleet_model.specs.Machine.{run, count_at}
-use Rattle.fleet_needs.specs.Implied.{IsImpliedFlag, first_await}
+use Rattle.fleet_needs.specs.Implied.{IsImplied, IsImpliedFlag, first_await}
 
 -- ---- the ticks
 
@@ -47,9 +47,9 @@ pub record AreTicks (p : Program) (m : TicksByPlace) : Type 0 where
 
 -- ---- the awaits
 
--- the flag says whether the await is implied, or its agent is asked for
+-- the flag says whether the await is implied; or its agent is asked for, and the flag is set only if it is
 abbrev pub IsSettled : Program → List Bool → ActionId → Await → Bool → Type 0
-IsSettled p asked a w flag = (get_or asked w.agent false ≡ true) ⊎ IsImpliedFlag p a w flag
+IsSettled p asked a w flag = ((get_or asked w.agent false ≡ true) × (flag ≡ true → IsImplied p a w)) ⊎ IsImpliedFlag p a w flag
 
 -- it is so of all awaits of these actions
 abbrev pub AreSettledOf : Program → List Bool → (ActionId → Type 0) → List Bool → Type 0

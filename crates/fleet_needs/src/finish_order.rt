@@ -160,6 +160,9 @@ pub const MAX_TICKS: u32 = u32::MAX;
 /// How many actions are looked at for one await, until most agents are asked for.
 const LOOKS: u8 = 16;
 
+/// To look at one action costs about as much as to join so many counts.
+const COUNTS_A_LOOK: usize = 128;
+
 impl FinishTicks {
     /// The ticks of a program that so many ticks finish.
     pub(crate) fn of<P: ProgramView>(
@@ -184,13 +187,14 @@ impl FinishTicks {
         })
     }
 
-    /// Looks at none any more once most agents are asked for, since rows answer for all these.
-    pub(crate) fn stop_if_most(&mut self, asked: &[bool])
+    /// Looks at fewer once most agents are asked for: rows answer for all these, so a look is worth it only if it may
+    /// spare a long row.
+    pub(crate) fn look_less_if_most(&mut self, asked: &[bool])
         ensures { self.new ≡ self.old }
     {
         let flagged = asked.iter().filter(|flag| **flag).count();
         if flagged > asked.len() / 2 {
-            self.looks = 0;
+            self.looks = (asked.len() / COUNTS_A_LOOK).min(usize::from(LOOKS)) as u8;
         }
     }
 

@@ -1,14 +1,15 @@
 //! Awaits that others imply, and the use of rows that flags them.
 
-ghost use Rattle.std.specs.Prelude.{◌≡◌, ◌<◌, [], None, Some, false, get_or, length, slice_get, IfOk, OnOk, ◌≢◌, ℕ, nat_le, slice_index};
+ghost use Rattle.std.specs.Prelude.{◌≡◌, ◌<◌, ◌+◌, [], None, Some, false, get_or, length, slice_get, IfOk, OnOk, ◌≢◌, ℕ, nat_le, slice_index};
 ghost use Rattle.fleet_model.specs.declared.program.Await.{Await};
 ghost use Rattle.fleet_model.specs.Program.{AreInRange, awaits_of, total_awaits};
 ghost use Rattle.fleet_model.specs.Machine.{IsFinish};
 ghost use Rattle.fleet_model.specs.Chain.{IsAction};
-ghost use Rattle.fleet_needs.specs.Implied.{IsImplied, AreAwaitPlaces};
+ghost use Rattle.fleet_needs.specs.Implied.{IsImplied, AreAwaitPlaces, first_await};
+ghost use Rattle.fleet_needs.specs.Joins.{HasRowOr};
 ghost use Rattle.fleet_needs.specs.Settled.{AreSettled};
 ghost use Rattle.fleet_needs.specs.Schedule.{IsSchedule};
-ghost use Rattle.fleet_needs.specs.Flags.{AreImplied, flags_of, AreFlags, AreFlagged};
+ghost use Rattle.fleet_needs.specs.Flags.{AreImplied, AreSet, flags_of, AreFlags, AreFlagged};
 ghost use Rattle.fleet_needs.specs.Block.{HasColumn};
 ghost use Rattle.fleet_needs.specs.JoinPass.{IsJoinRow, HasOthers};
 ghost use Rattle.fleet_needs.specs.Columns.{agents_in, column_of};
@@ -33,11 +34,16 @@ pub struct ImpliedAwaits {
 }
 
 impl ImpliedAwaits {
-    /// Whether others imply the await of this place.
-    fn is_flagged(&self, place: usize) -> bool
-        requires { place < length (flags_of self.now) }
-        ensures { result ≡ get_or (flags_of self.now) place false }
+    /// Whether await `k` of the action is flagged.
+    pub(crate) fn is_set<P: ProgramView>(&self, program: &P, action: ActionId, k: u16) -> bool
+        requires flags { AreFlags (P.program program.now) self.now }
+        requires action { IsAction (P.program program.now) action }
+        requires place { k < length (awaits_of (P.program program.now) action.agent action.number) }
+        ensures { result ≡ get_or (flags_of self.now)
+            (first_await (P.program program.now) action + k) false }
     {
+        let _ = program.agents();
+        let place = self.places.first(program, action) + usize::from(k);
         self.flags[place]
     }
 
@@ -70,9 +76,7 @@ impl ImpliedAwaits {
             → slice_get (awaits_of (P.program program.now) action.agent action.number) k ≡ Some w
             → IsImplied (P.program program.now) action w }
     {
-        let _ = program.agents();
-        let place = self.places.first(program, action) + usize::from(k);
-        let is_implied = self.is_flagged(place);
+        let is_implied = self.is_set(program, action, k);
         if is_implied {
             return None;
         }
@@ -124,7 +128,7 @@ fn flag_implied<P: ProgramView>(
     if !is_any(&asked) {
         return Ok(());
     }
-    let schedule = Schedule::of(alloc, program, &order, ticks, &[])?;
+    let schedule = Schedule::of(alloc, program, &order, ticks, &[], Some(implied))?;
     // The rows need its room.
     drop(order);
     flag_all(alloc, program, &schedule, &asked, implied)
@@ -145,6 +149,8 @@ fn flag_all<P: ProgramView>(
     requires flags { length (flags_of implied.old) ≡ total_awaits (P.program program.now) }
     requires asked { length asked.now ≡ length (P.program program.now) }
     requires settled { AreSettled (P.program program.now) asked.now (flags_of implied.old) }
+    requires passed { HasRowOr (AreSet (P.program program.now) (flags_of implied.old))
+        (P.program program.now) schedule.now.joins.items (IsAction (P.program program.now)) }
     ensures { OnOk result (AreImplied (P.program program.now) implied.new) }
 {
     let most = schedule.columns_at_once();
@@ -160,8 +166,8 @@ fn flag_all<P: ProgramView>(
 }
 
 impl JoinUse for ImpliedAwaits {
-    ghost use Rattle.std.proofs.Common.{refl, ◌∙◌, ◌+◌};
-    ghost use Rattle.fleet_needs.specs.Flags.{AreLeft, AreAwaitFlags, flags_of};
+    ghost use Rattle.std.proofs.Common.{◌+◌};
+    ghost use Rattle.fleet_needs.specs.Flags.{AreLeft, AreAwaitFlags, flags_of, left_same, left_joined};
 
     ghost used = { AreAwaitFlags };
 
@@ -178,9 +184,10 @@ impl JoinUse for ImpliedAwaits {
         Ok(())
     }
 
-    ghost same = { λ p columns s a is k w at none. refl };
+    ghost same = { λ p columns s. left_same p columns (flags_of s) };
 
-    ghost joined = { λ p columns s t u h g a is k w at none. g a is k w at none ∙ h a is k w at none };
+    ghost joined = { λ p columns s t u.
+        left_joined p columns (flags_of s) (flags_of t) (flags_of u) };
 }
 
 /// Flags the awaits of the action whose agents have a column: whether others imply them.

@@ -1,16 +1,18 @@
-//! Which rows are made, and of which rows each is joined: one for each action that awaits something. The row of an
-//! action that awaits nothing is that of its agent's action before.
+//! Which rows are made, and of which rows each is joined: one for each action that awaits something, unless it awaits one
+//! action alone and needs it anyhow. The row of any other is that of its agent's action before.
 
-ghost use Rattle.std.specs.Prelude.{◌≡◌, ◌+◌, ◌-◌, ◌<◌, ◌≤◌, Bool, false, [], length, get_or, slice_index, set, IfOk, OnOk};
+ghost use Rattle.std.specs.Prelude.{◌≡◌, ◌+◌, ◌-◌, ◌<◌, ◌≤◌, Bool, true, false, [], length, get_or, slice_index, set, IfOk, OnOk};
 ghost use Rattle.fleet_model.specs.Program.{AreInRange, awaits_of, total_moves};
 ghost use Rattle.fleet_model.specs.Machine.{IsFinish};
 ghost use Rattle.fleet_model.specs.Chain.{IsAction};
 ghost use Rattle.fleet_needs.specs.Places.{ArePlacesOf, place_of_action};
 ghost use Rattle.fleet_needs.specs.Order.{IsOrder, AreMid, IsCounted};
-ghost use Rattle.fleet_needs.specs.Joins.{AreJoinsOf, AreJoinsEnd, CanJoin, AreTaken, HasJoined, IsAdded, AreRaised, rows_made, lasts_known, last_of, needs_listed, room_for, StandsIn};
+ghost use Rattle.fleet_needs.specs.Flags.{AreSureIf, IsPassed, IsFirstSet};
+ghost use Rattle.fleet_needs.specs.Joins.{AddsNone, IsWanted, AreJoinsOf, AreJoinsEnd, CanJoin, AreTaken, HasJoined, IsAdded, AreRaised, rows_made, lasts_known, last_of, needs_listed, room_for, StandsIn};
 
 use crate::await_places::ActionPlaces;
 use crate::finish_order::FinishOrder;
+use crate::implied::ImpliedAwaits;
 use fleet_model::{ActionId, Await, OutOfMemory, ProgramView, total_awaits, total_moves};
 use std::alloc::Global;
 
@@ -44,13 +46,14 @@ pub(crate) struct Joins {
     standing: Vec<u32>,
 }
 
-/// What rows are made by: the places of the actions, the order in which they finish, and for each action, by its place,
-/// whether it is to have a row though it may await nothing.
+/// What rows are made by: the places of the actions, the order in which they finish, for each action, by its place,
+/// whether it is to have a row though it may await nothing, and some awaits that others imply.
 #[derive(Clone, Copy)]
 pub(crate) struct Course<'a> {
     pub(crate) places: &'a ActionPlaces,
     pub(crate) order: &'a FinishOrder,
     pub(crate) wanted: &'a [bool],
+    pub(crate) implied: Option<&'a ImpliedAwaits>,
 }
 
 /// The joins of a program that so many ticks finish.
@@ -65,8 +68,9 @@ pub(crate) fn joins_of<P: ProgramView>(
     requires order { IsOrder (P.program program.now) course.now.order.now }
     requires ends { length course.now.order.now.ends ≡ ticks + 1 }
     requires finish { IsFinish (P.program program.now) [] ticks }
-    ensures { IfOk result (AreJoinsEnd
-        (P.program program.now) course.now.places.now course.now.wanted.now) }
+    requires sure { AreSureIf (P.program program.now) course.now.implied }
+    ensures { IfOk result (AreJoinsEnd (P.program program.now) course.now.places.now
+        course.now.wanted.now (IsPassed (P.program program.now) course.now.implied)) }
 {
     let rows = most_rows(program, course.wanted);
     let mut joins = Joins::new(
@@ -103,18 +107,21 @@ fn join_tick<P: ProgramView>(
     requires order { IsOrder (P.program program.now) course.now.order.now }
     requires tick { ticks + 1 < length course.now.order.now.ends }
     requires counts { AreMid (P.program program.now) ticks 0 counts.old }
-    requires joins { AreJoinsOf (P.program program.now)
-        course.now.places.now course.now.wanted.now (IsCounted counts.old) joins.old }
+    requires sure { AreSureIf (P.program program.now) course.now.implied }
+    requires joins { AreJoinsOf (P.program program.now) course.now.places.now
+        course.now.wanted.now (IsPassed (P.program program.now) course.now.implied)
+        (IsCounted counts.old) joins.old }
     ensures counts { OnOk result (AreMid (P.program program.now) (ticks + 1) 0 counts.new) }
-    ensures joins { OnOk result (AreJoinsOf (P.program program.now)
-        course.now.places.now course.now.wanted.now (IsCounted counts.new) joins.new) }
+    ensures joins { OnOk result (AreJoinsOf (P.program program.now) course.now.places.now
+        course.now.wanted.now (IsPassed (P.program program.now) course.now.implied)
+        (IsCounted counts.new) joins.new) }
 {
     let _ = program.agents();
     let order = course.order;
     for k in order.begin(ticks as usize)..order.begin(ticks as usize + 1) {
         let action = order.action_at(program, ticks, counts, k);
-        let wanted = is_wanted(course, action);
-        joins.add_action(program, course.places, action, wanted)?;
+        let is_made = needs_row(program, course, action);
+        joins.add_action(program, course.places, action, is_made)?;
         counts[usize::from(action.agent)] = action.number;
     }
     Ok(())
@@ -172,21 +179,23 @@ impl Joins {
         }
     }
 
-    /// Adds the next action that finishes, with a row if it awaits something or is wanted to have one.
+    /// Adds the next action that finishes, with a row if one is to be made.
     fn add_action<P: ProgramView>(
         &mut self,
         program: &P,
         places: &ActionPlaces,
         action: ActionId,
-        wanted: bool,
+        is_made: bool,
     ) -> Result<(), OutOfMemory>
         requires range { AreInRange (P.program program.now) }
         requires can { CanJoin (P.program program.now) places.now self.old action }
+        requires none { is_made ≡ false
+            → AddsNone (P.program program.now) action.agent action.number }
         ensures { OnOk result (IsAdded
-            (P.program program.now) places.now action wanted self.old self.new) }
+            (P.program program.now) places.now action is_made self.old self.new) }
     {
         let base = self.row_before(program, places, action);
-        let row = self.join(program, places, action, wanted, base)?;
+        let row = self.join(program, places, action, is_made, base)?;
         self.note(program, places, action, row);
         Ok(())
     }
@@ -197,7 +206,7 @@ impl Joins {
         program: &P,
         places: &ActionPlaces,
         action: ActionId,
-        wanted: bool,
+        is_made: bool,
         base: u32,
     ) -> Result<u32, OutOfMemory>
         requires range { AreInRange (P.program program.now) }
@@ -205,10 +214,11 @@ impl Joins {
         requires within { base ≤ rows_made self.old }
         requires stands { StandsIn (P.program program.now) self.old
             base action.agent (action.number - 1) }
+        requires none { is_made ≡ false
+            → AddsNone (P.program program.now) action.agent action.number }
         ensures { IfOk result (λ row. HasJoined
-            (P.program program.now) places.now action wanted row self.old self.new) }
+            (P.program program.now) places.now action is_made row self.old self.new) }
     {
-        let is_made = needs_row(program, action, wanted);
         if is_made {
             let row = self.add_join(program, places, action, base)?;
             return Ok(row);
@@ -236,8 +246,7 @@ impl Joins {
         self.standing[places.place(action.agent, action.number - 1)]
     }
 
-    /// Adds a row for an action that awaits something, after the row that stands for the agent's action before, and
-    /// answers which it is.
+    /// Adds a row for an action, after the row that stands for the agent's action before, and answers which it is.
     fn add_join<P: ProgramView>(
         &mut self,
         program: &P,
@@ -250,8 +259,8 @@ impl Joins {
         requires within { base ≤ rows_made self.old }
         requires stands { StandsIn (P.program program.now) self.old
             base action.agent (action.number - 1) }
-        ensures { IfOk result (λ row. (wanted : Bool) → HasJoined
-            (P.program program.now) places.now action wanted row self.old self.new) }
+        ensures { IfOk result (λ row. (made : Bool) → HasJoined
+            (P.program program.now) places.now action made row self.old self.new) }
     {
         let row = self.joins.len() + 1;
         let first = self.needs.len();
@@ -330,12 +339,42 @@ impl Joins {
     }
 }
 
-/// Whether the action awaits something, or is wanted to have a row.
-fn needs_row<P: ProgramView>(program: &P, action: ActionId, wanted: bool) -> bool
-    requires { IsAction (P.program program.now) action }
-    ensures awaits { result ≡ false
-        → length (awaits_of (P.program program.now) action.agent action.number) ≡ 0 }
-    ensures wanted { result ≡ false → wanted ≡ false }
+/// Whether the action is to have a row: it awaits something, or is wanted to have one. An action of one await that others
+/// imply needs no more than the agent's action before does.
+fn needs_row<P: ProgramView>(program: &P, course: &Course<'_>, action: ActionId) -> bool
+    requires range { AreInRange (P.program program.now) }
+    requires places { ArePlacesOf (P.program program.now) course.now.places.now }
+    requires sure { AreSureIf (P.program program.now) course.now.implied }
+    requires action { IsAction (P.program program.now) action }
+    ensures none { result ≡ false → AddsNone (P.program program.now) action.agent action.number }
+    ensures passed { result ≡ false
+        → IsPassed (P.program program.now) course.now.implied action }
+    ensures wanted { IsWanted course.now.places.now course.now.wanted.now action
+        → result ≡ true }
 {
-    wanted || program.await_count(action.agent, action.number) > 0
+    if is_wanted(course, action) {
+        return true;
+    }
+    match program.await_count(action.agent, action.number) {
+        0 => false,
+        1 => !is_first_implied(program, course.implied, action),
+        _ => true,
+    }
+}
+
+/// Whether the first await of the action is known to be implied.
+fn is_first_implied<P: ProgramView>(
+    program: &P,
+    implied: Option<&ImpliedAwaits>,
+    action: ActionId,
+) -> bool
+    requires sure { AreSureIf (P.program program.now) implied }
+    requires action { IsAction (P.program program.now) action }
+    requires some { 1 ≤ length (awaits_of (P.program program.now) action.agent action.number) }
+    ensures { result ≡ true → IsFirstSet (P.program program.now) implied.entry action }
+{
+    match implied {
+        Some(implied) => implied.is_set(program, action, 0),
+        None => false,
+    }
 }

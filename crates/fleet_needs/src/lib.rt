@@ -12,9 +12,9 @@
 //! A `schedule` says which rows are made, in which order, of which rows each is joined, and in which slot it is kept.
 //! It is made once, and serves all blocks of columns. `joins` goes through the order in which actions finish: an action
 //! that awaits something, or that a question ends with, has a row of its own, and the row of any other is that of its
-//! agent's action before; what is noted is the row that stands for the action before, those that the awaits take, and
-//! for each row the last one that is joined of it. Each row gets a slot, and none is used again before its row was taken
-//! for the last time.
+//! agent's action before. So is that of an action with one await, if that is known to be implied: it adds no chain. What
+//! is noted is the row that stands for the action before, those that the awaits take, and for each row the last one that
+//! is joined of it. Each row gets a slot, and none is used again before its row was taken for the last time.
 //!
 //! `join_pass` makes the rows in that order, in the columns of one block, and keeps their counts slot by slot. A row is
 //! made in two steps: first of the rows of all that its action needs, and then, for each await, with the awaited
@@ -30,11 +30,12 @@
 //!
 //! Flags stand agent by agent, action by action (`await_places`). `settled` looks a few steps back from each action, as
 //! far as the ticks let it: most awaits are settled so, and the agents of the others are asked for. Once most agents are
-//! asked for it looks back no more.
+//! asked for it looks back less, the less the shorter rows are.
 //!
 //! `implied` has a flag for each await. Those that a few steps back settle come first (`settled`), and for the agents
 //! that are left it goes block by block over the rows, in which these agents alone have a column: between the two steps
-//! of a row an await is implied if the count of its agent is no less than its own.
+//! of a row an await is implied if the count of its agent is no less than its own. An action without a row awaits nothing
+//! or has flags that are set already.
 //!
 //! `cost_walk` lets each agent go on as far as its awaits allow, without ticks: while it waits, the agent that it waits
 //! for goes on. For each action that is finished so it notes the greatest cost among what the action needs, and its own;

@@ -69,7 +69,7 @@ fn answer_rest<P: ProgramView>(
     ensures { IfOk result (λ flags. AreAnswers (P.program program.now) questions.now flags.items) }
 {
     let order = FinishOrder::of(alloc, program, ticks)?;
-    let schedule = Schedule::of(alloc, program, &order, ticks, questions)?;
+    let schedule = Schedule::of(alloc, program, &order, ticks, questions, None)?;
     // The rows need its room.
     drop(order);
     answer_all(alloc, program, &schedule, questions, asked, flags)

@@ -7,7 +7,8 @@ ghost use Rattle.fleet_model.specs.Program.{AreInRange, moves, total_moves};
 ghost use Rattle.fleet_model.specs.Chain.{IsAction};
 ghost use Rattle.fleet_model.specs.Machine.{IsFinish};
 ghost use Rattle.fleet_needs.specs.Asked.{IsQuestion};
-ghost use Rattle.fleet_needs.specs.Joins.{IsWanted, need_of};
+ghost use Rattle.fleet_needs.specs.Joins.{HasRowOr, IsWanted, need_of};
+ghost use Rattle.fleet_needs.specs.Flags.{AreSureIf, IsPassed};
 ghost use Rattle.fleet_needs.specs.Order.{IsOrder};
 ghost use Rattle.fleet_needs.specs.Places.{ArePlacesOf, place_of_action};
 ghost use Rattle.fleet_needs.specs.Schedule.{IsSchedule, HasRows, IsNext, joins_in};
@@ -16,6 +17,7 @@ ghost use Rattle.fleet_needs.specs.Columns.{AreColumns, agents_in, column_of};
 
 use crate::await_places::ActionPlaces;
 use crate::finish_order::FinishOrder;
+use crate::implied::ImpliedAwaits;
 use crate::joins::{Course, Join, Joins, Need, joins_of};
 use crate::questions::Question;
 use fleet_model::{ActionId, MAX_AGENTS, OutOfMemory, ProgramView, total_moves};
@@ -30,8 +32,7 @@ const LEAST_COLUMNS: u32 = 8;
 /// So many counts of two bytes are joined at once, so a block has no more columns than a multiple of them, if it can.
 const WHOLE_COLUMNS: u32 = 16;
 
-/// The rows of a program: those of the actions that await something, in the order in which they finish if nobody is
-/// held.
+/// The rows of a program: those of the actions that add a chain, in the order in which they finish if nobody is held.
 #[derive(Drop)]
 pub struct Schedule {
     pub(crate) joins: Vec<Join>,
@@ -47,21 +48,25 @@ pub struct Schedule {
 
 impl Schedule {
     /// The schedule of a program that so many ticks finish if nobody is held, in which the last actions of these
-    /// questions have rows too.
+    /// questions have rows too, but an action of one await alone has none if that is known to be implied.
     pub(crate) fn of<P: ProgramView>(
         alloc: Global,
         program: &P,
         order: &FinishOrder,
         ticks: u32,
         questions: &[Question],
+        implied: Option<&ImpliedAwaits>,
     ) -> Result<Schedule, OutOfMemory>
         requires range { AreInRange (P.program program.now) }
         requires order { IsOrder (P.program program.now) order.now }
         requires ends { length order.now.ends ≡ ticks + 1 }
         requires finish { IsFinish (P.program program.now) [] ticks }
         requires questions { All (IsQuestion (P.program program.now)) questions.now }
+        requires sure { AreSureIf (P.program program.now) implied }
         ensures schedule { IfOk result (IsSchedule (P.program program.now)) }
         ensures asked { IfOk result (λ s. HasRows s questions.now) }
+        ensures passed { IfOk result (λ s. HasRowOr (IsPassed (P.program program.now) implied.entry)
+            (P.program program.now) s.joins.items (IsAction (P.program program.now))) }
     {
         let places = ActionPlaces::of(alloc, program)?;
         let wanted = wanted_of(alloc, program, &places, questions)?;
@@ -69,6 +74,7 @@ impl Schedule {
             places: &places,
             order,
             wanted: &wanted,
+            implied,
         };
         let joins = joins_of(alloc, program, &course, ticks)?;
         let slots = slots_of(alloc, &joins)?;

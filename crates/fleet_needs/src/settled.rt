@@ -43,7 +43,7 @@ pub fn settle_all<P: ProgramView>(
     let mut asked = vec![in alloc; false; usize::from(agents)]?;
     for agent in 0..agents {
         settle_agent(program, &finish, places, agent, flags, &mut asked);
-        finish.stop_if_most(&asked);
+        finish.look_less_if_most(&asked);
     }
     Ok(asked)
 }
@@ -112,6 +112,7 @@ fn settle_action<P: ProgramView>(
         match is_implied(program, ticks, action, k, latest, &mut from) {
             Some(flag) => flags[first + usize::from(k)] = flag,
             None => {
+                flags[first + usize::from(k)] = false;
                 let awaited = program.await_at(action.agent, action.number, k);
                 asked[usize::from(awaited.agent)] = true;
             }

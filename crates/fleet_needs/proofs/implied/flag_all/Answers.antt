@@ -9,4 +9,4 @@ loop-from-preserved g c =
 
 pub returns : goal.returns
 returns g c =
-    flags_end (g.P.ProgramView.program c.args.program.now) c.requires.range c.args.asked.now c.loop-from.from c.loop-from.implied (omega (arith, c.loop-from-test.false, c.agents-agents.ensures.count)) c.loop-from.invariant
+    flags_end (g.P.ProgramView.program c.args.program.now) c.requires.range c.args.schedule.now c.args.asked.now c.loop-from.from c.loop-from.implied (omega (arith, c.loop-from-test.false, c.agents-agents.ensures.count)) c.loop-from.invariant

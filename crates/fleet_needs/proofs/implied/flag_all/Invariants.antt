@@ -3,7 +3,7 @@ use Rattle.fleet_needs.specs.Flags.{AreFlaggedTo}
 use Rattle.fleet_needs.proofs.implied.flag_all.Given as goal
 
 abbrev pub invariant-loop-from : goal.invariant-loop-from
-invariant-loop-from g l = AreFlaggedTo (g.P.ProgramView.program l.program) l.asked l.from l.implied
+invariant-loop-from g l = AreFlaggedTo (g.P.ProgramView.program l.program) l.schedule l.asked l.from l.implied
 
 abbrev pub decreases-loop-from : goal.decreases-loop-from
 decreases-loop-from g l = l.agents - l.from

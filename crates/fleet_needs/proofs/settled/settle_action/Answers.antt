@@ -1,5 +1,6 @@
 use Rattle.std.proofs.Common.{◌≡◌, ◌≢◌, ◌+◌, ◌<◌, ℕ, Bool, true, false, List, length, get_or, set, refl, sym, subst, ap, ◌∙◌, arith, inl, inr}
 use Rattle.std.specs.Prelude.{slice_get, Some}
+use Rattle.std.proofs.lemmas.Bool.{false≢true}
 use Rattle.std.proofs.lemmas.Option.{slice_get_within, same_Some}
 use Rattle.std.proofs.lemmas.List.{get_or-set_same, get_or-set_other}
 use Rattle.fleet_model.specs.declared.program.Await.{Await}
@@ -16,6 +17,16 @@ overflow_add-flags g c =
     let fits = flag_fits (g.P.ProgramView.program c.args.program.now) c.agents-is_quiet.ensures.well_formed c.args.action c.requires.action in
     omega (arith, fits, c.from.ensures, c.first-first.ensures, c.loop-k-test.true, c.await_count-k-end.ensures)
 
+pub overflow_add-flags-in-None : goal.overflow_add-flags-in-None
+overflow_add-flags-in-None g c =
+    let fits = flag_fits (g.P.ProgramView.program c.args.program.now) c.agents-is_quiet.ensures.well_formed c.args.action c.requires.action in
+    omega (arith, fits, c.from-in-None.ensures, c.first-first.ensures, c.loop-k-test.true, c.await_count-k-end.ensures)
+
+pub bounds-flags-first-in-None : goal.bounds-flags-first-in-None
+bounds-flags-first-in-None g c =
+    let all = flag_within (g.P.ProgramView.program c.args.program.now) c.args.action c.requires.action in
+    omega (arith, all, c.from-in-None.ensures, c.first-first.ensures, c.loop-k-test.true, c.await_count-k-end.ensures, c.requires.flags, c.loop-k.auto.flags)
+
 pub bounds-flags-first : goal.bounds-flags-first
 bounds-flags-first g c =
     let all = flag_within (g.P.ProgramView.program c.args.program.now) c.args.action c.requires.action in
@@ -24,7 +35,7 @@ bounds-flags-first g c =
 pub bounds-asked-from : goal.bounds-asked-from
 bounds-asked-from g c =
     let k = awaited_action (g.P.ProgramView.program c.args.program.now) c.requires.range c.args.action.agent c.args.action.number c.loop-k.k c.await_at-awaited.result c.await_at-awaited.ensures in
-    omega (arith, k.agent, c.from-in-None.ensures, c.requires.asked, c.loop-k.auto.asked)
+    omega (arith, k.agent, c.from-in-None-2.ensures, c.requires.asked, c.loop-k.auto.asked)
 
 pub loop-k-preserved : goal.loop-k-preserved
 loop-k-preserved g c =
@@ -38,11 +49,11 @@ loop-k-preserved g c =
     let asked : List Bool = c.match-is_implied.asked in
     let others : (n : ℕ) → n ≢ first + k → get_or new n false ≡ get_or old n false = elim c.match-is_implied.branch [
       | in-Some w ↦ λ n ne. ap (λ (xs : List Bool). get_or xs n false) w.flags-is ∙ get_or-set_other old (first + w.from.result) n w.in-Some.flag false (λ e. ne (omega (arith, e, w.from.ensures)))
-      | in-None w ↦ λ n ne. ap (λ (xs : List Bool). get_or xs n false) w.flags-is
+      | in-None w ↦ λ n ne. ap (λ (xs : List Bool). get_or xs n false) w.flags-is ∙ get_or-set_other old (first + w.from-in-None.result) n false false (λ e. ne (omega (arith, e, w.from-in-None.ensures)))
     ] in
     let more : AreMoreAsked was asked = elim c.match-is_implied.branch [
       | in-Some w ↦ λ j set. ap (λ (xs : List Bool). get_or xs j false) w.asked-is ∙ set
-      | in-None w ↦ λ j set. ap (λ (xs : List Bool). get_or xs j false) w.asked-is ∙ asked_more was w.from-in-None.result j set
+      | in-None w ↦ λ j set. ap (λ (xs : List Bool). get_or xs j false) w.asked-is ∙ asked_more was w.from-in-None-2.result j set
     ] in
     let here : (w : Await) → slice_get (awaits_of p a.agent a.number) k ≡ Some w → IsSettled p asked a w (get_or new (first + k) false) = elim c.match-is_implied.branch [
       | in-Some w ↦
@@ -52,12 +63,15 @@ loop-k-preserved g c =
           ∙ ap (λ (n : ℕ). get_or (set old (first + w.from.result) flag) (first + n) false) (sym w.from.ensures) ∙ get_or-set_same old (first + w.from.result) flag false within in
           λ v at. inr (told_by p a v c.is_implied.result (get_or new (first + k) false) (w.in-Some.is ∙ ap Some (sym set_here)) (c.is_implied.ensures.yes v at) (c.is_implied.ensures.no v at))
       | in-None w ↦
-          let x : ℕ = w.from-in-None.result in
+          let x : ℕ = w.from-in-None-2.result in
           let is = awaited_action p c.requires.range a.agent a.number k w.await_at-awaited.result w.await_at-awaited.ensures in
-          let within : x < length was = omega (arith, is.agent, w.from-in-None.ensures, c.requires.asked, c.loop-k.auto.asked) in
+          let within : x < length was = omega (arith, is.agent, w.from-in-None-2.ensures, c.requires.asked, c.loop-k.auto.asked) in
           λ v at.
-          let agent : v.agent ≡ x = ap (λ (y : Await). y.agent) (same_Some v w.await_at-awaited.result (sym at ∙ w.await_at-awaited.ensures)) ∙ sym w.from-in-None.ensures in
-          inl (ap (λ (xs : List Bool). get_or xs v.agent false) w.asked-is ∙ ap (λ (n : ℕ). get_or (set was x true) n false) agent ∙ get_or-set_same was x true false within)
+          let agent : v.agent ≡ x = ap (λ (y : Await). y.agent) (same_Some v w.await_at-awaited.result (sym at ∙ w.await_at-awaited.ensures)) ∙ sym w.from-in-None-2.ensures in
+          let inside : first + w.from-in-None.result < length old = omega (arith, flag_within p a c.requires.action, w.from-in-None.ensures, c.first-first.ensures, c.loop-k-test.true, c.await_count-k-end.ensures, c.requires.flags, c.loop-k.auto.flags) in
+          let unset : get_or new (first + k) false ≡ false = ap (λ (xs : List Bool). get_or xs (first + k) false) w.flags-is
+          ∙ ap (λ (n : ℕ). get_or (set old (first + w.from-in-None.result) false) (first + n) false) (sym w.from-in-None.ensures) ∙ get_or-set_same old (first + w.from-in-None.result) false false inside in
+          inl (ap (λ (xs : List Bool). get_or xs v.agent false) w.asked-is ∙ ap (λ (n : ℕ). get_or (set was x true) n false) agent ∙ get_or-set_same was x true false within, (λ f. absurd (false≢true (sym unset ∙ f))))
     ] in
     record {
       settled = settled_more p a first k was asked old new more others here c.loop-k.invariant.settled;

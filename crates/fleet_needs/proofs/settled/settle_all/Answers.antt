@@ -13,7 +13,7 @@ loop-agent-preserved g c =
     let same = take_at new (drop (length new) c.loop-agent.asked.items) c.loop-agent.asked.len long in
     record {
       all = ap (λ (xs : List Bool). length xs) same ∙ c.settle_agent.auto.asked ∙ ap (λ (xs : List Bool). length xs) c.deref_mut.ensures.value ∙ c.loop-agent.invariant.all;
-      ticks = subst (AreTicks p) (sym c.stop_if_most.ensures) c.loop-agent.invariant.ticks;
+      ticks = subst (AreTicks p) (sym c.look_less_if_most.ensures) c.loop-agent.invariant.ticks;
       settled = subst (λ (xs : List Bool). AreSettledOf p xs (IsUpTo (c.loop-agent.agent + 1) 0) c.settle_agent.new.flags) (sym same) (agent_up p c.loop-agent.agent new c.settle_agent.new.flags c.settle_agent.ensures);
     }
 

@@ -15,7 +15,7 @@ use Rattle.fleet_model.specs.Geometry.{place_of, is_same_place}
 use Rattle.fleet_model.specs.Program.{Program, moves, path, AreInRange, IsCell}
 use Rattle.fleet_model.specs.Visit.{is_entry, IsVisit, IsVisitOf, ListsVisits, Adjacent, ComesAfter, IsOrderly}
 use Rattle.fleet_model.proofs.Cells.{is_same_place-true, is_same_place-eq}
-use Rattle.fleet_verify.specs.Ahead.{AreBegun, AreOnGround}
+use Rattle.fleet_verify.specs.Ahead.{AreEarlier, AreBegun, AreOnGround}
 use Rattle.fleet_verify.specs.Faults.{StandsRight, EachAction}
 use Rattle.fleet_verify.specs.Chained.{IsChained}
 use Rattle.fleet_verify.specs.OpenPairs.{AreVisits}
@@ -114,9 +114,10 @@ module _ (passable : Place → Bool) (p : Program) where
         ])
       ]
 
-  -- a cell that keeps a visit is passable ground
-  pub begun_kept : (begun : ℕ → ℕ) (last : Cell → Option Visit) (pairs : List OpenPair) → AreBegun passable p begun last pairs → AreOnGround passable last
-  begun_kept begun last pairs h c cell v is =
+  -- the visit that a cell keeps has begun, and is there
+  begun_last : (begun : ℕ → ℕ) (last : Cell → Option Visit) (pairs : List OpenPair) → AreBegun passable p begun last pairs → (c : Cell) → IsCell c → (v : Visit) → last c ≡ Some v
+      → (v.agent < length p) × (v.position < begun v.agent) × (path p v.agent v.position ≡ place_of c)
+  begun_last begun last pairs h c cell v is =
       let q : Place = place_of c in
       let final : IsLastVisit (visits_of q h.added.placed) (Some v) = subst (IsLastVisit (visits_of q h.added.placed)) is (h.added.grouped.cells c cell).last in
       let same : visits_of q h.added.placed ≡ filter (is_at p q) (entries p h.positions) = visits_are p q h.added.placed h.added.each ∙ ap (filter (is_at p q)) h.added.same in
@@ -124,7 +125,20 @@ module _ (passable : Place → Bool) (p : Program) where
       let f = filter_from (is_at p q) (entries p h.positions) v has in
       let e = filter_from (λ (w : Visit). is_entry p w.agent w.position) h.positions v f.0 in
       let r = h.only v e.0 in
-      subst (λ (place : Place). IsTrue (passable place)) (is_same_place-true (path p v.agent v.position) q f.1) (h.on_ground v.agent v.position r.0 r.1)
+      (r.0, r.1, is_same_place-true (path p v.agent v.position) q f.1)
+
+  -- a cell that keeps a visit is passable ground
+  pub begun_kept : (begun : ℕ → ℕ) (last : Cell → Option Visit) (pairs : List OpenPair) → AreBegun passable p begun last pairs → AreOnGround passable last
+  begun_kept begun last pairs h c cell v is =
+      let r = begun_last begun last pairs h c cell v is in
+      subst (λ (place : Place). IsTrue (passable place)) r.2 (h.on_ground v.agent v.position r.0 r.1)
+
+  -- the visits of an agent that cells keep are earlier than its next one
+  pub begun_earlier : (begun : ℕ → ℕ) (last : Cell → Option Visit) (pairs : List OpenPair) → AreBegun passable p begun last pairs → (w : Visit) → begun w.agent ≤ w.position → AreEarlier last w
+  begun_earlier begun last pairs h w le c cell v is own =
+      let r = begun_last begun last pairs h c cell v is in
+      let below : v.position < begun w.agent = subst (λ (i : ℕ). v.position < begun i) own r.1 in
+      omega (arith, below, le)
 
   -- all have begun
   module _ (begun : ℕ → ℕ) (last : Cell → Option Visit) (pairs : List OpenPair) (h : AreBegun passable p begun last pairs) (whole : (i : ℕ) → i < length p → begun i ≡ moves p i + 1) where

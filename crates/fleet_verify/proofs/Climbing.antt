@@ -16,7 +16,7 @@ use Rattle.fleet_verify.specs.declared.ahead.Ahead.{Ahead}
 use Rattle.fleet_verify.specs.declared.ahead.Needs.{Needs}
 use Rattle.fleet_verify.specs.declared.ahead.Runner.{Runner}
 use Rattle.fleet_verify.specs.LastVisits.{kept_at}
-use Rattle.fleet_verify.specs.Ahead.{AddsLevel, IsAhead, IsAheadBy, IsArrival, IsRunner, AreNeeds, climbed_in, count_in}
+use Rattle.fleet_verify.specs.Ahead.{AddsLevel, IsAhead, IsAheadBy, IsArrival, IsRunner, AreNeeds, climbed_in, count_in, stand}
 use Rattle.fleet_verify.proofs.NextLevel.{place_at, leads_on}
 use Rattle.fleet_verify.proofs.PieceLaws.{row_last, push_same}
 
@@ -171,15 +171,15 @@ module _ {passable : Place → Bool} {p : Program} {offset : (i finished k : ℕ
   pub runner_count : count_in (climbed_in a.rows.items i r.finished) i ≡ r.finished
   runner_count = own_count a.rows.items i r.finished runner_there h.begun
 
-  pub runner_place : place_of r.cell ≡ path p i r.finished
-  runner_place = place_at passable p (climbed_in a.rows.items i r.finished) a.cells.items (kept_at a.last) a.pairs.items i r.finished r.cell h.ahead h.agent (sym runner_count)
+  pub runner_place : place_of (stand r) ≡ path p i r.finished
+  runner_place = place_at passable p (climbed_in a.rows.items i r.finished) a.cells.items (kept_at a.last) a.pairs.items i r.finished (stand r) h.ahead h.agent (sym runner_count)
 
   pub runner_rows : length a.rows.items ≡ length p
   runner_rows = sym (length-set a.rows.items i (climbed (get_or a.rows.items i []) r.finished)) ∙ h.ahead.rows
 
 -- an agent that has not run on yet
 pub runner_begins : (passable : Place → Bool) (p : Program) (offset : (i finished k : ℕ) → ℕ) (a : Ahead) (i : ℕ) (r : Runner) → IsAhead passable p a → i < length p → r.finished ≡ count_in a.rows.items i → r.at ≡ offset i r.finished 0
-    → r.level ≡ last_level (get_or a.rows.items i []) → r.cell ≡ get_or a.cells.items i r.cell → IsRunner passable p offset a i r
+    → r.level ≡ last_level (get_or a.rows.items i []) → stand r ≡ get_or a.cells.items i (stand r) → IsRunner passable p offset a i r
 runner_begins passable p offset a i r h agent finished at level cell = record {
   agent = agent;
   begun = omega (arith, finished);
@@ -187,24 +187,24 @@ runner_begins passable p offset a i r h agent finished at level cell = record {
   at = at;
   ahead =
       let rows = none_climbs a.rows.items i r.finished finished in
-      let cells : set a.cells.items i r.cell ≡ a.cells.items = ap (set a.cells.items i) cell ∙ set-get_or a.cells.items i r.cell in
-      subst (λ (rs : List (List ℕ)). IsAheadBy passable p rs (set a.cells.items i r.cell) (kept_at a.last) a.pairs.items) (sym rows)
+      let cells : set a.cells.items i (stand r) ≡ a.cells.items = ap (set a.cells.items i) cell ∙ set-get_or a.cells.items i (stand r) in
+      subst (λ (rs : List (List ℕ)). IsAheadBy passable p rs (set a.cells.items i (stand r)) (kept_at a.last) a.pairs.items) (sym rows)
       (subst (λ (cs : List Cell). IsAheadBy passable p a.rows.items cs (kept_at a.last) a.pairs.items) (sym cells) h);
 }
 
 -- where an agent that runs on comes to by its next action
 module _ {passable : Place → Bool} {p : Program} {offset : (i finished k : ℕ) → ℕ} {a : Ahead} {i : ℕ} {r : Runner} (h : IsRunner passable p offset a i r) where
-  pub runner_ground : IsTrue (passable (place_of r.cell))
+  pub runner_ground : IsTrue (passable (place_of (stand r)))
   runner_ground =
       let count = runner_count h in
       subst (λ (q : Place). IsTrue (passable q)) (sym (runner_place h)) (h.ahead.begun.on_ground i r.finished h.agent (omega (arith, count)))
 
-  pub arrival_by : {needs : Needs} → r.finished < moves p i → AreNeeds p offset (climbed_in a.rows.items i r.finished) i r.finished needs → (cell : Cell) → place_of cell ≡ stepped (place_of r.cell) needs.step
+  pub arrival_by : {needs : Needs} → r.finished < moves p i → AreNeeds p offset (climbed_in a.rows.items i r.finished) i r.finished needs → (cell : Cell) → place_of cell ≡ stepped (place_of (stand r)) needs.step
       → IsArrival p (record { visit = record { agent = i; position = r.finished + 1 }; cell = cell }) needs
   arrival_by {needs = needs} left n cell to = record {
     first = omega arith;
     last = omega (arith, left);
-    here = to ∙ leads_on p i r.finished needs.step (place_of r.cell) n.step (runner_place h);
+    here = to ∙ leads_on p i r.finished needs.step (place_of (stand r)) n.step (runner_place h);
     step = n.step;
     latest = n.latest;
   }

@@ -81,6 +81,10 @@ pub record AreBegun (passable : Place → Bool) (p : Program) (begun : ℕ → �
 abbrev pub AreOnGround : (Place → Bool) → (Cell → Option Visit) → Type 0
 AreOnGround passable last = (c : Cell) → IsCell c → (v : Visit) → last c ≡ Some v → IsTrue (passable (place_of c))
 
+-- each visit of the agent of w that a cell keeps is earlier than w
+abbrev pub AreEarlier : (Cell → Option Visit) → Visit → Type 0
+AreEarlier last w = (c : Cell) → IsCell c → (v : Visit) → last c ≡ Some v → v.agent ≡ w.agent → v.position < w.position
+
 -- the rows have the levels of the actions that are finished, the cells are those that the agents have come to by them,
 -- and the visits that have begun so are added
 pub record IsAheadBy (passable : Place → Bool) (p : Program) (levels : List (List ℕ)) (stands : List Cell) (last : Cell → Option Visit) (pairs : List OpenPair) : Type 0 where
@@ -93,6 +97,10 @@ pub record IsAheadBy (passable : Place → Bool) (p : Program) (levels : List (L
 -- so it is with these agents
 abbrev pub IsAhead : (Place → Bool) → Program → Ahead → Type 0
 IsAhead passable p a = IsAheadBy passable p a.rows.items a.cells.items (kept_at a.last) a.pairs.items
+
+-- the cell that the runner is on
+abbrev pub stand : Runner → Cell
+stand r = record { x = r.x; y = r.y }
 
 -- the rows, of which that of agent i has climbed to so many levels
 abbrev pub climbed_in : List (List ℕ) → ℕ → ℕ → List (List ℕ)
@@ -112,7 +120,7 @@ pub record IsRunner (passable : Place → Bool) (p : Program) (offset : (i finis
   pub begun : count_in a.rows.items i ≤ r.finished
   pub level : r.level ≡ last_level (climbed (get_or a.rows.items i []) r.finished)
   pub at : r.at ≡ offset i r.finished 0
-  pub ahead : IsAheadBy passable p (climbed_in a.rows.items i r.finished) (set a.cells.items i r.cell) (kept_at a.last) a.pairs.items
+  pub ahead : IsAheadBy passable p (climbed_in a.rows.items i r.finished) (set a.cells.items i (stand r)) (kept_at a.last) a.pairs.items
 
 -- the await is one of those of action n of agent i, or of agent i itself
 abbrev pub IsLatest : Program → (i n : ℕ) → Await → Type 0

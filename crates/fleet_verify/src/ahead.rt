@@ -9,7 +9,7 @@ ghost use Rattle.fleet_model.specs.Program.{Program, start_of, moves, path, awai
 ghost use Rattle.fleet_model.specs.Visit.{IsVisit, ComesAfterByAwait, leaving};
 ghost use Rattle.fleet_grid.specs.Ground.{is_passable};
 ghost use Rattle.fleet_model.specs.Chain.{awaited};
-ghost use Rattle.fleet_verify.specs.Ahead.{IsRanked, IsAhead, IsNext, IsRunner, AreNeeds, AddsLevel, AreDone, AreOnGround, IsArrival, IsLatest, count_in, level_in, climbed_in};
+ghost use Rattle.fleet_verify.specs.Ahead.{IsRanked, IsAhead, IsNext, IsRunner, AreNeeds, AddsLevel, AreDone, AreOnGround, AreEarlier, IsArrival, IsLatest, count_in, stand, level_in, climbed_in};
 ghost use Rattle.fleet_verify.specs.Rising.{climbed, last_level};
 ghost use Rattle.fleet_verify.specs.Faults.{HasStarts};
 ghost use Rattle.fleet_verify.specs.LastVisits.{kept_at};
@@ -61,8 +61,9 @@ pub struct Runner {
     pub at: usize,
     /// The level of its last action, or 0.
     pub level: u32,
-    /// The cell that it is on.
-    pub cell: Cell,
+    /// The column and the row of the cell that it is on. They are apart, so that each stays in a register of its own.
+    pub x: u16,
+    pub y: u16,
 }
 
 /// What an action says whose awaits are all met.
@@ -168,11 +169,13 @@ fn finish_next<P: ProgramView>(
     let cell = arrive(program, grid, ahead, agent, runner, needs)?;
     let finished = runner.finished + 1;
     raise(&mut ahead.rows, agent, runner, needs.level)?;
+    let Cell { x, y } = cell;
     Ok(Runner {
         finished,
         at: needs.after,
         level: needs.level,
-        cell,
+        x,
+        y,
     })
 }
 
@@ -246,14 +249,16 @@ fn arrive<P: ProgramView>(
         (kept_at ahead.new.last) ahead.new.pairs.items) }
 {
     let _agents = program.agents();
+    let Runner { finished, x, y, .. } = runner;
+    let from = Cell { x, y };
     match needs.step {
         Step::Go(_) => {
-            let Some(cell) = next_cell(runner.cell, needs.step) else {
+            let Some(cell) = next_cell(from, needs.step) else {
                 return Err(Stop::OffGround);
             };
             let visit = Visit {
                 agent,
-                position: runner.finished + 1,
+                position: finished + 1,
             };
             let placed = PlacedVisit { visit, cell };
             enter(
@@ -266,7 +271,7 @@ fn arrive<P: ProgramView>(
             )?;
             Ok(cell)
         }
-        Step::Dwell => Ok(runner.cell),
+        Step::Dwell => Ok(from),
     }
 }
 
@@ -284,6 +289,7 @@ fn enter<P: ProgramView>(
     requires latest { IsLatest (P.program program.now) placed.visit.agent placed.visit.position
         latest }
     requires ground { AreOnGround (is_passable grid.now) (kept_at last.old) }
+    requires earlier { AreEarlier (kept_at last.old) placed.visit }
     ensures ground { OnOk result (IsTrue (is_passable grid.now (place_of placed.cell))) }
     ensures here { OnOk result (kept_at last.new placed.cell ≡ Some placed.visit) }
     ensures others { OnOk result ((c : Cell) → IsCell c → c ≢ placed.cell
@@ -309,15 +315,16 @@ fn enter<P: ProgramView>(
     }
 }
 
-/// Whether the visit is a later one by the agent of the one before, or the await is met only if that is left.
+/// Whether the visit is by the agent of the one before, or the await is met only if that is left.
 #[inline(always)]
 fn follows<P: ProgramView>(program: &P, first: Visit, second: Visit, latest: Await) -> bool
     requires latest { IsLatest (P.program program.now) second.agent second.position latest }
+    requires earlier { first.agent ≡ second.agent → first.position < second.position }
     ensures { IsTrue result → ComesAfterByAwait (P.program program.now) first second }
 {
     let _agents = program.agents();
     if first.agent == second.agent {
-        return first.position < second.position;
+        return true;
     }
     if latest.agent == second.agent {
         return false;
@@ -352,24 +359,19 @@ fn add_visit<P: ProgramView>(
         (kept_at last.new) pairs.new.items) }
 {
     if begins_visit(program, placed.visit) {
-        keep_visit(program, last, pairs, placed, no_await(placed.visit.agent))?;
+        keep_visit(program, last, pairs, placed)?;
     }
     Ok(())
 }
 
 /// Keeps the visit as the last one of its cell. Unless it comes after the one before it, the two are an open pair.
-/// Mostly one await of the action that enters it shows that it does.
-#[inline(always)]
 fn keep_visit<P: ProgramView>(
     program: &P,
     last: &mut LastVisits,
     pairs: &mut Vec<OpenPair>,
     placed: PlacedVisit,
-    latest: Await,
 ) -> Result<(), OutOfMemory>
-    requires visit { IsVisit (P.program program.now) placed.visit }
-    requires latest { IsLatest (P.program program.now) placed.visit.agent placed.visit.position
-        latest }
+    requires { IsVisit (P.program program.now) placed.visit }
     ensures here { OnOk result (kept_at last.new placed.cell ≡ Some placed.visit) }
     ensures others { OnOk result ((c : Cell) → IsCell c → c ≢ placed.cell
         → kept_at last.new c ≡ kept_at last.old c) }
@@ -379,12 +381,13 @@ fn keep_visit<P: ProgramView>(
 {
     let _agents = program.agents();
     match last.replace(placed.cell, placed.visit)? {
-        Some(first) => open_unless_follows(program, first, placed, latest, pairs),
+        Some(first) => open_unless_after(program, first, placed, pairs),
         None => Ok(()),
     }
 }
 
-/// Adds the visit and the one before it at the cell as an open pair, unless it comes after that one.
+/// Adds the visit and the one before it at the cell as an open pair, unless it comes after that one. Mostly it is by the
+/// same agent, or one await of the action that enters it shows that it does.
 #[inline(always)]
 fn open_unless_follows<P: ProgramView>(
     program: &P,
@@ -396,6 +399,8 @@ fn open_unless_follows<P: ProgramView>(
     requires visit { IsVisit (P.program program.now) placed.visit }
     requires latest { IsLatest (P.program program.now) placed.visit.agent placed.visit.position
         latest }
+    requires earlier { first.agent ≡ placed.visit.agent
+        → first.position < placed.visit.position }
     ensures { OnOk result (IsOpenNext (ComesAfterByAwait (P.program program.now)) (Some first)
         placed pairs.old.items pairs.new.items) }
 {
@@ -510,6 +515,27 @@ fn bare_needs<P: ProgramView>(
     }
 }
 
+/// The same runner once more: that which is handed on stands in memory, and this one stays in registers.
+#[inline(always)]
+fn copy_of(runner: Runner) -> Runner
+    ensures { result ≡ runner }
+{
+    let Runner {
+        finished,
+        at,
+        level,
+        x,
+        y,
+    } = runner;
+    Runner {
+        finished,
+        at,
+        level,
+        x,
+        y,
+    }
+}
+
 /// Lets the agent run on along actions that await nothing.
 #[inline(never)]
 fn run_bare<P: ProgramView>(
@@ -560,7 +586,7 @@ fn run_agent<P: ProgramView>(
                 runner = finish_next(program, grid, ahead, agent, runner, needs)?;
                 let is_bare = needs.latest.agent == agent;
                 if is_bare && was_bare {
-                    runner = run_bare(program, grid, ahead, agent, runner)?;
+                    runner = run_bare(program, grid, ahead, agent, copy_of(runner))?;
                 }
                 was_bare = is_bare;
             }
@@ -584,15 +610,17 @@ fn runner_of<P: ProgramView>(program: &P, ahead: &Ahead, agent: u16) -> Runner
     ensures finished { result.finished ≡ count_in ahead.now.rows.items agent }
     ensures at { result.at ≡ P.offset program.now agent result.finished 0 }
     ensures level { result.level ≡ last_level (get_or ahead.now.rows.items agent []) }
-    ensures cell { result.cell ≡ get_or ahead.now.cells.items agent result.cell }
+    ensures cell { stand result ≡ get_or ahead.now.cells.items agent (stand result) }
 {
     let row = row_of(&ahead.rows, agent);
     let finished = row.count();
+    let Cell { x, y } = ahead.cells[usize::from(agent)];
     Runner {
         finished,
         at: program.offset(agent, finished, 0),
         level: row.last(),
-        cell: ahead.cells[usize::from(agent)],
+        x,
+        y,
     }
 }
 
@@ -604,12 +632,19 @@ fn stop_at(ahead: &mut Ahead, agent: u16, runner: Runner)
     requires level { runner.level
         ≡ last_level (climbed (get_or ahead.old.rows.items agent []) runner.finished) }
     ensures rows { ahead.new.rows.items ≡ climbed_in ahead.old.rows.items agent runner.finished }
-    ensures cells { ahead.new.cells.items ≡ set ahead.old.cells.items agent runner.cell }
+    ensures cells { ahead.new.cells.items ≡ set ahead.old.cells.items agent (stand runner) }
     ensures last { kept_at ahead.new.last ≡ kept_at ahead.old.last }
     ensures pairs { ahead.new.pairs.items ≡ ahead.old.pairs.items }
 {
-    ahead.cells[usize::from(agent)] = runner.cell;
-    ahead.rows[usize::from(agent)].climb(runner.finished, runner.level);
+    let Runner {
+        finished,
+        level,
+        x,
+        y,
+        ..
+    } = runner;
+    ahead.cells[usize::from(agent)] = Cell { x, y };
+    ahead.rows[usize::from(agent)].climb(finished, level);
 }
 
 /// Lets the agents run on until nobody can, or so many looks at an agent are made.

@@ -4,12 +4,12 @@ use Rattle.std.proofs.lemmas.List.Elements.{All-push}
 use Rattle.fleet_model.specs.Geometry.{is_move, place_of}
 use Rattle.fleet_grid.specs.Ground.{is_passable}
 use Rattle.fleet_verify.specs.declared.order.PlacedVisit.{PlacedVisit}
-use Rattle.fleet_verify.specs.Ahead.{IsArrival, count_in, climbed_in}
+use Rattle.fleet_verify.specs.Ahead.{IsArrival, count_in, climbed_in, stand}
 use Rattle.fleet_verify.specs.LastVisits.{kept_at}
 use Rattle.fleet_verify.specs.Order.{IsVisitPlaced}
-use Rattle.fleet_verify.proofs.Begin.{begun_kept}
+use Rattle.fleet_verify.proofs.Begin.{begun_kept, begun_earlier}
 use Rattle.fleet_verify.proofs.NextLevel.{enters_by, visit_by, leads_on}
-use Rattle.fleet_verify.proofs.Climbing.{runner_place, runner_ground, arrival_by}
+use Rattle.fleet_verify.proofs.Climbing.{runner_count, runner_place, runner_ground, arrival_by}
 use Rattle.fleet_verify.proofs.Ordered.{grouped_on_more, entry_more, entry_none}
 use Rattle.fleet_verify.proofs.ahead.arrive.Goals as goal
 
@@ -23,6 +23,13 @@ pub enter-requires-clause-ground : goal.enter-requires-clause-ground
 enter-requires-clause-ground g c =
     let p = g.P.ProgramView.program c.args.program.now in
     begun_kept (is_passable c.args.grid.now) p (λ j. count_in (climbed_in c.args.ahead.now.rows.items c.args.agent c.args.runner.finished) j + 1) (kept_at c.args.ahead.now.last) c.args.ahead.now.pairs.items c.requires.runner.ahead.begun
+
+pub enter-requires-clause-earlier : goal.enter-requires-clause-earlier
+enter-requires-clause-earlier g c =
+    let p = g.P.ProgramView.program c.args.program.now in
+    let count = runner_count c.requires.runner in
+    begun_earlier (is_passable c.args.grid.now) p (λ j. count_in (climbed_in c.args.ahead.now.rows.items c.args.agent c.args.runner.finished) j + 1) (kept_at c.args.ahead.now.last) c.args.ahead.now.pairs.items c.requires.runner.ahead.begun
+    (record { agent = c.args.agent; position = c.args.runner.finished + 1 }) (omega (arith, count))
 
 pub returns-in_ok-enter-in-Go-clause-here : goal.returns-in_ok-enter-in-Go-clause-here
 returns-in_ok-enter-in-Go-clause-here g c =
@@ -44,7 +51,7 @@ returns-in_ok-enter-in-Go-clause-added g c = λ visits old.
 pub returns-in-Dwell-clause-here : goal.returns-in-Dwell-clause-here
 returns-in-Dwell-clause-here g c =
     let p = g.P.ProgramView.program c.args.program.now in
-    leads_on p c.args.agent c.args.runner.finished _ (place_of c.args.runner.cell) (c.requires.needs.step ∙ ap Some c.in-Dwell.is) (runner_place c.requires.runner)
+    leads_on p c.args.agent c.args.runner.finished _ (place_of (stand c.args.runner)) (c.requires.needs.step ∙ ap Some c.in-Dwell.is) (runner_place c.requires.runner)
 
 pub returns-in-Dwell-clause-ground : goal.returns-in-Dwell-clause-ground
 returns-in-Dwell-clause-ground g c = runner_ground c.requires.runner
@@ -52,8 +59,8 @@ returns-in-Dwell-clause-ground g c = runner_ground c.requires.runner
 pub returns-in-Dwell-clause-added : goal.returns-in-Dwell-clause-added
 returns-in-Dwell-clause-added g c = λ visits old.
     let p = g.P.ProgramView.program c.args.program.now in
-    let s : PlacedVisit = record { visit = record { agent = c.args.agent; position = c.args.runner.finished + 1 }; cell = c.args.runner.cell } in
-    let here = leads_on p c.args.agent c.args.runner.finished _ (place_of c.args.runner.cell) (c.requires.needs.step ∙ ap Some c.in-Dwell.is) (runner_place c.requires.runner) in
+    let s : PlacedVisit = record { visit = record { agent = c.args.agent; position = c.args.runner.finished + 1 }; cell = stand c.args.runner } in
+    let here = leads_on p c.args.agent c.args.runner.finished _ (place_of (stand c.args.runner)) (c.requires.needs.step ∙ ap Some c.in-Dwell.is) (runner_place c.requires.runner) in
     let arrival : IsArrival p s c.args.needs = record { first = omega arith; last = omega (arith, c.requires.left); here = here; step = c.requires.needs.step; latest = c.requires.needs.latest } in
     record {
       placed = old.placed;

@@ -2,7 +2,7 @@ use Rattle.std.proofs.Common.{◌≡◌, ◌+◌, [], ℕ, List, length, get_or,
 use Rattle.std.proofs.lemmas.List.{length-set}
 use Rattle.fleet_model.specs.declared.geometry.Cell.{Cell}
 use Rattle.fleet_grid.specs.Ground.{is_passable}
-use Rattle.fleet_verify.specs.Ahead.{IsAheadBy, AddsLevel, climbed_in}
+use Rattle.fleet_verify.specs.Ahead.{IsAheadBy, AddsLevel, climbed_in, stand}
 use Rattle.fleet_verify.specs.LastVisits.{kept_at}
 use Rattle.fleet_verify.specs.Rising.{climbed}
 use Rattle.fleet_verify.proofs.NextLevel.{ahead_more, next_level_some}
@@ -39,6 +39,6 @@ returns-clause-runner g c =
       at = c.requires.needs.after;
       ahead = subst (λ (cs : List Cell). IsAheadBy (is_passable c.args.grid.now) p (climbed_in c.raise.new.rows.items i (r.finished + 1)) (set cs i c.in_ok-cell.cell) (kept_at c.arrive.new.ahead.last) c.arrive.new.ahead.pairs.items) (sym come.cells)
           (ahead_more (is_passable c.args.grid.now) p (climbed_in old.rows.items i r.finished) (climbed_in c.raise.new.rows.items i (r.finished + 1)) old.cells.items (kept_at old.last) (kept_at c.arrive.new.ahead.last)
-          old.pairs.items c.arrive.new.ahead.pairs.items i (r.finished + 1) c.args.needs.level r.cell c.in_ok-cell.cell c.requires.runner.ahead c.requires.runner.agent
+          old.pairs.items c.arrive.new.ahead.pairs.items i (r.finished + 1) c.args.needs.level (stand r) c.in_ok-cell.cell c.requires.runner.ahead c.requires.runner.agent
           (omega (arith, runner_count c.requires.runner)) (omega (arith, c.requires.left)) c.requires.needs.level long adds come.added come.here come.ground);
     }

@@ -1,6 +1,6 @@
 -- Rows of bytes that end with kept places.
 use Rattle.std.proofs.Common.{◌≡◌, ◌≤◌, ◌<◌, ◌+◌, ◌-◌, ◌++◌, ◌∷◌, [], ◌⊎◌, get_or, zero, suc, inl, inr, refl, ℕ, List, length, take, drop, set, ap, sym, ◌∙◌, arith, length-append, subst, Bool, true, false, ◌≢◌, Option, None, Some, if◌then◌else◌}
-use Rattle.std.proofs.lemmas.List.{append_assoc, drop-append-le, drop-drop, drop-set-lt, drop-take, drop_all, ext_get_or, get_or_past, get_or-set_other, get_or-set_same, length-drop, length-set, length-take}
+use Rattle.std.proofs.lemmas.List.{append_assoc, drop-append-le, drop-drop, drop-set-lt, drop-take, drop_all, ext_get_or, get_or_past, get_or-map, map-set, get_or-set_other, get_or-set_same, length-drop, length-map, length-set, length-take}
 use Rattle.std.specs.Prelude.{codes}
 use Rattle.std.specs.List.{flat_map}
 use Rattle.std.proofs.lemmas.List.FromFn.{get_or-map-range_with_len}
@@ -20,7 +20,7 @@ use Rattle.fleet_model.proofs.Tick.{length-tick, standing_at_tick}
 use Rattle.fleet_machine.specs.Machine.{MachineState, flag_of, moving_flags}
 use Rattle.fleet_machine.specs.AgentSet.{AreNoneFrom, IsNextFrom}
 use Rattle.fleet_run.specs.Text.{place_text}
-use Rattle.fleet_run.specs.Line.{places_text, IsLineKept, IsWrittenOver, WritesOver, IsBeside, IsTextBeside, IsKeptBefore}
+use Rattle.fleet_run.specs.Line.{places_text, IsLineKept, IsWrittenOver, WritesOver, IsBeside, IsTextOf, IsKeptBefore, places_of}
 
 -- what was written before a place leaves what is behind it
 drop_behind : (row row' text : List ℕ) (at m : ℕ) → drop at row' ≡ text ++ drop (at + length text) row
@@ -201,10 +201,37 @@ overwritten c row row' begins i s kept agent over =
       ];
     }
 
+-- the place of an agent
+pub place_of_agent : (c : Configuration) (i : ℕ) (d : Place) → i < length c → get_or (places_of c) i d ≡ (standing_at c i).place
+place_of_agent c i d agent = get_or-map (λ (s : Standing). s.place) c i (standing_at [] i) d agent
+
+-- .. which is written anew
+pub places_with : (c : Configuration) (i : ℕ) (s : Standing) → set (places_of c) i s.place ≡ places_of (set c i s)
+places_with c i s = sym (map-set (λ (d : Standing). d.place) c i s)
+
+-- the places of the agents below n
+abbrev pub ArePlacesTo : Configuration → List Place → ℕ → Type 0
+ArePlacesTo c places n = (k : ℕ) → k < n → get_or places k (standing_at [] 0).place ≡ (standing_at c k).place
+
+pub one_copied : (c : Configuration) (places : List Place) (i : ℕ) (q : Place) → i < length places → q ≡ (standing_at c i).place → ArePlacesTo c places i → ArePlacesTo c (set places i q) (i + 1)
+one_copied c places i q within e before k lt =
+    let nowhere : Place = (standing_at [] 0).place in
+    elim (eq_or_not k i) [
+      | inl same ↦ rw same (get_or-set_same places i q nowhere within ∙ e)
+      | inr other ↦ get_or-set_other places i k q nowhere other ∙ before k (omega arith)
+    ]
+
+pub all_copied : (c : Configuration) (places : List Place) → length places ≡ length c → ArePlacesTo c places (length c) → places ≡ places_of c
+all_copied c places long all =
+    let nowhere : Place = (standing_at [] 0).place in
+    ext_get_or nowhere places (places_of c) (long ∙ sym (length-map c (λ (s : Standing). s.place)))
+    (λ k lt. let agent : k < length c = omega (arith, long) in all k agent ∙ sym (place_of_agent c k nowhere agent))
+
 -- The row after a tick, with the places of the moved agents below one.
-pub record IsRewritten (m : MachineState) (from : ℕ) (row begins : List ℕ) : Type 0 where
+pub record IsRewritten (m : MachineState) (from : ℕ) (row begins : List ℕ) (places : List Place) : Type 0 where
   pub now : Configuration
   pub kept : IsLineKept now row begins
+  pub placed : places ≡ places_of now
   pub agents : length now ≡ length m.configuration
   pub same : (i : ℕ) → (from ≤ i → flag_of m.moving i ≡ false) → standing_at now i ≡ standing_at m.configuration i
   pub beside : (i : ℕ) → IsBeside (standing_at now i).place (standing_at m.configuration i).place
@@ -213,14 +240,15 @@ pub record IsRewritten (m : MachineState) (from : ℕ) (row begins : List ℕ) :
 pub beside_itself : (q : Place) → IsBeside q q
 beside_itself q = inl (refl, record { low = omega (arith, ints); high = omega (arith, ints) })
 
-pub rewritten_next : (m : MachineState) (from i : ℕ) (row row' begins begins' : List ℕ) (h : IsRewritten m from row begins) → IsNextFrom m.moving from i → i < length m.configuration
-    → IsLineKept (set h.now i (standing_at m.configuration i)) row' begins' → IsRewritten m (i + 1) row' begins'
-rewritten_next m from i row row' begins begins' h next agent kept =
+pub rewritten_next : (m : MachineState) (from i : ℕ) (row row' begins begins' : List ℕ) (places : List Place) (h : IsRewritten m from row begins places) → IsNextFrom m.moving from i → i < length m.configuration
+    → IsLineKept (set h.now i (standing_at m.configuration i)) row' begins' → IsRewritten m (i + 1) row' begins' (set places i (standing_at m.configuration i).place)
+rewritten_next m from i row row' begins begins' places h next agent kept =
     let s = standing_at m.configuration i in
     let within : i < length h.now = omega (arith, h.agents) in
     record {
       now = set h.now i s;
       kept = kept;
+      placed = ap (λ (l : List Place). set l i s.place) h.placed ∙ places_with h.now i s;
       agents = omega (arith, length-set h.now i s, h.agents);
       same = λ j none. elim (eq_or_not j i) [
         | inl e ↦ rw e (get_or-set_same h.now i s _ within)
@@ -232,10 +260,15 @@ rewritten_next m from i row row' begins begins' h next agent kept =
       ];
     }
 
-pub rewritten_all : (m : MachineState) (from : ℕ) (row begins : List ℕ) → IsRewritten m from row begins → AreNoneFrom m.moving from → IsLineKept m.configuration row begins
-rewritten_all m from row begins h none =
-    let all : h.now ≡ m.configuration = ext_get_or _ h.now m.configuration h.agents (λ i l. h.same i (none i)) in
-    subst (λ c. IsLineKept c row begins) all h.kept
+module _ (m : MachineState) (from : ℕ) (row begins : List ℕ) (places : List Place) (h : IsRewritten m from row begins places) (none : AreNoneFrom m.moving from) where
+  all_rewritten : h.now ≡ m.configuration
+  all_rewritten = ext_get_or _ h.now m.configuration h.agents (λ i l. h.same i (none i))
+
+  pub rewritten_all : IsLineKept m.configuration row begins
+  rewritten_all = subst (λ c. IsLineKept c row begins) all_rewritten h.kept
+
+  pub places_all : places ≡ places_of m.configuration
+  places_all = h.placed ∙ ap places_of all_rewritten
 
 pub really_over : (b : Bool) (q : Place) (at end : ℕ) (row row' : List ℕ) → WritesOver b q at end row row' → b ≡ true → IsWrittenOver q at end row row'
 really_over true q at end row row' h e = h
@@ -245,12 +278,12 @@ pub not_over : (b : Bool) (q : Place) (at end : ℕ) (row row' : List ℕ) → W
 not_over true q at end row row' h e = absurd cc
 not_over false q at end row row' h e = h
 
--- the text of an agent's place, beside which it stands now
-pub text_beside : (c : Configuration) (i : ℕ) (q : Place) (row begins : List ℕ) → IsLineKept c row begins → i < length c → IsBeside (standing_at c i).place q
-    → IsTextBeside q (get_or begins i 0) (get_or begins (i + 1) 0) row
-text_beside c i q row begins kept agent beside =
+-- the text of an agent's place
+pub text_at : (c : Configuration) (i : ℕ) (row begins : List ℕ) → IsLineKept c row begins → i < length c
+    → IsTextOf (standing_at c i).place (get_or begins i 0) (get_or begins (i + 1) 0) row
+text_at c i row begins kept agent =
     let next = next_begin c row begins i (standing_at [] 0) kept agent in
-    record { other = (standing_at c i).place; beside = beside; fits = sym next.0; written = next.1 }
+    record { fits = sym next.0; written = next.1 }
 
 -- the begins of an agent's place and of the next are in order
 pub in_order : (c : Configuration) (i : ℕ) (row begins : List ℕ) → IsLineKept c row begins → i < length c → get_or begins i 0 ≤ get_or begins (i + 1) 0
@@ -304,11 +337,12 @@ beside_tick p held c i agents = elim (before_or_not i (length p)) [
       rw (before, after) (beside_itself (standing_at [] i).place)
 ]
 
-pub kept_before : (p : Program) (held : ℕ → Bool) (c : Configuration) (m : MachineState) (row begins : List ℕ) → length c ≡ length p → IsLineKept c row begins
-    → m.configuration ≡ tick p held c → m.moving ≡ moving_flags p held c → IsKeptBefore m row begins
-kept_before p held c m row begins agents kept after moving = record {
+pub kept_before : (p : Program) (held : ℕ → Bool) (c : Configuration) (m : MachineState) (row begins : List ℕ) (places : List Place) → length c ≡ length p → IsLineKept c row begins
+    → places ≡ places_of c → m.configuration ≡ tick p held c → m.moving ≡ moving_flags p held c → IsKeptBefore m row begins places
+kept_before p held c m row begins places agents kept placed after moving = record {
   before = c;
   kept = kept;
+  placed = placed;
   agents = agents ∙ sym (length-tick p held c) ∙ ap length (sym after);
   same = λ i still. unmoved p held c i agents (ap (λ flags. flag_of flags i) (sym moving) ∙ still) ∙ ap (λ d. standing_at d i) (sym after);
   beside = λ i. subst (λ d. IsBeside (standing_at c i).place (standing_at d i).place) (sym after) (beside_tick p held c i agents);

@@ -1,5 +1,5 @@
 -- The text of a place, written over that of one beside it by its last digits.
-use Rattle.std.proofs.Common.{◌≡◌, ◌≢◌, ◌≤◌, ◌<◌, ◌+◌, ◌-◌, ◌/◌, ◌%◌, ◌^◌, ◌++◌, ◌∷◌, [], ℤ, pos, negsuc, set, zero, suc, inl, inr, ◌⊎◌, refl, ℕ, List, length, take, drop, ap, sym, ◌∙◌, subst, arith, append_assoc, length-append, slice_index}
+use Rattle.std.proofs.Common.{◌≡◌, ◌≢◌, ◌≤◌, ◌<◌, ◌+◌, ◌-◌, ◌/◌, ◌%◌, ◌^◌, ◌++◌, ◌∷◌, [], ℤ, pos, set, zero, suc, inl, inr, refl, ℕ, List, length, take, drop, ap, sym, ◌∙◌, arith, append_assoc, length-append, slice_index}
 use Rattle.std.proofs.lemmas.Int.{ints}
 use Rattle.std.proofs.lemmas.Bool.{cases_lt}
 use Rattle.std.proofs.lemmas.List.{append-nil, take-append-drop, length-take}
@@ -9,8 +9,8 @@ use Rattle.std.specs.Fmt.{decimal, signed_decimal}
 use Rattle.fleet_text.proofs.DigitLemmas.{length-decimal_more, length-decimal_last}
 use Rattle.fleet_model.specs.declared.geometry.Place.{Place}
 use Rattle.fleet_run.specs.Text.{place_text}
-use Rattle.std.specs.Prelude.{if◌then◌else◌, Bool, true, false}
-use Rattle.fleet_run.specs.Line.{AreClose, AreBytesClose, IsTextBeside, IsWrittenOver, WritesOver}
+use Rattle.std.specs.Prelude.{Bool, true, false}
+use Rattle.fleet_run.specs.Line.{AreClose, IsBeside, IsDigit, IsDigitOver, IsTextOf, IsWrittenOver, WritesOver}
 
 -- ---- how many digits a number has
 
@@ -66,31 +66,6 @@ front_and_last n fits =
           rw (none, same) (decimal_digit n lt)
       | inr ge ↦ decimal_step n ge fits ∙ ap (λ ds. ds ++ ((48 + n % 10) ∷ [])) (sym (front_of (n / 10) (omega arith)))
     ]
-
--- ---- a coordinate and one close to it
-
--- a coordinate that is not negative, and is close to a number
-record IsNumberBy (z : ℤ) (n : ℕ) : Type 0 where
-  number : ℕ
-  is : z ≡ pos number
-  low : number ≤ n + 1
-  high : n ≤ number + 1
-
-close_number : (z : ℤ) (n : ℕ) → 1 ≤ n → AreClose z (pos n) → IsNumberBy z n
-close_number (pos m) n first close = record { number = m; is = refl; low = omega (arith, ints, close.low); high = omega (arith, ints, close.high) }
-close_number (negsuc k) n first close = absurd (omega (arith, ints, first, close.high))
-
--- .. or it is -1, and the number is 0
-close_or_below : (z : ℤ) (n : ℕ) → AreClose z (pos n) → IsNumberBy z n ⊎ ((n ≡ 0) × (z ≡ negsuc 0))
-close_or_below (pos m) n close = inl (record { number = m; is = refl; low = omega (arith, ints, close.low); high = omega (arith, ints, close.high) })
-close_or_below (negsuc k) n close =
-    let none : n ≡ 0 = omega (arith, ints, close.high) in
-    let one : k ≡ 0 = omega (arith, ints, close.high) in
-    inr (none, ap (λ (j : ℕ). negsuc j) one)
-
--- a number close to another whose last digit is close to that of the other has as many tens
-same_tens : (m n : ℕ) → m ≤ n + 1 → n ≤ m + 1 → 48 + m % 10 ≤ 48 + n % 10 + 1 → 48 + n % 10 ≤ 48 + m % 10 + 1 → m / 10 ≡ n / 10
-same_tens m n low high digit_low digit_high = omega arith
 
 -- ---- the text of a place
 
@@ -159,100 +134,110 @@ module _ (row A B D : List ℕ) (digit : ℕ) (is : row ≡ A ++ (B ++ (digit �
 
 -- ---- the last digit of a coordinate over that of a place beside it
 
-module _ (q : Place) (row : List ℕ) (at end : ℕ) (text : IsTextBeside q at end row) (within : end ≤ length row) where
+module _ (other q : Place) (row : List ℕ) (at end : ℕ) (text : IsTextOf other at end row) (within : end ≤ length row) where
   long_before : length (take at row) ≡ at
   long_before = omega (arith, length-take at row, text.fits, within)
 
-  row_is : row ≡ take at row ++ (place_text text.other ++ drop end row)
+  row_is : row ≡ take at row ++ (place_text other ++ drop end row)
   row_is = sym (take-append-drop at row) ∙ ap (λ l. take at row ++ l) text.written
 
-  -- the last digit of the other place's row
-  module _ (F : List ℕ) (d : ℕ) (digits : signed_decimal text.other.y ≡ F ++ (d ∷ [])) where
-    row_at : end - 1 ≡ length (take at row) + length (to_row text.other F)
-    row_at = omega (arith, long_before, text.fits, long_row text.other F d digits)
+  -- the row of the other place
+  module _ (m : ℕ) (m_is : other.y ≡ pos m) (few : m < 2 ^ 32) where
+    row_digits : signed_decimal other.y ≡ front (m / 10) ++ ((48 + m % 10) ∷ [])
+    row_digits = digits_of other.y m m_is (omega (arith, few))
 
-    in_row : row ≡ take at row ++ (to_row text.other F ++ (d ∷ drop end row))
-    in_row = row_is ∙ ap (λ l. take at row ++ l) (by_row text.other F (drop end row) d digits)
+    row_at : end - 1 ≡ length (take at row) + length (to_row other (front (m / 10)))
+    row_at = omega (arith, long_before, text.fits, long_row other (front (m / 10)) (48 + m % 10) row_digits)
 
-    row_digit : slice_index row (end - 1) ≡ d
-    row_digit = digit_read row (take at row) (to_row text.other F) (drop end row) d in_row (end - 1) row_at
+    in_row : row ≡ take at row ++ (to_row other (front (m / 10)) ++ ((48 + m % 10) ∷ drop end row))
+    in_row = row_is ∙ ap (λ l. take at row ++ l) (by_row other (front (m / 10)) (drop end row) (48 + m % 10) row_digits)
 
-  module _ (y : ℕ) (y_is : q.y ≡ pos y) (few : y < 100000) where
-    pub row_patched : 1 ≤ y → slice_index row (end - 1) % 2 ≢ y % 2 → AreBytesClose (slice_index row (end - 1)) (48 + y % 10)
-        → IsWrittenOver q at end row (set row (end - 1) (48 + y % 10))
-    row_patched first changed close = elim text.beside [
-      | inl same ↦
-          let other = close_number text.other.y y first (subst (λ z. AreClose text.other.y z) y_is same.1) in
-          let m = other.number in
-          let digits = digits_of text.other.y m other.is (omega (arith, other.low, few)) in
-          let own = digits_of q.y y y_is (omega (arith, few)) in
-          let digit = row_digit (front (m / 10)) (48 + m % 10) digits in
-          let tens : m / 10 ≡ y / 10 = same_tens m y other.low other.high (omega (arith, digit, close.low)) (omega (arith, digit, close.high)) in
-          let fronts : to_row text.other (front (m / 10)) ≡ to_row q (front (y / 10)) = ap (λ z. 32 ∷ (signed_decimal z ++ (44 ∷ front (m / 10)))) same.0 ∙ ap (λ k. 32 ∷ (signed_decimal q.x ++ (44 ∷ front k))) tens in
-          record {
-            fits = omega (arith, text.fits, long_row text.other (front (m / 10)) (48 + m % 10) digits, long_row q (front (y / 10)) (48 + y % 10) own, ap length fronts);
-            written = digit_written row (take at row) (to_row text.other (front (m / 10))) (drop end row) (48 + m % 10) (in_row (front (m / 10)) (48 + m % 10) digits) (end - 1)
-                (row_at (front (m / 10)) (48 + m % 10) digits) (48 + y % 10)
-                ∙ (ap (λ l. take at row ++ (l ++ ((48 + y % 10) ∷ drop end row))) fronts ∙ ap (λ l. take at row ++ l) (sym (by_row q (front (y / 10)) (drop end row) (48 + y % 10) own)));
-          }
-      | inr same ↦
-          let digit = row_digit (front (y / 10)) (48 + y % 10) (digits_of text.other.y y (same.0 ∙ y_is) (omega (arith, few))) in
-          absurd (changed (omega (arith, digit)))
-    ]
+    pub row_digit : slice_index row (end - 1) ≡ 48 + m % 10
+    row_digit = digit_read row (take at row) (to_row other (front (m / 10))) (drop end row) (48 + m % 10) in_row (end - 1) row_at
 
-    -- the other place stands in the same row
-    record IsInRow : Type 0 where
-      at_row : text.other.y ≡ q.y
-      column : AreClose text.other.x q.x
-
-    in_same_row : slice_index row (end - 1) % 2 ≡ y % 2 → IsInRow
-    in_same_row kept = elim text.beside [
-      | inl same ↦ elim (close_or_below text.other.y y (subst (λ z. AreClose text.other.y z) y_is same.1)) [
-        | inl other ↦
-            let m = other.number in
-            let digit = row_digit (front (m / 10)) (48 + m % 10) (digits_of text.other.y m other.is (omega (arith, other.low, few))) in
-            let equal : m ≡ y = omega (arith, digit, kept, other.low, other.high) in
-            record { at_row = other.is ∙ (ap (λ (n : ℕ). pos n) equal ∙ sym y_is); column = record { low = rw same.0 (omega (arith, ints)); high = rw same.0 (omega (arith, ints)) } }
-        | inr below ↦
-            let one : signed_decimal text.other.y ≡ (45 ∷ []) ++ (49 ∷ []) = ap signed_decimal below.1 ∙ ap (λ l. 45 ∷ l) (decimal_digit 1 (omega arith)) in
-            let digit = row_digit (45 ∷ []) 49 one in
-            absurd (omega (arith, digit, kept, below.0))
-      ]
-      | inr same ↦ record { at_row = same.0; column = same.1 }
-    ]
-
-    pub column_patched : (x digits : ℕ) → q.x ≡ pos x → 1 ≤ x → x < 100000 → digits ≡ length (decimal y) → slice_index row (end - 1) % 2 ≡ y % 2
-        → AreBytesClose (slice_index row (end - 1 - 1 - digits)) (48 + x % 10) → IsWrittenOver q at end row (set row (end - 1 - 1 - digits) (48 + x % 10))
-    column_patched x digits x_is x_first x_few digits_are kept close =
-        let h = in_same_row kept in
-        let other = close_number text.other.x x x_first (subst (λ z. AreClose text.other.x z) x_is h.column) in
-        let k = other.number in
-        let fits : k < 2 ^ 64 = omega (arith, other.low, x_few) in
-        let in_column : row ≡ take at row ++ (to_column k ++ ((48 + k % 10) ∷ (past_column text.other ++ drop end row))) = row_is ∙ ap (λ l. take at row ++ l) (by_column text.other k (drop end row) other.is fits) in
-        let past : length (past_column text.other) ≡ suc digits = ap (λ z. suc (length (signed_decimal z))) (h.at_row ∙ y_is) ∙ ap suc (sym digits_are) in
-        let column_at : end - 1 - 1 - digits ≡ length (take at row) + length (to_column k) = omega (arith, long_before, text.fits, long_column text.other k other.is fits, past) in
-        let digit = digit_read row (take at row) (to_column k) (past_column text.other ++ drop end row) (48 + k % 10) in_column (end - 1 - 1 - digits) column_at in
-        let tens : k / 10 ≡ x / 10 = same_tens k x other.low other.high (omega (arith, digit, close.low)) (omega (arith, digit, close.high)) in
-        let fronts : to_column k ≡ to_column x = ap (λ n. 32 ∷ front n) tens in
-        let pasts : past_column text.other ≡ past_column q = ap (λ z. 44 ∷ signed_decimal z) h.at_row in
+    pub row_patched : (n : ℕ) → q.y ≡ pos n → n < 2 ^ 32 → m / 10 ≡ n / 10 → other.x ≡ q.x → IsWrittenOver q at end row (set row (end - 1) (48 + n % 10))
+    row_patched n n_is few_new tens same =
+        let own = digits_of q.y n n_is (omega (arith, few_new)) in
+        let fronts : to_row other (front (m / 10)) ≡ to_row q (front (n / 10)) = ap (λ z. 32 ∷ (signed_decimal z ++ (44 ∷ front (m / 10)))) same ∙ ap (λ k. 32 ∷ (signed_decimal q.x ++ (44 ∷ front k))) tens in
         record {
-          fits = omega (arith, text.fits, long_column text.other k other.is fits, long_column q x x_is (omega (arith, x_few)), ap length fronts, ap length pasts);
-          written = digit_written row (take at row) (to_column k) (past_column text.other ++ drop end row) (48 + k % 10) in_column (end - 1 - 1 - digits) column_at (48 + x % 10)
-              ∙ (ap (λ l. take at row ++ (l ++ ((48 + x % 10) ∷ (past_column text.other ++ drop end row)))) fronts
-              ∙ (ap (λ l. take at row ++ (to_column x ++ ((48 + x % 10) ∷ (l ++ drop end row)))) pasts
-              ∙ ap (λ l. take at row ++ l) (sym (by_column q x (drop end row) x_is (omega (arith, x_few))))));
+          fits = omega (arith, text.fits, long_row other (front (m / 10)) (48 + m % 10) row_digits, long_row q (front (n / 10)) (48 + n % 10) own, ap length fronts);
+          written = digit_written row (take at row) (to_row other (front (m / 10))) (drop end row) (48 + m % 10) in_row (end - 1) row_at (48 + n % 10)
+              ∙ (ap (λ l. take at row ++ (l ++ ((48 + n % 10) ∷ drop end row))) fronts ∙ ap (λ l. take at row ++ l) (sym (by_row q (front (n / 10)) (drop end row) (48 + n % 10) own)));
         }
 
+  -- the column of the other place, where its row has so many digits
+  module _ (y digits : ℕ) (y_is : other.y ≡ pos y) (digits_are : digits ≡ length (decimal y)) where
+    past_is : length (past_column other) ≡ suc digits
+    past_is = ap (λ z. suc (length (signed_decimal z))) y_is ∙ ap suc (sym digits_are)
+
     -- the column ends in the row of bytes
-    pub column_within : (digits : ℕ) → digits ≡ length (decimal y) → slice_index row (end - 1) % 2 ≡ y % 2 → 2 + digits ≤ end
-    column_within digits digits_are kept =
-        let h = in_same_row kept in
-        let past : length (past_column text.other) ≡ suc digits = ap (λ z. suc (length (signed_decimal z))) (h.at_row ∙ y_is) ∙ ap suc (sym digits_are) in
-        let parts : length (place_text text.other) ≡ suc (length (signed_decimal text.other.x) + length (past_column text.other)) = ap suc (length-append (signed_decimal text.other.x) (past_column text.other)) in
-        omega (arith, text.fits, parts, past)
+    pub column_within : 2 + digits ≤ end
+    column_within =
+        let parts : length (place_text other) ≡ suc (length (signed_decimal other.x) + length (past_column other)) = ap suc (length-append (signed_decimal other.x) (past_column other)) in
+        omega (arith, text.fits, parts, past_is)
+
+    module _ (m : ℕ) (m_is : other.x ≡ pos m) (few : m < 2 ^ 32) where
+      fits : m < 2 ^ 64
+      fits = omega (arith, few)
+
+      in_column : row ≡ take at row ++ (to_column m ++ ((48 + m % 10) ∷ (past_column other ++ drop end row)))
+      in_column = row_is ∙ ap (λ l. take at row ++ l) (by_column other m (drop end row) m_is fits)
+
+      column_at : end - 1 - 1 - digits ≡ length (take at row) + length (to_column m)
+      column_at = omega (arith, long_before, text.fits, long_column other m m_is fits, past_is)
+
+      pub column_digit : slice_index row (end - 1 - 1 - digits) ≡ 48 + m % 10
+      column_digit = digit_read row (take at row) (to_column m) (past_column other ++ drop end row) (48 + m % 10) in_column (end - 1 - 1 - digits) column_at
+
+      pub column_patched : (n : ℕ) → q.x ≡ pos n → n < 2 ^ 32 → m / 10 ≡ n / 10 → other.y ≡ q.y → IsWrittenOver q at end row (set row (end - 1 - 1 - digits) (48 + n % 10))
+      column_patched n n_is few_new tens same =
+          let fronts : to_column m ≡ to_column n = ap (λ k. 32 ∷ front k) tens in
+          let pasts : past_column other ≡ past_column q = ap (λ z. 44 ∷ signed_decimal z) same in
+          record {
+            fits = omega (arith, text.fits, long_column other m m_is fits, long_column q n n_is (omega (arith, few_new)), ap length fronts, ap length pasts);
+            written = digit_written row (take at row) (to_column m) (past_column other ++ drop end row) (48 + m % 10) in_column (end - 1 - 1 - digits) column_at (48 + n % 10)
+                ∙ (ap (λ l. take at row ++ (l ++ ((48 + n % 10) ∷ (past_column other ++ drop end row)))) fronts
+                ∙ (ap (λ l. take at row ++ (to_column n ++ ((48 + n % 10) ∷ (l ++ drop end row)))) pasts
+                ∙ ap (λ l. take at row ++ l) (sym (by_column q n (drop end row) n_is (omega (arith, few_new))))));
+          }
+
+-- ---- the digit of a number over that of one beside it
+
+module _ (old new : ℤ) (m n digit : ℕ) (is_old : old ≡ pos m) (is_new : new ≡ pos n) (close : AreClose old new) (is : digit ≡ 48 + m % 10) where
+  low : m ≤ n + 1
+  low = let h = close.low in omega (arith, ints, is_old, is_new, h)
+
+  high : n ≤ m + 1
+  high = let h = close.high in omega (arith, ints, is_old, is_new, h)
+
+  pub digit_room : m ≤ digit + n
+  digit_room = omega (arith, low, is)
+
+  pub digit_over : (at : ℕ) (row : List ℕ) → m < 2 ^ 32 → n < 2 ^ 32 → IsDigit (digit + n - m) → IsDigitOver old new at row (set row at (digit + n - m))
+  digit_over at row few_old few_new written =
+      let first = written.first in
+      let last = written.last in
+      let same : digit + n - m ≡ 48 + n % 10 = omega (arith, low, high, is) in
+      record { m = m; n = n; is_old = is_old; is_new = is_new; few_old = few_old; few_new = few_new; tens = omega (arith, low, high, is); written = ap (λ d. set row at d) same }
+
+-- ---- a place beside another
+
+-- in another row it stands in the same column
+pub in_column_if : (o q : Place) → IsBeside o q → o.y ≢ q.y → (o.x ≡ q.x) × AreClose o.y q.y
+in_column_if o q beside other = elim beside [
+  | inl same ↦ same
+  | inr same ↦ absurd (other same.0)
+]
+
+-- in the same row it stands in a column close to that
+pub in_row_if : (o q : Place) → IsBeside o q → o.y ≡ q.y → AreClose o.x q.x
+in_row_if o q beside row = elim beside [
+  | inl same ↦ rw same.0 (record { low = omega (arith, ints); high = omega (arith, ints) })
+  | inr same ↦ same.1
+]
 
 -- what was written, if it was
-pub written_if : (result : Bool) (q : Place) (at end : ℕ) (row patched new : List ℕ) → new ≡ (if result then patched else row) → (result ≡ true → IsWrittenOver q at end row patched)
+pub written_if : (result : Bool) (q : Place) (at end : ℕ) (row new : List ℕ) → (result ≡ false → new ≡ row) → (result ≡ true → IsWrittenOver q at end row new)
     → WritesOver result q at end row new
-written_if true q at end row patched new e h = rw e (h refl)
-written_if false q at end row patched new e h = e
+written_if true q at end row new same over = over refl
+written_if false q at end row new same over = same refl

@@ -1,5 +1,5 @@
 -- A line that is kept from tick to tick.
-use Rattle.std.specs.Prelude.{◌≡◌, ◌≤◌, ◌<◌, ◌+◌, ◌-◌, ◌++◌, ◌⊎◌, ℤ, pos, ◌+ℤ◌, ◌≤ℤ◌, ◌%◌, ℕ, Bool, true, false, List, length, take, drop, get_or, codes}
+use Rattle.std.specs.Prelude.{◌≡◌, ◌≤◌, ◌<◌, ◌+◌, ◌-◌, ◌++◌, ◌⊎◌, ℤ, pos, ◌+ℤ◌, ◌≤ℤ◌, ◌/◌, ◌%◌, ◌^◌, ℕ, Bool, true, false, List, length, map, set, take, drop, get_or, codes}
 use Rattle.std.specs.List.{flat_map, copy_within}
 use Rattle.fleet_model.specs.declared.geometry.Place.{Place}
 use Rattle.fleet_model.specs.Machine.{Configuration, standing_at}
@@ -53,32 +53,41 @@ pub record AreClose (a b : ℤ) : Type 0 where
   pub low : a ≤ℤ (b +ℤ pos 1)
   pub high : b ≤ℤ (a +ℤ pos 1)
 
--- .. of bytes
-pub record AreBytesClose (byte other : ℕ) : Type 0 where
-  pub low : byte ≤ other + 1
-  pub high : other ≤ byte + 1
+-- the code of a digit
+pub record IsDigit (code : ℕ) : Type 0 where
+  pub first : 48 ≤ code
+  pub last : code ≤ 57
 
--- the byte is close to the last digit of the number, which is not 0
-pub record IsOneDigitOff (n byte : ℕ) : Type 0 where
-  pub first : 1 ≤ n
-  pub close : AreBytesClose byte (48 + n % 10)
+-- neither number is negative, both have as many tens, and the last digit of the new one was written there
+pub record IsDigitOver (old new : ℤ) (at : ℕ) (row row' : List ℕ) : Type 0 where
+  pub m : ℕ
+  pub n : ℕ
+  pub is_old : old ≡ pos m
+  pub is_new : new ≡ pos n
+  pub few_old : m < 2 ^ 32
+  pub few_new : n < 2 ^ 32
+  pub tens : m / 10 ≡ n / 10
+  pub written : row' ≡ set row at (48 + n % 10)
 
 -- one of the two coordinates is the same, and the other differs by one at most
 abbrev pub IsBeside : Place → Place → Type 0
 IsBeside q r = ((q.x ≡ r.x) × AreClose q.y r.y) ⊎ ((q.y ≡ r.y) × AreClose q.x r.x)
 
--- the bytes from `at` to `end` are the text of a place beside this one
-pub record IsTextBeside (q : Place) (at end : ℕ) (row : List ℕ) : Type 0 where
-  pub other : Place
-  pub beside : IsBeside other q
-  pub fits : at + length (place_text other) ≡ end
-  pub written : drop at row ≡ place_text other ++ drop end row
+-- the bytes from `at` to `end` are the text of this place
+pub record IsTextOf (q : Place) (at end : ℕ) (row : List ℕ) : Type 0 where
+  pub fits : at + length (place_text q) ≡ end
+  pub written : drop at row ≡ place_text q ++ drop end row
 
--- the row has the places from before the machine's last tick: each agent stands beside its place there, and those that
--- the tick did not move stand on it
-pub record IsKeptBefore (m : MachineState) (row begins : List ℕ) : Type 0 where
+-- where the agents stand
+abbrev pub places_of : Configuration → List Place
+places_of c = map (λ s. s.place) c
+
+-- the row and the places have the places from before the machine's last tick: each agent stands beside its place there,
+-- and those that the tick did not move stand on it
+pub record IsKeptBefore (m : MachineState) (row begins : List ℕ) (places : List Place) : Type 0 where
   pub before : Configuration
   pub kept : IsLineKept before row begins
+  pub placed : places ≡ places_of before
   pub agents : length before ≡ length m.configuration
   pub same : (i : ℕ) → flag_of m.moving i ≡ false → standing_at before i ≡ standing_at m.configuration i
   pub beside : (i : ℕ) → IsBeside (standing_at before i).place (standing_at m.configuration i).place

@@ -1,11 +1,11 @@
 //! The line of a run, kept from tick to tick.
 
-ghost use Rattle.std.specs.Prelude.{◌≡◌, ◌≢◌, false, ◌+◌, ◌-◌, ◌<◌, ◌≤◌, ◌^◌, ◌++◌, ◌∷◌, ℕ, true, length, take, drop, set, get_or, slice_index, if◌then◌else◌, IfSome, ◌%◌, pos};
+ghost use Rattle.std.specs.Prelude.{◌≡◌, false, ◌+◌, ◌-◌, ◌<◌, ◌≤◌, ◌^◌, ◌++◌, ◌∷◌, ℕ, true, length, take, drop, set, get_or, slice_index, IfSome, ◌%◌, pos};
 ghost use Rattle.std.specs.List.{copy_within};
 ghost use Rattle.fleet_model.specs.declared.standing.Standing.{Standing};
 ghost use Rattle.fleet_model.specs.Machine.{Configuration, standing_at};
 ghost use Rattle.std.specs.Fmt.{decimal};
-ghost use Rattle.fleet_run.specs.Line.{AreBytesClose, IsOneDigitOff, IsBeside, IsLineKept, IsKeptBefore, IsResized, IsTextBeside, WritesOver};
+ghost use Rattle.fleet_run.specs.Line.{AreClose, IsBeside, IsDigit, IsDigitOver, IsLineKept, IsKeptBefore, IsResized, IsTextOf, WritesOver, places_of};
 ghost use Rattle.fleet_run.specs.Text.{place_text};
 
 use crate::trace::{LINE, PLACE, write_count, write_place};
@@ -26,6 +26,16 @@ pub fn write_places(rows: &[Standing], row: &mut [u8], begins: &mut [usize])
     for i in (0..rows.len()).rev() {
         at = write_place(rows[i].place, row, at);
         begins[i] = at;
+    }
+}
+
+/// Copies the places of all agents.
+pub fn copy_places(rows: &[Standing], places: &mut [Place])
+    requires { length places.old ≡ length rows.now }
+    ensures { places.new ≡ places_of rows.now }
+{
+    for i in 0..rows.len() {
+        places[i] = rows[i].place;
     }
 }
 
@@ -50,18 +60,18 @@ fn overwrite(i: usize, place: Place, row: &mut [u8], begins: &[usize]) -> bool
     true
 }
 
-/// Writes the last digit of a place over that of agent `i`, which stood beside it, if no other byte changes, and
-/// answers whether it did.
+/// Writes the last digit of a place over that of agent `i`, which stood beside it, on its place of these, if no other
+/// byte changes, and answers whether it did.
 #[inline(always)]
-fn move_place(i: usize, place: Place, row: &mut [u8], begins: &[usize]) -> bool
+fn move_place(i: usize, place: Place, row: &mut [u8], begins: &[usize], places: &[Place]) -> bool
     requires kept { (c : Configuration) × (IsLineKept c row.old begins.now) × (i < length c)
-        × IsBeside (standing_at c i).place place }
+        × (places.now ≡ places_of c) × IsBeside (standing_at c i).place place }
     ensures kept { result ≡ true → (c : Configuration)
         → IsLineKept c row.old begins.now → i < length c
         → (s : Standing) → s.place ≡ place → IsLineKept (set c i s) row.new begins.now }
     ensures same { result ≡ false → row.new ≡ row.old }
 {
-    patch_place(place, row, begins[i], begins[i + 1])
+    patch_place(places[i], place, row, begins[i], begins[i + 1])
 }
 
 /// How many places of a tick may become longer or shorter, one after another, before all places are written anew.
@@ -213,13 +223,14 @@ pub fn write_time(time: u32, row: &mut [u8], begin: usize) -> usize
     write_count(time, row, at)
 }
 
-/// Writes the places of the agents that the last tick moved over those before; all places anew if more than a few are
-/// longer or shorter than before.
-pub fn write_moved(machine: &Machine, row: &mut [u8], begins: &mut [usize])
+/// Writes the places of the agents that the last tick moved over those before, in the row and in the list of places;
+/// all places anew if more than a few are longer or shorter than before.
+pub fn write_moved(machine: &Machine, row: &mut [u8], begins: &mut [usize], places: &mut [Place])
     requires agents { length machine.now.configuration ≤ MAX_AGENTS }
-    requires before { IsKeptBefore machine.now row.old begins.old }
+    requires before { IsKeptBefore machine.now row.old begins.old places.old }
     requires moved { length machine.now.moving ≡ length machine.now.configuration }
-    ensures { IsLineKept machine.now.configuration row.new begins.new }
+    ensures kept { IsLineKept machine.now.configuration row.new begins.new }
+    ensures places { places.new ≡ places_of machine.now.configuration }
 {
     let rows = machine.agents();
     let mut resized = 0;
@@ -227,11 +238,13 @@ pub fn write_moved(machine: &Machine, row: &mut [u8], begins: &mut [usize])
     while let Some(i) = machine.moved_at(&mut cursor) {
         let i = usize::from(i);
         let place = rows[i].place;
-        let is_moved = move_place(i, place, row, begins);
+        let is_moved = move_place(i, place, row, begins, places);
+        places[i] = place;
         if !is_moved {
             resized += put_place(i, place, row, begins);
             if resized > MOST_RESIZED {
                 write_places(rows, row, begins);
+                copy_places(rows, places);
                 return;
             }
         }
@@ -273,67 +286,64 @@ fn digit_count(number: u32) -> usize
     3 + reaches(number, 1_000) + reaches(number, 10_000)
 }
 
-/// The last digit of a number, as it is written.
-fn last_digit(number: u32) -> u8
-    ensures { result ≡ 48 + number % 10 }
+/// The coordinate as a number, if it is not negative.
+fn natural(coordinate: i32) -> Option<u32>
+    ensures { IfSome result (λ n. (coordinate ≡ pos n) × (n < 2 ^ 32)) }
 {
-    b'0' + (number % 10) as u8
+    if coordinate < 0 {
+        return None;
+    }
+    Some(coordinate.unsigned_abs())
 }
 
-/// Whether one of the two is odd and the other is even. A digit is odd if its number is.
-fn is_one_odd(byte: u8, number: u32) -> bool
-    ensures same { result ≡ false → byte % 2 ≡ number % 2 }
-    ensures apart { result ≡ true → byte % 2 ≢ number % 2 }
+/// Whether a number is the code of a digit.
+fn is_digit(code: u32) -> bool
+    ensures { result ≡ true → IsDigit code }
 {
-    u32::from(byte % 2) != number % 2
+    (u32::from(b'0')..=u32::from(b'9')).contains(&code)
 }
 
-/// Whether a byte is a digit or stands beside it.
-fn are_close(byte: u8, digit: u8) -> bool
-    requires first { 48 ≤ digit }
-    requires last { digit ≤ 57 }
-    ensures { result ≡ true → AreBytesClose byte digit }
+/// Writes the last digit of a coordinate over that of one beside it, if neither is negative, and no other digit changes.
+/// Answers whether it did.
+#[inline(always)]
+fn patch_digit(old: i32, new: i32, row: &mut [u8], at: usize) -> bool
+    requires at { at < length row.old }
+    requires close { AreClose old new }
+    requires digit { (m : ℕ) → old ≡ pos m → m < 2 ^ 32
+        → slice_index row.old at ≡ 48 + m % 10 }
+    ensures same { result ≡ false → row.new ≡ row.old }
+    ensures patched { result ≡ true → IsDigitOver old new at row.old row.new }
 {
-    byte.wrapping_sub(digit).wrapping_add(1) <= 2
-}
-
-/// Writes the last digit of a coordinate over that of one beside it, if the two are close, and the coordinate is not 0,
-/// beside which lies -1 too. Answers whether it did.
-fn patch_digit(coordinate: u32, row: &mut [u8], at: usize) -> bool
-    requires { at < length row.old }
-    ensures close { result ≡ true → IsOneDigitOff coordinate (slice_index row.old at) }
-    ensures written { row.new
-        ≡ (if result then set row.old at (48 + coordinate % 10) else row.old) }
-{
-    let digit = last_digit(coordinate);
-    let is_edge = coordinate == 0;
-    if is_edge || !are_close(row[at], digit) {
+    let (Some(m), Some(n)) = (natural(old), natural(new)) else {
+        return false;
+    };
+    let digit = u32::from(row[at]) + n - m;
+    if !is_digit(digit) {
         return false;
     }
-    row[at] = digit;
+    row[at] = digit as u8;
     true
 }
 
-/// Writes the last digit of one coordinate of a place over that of one beside it, whose text stands there, if no other
-/// byte of the text changes, and answers whether it did. The other coordinate is the same.
-pub fn patch_place(place: Place, row: &mut [u8], begin: usize, end: usize) -> bool
+/// Writes the last digit of one coordinate of a place over that of a place beside it, whose text stands there, if no
+/// other byte of the text changes, and answers whether it did.
+#[inline(always)]
+fn patch_place(old: Place, place: Place, row: &mut [u8], begin: usize, end: usize) -> bool
     requires room { length row.old ≡ LINE }
     requires order { begin ≤ end }
     requires within { end ≤ LINE }
-    requires text { IsTextBeside place begin end row.old }
+    requires text { IsTextOf old begin end row.old }
+    requires beside { IsBeside old place }
     ensures { WritesOver result place begin end row.old row.new }
 {
     let _ = begin;
+    let last = end - 1;
+    let is_other_row = old.y != place.y;
+    if is_other_row {
+        return patch_digit(old.y, place.y, row, last);
+    }
     let Some(y) = small_number(place.y) else {
         return false;
     };
-    let last = end - 1;
-    let is_other_row = is_one_odd(row[last], y);
-    if is_other_row {
-        return patch_digit(y, row, last);
-    }
-    let Some(x) = small_number(place.x) else {
-        return false;
-    };
-    patch_digit(x, row, last - 1 - digit_count(y))
+    patch_digit(old.x, place.x, row, last - 1 - digit_count(y))
 }

@@ -4,16 +4,16 @@ ghost use Rattle.std.specs.Prelude.{◌≡◌, ◌+◌, ◌<◌, ◌≤◌, leng
 ghost use Rattle.fleet_model.specs.Machine.{Configuration, opening, tick, is_ready_held};
 ghost use Rattle.fleet_machine.specs.Machine.{Runs, flag_of};
 ghost use Rattle.fleet_run.specs.Text.{line_of};
-ghost use Rattle.fleet_run.specs.Line.{IsLineKept};
+ghost use Rattle.fleet_run.specs.Line.{IsLineKept, places_of};
 ghost use Rattle.fleet_text.specs.Sink.{IsWorking, TakesAll};
 ghost use Rattle.fleet_run.specs.Source.{HasNotFailed, AreFlagsOf};
 ghost use Rattle.fleet_run.specs.Outcome.{run_end, fault_of, AsksNext, AsksUnlessOver, PassesTime, RunsLines};
 
-use crate::line::{write_moved, write_places, write_time};
+use crate::line::{copy_places, write_moved, write_places, write_time};
 use crate::source::{HoldSource, SourceFault, ask};
 use crate::trace::LINE;
 use fleet_machine::Machine;
-use fleet_model::{MAX_AGENTS, ProgramView};
+use fleet_model::{MAX_AGENTS, Place, ProgramView};
 use fleet_text::{OutFault, Refusal, TraceOut, put_all, put_memory, put_named, put_named_at};
 use thiserror::Error;
 
@@ -203,33 +203,46 @@ fn pass_time<S: HoldSource, O: TraceOut>(
     }
 }
 
-/// One tick, with the places after it in the row, and the counts.
+impl Counts {
+    /// The counts after one tick more, in which a ready agent was held or not.
+    fn after(self, ready_held: bool) -> Counts
+        requires few { self.ticks < 4294967295 }
+        requires held { self.held < 4294967295 }
+        ensures ticks { result.ticks ≡ self.ticks + 1 }
+        ensures held { result.held ≡ self.held + (if ready_held then 1 else 0) }
+    {
+        Counts {
+            ticks: self.ticks + 1,
+            held: self.held + u32::from(ready_held),
+        }
+    }
+}
+
+/// One tick, with the places after it in the row and in the list of places. Answers whether a ready agent was held.
 fn tick_row<P: ProgramView>(
     program: &P,
     machine: &mut Machine,
     flags: &[bool],
     row: &mut [u8],
     begins: &mut [usize],
-    counts: &mut Counts,
-)
+    places: &mut [Place],
+) -> bool
     requires runs { Runs (P.program program.now) machine.old }
     requires flags { length flags.now ≡ length (P.program program.now) }
     requires kept { IsLineKept machine.old.configuration row.old begins.old }
-    requires few { counts.old.ticks < 4294967295 }
-    requires held { counts.old.held < 4294967295 }
+    requires places { places.old ≡ places_of machine.old.configuration }
     ensures runs { Runs (P.program program.now) machine.new }
     ensures looked { machine.old.looked ≤ machine.new.looked }
     ensures after { machine.new.configuration
         ≡ tick (P.program program.now) (flag_of flags.now) machine.old.configuration }
-    ensures ticks { counts.new.ticks ≡ counts.old.ticks + 1 }
-    ensures held { counts.new.held ≡ counts.old.held + (if is_ready_held (P.program program.now)
-        (flag_of flags.now) machine.old.configuration then 1 else 0) }
+    ensures held { result ≡ is_ready_held (P.program program.now)
+        (flag_of flags.now) machine.old.configuration }
     ensures kept { IsLineKept machine.new.configuration row.new begins.new }
+    ensures places { places.new ≡ places_of machine.new.configuration }
 {
     let tick = machine.tick(program, flags);
-    write_moved(machine, row, begins);
-    counts.ticks += 1;
-    counts.held += u32::from(tick.ready_held);
+    write_moved(machine, row, begins, places);
+    tick.ready_held
 }
 
 /// Runs a program from its start, and writes the line of each time. Takes no memory.
@@ -254,6 +267,9 @@ pub fn run_lines<P: ProgramView, S: HoldSource, O: TraceOut>(
     let mut row = [0; LINE];
     let mut begins = [0; MAX_AGENTS + 1];
     write_places(machine.agents(), &mut row, &mut begins);
+    let mut places = [Place { x: 0, y: 0 }; MAX_AGENTS];
+    let places = &mut places[..program.agents() as usize];
+    copy_places(machine.agents(), places);
     let mut counts = Counts { ticks: 0, held: 0 };
     let mut source_ended = false;
     'ticks: loop {
@@ -268,7 +284,8 @@ pub fn run_lines<P: ProgramView, S: HoldSource, O: TraceOut>(
         if let Some(end) = end {
             return Ok(Ran { ticks, held, end });
         }
-        tick_row(program, machine, flags, &mut row, &mut begins, &mut counts);
+        let ready_held = tick_row(program, machine, flags, &mut row, &mut begins, places);
+        counts = counts.after(ready_held);
         source_ended = !more;
     }
 }

@@ -2,7 +2,7 @@ use Rattle.std.proofs.Common.{◌+◌, arith, sym, subst}
 use Rattle.std.specs.Prelude.{get_or}
 use Rattle.fleet_model.specs.declared.geometry.Place.{Place}
 use Rattle.fleet_run.specs.Line.{IsWrittenOver}
-use Rattle.fleet_run.proofs.Lines.{in_order, text_beside, really_over, not_over, overwritten}
+use Rattle.fleet_run.proofs.Lines.{in_order, text_at, place_of_agent, really_over, not_over, overwritten}
 use Rattle.fleet_run.proofs.line.move_place.Goals as goal
 
 pub patch_place-requires : goal.patch_place-requires
@@ -14,7 +14,8 @@ patch_place-requires c =
       room = kept.room;
       order = in_order rows c.args.i c.args.row.now c.args.begins.now kept agent;
       within = (let within = kept.within (c.args.i + 1) (omega (arith, agent)) in omega (arith, within));
-      text = text_beside rows c.args.i c.args.place c.args.row.now c.args.begins.now kept agent c.requires.kept.3;
+      text = rw (c.requires.kept.3, place_of_agent rows c.args.i _ agent) (text_at rows c.args.i c.args.row.now c.args.begins.now kept agent);
+      beside = rw (c.requires.kept.3, place_of_agent rows c.args.i _ agent) c.requires.kept.4;
     }
 
 pub returns-clause-kept : goal.returns-clause-kept

@@ -1,37 +1,46 @@
-use Rattle.std.proofs.Common.{rules, ◌≡◌, pos, ◌≤◌, ◌%◌, ◌+◌, ◌-◌, arith, length, set}
-use Rattle.fleet_run.proofs.Patched.{row_patched, column_patched, column_within, written_if}
+use Rattle.std.proofs.Common.{◌≡◌, ◌≢◌, ◌≤◌, pos, arith, rules, length, ◌∙◌}
+use Rattle.fleet_run.proofs.Patched.{row_digit, row_patched, column_digit, column_patched, in_column_if, written_if}
 use Rattle.fleet_run.proofs.line.patch_place.Goals as goal
+
+pub patch_digit-requires-clause-digit : goal.patch_digit-requires-clause-digit
+patch_digit-requires-clause-digit c =
+    λ m is few.
+    let within : c.args.end ≤ length c.args.row.now = omega (arith, c.requires.within, c.requires.room) in
+    let m_is : c.args.old.y ≡ pos m = search rules in
+    row_digit c.args.old c.args.place c.args.row.now c.args.begin c.args.end c.requires.text within m m_is few
 
 pub returns-then-is_other_row : goal.returns-then-is_other_row
 returns-then-is_other_row c =
     let row = c.args.row.now in
-    let y_is : c.args.place.y ≡ pos c.in-Some.y = search rules in
-    let y = c.in-Some.y in
     let within : c.args.end ≤ length row = omega (arith, c.requires.within, c.requires.room) in
-    written_if c.patch_digit.result c.args.place c.args.begin c.args.end row (set row (c.args.end - 1) (48 + y % 10)) c.patch_digit.new.row c.patch_digit.ensures.written
+    let other : c.args.old.y ≢ c.args.place.y = λ e. c.if-is_other_row.true (rw e search rules) in
+    let column = in_column_if c.args.old c.args.place c.requires.beside other in
+    written_if c.patch_digit.result c.args.place c.args.begin c.args.end row c.patch_digit.new.row c.patch_digit.ensures.same
     (λ is.
-    let off = c.patch_digit.ensures.close is in
-    row_patched c.args.place row c.args.begin c.args.end c.requires.text within y y_is c.in-Some.ensures.1 off.first (c.is_one_odd-is_other_row.ensures.apart c.if-is_other_row.true) off.close)
+    let over = c.patch_digit.ensures.patched is in
+    let m_is : c.args.old.y ≡ pos over.m = search (rules, over.is_old) in
+    let n_is : c.args.place.y ≡ pos over.n = search (rules, over.is_new) in
+    rw over.written (row_patched c.args.old c.args.place row c.args.begin c.args.end c.requires.text within over.m m_is over.few_old over.n n_is over.few_new over.tens column.0))
 
-pub overflow_sub-last-3 : goal.overflow_sub-last-3
-overflow_sub-last-3 c =
-    let row = c.args.row.now in
+pub patch_digit-requires-2-clause-digit : goal.patch_digit-requires-2-clause-digit
+patch_digit-requires-2-clause-digit c =
+    λ m is few.
+    let within : c.args.end ≤ length c.args.row.now = omega (arith, c.requires.within, c.requires.room) in
     let y_is : c.args.place.y ≡ pos c.in-Some.y = search rules in
-    let within : c.args.end ≤ length row = omega (arith, c.requires.within, c.requires.room) in
-    let high = column_within c.args.place row c.args.begin c.args.end c.requires.text within c.in-Some.y y_is c.in-Some.ensures.1 c.digit_count.result c.digit_count.ensures.digits
-    (c.is_one_odd-is_other_row.ensures.same c.if-is_other_row.false) in
-    omega (arith, high)
+    let same : c.args.old.y ≡ c.args.place.y = search rules in
+    let m_is : c.args.old.x ≡ pos m = search rules in
+    column_digit c.args.old c.args.place c.args.row.now c.args.begin c.args.end c.requires.text within c.in-Some.y c.digit_count.result (same ∙ y_is) c.digit_count.ensures.digits m m_is few
 
 pub returns : goal.returns
 returns c =
     let row = c.args.row.now in
-    let y_is : c.args.place.y ≡ pos c.in-Some.y = search rules in
-    let x = c.in-Some-small_number.x in
-    let x_is : c.args.place.x ≡ pos x = search rules in
-    let digits = c.digit_count.result in
     let within : c.args.end ≤ length row = omega (arith, c.requires.within, c.requires.room) in
-    written_if c.patch_digit-2.result c.args.place c.args.begin c.args.end row (set row (c.args.end - 1 - 1 - digits) (48 + x % 10)) c.patch_digit-2.new.row c.patch_digit-2.ensures.written
+    let y_is : c.args.place.y ≡ pos c.in-Some.y = search rules in
+    let same : c.args.old.y ≡ c.args.place.y = search rules in
+    written_if c.patch_digit-2.result c.args.place c.args.begin c.args.end row c.patch_digit-2.new.row c.patch_digit-2.ensures.same
     (λ is.
-    let off = c.patch_digit-2.ensures.close is in
-    column_patched c.args.place row c.args.begin c.args.end c.requires.text within c.in-Some.y y_is c.in-Some.ensures.1 x digits x_is off.first
-    c.in-Some-small_number.ensures.1 c.digit_count.ensures.digits (c.is_one_odd-is_other_row.ensures.same c.if-is_other_row.false) off.close)
+    let over = c.patch_digit-2.ensures.patched is in
+    let m_is : c.args.old.x ≡ pos over.m = search (rules, over.is_old) in
+    let n_is : c.args.place.x ≡ pos over.n = search (rules, over.is_new) in
+    rw over.written (column_patched c.args.old c.args.place row c.args.begin c.args.end c.requires.text within c.in-Some.y c.digit_count.result (same ∙ y_is) c.digit_count.ensures.digits
+    over.m m_is over.few_old over.n n_is over.few_new over.tens same))

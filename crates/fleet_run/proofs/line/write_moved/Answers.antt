@@ -1,6 +1,6 @@
 use Rattle.std.proofs.Common.{◌<◌, length, refl, arith}
 use Rattle.fleet_model.specs.Machine.{standing_at}
-use Rattle.fleet_run.proofs.Lines.{rewritten_next, rewritten_all}
+use Rattle.fleet_run.proofs.Lines.{rewritten_next, rewritten_all, places_all}
 use Rattle.fleet_run.proofs.line.write_moved.Goals as goal
 
 pub put_place-resized-requires : goal.put_place-resized-requires
@@ -25,7 +25,7 @@ loop-i-preserved c =
       few = omega arith;
       room = kept.room;
       begun = kept.begun;
-      kept = rw behind (rewritten_next c.args.machine.now c.loop-i.cursor.from c.in-Some.i c.loop-i.row c.move_place-is_moved.new.row c.loop-i.begins c.loop-i.begins h next agent (rw c.from-i.ensures at kept));
+      kept = rw (behind, c.from-i.ensures, c.agents-rows.ensures) (rewritten_next c.args.machine.now c.loop-i.cursor.from c.in-Some.i c.loop-i.row c.move_place-is_moved.new.row c.loop-i.begins c.loop-i.begins c.loop-i.places h next agent (rw c.from-i.ensures at kept));
     }
 
 pub loop-i-preserved-else-resized-gt-MOST_RESIZED : goal.loop-i-preserved-else-resized-gt-MOST_RESIZED
@@ -44,8 +44,11 @@ loop-i-preserved-else-resized-gt-MOST_RESIZED c =
       few = omega arith;
       room = kept.room;
       begun = kept.begun;
-      kept = rw behind (rewritten_next c.args.machine.now c.loop-i.cursor.from c.in-Some.i c.loop-i.row c.put_place-resized.new.row c.loop-i.begins c.put_place-resized.new.begins h next agent (rw c.from-i.ensures at kept));
+      kept = rw (behind, c.from-i.ensures, c.agents-rows.ensures) (rewritten_next c.args.machine.now c.loop-i.cursor.from c.in-Some.i c.loop-i.row c.put_place-resized.new.row c.loop-i.begins c.put_place-resized.new.begins c.loop-i.places h next agent (rw c.from-i.ensures at kept));
     }
 
-pub returns : goal.returns
-returns c = rewritten_all c.args.machine.now c.loop-i.cursor.from c.loop-i.row c.loop-i.begins c.loop-i.invariant.kept c.in_default.ensures.next
+pub returns-clause-kept : goal.returns-clause-kept
+returns-clause-kept c = rewritten_all c.args.machine.now c.loop-i.cursor.from c.loop-i.row c.loop-i.begins c.loop-i.places c.loop-i.invariant.kept c.in_default.ensures.next
+
+pub returns-clause-places : goal.returns-clause-places
+returns-clause-places c = places_all c.args.machine.now c.loop-i.cursor.from c.loop-i.row c.loop-i.begins c.loop-i.places c.loop-i.invariant.kept c.in_default.ensures.next

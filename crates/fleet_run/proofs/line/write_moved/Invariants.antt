@@ -10,7 +10,7 @@ invariant-loop-i l = record {
   few : l.resized ≤ 24;
   room : length l.row ≡ 24588;
   begun : length l.begins ≡ 1025;
-  kept : IsRewritten l.machine l.cursor.from l.row l.begins;
+  kept : IsRewritten l.machine l.cursor.from l.row l.begins l.places;
 }
 
 abbrev pub decreases-loop-i : goal.decreases-loop-i

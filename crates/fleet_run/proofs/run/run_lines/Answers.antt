@@ -16,8 +16,8 @@ returns-in_err-more-clause-lines g c =
     (g.O.TraceOut.state c.args.out.now) (g.O.TraceOut.state c.ticks.out) (g.O.TraceOut.state c.pass_time.new.out) c.pass_time.new.flags
     c.ticks.invariant.under_way c.ticks.invariant.source c.ticks.invariant.written c.end_at-end.ensures c.in_err-more.field-0.0 (c.pass_time.auto.flags ∙ c.ticks.invariant.flags) passes)
 
-pub tick_row-requires-clause-held : goal.tick_row-requires-clause-held
-tick_row-requires-clause-held g c =
+pub after-counts-requires-clause-held : goal.after-counts-requires-clause-held
+after-counts-requires-clause-held g c =
     let p = g.P.ProgramView.program c.args.program.now in
     let s = g.S.HoldSource.state c.args.source.now in
     let before = c.ticks.invariant.under_way in
@@ -36,7 +36,7 @@ ticks-smaller g c =
     c.ticks.invariant.under_way c.ticks.invariant.source c.ticks.invariant.written c.end_at-end.ensures c.in_ok-more.more c.in_default.is (c.pass_time.auto.flags ∙ c.ticks.invariant.flags) passes in
     let goes = not_over p c.ticks.machine.configuration (sym c.in_default.is ∙ c.end_at-end.ensures) in
     let fewer = falls p s now c.ticks.machine.configuration c.ticks.counts.ticks c.ticks.counts.held c.ticks.source_ended c.ticks.invariant.under_way c.pass_time.new.flags c.in_ok-more.more after next.0 goes in
-    rw c.tick_row.ensures.after fewer
+    rw c.tick_row-ready_held.ensures.after fewer
 
 pub ticks-preserved : goal.ticks-preserved
 ticks-preserved g c =
@@ -52,14 +52,15 @@ ticks-preserved g c =
     let goes = not_over p c.ticks.machine.configuration (sym c.in_default.is ∙ c.end_at-end.ensures) in
     let on = one_tick_on p s now c.ticks.machine.configuration c.ticks.counts.ticks c.ticks.counts.held c.ticks.source_ended c.ticks.invariant.under_way c.pass_time.new.flags c.in_ok-more.more after next.0 goes c.requires.runs.well_formed next.2 in
     record {
-      runs = c.tick_row.ensures.runs;
-      looked = let before = c.ticks.invariant.looked in omega (arith, c.tick_row.ensures.looked);
+      runs = c.tick_row-ready_held.ensures.runs;
+      looked = let before = c.ticks.invariant.looked in omega (arith, c.tick_row-ready_held.ensures.looked);
       flags = c.pass_time.auto.flags ∙ c.ticks.invariant.flags;
       unset = unset_after p now c.ticks.source_ended c.pass_time.new.flags c.in_ok-more.more after next.0;
-      under_way = rw (c.tick_row.ensures.after, c.tick_row.ensures.ticks, c.tick_row.ensures.held) on;
+      under_way = rw (c.tick_row-ready_held.ensures.after, c.after-counts.ensures.ticks, c.after-counts.ensures.held, c.tick_row-ready_held.ensures.held) on;
       source = next.1;
-      kept = c.tick_row.ensures.kept;
-      written = rw c.tick_row.ensures.ticks (written_in_time p s now after c.ticks.machine.configuration
+      kept = c.tick_row-ready_held.ensures.kept;
+      places = c.tick_row-ready_held.ensures.places;
+      written = rw c.after-counts.ensures.ticks (written_in_time p s now after c.ticks.machine.configuration
           (record { ticks = c.ticks.counts.ticks; source_ended = c.ticks.source_ended; end = c.end_at-end.result }) c.ticks.counts.held
           (g.O.TraceOut.state c.args.out.now) (g.O.TraceOut.state c.ticks.out) (g.O.TraceOut.state c.pass_time.new.out) c.pass_time.new.flags
           c.ticks.invariant.under_way c.ticks.invariant.source c.ticks.invariant.written c.end_at-end.ensures c.in_ok-more.more passes);

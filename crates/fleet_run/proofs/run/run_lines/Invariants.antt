@@ -1,7 +1,7 @@
 use Rattle.std.proofs.Common.{◌≡◌, ◌≤◌, ◌+◌, [], true, length}
 use Rattle.fleet_machine.specs.Machine.{Runs}
 use Rattle.fleet_run.specs.Text.{lines_below}
-use Rattle.fleet_run.specs.Line.{IsLineKept}
+use Rattle.fleet_run.specs.Line.{IsLineKept, places_of}
 use Rattle.fleet_text.specs.Sink.{Takes}
 use Rattle.fleet_run.specs.Source.{HasNotFailed, AreFlagsOf}
 use Rattle.fleet_run.proofs.Progress.{all_left}
@@ -21,6 +21,7 @@ invariant-ticks g l =
       under_way : IsUnderWay p first now l.machine.configuration l.counts.ticks l.counts.held l.source_ended;
       source : HasNotFailed now;
       kept : IsLineKept l.machine.configuration l.row l.begins;
+      places : l.places ≡ places_of l.machine.configuration;
       written : Takes (g.O.TraceOut.state l.initial.out) (g.O.TraceOut.state l.out) (lines_below p first.ticks l.counts.ticks);
     }
 

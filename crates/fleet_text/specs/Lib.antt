@@ -6,4 +6,3 @@ pub mod Taken
 pub mod Row
 pub mod Words
 pub mod Refusals
-pub mod Digits

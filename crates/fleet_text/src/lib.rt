@@ -3,13 +3,12 @@
 //!
 //! A text is a slice of any bytes. What is read is lent from the slice, and takes no memory.
 //!
-//! `lines` reads lines and words, `numbers` reads and writes numbers, and `digits` writes them one after another; `sink`
-//! has the sinks (`TraceOut`, and `Flush` for those that hand on what they kept back), the two over memory and over a
-//! writer among them, and `row` gathers bytes in a fixed room and hands them on in large pieces. `writing` writes words
-//! and lines of words without memory, and `refusal` has the trait of what is reported in such a line (`Refusal`).
+//! `lines` reads lines and words, `numbers` reads and writes numbers; `sink` has the sinks (`TraceOut`, and `Flush` for
+//! those that hand on what they kept back), the two over memory and over a writer among them, and `row` gathers bytes
+//! in a fixed room and hands them on in large pieces. `writing` writes words and lines of words without memory, and
+//! `refusal` has the trait of what is reported in such a line (`Refusal`).
 #![tactic(auto)]
 
-mod digits;
 mod lines;
 mod numbers;
 mod refusal;

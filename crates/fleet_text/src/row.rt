@@ -1,10 +1,10 @@
 //! A row of bytes in which a line is put together, so that a sink gets it in one piece, or in large ones.
 
-ghost use Rattle.std.specs.Prelude.{◌≡◌, ◌+◌, ◌≤◌, ◌∷◌, [], ◌++◌, length, decimal, OnOk};
+ghost use Rattle.std.specs.Prelude.{◌≡◌, ◌+◌, ◌≤◌, ◌∷◌, [], ◌++◌, length, take, drop, decimal, OnOk};
 ghost use Rattle.fleet_text.specs.Sink.{IsWorking, TakesAll};
 ghost use Rattle.fleet_text.specs.Row.{Gathers};
 
-use crate::digits::{write_next, write_next_number};
+use crate::numbers::{write_byte, write_number};
 use crate::sink::{OutFault, TraceOut, put_all};
 use std::marker::Model;
 
@@ -16,6 +16,18 @@ const TWO: usize = 5 + 1 + 10;
 
 /// How many these have with a byte before them.
 const NEXT_TWO: usize = 1 + TWO;
+
+/// Writes two numbers with a byte between them so that they end before `TWO`, and answers where they begin.
+#[inline(always)]
+fn write_two(first: u16, between: u8, second: u32, row: &mut [u8; 2 * TWO]) -> usize
+    ensures within { result ≤ TWO }
+    ensures written { drop result row.new
+        ≡ ((decimal first ++ between ∷ []) ++ decimal second) ++ drop TWO row.old }
+{
+    let end = write_number(u64::from(second), row, TWO);
+    let end = write_byte(between, row, end);
+    write_number(u64::from(first), row, end)
+}
 
 /// The bytes of a line that are not yet handed on.
 #[derive(Drop)]
@@ -106,7 +118,20 @@ impl Row {
         requires { length self.old + 1 ≤ ROOM }
         ensures { self.new ≡ self.old ++ byte ∷ [] }
     {
-        self.len = write_next(byte, &mut self.bytes, self.len);
+        self.bytes[self.len] = byte;
+        self.len += 1;
+    }
+
+    /// Adds so many of the first bytes of a piece. All `TWO` of them are copied, for which there is room: that takes no
+    /// loop.
+    fn append_front(&mut self, piece: &[u8], count: usize)
+        requires piece { length piece.now ≡ TWO }
+        requires count { count ≤ TWO }
+        requires room { length self.old + TWO ≤ ROOM }
+        ensures { self.new ≡ self.old ++ take count piece.now }
+    {
+        self.bytes[self.len..self.len + TWO].copy_from_slice(piece);
+        self.len += count;
     }
 
     /// Adds two numbers with a byte between them, for which there is room.
@@ -115,9 +140,9 @@ impl Row {
         requires { length self.old + TWO ≤ ROOM }
         ensures { self.new ≡ self.old ++ ((decimal first ++ between ∷ []) ++ decimal second) }
     {
-        let after = write_next_number(u32::from(first), &mut self.bytes, self.len);
-        let after = write_next(between, &mut self.bytes, after);
-        self.len = write_next_number(second, &mut self.bytes, after);
+        let mut word = [0; 2 * TWO];
+        let start = write_two(first, between, second, &mut word);
+        self.append_front(&word[start..start + TWO], TWO - start);
     }
 
     /// Adds two numbers with a byte between them.

@@ -2,11 +2,8 @@
 use Rattle.std.specs.Prelude.{ℕ, List, [], ◌∷◌, ◌++◌, length, map, codes, decimal, slice_index}
 use Rattle.fleet_model.specs.declared.program.ActionId.{ActionId}
 use Rattle.fleet_run.specs.Listing.{texts_below}
-use Rattle.fleet_text.specs.Words.{numbered_text, line_text, next_words, count_line}
-
--- an action as `i:n`
-abbrev pub action_text : ActionId → List ℕ
-action_text a = numbered_text a.agent a.number
+use Rattle.fleet_text.specs.Words.{line_text, next_words, count_line}
+use Rattle.fleet_verify.specs.RefusalWords.{action_text}
 
 -- the line of agent i with its number: `i: N`
 abbrev pub agent_line : ℕ → ℕ → List ℕ

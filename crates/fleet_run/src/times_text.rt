@@ -1,13 +1,11 @@
 //! Times as text.
 
-ghost use Rattle.std.specs.Prelude.{map};
 ghost use Rattle.fleet_text.specs.Sink.{IsWorking, TakesAll};
-ghost use Rattle.fleet_text.specs.Row.{Gathers};
-ghost use Rattle.fleet_text.specs.Words.{next_words};
-ghost use Rattle.fleet_run.specs.TimesText.{action_text, agent_lines, path_line, times_text, reached_text};
+ghost use Rattle.fleet_run.specs.TimesText.{agent_lines, path_line, times_text, reached_text};
 
 use fleet_model::ActionId;
-use fleet_text::{OutFault, Row, TraceOut, Word, put_count, put_line, put_next_word, put_words};
+use fleet_text::{OutFault, Row, TraceOut, Word, put_count, put_line, put_words};
+use fleet_verify::put_actions;
 
 /// Writes for each agent the line of its arrival.
 fn put_arrivals<O: TraceOut>(out: &mut O, arrivals: &[u64]) -> Result<(), OutFault>
@@ -28,23 +26,6 @@ fn put_counts<O: TraceOut>(out: &mut O, counts: &[u32]) -> Result<(), OutFault>
     for i in 0..counts.len() {
         let number = Word::Number(u64::from(counts[i]));
         put_line(out, &[Word::Label(i as u64), number])?;
-    }
-    Ok(())
-}
-
-/// Adds a space and a word for each action.
-fn put_actions<O: TraceOut>(
-    row: &mut Row,
-    out: &mut O,
-    actions: &[ActionId],
-) -> Result<(), OutFault>
-    requires { IsWorking (O.state out.old) }
-    ensures { Gathers (O.state out.old) (O.state out.new) result row.old row.new
-        (next_words (map action_text actions.now)) }
-{
-    for k in 0..actions.len() {
-        let ActionId { agent, number } = actions[k];
-        put_next_word(row, out, Word::Of(agent, number))?;
     }
     Ok(())
 }

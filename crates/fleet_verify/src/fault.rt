@@ -10,7 +10,7 @@ ghost use Rattle.fleet_verify.specs.RefusalWords.{action_text, unordered_words};
 use fleet_model::{ActionId, Cell, OutOfMemory, Visit};
 use fleet_text::{
     OutFault, Refusal, Row, TraceOut, Word, put_line, put_memory, put_named, put_named_at,
-    put_named_by, put_next_word, put_words,
+    put_named_by, put_words,
 };
 use thiserror::Error;
 
@@ -139,8 +139,8 @@ fn put_action<O: TraceOut>(
     )
 }
 
-/// Adds a space and a word for each action to the row.
-fn put_actions<O: TraceOut>(
+/// Adds a space and a word `i:n` for each action to the row.
+pub fn put_actions<O: TraceOut>(
     row: &mut Row,
     out: &mut O,
     actions: &[ActionId],
@@ -150,7 +150,7 @@ fn put_actions<O: TraceOut>(
         (next_words (map action_text actions.now)) }
 {
     for action in actions {
-        put_next_word(row, out, Word::Of(action.agent, action.number))?;
+        row.add_next_two(out, action.agent, b':', action.number)?;
     }
     Ok(())
 }

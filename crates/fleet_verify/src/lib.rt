@@ -21,7 +21,7 @@
 //! (`Reach`): the pieces of `fleet_needs`. `times` has when its actions end at the soonest (`Times`), by the critical
 //! costs of `fleet_needs`, and a chain that takes so long; `stopped` how far each agent comes if some actions are never
 //! ended: each of these costs one and all others nothing, so that what costs nothing needs none of them. `fault` has
-//! the refusals.
+//! the refusals, and writes rows of actions.
 //!
 //! `needed` finds for two visits how many actions of each agent they need, and `breaking` runs the counts of the
 //! machine, tick by tick, and says whom each tick holds: those whose next action is not needed.
@@ -62,7 +62,7 @@ pub use exactness::{
     breaking_holds_end_in_a_conflict, listed_visits_are_chained, unordered_visits_are_found,
     unordered_visits_meet,
 };
-pub use fault::VerifyFault;
+pub use fault::{VerifyFault, put_actions};
 pub use fleet_needs::{ActionCosts, MAX_COST, join_rows, row_covers};
 pub use orders::{
     awaits_are_chains, orderly_listings_rise, rings_are_never_finished, sorted_listings_decide,

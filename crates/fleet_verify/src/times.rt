@@ -191,28 +191,34 @@ impl<'a, P: ProgramView, C: ActionCosts> Times<'a, P, C> {
         path.push(last)?;
         let mut action = last;
         let mut end = self.end(action);
-        while let Some(before) = self.before(action) {
+        while let Some((before, time)) = self.before(action, end) {
             path.push(before)?;
             action = before;
-            end = self.end(before);
+            end = time;
         }
         path.reverse();
         Ok(path)
     }
 
-    /// The action right before this one on a dearest chain that ends with it, unless the chain is of it alone.
-    fn before(&self, action: ActionId) -> Option<ActionId>
+    /// The action right before this one, which ends then, on a dearest chain that ends with it, and when that one ends,
+    /// unless the chain is of this one alone.
+    fn before(&self, action: ActionId, end: u64) -> Option<(ActionId, u64)>
         requires action { IsAction (P.program self.now.program) action }
-        requires positive { (a : ActionId) → 1 ≤ C.cost self.now.costs a }
-        ensures some { IfSome result
-            (LeadsBack (P.program self.now.program) (C.cost self.now.costs) action) }
+        requires end { IsCriticalCost (P.program self.now.program) (C.cost self.now.costs) action end }
+        ensures some { IfSome result (λ found. LeadsBack
+            (P.program self.now.program) (C.cost self.now.costs) action found.0) }
+        ensures end { IfSome result (λ found. IsCriticalCost
+            (P.program self.now.program) (C.cost self.now.costs) found.0 found.1) }
         ensures none { IfNone result (IsCriticalCost (P.program self.now.program)
             (C.cost self.now.costs) action (C.cost self.now.costs action)) }
     {
         self.known();
-        let end = self.end(action);
         let own = u64::from(self.costs.cost(action));
-        self.need_until(action, end - own)
+        let time = end - own;
+        match self.need_until(action, time) {
+            Some(found) => Some((found, time)),
+            None => None,
+        }
     }
 
     /// An action that this one directly needs and that ends at this time, if there is one.

@@ -2,7 +2,7 @@ use Rattle.std.proofs.Common.{rules, [], map}
 use Rattle.std.specs.Prelude.{codes}
 use Rattle.fleet_text.specs.Words.{next_words}
 use Rattle.fleet_text.proofs.SinkLemmas.{takes_err, stops_within_more, stops_before, stops_past, takes_rest}
-use Rattle.fleet_run.specs.TimesText.{action_text}
+use Rattle.fleet_verify.specs.RefusalWords.{action_text}
 use Rattle.fleet_run.proofs.times_text.put_path.Goals as goal
 
 pub returns-in_err-put_words : goal.returns-in_err-put_words

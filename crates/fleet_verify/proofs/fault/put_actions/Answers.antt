@@ -3,12 +3,12 @@ use Rattle.fleet_text.proofs.SinkLemmas.{gathers_err, passed_element, stops_with
 use Rattle.fleet_verify.specs.RefusalWords.{action_text}
 use Rattle.fleet_verify.proofs.fault.put_actions.Goals as goal
 
-pub returns-in_err-put_next_word : goal.returns-in_err-put_next_word
-returns-in_err-put_next_word g c =
+pub returns-in_err-add_next_two : goal.returns-in_err-add_next_two
+returns-in_err-add_next_two g c =
     gathers_err _ _ _ _ _ _ (search rules)
-    (stops_within_element action_text _ _ _ _ _ _ _ _ c.loop-action-test.true c.loop-action.invariant.written c.in_err-put_next_word.ensures)
+    (stops_within_element action_text _ _ _ _ _ _ _ _ c.loop-action-test.true c.loop-action.invariant.written c.in_err-add_next_two.ensures)
 
 pub loop-action-preserved : goal.loop-action-preserved
 loop-action-preserved g c = record {
-  written = passed_element action_text _ _ _ _ _ _ _ _ _ c.loop-action-test.true c.loop-action.invariant.written c.in_ok-put_next_word.ensures;
+  written = passed_element action_text _ _ _ _ _ _ _ _ _ c.loop-action-test.true c.loop-action.invariant.written c.in_ok-add_next_two.ensures;
 }

@@ -13,8 +13,8 @@ pub loop-before-smaller : goal.loop-before-smaller
 loop-before-smaller g c =
     let p = g.P.ProgramView.program c.args.self.now.program in
     let cost = g.C.ActionCosts.cost c.args.self.now.costs in
-    way_falls p cost c.loop-before.action c.in-Some-before.before c.loop-before.end c.end-end-in-Some-before.result c.loop-before.invariant.way.critical
-    c.in-Some-before.ensures.some c.end-end-in-Some-before.ensures (c.requires c.loop-before.action)
+    way_falls p cost c.loop-before.action c.in-Some-before.before c.loop-before.end c.in-Some-before.time c.loop-before.invariant.way.critical
+    c.in-Some-before.ensures.some c.in-Some-before.ensures.end (c.requires c.loop-before.action)
 
 pub loop-before-preserved : goal.loop-before-preserved
 loop-before-preserved g c =
@@ -23,7 +23,7 @@ loop-before-preserved g c =
     record {
       action = c.in-Some-before.ensures.some.action;
       way = way_on p cost c.in-Some.last c.end-end.result c.loop-before.path.items c.loop-before.action c.loop-before.end c.loop-before.invariant.way c.in-Some-before.before c.in-Some-before.ensures.some
-          c.end-end-in-Some-before.result c.end-end-in-Some-before.ensures c.push-in-Some-before.new.self.items c.in_ok-push-2.ensures.items;
+          c.in-Some-before.time c.in-Some-before.ensures.end c.push-in-Some-before.new.self.items c.in_ok-push-2.ensures.items;
     }
 
 pub returns : goal.returns

@@ -94,3 +94,7 @@ AreJoinedWith p columns i n old new =
     (j k : ℕ) → HasColumn columns j k
     → (j ≢ i → (u : ℕ) × IsColumn p (record { agent = i; number = n }) j u × (slice_index new k ≡ max (slice_index old k) u))
     × (j ≡ i → slice_index new k ≡ slice_index old k)
+
+-- the counts are those of action n of agent i, joined with those of action l of agent j, but for agent j's own column
+abbrev pub AreCountsOfTwo : Program → Columns → ℕ → ℕ → ℕ → ℕ → List ℕ → Type 0
+AreCountsOfTwo p columns i n j l new = (mid : List ℕ) × AreCounts p columns i n (slice_index mid) × AreJoinedWith p columns j l mid new

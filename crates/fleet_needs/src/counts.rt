@@ -86,6 +86,31 @@ impl Counts {
         }
     }
 
+    /// Reads the counts of all places from others: at each the greater one of those from two places on.
+    pub(crate) fn read_joined(&mut self, other: &Counts, first: usize, second: usize)
+        requires first { first + length (counts_of self.old) ≤ length (counts_of other.now) }
+        requires second { second + length (counts_of self.old) ≤ length (counts_of other.now) }
+        requires alike { are_narrow other.now ≡ are_narrow self.old }
+        ensures alike { AreAlike self.old self.new }
+        ensures counts { (k : ℕ) → k < length (counts_of self.old)
+            → slice_index (counts_of self.new) k ≡ max (slice_index (counts_of other.now) (first + k))
+            (slice_index (counts_of other.now) (second + k)) }
+    {
+        match (self, other) {
+            (Counts::Narrow(row), Counts::Narrow(counts)) => {
+                let len = row.len();
+                let one = &counts[first..first + len];
+                read_narrow(row, one, &counts[second..second + len]);
+            }
+            (Counts::Wide(row), Counts::Wide(counts)) => {
+                let len = row.len();
+                row.copy_from_slice(&counts[first..first + len]);
+                join_rows(row, &counts[second..second + len]);
+            }
+            _ => unreachable!(),
+        }
+    }
+
     /// Joins the counts of others, from this place on, into those of all places.
     pub(crate) fn join(&mut self, other: &Counts, from: usize)
         requires within { from + length (counts_of self.old) ≤ length (counts_of other.now) }
@@ -140,6 +165,18 @@ fn join_narrow(row: &mut [u16], other: &[u16])
 {
     for k in 0..row.len() {
         row[k] = row[k].max(other[k]);
+    }
+}
+
+/// Puts into `row`, at each place, the greater count of two rows, all of them equally long.
+fn read_narrow(row: &mut [u16], one: &[u16], other: &[u16])
+    requires one { length one.now ≡ length row.old }
+    requires other { length other.now ≡ length row.old }
+    ensures { (k : ℕ) → k < length row.old
+        → slice_index row.new k ≡ max (slice_index one.now k) (slice_index other.now k) }
+{
+    for k in 0..row.len() {
+        row[k] = one[k].max(other[k]);
     }
 }
 

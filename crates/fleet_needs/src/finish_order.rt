@@ -160,6 +160,9 @@ pub const MAX_TICKS: u32 = u32::MAX;
 /// How many actions are looked at for one await, until most agents are asked for.
 const LOOKS: u8 = 16;
 
+/// How many at most from then on.
+const LESS_LOOKS: usize = 4;
+
 /// To look at one action costs about as much as to join so many counts.
 const COUNTS_A_LOOK: usize = 128;
 
@@ -194,7 +197,7 @@ impl FinishTicks {
     {
         let flagged = asked.iter().filter(|flag| **flag).count();
         if flagged > asked.len() / 2 {
-            self.looks = (asked.len() / COUNTS_A_LOOK).min(usize::from(LOOKS)) as u8;
+            self.looks = (asked.len() / COUNTS_A_LOOK).min(LESS_LOOKS) as u8;
         }
     }
 

@@ -6,7 +6,7 @@ ghost use Rattle.fleet_needs.specs.Columns.{agents_in};
 ghost use Rattle.fleet_needs.specs.Block.{HasColumn};
 ghost use Rattle.fleet_model.specs.Program.{AreInRange};
 ghost use Rattle.fleet_needs.specs.Counts.{counts_of, CanHold, AreAlike, are_narrow};
-ghost use Rattle.fleet_needs.specs.Schedule.{IsSchedule, AreColumnsOf, AreRowsTo, IsRowFor, joins_in, AreCounts, IsThere, StandsThere, AreJoinedWith, IsNext, HasSlot, slot_of};
+ghost use Rattle.fleet_needs.specs.Schedule.{IsSchedule, AreColumnsOf, AreRowsTo, IsRowFor, joins_in, AreCounts, IsThere, StandsThere, AreJoinedWith, AreCountsOfTwo, IsNext, HasSlot, slot_of};
 ghost use Rattle.fleet_needs.specs.JoinPass.{IsOthersRow, IsWholeRow, IsJoinRow, HasOthers, HasWhole};
 ghost use Rattle.fleet_needs.specs.declared.joins.Join.{Join};
 
@@ -194,8 +194,14 @@ fn join_others<P: ProgramView>(program: &P, rows: &SlotRows<'_>, n: usize, row: 
 {
     let _ = program.agents();
     let join = rows.schedule.join_after(n);
-    rows.begin_row(program, n, join.base, row);
-    for k in 0..join.count {
+    let is_quiet = join.count == 0;
+    if is_quiet {
+        rows.begin_row(program, n, join.base, row);
+        return;
+    }
+    let first = rows.schedule.need(&join, 0);
+    rows.begin_joined(program, n, join.base, first.row, row);
+    for k in 1..join.count {
         let need = rows.schedule.need(&join, k);
         rows.join_row(program, n, need.row, row);
     }
@@ -313,6 +319,32 @@ impl<'a> SlotRows<'a> {
             return;
         }
         row.read(&self.counts, self.begin(r));
+    }
+
+    /// Puts into `row` the counts of what row `r` stands for, joined with what row `other` stands for.
+    fn begin_joined<P: ProgramView>(
+        &self,
+        program: &P,
+        n: usize,
+        r: u32,
+        other: u32,
+        row: &mut Counts,
+    )
+        requires rows { AreRowsTo (P.program program.now) self.now n }
+        requires there { IsThere self.now n r }
+        requires other { IsThere self.now n other }
+        requires row { IsRowFor self.now row.old }
+        ensures row { IsRowFor self.now row.new }
+        ensures counts { (i m j l : ℕ) → StandsThere (P.program program.now) self.now r i m
+            → StandsThere (P.program program.now) self.now other j l
+            → AreCountsOfTwo (P.program program.now) self.now.columns i m j l (counts_of row.new) }
+    {
+        if r == 0 || other == 0 {
+            self.begin_row(program, n, r, row);
+            self.join_row(program, n, other, row);
+            return;
+        }
+        row.read_joined(&self.counts, self.begin(r), self.begin(other));
     }
 
     /// Joins what row `r` stands for into `row`.

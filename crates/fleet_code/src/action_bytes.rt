@@ -9,7 +9,7 @@ ghost use Rattle.fleet_code.specs.Spelling.{opcode, magic, two_bytes, most_count
 ghost use Rattle.fleet_code.specs.Written.{written};
 ghost use Rattle.fleet_code.specs.declared.format.Version.{Version};
 
-use crate::encoder::{put_awaiting, put_awaits_of_others, put_cell, put_count, put_head};
+use crate::encoder::{begin_agent, put_awaiting, put_awaits_of_others, put_head};
 use crate::format::{HEAD_LEN, Version, opcode_of};
 use fleet_model::{Await, Cell, Step};
 use std::alloc::{AllocError, Global};
@@ -135,9 +135,7 @@ impl ActionBytes {
               actions = actions ++ replicate stays (record { step = Dwell; awaits = [] });
             })) }
     {
-        put_cell(out, start)?;
-        put_cell(out, goal)?;
-        put_count(out, version, self.count as u32 + stays)?;
+        begin_agent(out, version, start, goal, self.count as u32 + stays)?;
         out.extend_from_slice(&self.bytes)?;
         put_stays(out, stays)
     }

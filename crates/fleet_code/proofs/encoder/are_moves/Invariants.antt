@@ -1,6 +1,9 @@
-use Rattle.std.proofs.Common.{take}
-use Rattle.fleet_model.specs.Program.{AreMoves}
+use Rattle.std.proofs.Common.{◌≡◌, ◌≤◌, ℕ}
+use Rattle.std.specs.Prelude.{Some, IsTrue}
+use Rattle.fleet_model.specs.declared.geometry.Step.{Step}
+use Rattle.fleet_model.specs.Geometry.{is_move}
+use Rattle.fleet_model.specs.Program.{step_of}
 use Rattle.fleet_code.proofs.encoder.are_moves.Given as goal
 
-abbrev pub invariant-loop-k : goal.invariant-loop-k
-invariant-loop-k l = AreMoves (take l.k l.actions)
+abbrev pub invariant-loop-finished : goal.invariant-loop-finished
+invariant-loop-finished g l = (n : ℕ) (s : Step) → n ≤ l.finished → step_of (g.P.ProgramView.program l.program) l.i n ≡ Some s → IsTrue (is_move s)

@@ -1,0 +1,6 @@
+use Rattle.std.proofs.Common.{◌<◌, ℕ}
+use Rattle.fleet_code.specs.Stays.{MovesAlways}
+use Rattle.fleet_code.proofs.encoder.all_move.Given as goal
+
+abbrev pub invariant-loop-i : goal.invariant-loop-i
+invariant-loop-i g l = (k : ℕ) → k < l.i → MovesAlways (g.P.ProgramView.program l.program) k

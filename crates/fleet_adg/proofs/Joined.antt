@@ -23,7 +23,7 @@ use Rattle.fleet_code.specs.Spelling.{magic, two_bytes, agent, spelling, most_co
 use Rattle.fleet_plan.specs.Plan.{Plan, cell_of, steps, IsConflictFree, IsWithinLimits}
 use Rattle.fleet_adg.specs.Compiled.{moves_by, agent_program, compiled, stay, with_stays, compiled_staying, each_has_few, all_have_few, has_few_actions}
 use Rattle.fleet_adg.specs.Sweep.{actions_by, all_bytes_by}
-use Rattle.fleet_adg.specs.CompiledBytes.{version_for}
+use Rattle.fleet_adg.specs.ProgramBytes.{version_for}
 use Rattle.fleet_adg.proofs.Basics.{indices_push}
 use Rattle.fleet_adg.proofs.Moves.{moves_by-le}
 use Rattle.fleet_adg.proofs.SweepSteps.{bytes_at, length-all_bytes_by, moved_so_far}

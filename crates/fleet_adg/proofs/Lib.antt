@@ -20,3 +20,4 @@ pub mod Thinning
 mod RestMade
 mod TasksOf
 mod Joined
+mod ThinnedBytes

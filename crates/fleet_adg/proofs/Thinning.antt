@@ -226,6 +226,13 @@ module _ (p q : Program) (h : AreThinnedAgents p (length p) q) where
       let before = moves_to n in
       rw e (omega (arith, before, same_moves n, moves_more q n, moves_more p n))
 
+  -- as many moves in all
+  pub total_same : total_moves q ≡ total_moves p
+  total_same =
+      let all : total_moves (take (length q) q) ≡ total_moves q = ap total_moves (take_all (length q) q (omega arith)) in
+      let other : total_moves (take (length q) p) ≡ total_moves p = ap total_moves (take_all (length q) p (omega (arith, h.long))) in
+      omega (arith, all, other, moves_to (length q))
+
   pub thinned_formed : IsWellFormed p → IsWellFormed q
   thinned_formed formed = record {
     some_agents = omega (arith, h.long, formed.some_agents);
@@ -233,39 +240,11 @@ module _ (p q : Program) (h : AreThinnedAgents p (length p) q) where
     starts = λ i. subst IsCell (sym (thinned_is.rest.starts i)) (formed.starts i);
     goals = λ i. subst IsCell (sym (thinned_is.rest.goals i)) (formed.goals i);
     moves_each = λ i. (let l = formed.moves_each i in omega (arith, same_moves i, l));
-    moves_in_all =
-        let all : total_moves (take (length q) q) ≡ total_moves q = ap total_moves (take_all (length q) q (omega arith)) in
-        let other : total_moves (take (length q) p) ≡ total_moves p = ap total_moves (take_all (length q) p (omega (arith, h.long))) in
-        let l = formed.moves_in_all in
-        omega (arith, all, other, moves_to (length q), l);
+    moves_in_all = (let l = formed.moves_in_all in omega (arith, total_same, l));
     awaits = λ i n. subst (λ (m : ℕ). AreAwaits m i (awaits_of q i n)) (sym h.long) (awaits_in i n).formed;
   }
 
-  -- no action has become a stay
-  pub thinned_moves : NeverStays p → NeverStays q
-  thinned_moves none k d l m x within =
-      let a : AgentProgram = get_or q k d in
-      let there : slice_get q k ≡ Some a = slice_get-get_or q k d l in
-      let t = h.each k a there in
-      let s : Action = get_or a.actions m x in
-      let step : step_of p k (m + 1) ≡ Some s.step = (t.actions.each m s (slice_get-get_or a.actions m x within)).step in
-      let b : AgentProgram = get_or p k d in
-      let low : k < length p = omega (arith, h.long) in
-      let theirs : slice_get p k ≡ Some b = slice_get-get_or p k d low in
-      let actions : actions_of p k ≡ b.actions = ap (λ (o : Option AgentProgram). option_map_or (λ (y : AgentProgram). y.actions) o []) theirs in
-      let inside : m < length b.actions = omega (arith, t.actions.long, ap (λ (xs : List Action). length xs) actions) in
-      let their : slice_get (actions_of p k) m ≡ Some (get_or b.actions m x) = ap (λ (xs : List Action). slice_get xs m) actions ∙ slice_get-get_or b.actions m x inside in
-      let there : step_of p k (suc m) ≡ Some s.step = subst (λ (n : ℕ). step_of p k n ≡ Some s.step) (add-one m) step in
-      let same : (get_or b.actions m x).step ≡ s.step = same_Some (get_or b.actions m x).step s.step (sym (ap (option_map (λ (y : Action). y.step)) their) ∙ there) in
-      subst (λ (y : Step). IsTrue (is_move y)) same (none k d low m x inside)
-
 -- ---- what the thinned program is
-
-pub thinned_of : (p p' q v : Program) → p' ≡ p → AreThinnedAgents p' (length p') v → q ≡ v → IsThinned p q
-thinned_of p p' q v same h e = subst (λ (x : Program). IsThinned p x) (sym e) (subst (λ (x : Program). IsThinned x v) same (thinned_is p' v h))
-
-pub moves_of : (p p' q v : Program) → p' ≡ p → AreThinnedAgents p' (length p') v → q ≡ v → NeverStays p → NeverStays q
-moves_of p p' q v same h e none = subst NeverStays (sym e) (thinned_moves p' v h (subst NeverStays (sym same) none))
 
 -- short stays short
 pub thinned_short : (p q : Program) → IsThinned p q → AreInRange p → AreShort p → AreShort q

@@ -4,4 +4,4 @@ pub mod Sweep
 pub mod RefusalWords
 pub mod Thinned
 pub mod Remaining
-pub mod CompiledBytes
+pub mod ProgramBytes

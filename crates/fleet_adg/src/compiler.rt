@@ -12,16 +12,15 @@ ghost use Rattle.fleet_verify.specs.Reduced.{RunEqually};
 ghost use Rattle.fleet_plan.specs.Plan.{steps};
 ghost use Rattle.fleet_code.specs.declared.format.TheConstants.{HEAD_LEN};
 ghost use Rattle.fleet_code.specs.Offsets.{head_len};
-ghost use Rattle.fleet_code.specs.Spelling.{most_count, spelling, Spells, SpellsIn};
+ghost use Rattle.fleet_code.specs.Spelling.{most_count, spelling, SpellsIn};
 ghost use Rattle.fleet_code.specs.declared.format.Version.TheVariants.{One};
 ghost use Rattle.fleet_adg.specs.Sweep.{all_bytes_by};
-ghost use Rattle.fleet_adg.specs.CompiledBytes.{AreBytesOf, version_for};
+ghost use Rattle.fleet_adg.specs.ProgramBytes.{AreBytesOf, version_for};
 
 use crate::fault::CompileFault;
+use crate::program_bytes::{ProgramBytes, program_of};
 use crate::sweep::{actions_of, moves_of};
-use fleet_code::{
-    ActionBytes, HEAD_LEN, Version, awaits_in, begin_program, load, programs_have_bytes,
-};
+use fleet_code::{ActionBytes, HEAD_LEN, Version, awaits_in, begin_program, programs_have_bytes};
 use fleet_model::{Deps, MAX_AGENTS, MAX_MOVES, MAX_MOVES_IN_ALL, OutOfMemory, Program};
 use fleet_plan::{Checked, Plan};
 use std::alloc::Global;
@@ -82,26 +81,6 @@ pub fn compile_dwell(
     }
 }
 
-/// The program that the bytes spell.
-fn program_of(alloc: Global, bytes: &[u8]) -> Result<Program, OutOfMemory>
-    ensures { IfOk result (λ q. (p : Program) → Spells bytes.now p → q ≡ p) }
-{
-    match load(alloc, bytes) {
-        Ok(program) => Ok(program),
-        // Bytes that spell a program are refused for want of memory alone.
-        Err(_) => Err(OutOfMemory),
-    }
-}
-
-/// The bytes of a compiled program: how many agents it has, and how many moves and awaits they have together.
-#[derive(Drop)]
-pub struct CompiledBytes {
-    pub bytes: Vec<u8>,
-    pub agents: u16,
-    pub moves: u32,
-    pub awaits: u64,
-}
-
 /// What `encode_shortest` writes of the program of `compile_dwell`, made at once, and the numbers of that program.
 ///
 /// It is refused as `TooLong` exactly if `compile_dwell` is.
@@ -111,7 +90,7 @@ pub fn compile_bytes(
     checked: &Checked<'_>,
     deps: Deps,
     dwell: u32,
-) -> Result<CompiledBytes, CompileFault>
+) -> Result<ProgramBytes, CompileFault>
     ensures spelled { IfOk result (AreBytesOf (compiled_staying checked.now.plan deps dwell)) }
     ensures due { IsDueUnless (λ _. compiled_staying checked.now.plan deps dwell) result
         (compiled_staying_if_few checked.now.plan deps dwell) CompileFault.OutOfMemory }
@@ -142,7 +121,7 @@ pub fn compile_bytes(
     };
     let agents = plan.agents();
     let awaits = awaits_in(version, bytes.len(), agents, moves);
-    Ok(CompiledBytes {
+    Ok(ProgramBytes {
         bytes,
         agents,
         moves,

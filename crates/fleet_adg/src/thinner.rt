@@ -1,16 +1,25 @@
 //! Programs without the awaits that others imply.
 
-ghost use Rattle.std.specs.Prelude.{◌≡◌, ◌≤◌, ◌<◌, IfOk, OnOk, length};
-ghost use Rattle.fleet_model.specs.Program.{moves, awaits_of, NeverStays, AreShort};
+ghost use Rattle.std.specs.Prelude.{◌≡◌, ◌≤◌, ◌<◌, ◌+◌, ◌-◌, ◌↔◌, ℕ, List, length, IfOk, OnOk, IsTrue};
+ghost use Rattle.fleet_model.specs.declared.limits.TheConstants.{MAX_MOVES_V1};
+ghost use Rattle.fleet_model.specs.Program.{Program, moves, awaits_of, NeverStays, AreShort};
 ghost use Rattle.fleet_model.specs.Chain.{IsAction, IsLongestChain};
 ghost use Rattle.fleet_model.specs.Accepted.{IsAccepted};
 ghost use Rattle.fleet_grid.specs.Ground.{is_passable};
-ghost use Rattle.fleet_needs.specs.Flags.{AreImplied};
+ghost use Rattle.fleet_code.specs.Spelling.{most_count, spelling};
 ghost use Rattle.fleet_verify.specs.Reduced.{IsThinned, HasLeastAwaits, RunEqually};
-ghost use Rattle.fleet_adg.specs.Thinned.{AreUnimplied, IsThinnedAction, AreThinnedActions, IsThinnedAgent, AreThinnedAgents};
+ghost use Rattle.fleet_adg.specs.ProgramBytes.{AreBytesOf};
+ghost use Rattle.fleet_adg.specs.Thinned.{FitsFirst, IsThinnedFor, CanThin, AreThinnedAgents, AddsAwaits, AddsAction, AddsActions};
 
+use crate::program_bytes::{ProgramBytes, program_of};
 use crate::thin_fault::ThinFault;
-use fleet_model::{ActionId, Actions, AgentProgram, Await, OutOfMemory, Program, ProgramView};
+use fleet_code::{
+    Version, awaits_in, begin_agent, begin_program, encoded_len, never_stays, programs_have_bytes,
+    put_await, put_step,
+};
+use fleet_model::{
+    ActionId, Instruction, MAX_MOVES_V1, OutOfMemory, Program, ProgramView, total_moves,
+};
 use fleet_needs::{ImpliedAwaits, implied_awaits};
 use fleet_verify::Accepted;
 use std::alloc::Global;
@@ -35,83 +44,171 @@ pub fn thin<P: ProgramView>(alloc: Global, accepted: &Accepted<'_, P>) -> Result
     // If version 1 of the bytes has room for the program, it has for what is left of it.
     ensures short { IfOk result (λ q. AreShort (P.program accepted.now.program) → AreShort q) }
 {
-    let program = accepted.program();
-    let _agents = program.agents();
-    let Ok(implied) = implied_awaits(alloc, program, accepted.chain()) else {
-        return Err(ThinFault::OutOfMemory);
-    };
-    match thinned_agents(alloc, program, &implied) {
-        Ok(agents) => Ok(Program::new(agents)),
+    // The program that is read is accepted.
+    let _program = accepted.program();
+    let thinned = thin_bytes(alloc, accepted)?;
+    match program_of(alloc, &thinned.bytes) {
+        Ok(program) => Ok(program),
         Err(OutOfMemory) => Err(ThinFault::OutOfMemory),
     }
 }
 
-/// The agents of the program, without their implied awaits.
-fn thinned_agents<P: ProgramView>(
+/// What `encode_shortest` writes of the program of `thin`, made at once, and the numbers of that program.
+pub fn thin_bytes<P: ProgramView>(
     alloc: Global,
-    program: &P,
-    implied: &ImpliedAwaits,
-) -> Result<Vec<AgentProgram>, OutOfMemory>
-    requires { AreImplied (P.program program.now) implied.now }
-    ensures { IfOk result (λ v. AreThinnedAgents (P.program program.now)
-        (length (P.program program.now)) v.items) }
+    accepted: &Accepted<'_, P>,
+) -> Result<ProgramBytes, ThinFault>
+    ensures { IfOk result (λ c. (q : Program) × AreBytesOf q c
+        × IsThinnedFor (is_passable accepted.now.grid) accepted.now.instance
+        (P.program accepted.now.program) accepted.now.chain q) }
 {
-    let count = program.agents();
-    let mut agents = Vec::with_capacity(alloc, usize::from(count))?;
-    for i in 0..count {
-        let actions = thinned_actions(alloc, program, implied, i)?;
-        agents.push(AgentProgram::new(program.start(i), program.goal(i), actions))?;
-    }
-    Ok(agents)
+    let program = accepted.program();
+    programs_have_bytes();
+    let Ok(implied) = implied_awaits(alloc, program, accepted.chain()) else {
+        return Err(ThinFault::OutOfMemory);
+    };
+    let version = shortest_version(program);
+    let Ok(bytes) = thinned_bytes(alloc, program, &implied, version) else {
+        return Err(ThinFault::OutOfMemory);
+    };
+    let agents = program.agents();
+    let moves = total_moves(program);
+    let awaits = awaits_in(version, bytes.len(), agents, moves);
+    Ok(ProgramBytes {
+        bytes,
+        agents,
+        moves,
+        awaits,
+    })
 }
 
-/// The actions of agent `i` of the program, without their implied awaits.
-fn thinned_actions<P: ProgramView>(
+/// The version that is shortest for a program whose awaits can be met: the first, if it has bytes for all actions.
+fn shortest_version<P: ProgramView>(program: &P) -> Version
+    ensures few { (i : ℕ) → moves (P.program program.now) i ≤ most_count result }
+    ensures first { result ≡ Version.One ↔ FitsFirst (P.program program.now) }
+{
+    // The view's answer shows that the program is within the limits.
+    let _agents = program.agents();
+    let fits = have_few_moves(program) && never_stays(program);
+    if fits { Version::One } else { Version::Two }
+}
+
+/// Whether version 1 has room for the number of each agent's actions.
+fn have_few_moves<P: ProgramView>(program: &P) -> bool
+    ensures { IsTrue result ↔ ((i : ℕ) → moves (P.program program.now) i ≤ MAX_MOVES_V1) }
+{
+    for i in 0..program.agents() {
+        if program.moves(i) > MAX_MOVES_V1 {
+            return false;
+        }
+    }
+    true
+}
+
+/// The bytes of the program without its implied awaits.
+fn thinned_bytes<P: ProgramView>(
     alloc: Global,
     program: &P,
     implied: &ImpliedAwaits,
-    i: u16,
-) -> Result<Actions, OutOfMemory>
-    requires implied { AreImplied (P.program program.now) implied.now }
-    requires agent { i < length (P.program program.now) }
-    ensures { IfOk result (AreThinnedActions (P.program program.now) i
-        (moves (P.program program.now) i)) }
+    version: Version,
+) -> Result<Vec<u8>, OutOfMemory>
+    requires { CanThin version (P.program program.now) implied.now }
+    ensures { IfOk result (λ v. (q : Program)
+        × AreThinnedAgents (P.program program.now) (length (P.program program.now)) q
+        × (v.items ≡ spelling version q)) }
 {
-    let count = program.moves(i);
-    let mut actions = Actions::new(alloc);
-    actions.reserve_exact(count as usize, 0)?;
-    let mut awaits = Vec::new(alloc);
-    for finished in 0..count {
+    let agents = program.agents();
+    let room = encoded_len(version, program);
+    let mut out = begin_program(alloc, version, agents, room)?;
+    for i in 0..agents {
+        let (start, goal) = (program.start(i), program.goal(i));
+        begin_agent(&mut out, version, start, goal, program.moves(i))?;
+        put_actions(program, implied, version, i, &mut out)?;
+    }
+    Ok(out)
+}
+
+/// Adds the actions of agent `i` without their implied awaits.
+fn put_actions<P: ProgramView>(
+    program: &P,
+    implied: &ImpliedAwaits,
+    version: Version,
+    i: u16,
+    out: &mut Vec<u8>,
+) -> Result<(), OutOfMemory>
+    requires thin { CanThin version (P.program program.now) implied.now }
+    requires agent { i < length (P.program program.now) }
+    ensures { OnOk result (AddsActions version (P.program program.now) i
+        (moves (P.program program.now) i) out.old.items out.new.items) }
+{
+    let mut at = program.offset(i, 0, 0);
+    for finished in 0..program.moves(i) {
         let action = ActionId {
             agent: i,
             number: finished + 1,
         };
-        list_unimplied(program, implied, action, &mut awaits)?;
-        let step = program.step(i, finished + 1);
-        actions.push_parts(step, &awaits)?;
+        at = put_action(program, implied, version, action, at, out)?;
     }
-    Ok(actions)
+    Ok(())
 }
 
-/// Lists the awaits of the action that no others imply.
-fn list_unimplied<P: ProgramView>(
+/// Adds the action that stands there without its implied awaits, and answers where the next one of its agent stands.
+#[inline(always)]
+fn put_action<P: ProgramView>(
     program: &P,
     implied: &ImpliedAwaits,
+    version: Version,
     action: ActionId,
-    awaits: &mut Vec<Await>,
-) -> Result<(), OutOfMemory>
-    requires implied { AreImplied (P.program program.now) implied.now }
+    at: usize,
+    out: &mut Vec<u8>,
+) -> Result<usize, OutOfMemory>
+    requires thin { CanThin version (P.program program.now) implied.now }
     requires action { IsAction (P.program program.now) action }
-    ensures { OnOk result (AreUnimplied (P.program program.now) action
-        (length (awaits_of (P.program program.now) action.agent action.number))
-        awaits.new.items) }
+    requires at { at ≡ P.offset program.now action.agent (action.number - 1) 0 }
+    ensures put { OnOk result (AddsAction version (P.program program.now) action
+        out.old.items out.new.items) }
+    ensures after { IfOk result (λ after. after
+        ≡ P.offset program.now action.agent action.number 0) }
 {
     let _agents = program.agents();
-    awaits.clear();
-    for k in 0..program.await_count(action.agent, action.number) {
-        if let Some(one) = implied.await_unless_implied(program, action, k) {
-            awaits.push(one)?;
+    let finished = action.number - 1;
+    let mut at = at;
+    let mut k = 0;
+    'instructions: loop {
+        let reading = program.read(action.agent, finished, k, at);
+        match reading.instruction {
+            Instruction::Await(_) => {
+                put_unless_implied(program, implied, version, action, k, out)?;
+                at = reading.after;
+                k += 1;
+            }
+            Instruction::Step(step) => {
+                put_step(out, step)?;
+                return Ok(reading.after);
+            }
         }
+    }
+}
+
+/// Adds await `k` of the action, unless others imply it.
+fn put_unless_implied<P: ProgramView>(
+    program: &P,
+    implied: &ImpliedAwaits,
+    version: Version,
+    action: ActionId,
+    k: u16,
+    out: &mut Vec<u8>,
+) -> Result<(), OutOfMemory>
+    requires thin { CanThin version (P.program program.now) implied.now }
+    requires action { IsAction (P.program program.now) action }
+    requires place { k < length (awaits_of (P.program program.now) action.agent action.number) }
+    ensures { OnOk result ((before : List ℕ)
+        → AddsAwaits version (P.program program.now) action k before out.old.items
+        → AddsAwaits version (P.program program.now) action (k + 1) before out.new.items) }
+{
+    let _agents = program.agents();
+    if let Some(one) = implied.await_unless_implied(program, action, k) {
+        put_await(out, version, one)?;
     }
     Ok(())
 }

@@ -6,8 +6,8 @@ use Rattle.fleet_model.specs.Accepted.{IsAccepted}
 use Rattle.fleet_grid.specs.Ground.{Ground, is_passable}
 use Rattle.fleet_plan.specs.Plan.{Plan, IsConflictFree}
 use Rattle.fleet_adg.specs.Compiled.{compiled_staying_if_few}
-use Rattle.fleet_adg.specs.CompiledBytes.{AreBytesOf}
-use Rattle.fleet_adg.specs.declared.compiler.CompiledBytes.{CompiledBytes}
+use Rattle.fleet_adg.specs.ProgramBytes.{AreBytesOf}
+use Rattle.fleet_adg.specs.declared.program_bytes.ProgramBytes.{ProgramBytes}
 use Rattle.fleet_model.specs.declared.deps.Deps.{Deps}
 use Rattle.fleet_adg.specs.declared.fault.CompileFault.TheVariants as c
 use Rattle.fleet_code.specs.Spelling.{SpellsShortest, SpellsIn, Spells}
@@ -39,7 +39,7 @@ pub record CompilesTexts (map scen plan : List ℕ) (asked : Option ℕ) (deps :
   pub spelled : SpellsShortest bytes program
 
 -- .. as these bytes, whose numbers are those of that program
-pub record CompilesBytes (map scen plan : List ℕ) (asked : Option ℕ) (deps : Deps) (dwell : ℕ) (c : CompiledBytes) : Type 0 where
+pub record CompilesBytes (map scen plan : List ℕ) (asked : Option ℕ) (deps : Deps) (dwell : ℕ) (c : ProgramBytes) : Type 0 where
   pub program : Program
   pub made : CompilesTexts map scen plan asked deps dwell program c.bytes.items
   pub numbers : AreBytesOf program c
@@ -57,7 +57,7 @@ compiled_text p bytes =
     count_lines ((codes "agents", length p) ∷ (codes "moves", total_moves p) ∷ (codes "awaits", total_awaits p) ∷ (codes "bytes", length bytes) ∷ [])
 
 -- .. as they are told beside the bytes
-abbrev pub compiled_numbers : CompiledBytes → List ℕ
+abbrev pub compiled_numbers : ProgramBytes → List ℕ
 compiled_numbers c =
     count_lines ((codes "agents", c.agents) ∷ (codes "moves", c.moves) ∷ (codes "awaits", c.awaits) ∷ (codes "bytes", length c.bytes.items) ∷ [])
 

@@ -1,10 +1,8 @@
 //! The commands that write a program to a file OUT, and then print its numbers: `compile`, `thin` and `migrate`.
 
-ghost use Rattle.std.specs.Prelude.{ℕ, List, IfOk, IfErr};
+ghost use Rattle.std.specs.Prelude.{IfOk, IfErr};
 ghost use Rattle.fleet_text.specs.Sink.{IsWorking};
-ghost use Rattle.fleet_code.specs.Spelling.{SpellsShortest};
 ghost use Rattle.fleet_cli.specs.WriteCommands.{CompilesBytes, IsCompileFault, AnswersCompile, ThinsTexts, AnswersThin, MigratesBytes, AnswersMigrate};
-ghost use Rattle.fleet_model.specs.Program.{total_awaits};
 ghost use Rattle.fleet_cli.specs.Steps.{IsTextsRefusal, IsLoadRefusal};
 
 use crate::fault::Fault;
@@ -12,10 +10,10 @@ use crate::files::Files;
 use crate::named::FileTexts;
 use crate::output::write_out;
 use crate::steps::{accept, read_problem};
-use fleet_adg::{CompiledBytes, ThinFault, compile_bytes, thin};
+use fleet_adg::{ProgramBytes, ThinFault, compile_bytes, thin_bytes};
 use fleet_args::{CompileRequest, MigrateRequest, ThinRequest};
-use fleet_code::{encode_shortest, encode2, load};
-use fleet_model::{OutOfMemory, Program, ProgramView, total_awaits, total_moves};
+use fleet_code::{encode2, load};
+use fleet_model::{OutOfMemory, total_awaits};
 use fleet_plan::{check, read_plan};
 use fleet_run::Flush;
 use std::alloc::Global;
@@ -26,7 +24,7 @@ fn compile_texts<'a>(
     alloc: Global,
     request: &CompileRequest<'_>,
     texts: FileTexts,
-) -> Result<CompiledBytes, Fault<'a>>
+) -> Result<ProgramBytes, Fault<'a>>
     ensures compiled { IfOk result (CompilesBytes texts.map.items texts.scen.items texts.subject.items
         request.now.tasks.agents request.now.deps request.now.dwell) }
     ensures fault { IfErr result (IsCompileFault texts.map.items texts.scen.items texts.subject.items
@@ -77,53 +75,31 @@ pub(crate) fn do_compile<'a, F: Files, O: Flush>(
     )
 }
 
-/// The bytes of a thinned program, and how many awaits there were before and are after.
+/// The bytes of a thinned program, and how many awaits the program had before.
 #[derive(Drop)]
 struct Thinned {
     before: u32,
-    after: u32,
-    bytes: Vec<u8>,
+    made: ProgramBytes,
 }
 
-/// The program that the bytes spell, accepted for the map and the instance for which the texts stand, and thinned; and
-/// how many awaits it had before.
-fn thinned_program<'a>(
-    alloc: Global,
-    request: &ThinRequest<'_>,
-    texts: FileTexts,
-) -> Result<(u32, Program), Fault<'a>>
-    ensures thinned { IfOk result
-        (λ t. (bytes : List ℕ) → SpellsShortest bytes t.1 → ThinsTexts texts.map.items texts.scen.items request.now.subject.tasks.agents texts.subject.items t.0 (total_awaits t.1) bytes) }
-    ensures fault { IfErr result (IsTextsRefusal texts.map.items texts.scen.items request.now.subject.tasks.agents texts.subject.items) }
-{
-    let problem = read_problem(alloc, &texts, request.subject.tasks.agents)?;
-    let accepted = accept(alloc, &texts, &problem)?;
-    match thin(alloc, &accepted) {
-        Ok(thinned) => Ok((total_awaits(accepted.program()), thinned)),
-        Err(ThinFault::OutOfMemory) => Err(Fault::Memory),
-    }
-}
-
-/// The thinned program's bytes. The program that was thinned is let go before they are made.
+/// The bytes of the program that the texts' bytes spell, accepted for the map and the instance for which the texts
+/// stand, and thinned; and how many awaits it had before.
 fn thin_texts<'a>(
     alloc: Global,
     request: &ThinRequest<'_>,
     texts: FileTexts,
 ) -> Result<Thinned, Fault<'a>>
     ensures thinned { IfOk result
-        (λ t. ThinsTexts texts.map.items texts.scen.items request.now.subject.tasks.agents texts.subject.items t.before t.after t.bytes.items) }
+        (λ t. ThinsTexts texts.map.items texts.scen.items request.now.subject.tasks.agents texts.subject.items t.before t.made.awaits t.made.bytes.items) }
     ensures fault { IfErr result (IsTextsRefusal texts.map.items texts.scen.items request.now.subject.tasks.agents texts.subject.items) }
 {
-    let (before, thinned) = thinned_program(alloc, request, texts)?;
-    let after = total_awaits(&thinned);
-    let Ok(bytes) = encode_shortest(alloc, &thinned) else {
-        return Err(Fault::Memory);
-    };
-    Ok(Thinned {
-        before,
-        after,
-        bytes,
-    })
+    let problem = read_problem(alloc, &texts, request.subject.tasks.agents)?;
+    let accepted = accept(alloc, &texts, &problem)?;
+    let before = total_awaits(accepted.program());
+    match thin_bytes(alloc, &accepted) {
+        Ok(made) => Ok(Thinned { before, made }),
+        Err(ThinFault::OutOfMemory) => Err(Fault::Memory),
+    }
 }
 
 /// The command `thin`: writes the bytes of the program without its implied awaits to the file OUT once all before it
@@ -144,11 +120,11 @@ pub(crate) fn do_thin<'a, F: Files, O: Flush>(
     write_out(
         files,
         request.out,
-        &thinned.bytes,
+        &thinned.made.bytes,
         out,
         &[
             ("awaits", thinned.before as u64),
-            ("awaits", thinned.after as u64),
+            ("awaits", thinned.made.awaits),
         ],
     )
 }

@@ -5,9 +5,10 @@ use crate::fleets::{
     SQUARE_MAP, SQUARE_SCEN, STAYING_BYTES, problem,
 };
 use fleet_adg::{
-    CompileFault, CompiledBytes, Deps, ThinFault, compile, compile_bytes, compile_dwell, thin,
+    CompileFault, Deps, ProgramBytes, ThinFault, compile, compile_bytes, compile_dwell, thin,
+    thin_bytes,
 };
-use fleet_code::{EncodeFault, encode, encode2, load};
+use fleet_code::{EncodeFault, encode, encode2, load, view};
 use fleet_grid::read_map;
 use fleet_model::{Cell, OutOfMemory};
 use fleet_plan::{Path, check, read_plan, write_plan};
@@ -147,7 +148,7 @@ fn compiled_bytes(
     (map, scen, text): (&[u8], &[u8], &[u8]),
     deps: Deps,
     dwell: u32,
-) -> Result<CompiledBytes, Fail> {
+) -> Result<ProgramBytes, Fail> {
     let (grid, instance) = problem(alloc, map, scen)?;
     let Ok(checked) = check(alloc, read_plan(alloc, text)?, &grid, &instance) else {
         return Err(Fail::from("refused"));
@@ -196,8 +197,32 @@ fn thin_answer(alloc: Global) -> Result<Vec<u8>, Fail> {
     }
 }
 
+/// The same at once, of a program in place, with the numbers of what is left.
+fn thinned_bytes(
+    alloc: Global,
+    (map, scen, bytes): (&[u8], &[u8], &[u8]),
+) -> Result<ProgramBytes, Fail> {
+    let (grid, instance) = problem(alloc, map, scen)?;
+    let Ok(accepted) = verify(alloc, view(alloc, bytes)?, &grid, &instance) else {
+        return Err(Fail::from("refused"));
+    };
+    match thin_bytes(alloc, &accepted) {
+        Ok(thinned) => Ok(thinned),
+        Err(ThinFault::OutOfMemory) => Err(Fail::from("memory")),
+    }
+}
+
+/// Version 2 is left only where version 1 has no byte for a stay.
 #[test]
 fn programs_are_thinned(rt: HostRuntime) -> Result<(), Fail> {
     assert_eq!(rt; thin_answer(rt.alloc())?.as_slice(), LAST_BYTES);
+    for (problem, due, numbers) in [
+        ((ROW_MAP, ROW_SCEN, ALL_BYTES), LAST_BYTES, (3, 6, 4)),
+        ((PAIR_MAP, PAIR_SCEN, STAYING_BYTES), STAYING_BYTES, (2, 8, 2)),
+    ] {
+        let made = thinned_bytes(rt.alloc(), problem)?;
+        assert_eq!(rt; made.bytes.as_slice(), due);
+        assert_eq!(rt; (made.agents, made.moves, made.awaits), numbers);
+    }
     Ok(())
 }

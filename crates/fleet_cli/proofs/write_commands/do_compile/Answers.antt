@@ -1,14 +1,14 @@
 use Rattle.std.proofs.Common.{◌≡◌, ◌∙◌, ℕ, List, ◌∷◌, [], length, inl, sym, subst}
 use Rattle.std.specs.Prelude.{codes}
 use Rattle.fleet_model.specs.Program.{Program}
-use Rattle.fleet_adg.specs.declared.compiler.CompiledBytes.{CompiledBytes}
-use Rattle.fleet_adg.specs.CompiledBytes.{AreBytesOf}
+use Rattle.fleet_adg.specs.declared.program_bytes.ProgramBytes.{ProgramBytes}
+use Rattle.fleet_adg.specs.ProgramBytes.{AreBytesOf}
 use Rattle.fleet_cli.specs.Output.{Stores, count_lines}
 use Rattle.fleet_cli.specs.WriteCommands.{compiled_text, compiled_numbers}
 use Rattle.fleet_cli.proofs.OutputLemmas.{writes_nothing}
 use Rattle.fleet_cli.proofs.write_commands.do_compile.Goals as goal
 
-numbers_are : (p : Program) (c : CompiledBytes) → AreBytesOf p c → compiled_text p c.bytes.items ≡ compiled_numbers c
+numbers_are : (p : Program) (c : ProgramBytes) → AreBytesOf p c → compiled_text p c.bytes.items ≡ compiled_numbers c
 numbers_are p c h =
     let agents = sym h.agents in
     let moves = sym h.moves in

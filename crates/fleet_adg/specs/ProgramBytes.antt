@@ -1,13 +1,13 @@
--- The bytes of a compiled program, with its numbers.
+-- The bytes of a program, with its numbers.
 use Rattle.std.specs.Prelude.{◌≡◌, ℕ, ◌==◌, if◌then◌else◌, length}
 use Rattle.fleet_model.specs.Program.{Program, total_moves, total_awaits}
 use Rattle.fleet_code.specs.Spelling.{SpellsShortest}
 use Rattle.fleet_code.specs.declared.format.Version.{Version}
 use Rattle.fleet_code.specs.declared.format.Version.TheVariants.{One, Two}
-use Rattle.fleet_adg.specs.declared.compiler.CompiledBytes.{CompiledBytes}
+use Rattle.fleet_adg.specs.declared.program_bytes.ProgramBytes.{ProgramBytes}
 
 -- the bytes spell the program, in version 1 if that has bytes for it, and the numbers are those of the program
-pub record AreBytesOf (p : Program) (c : CompiledBytes) : Type 0 where
+pub record AreBytesOf (p : Program) (c : ProgramBytes) : Type 0 where
   pub spelled : SpellsShortest c.bytes.items p
   pub agents : c.agents ≡ length p
   pub moves : c.moves ≡ total_moves p

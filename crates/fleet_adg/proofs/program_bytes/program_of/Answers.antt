@@ -1,7 +1,7 @@
 use Rattle.std.proofs.Common.{refl}
 use Rattle.std.specs.Prelude.{Ok}
 use Rattle.fleet_adg.proofs.Joined.{read_is}
-use Rattle.fleet_adg.proofs.compiler.program_of.Goals as goal
+use Rattle.fleet_adg.proofs.program_bytes.program_of.Goals as goal
 
 pub returns-in-Ok : goal.returns-in-Ok
 returns-in-Ok c = λ p s. read_is p c.in-Ok.program (Ok p) refl (c.in-Ok.ensures.only p s)

@@ -1,23 +1,23 @@
-use Rattle.std.proofs.Common.{refl}
 use Rattle.fleet_grid.specs.Ground.{is_passable}
 use Rattle.fleet_verify.proofs.SameChains.{thinned_reduced, reduced_chains, thinned_range, accepted_over}
-use Rattle.fleet_cli.proofs.write_commands.thinned_program.Goals as goal
+use Rattle.fleet_cli.proofs.write_commands.thin_texts.Goals as goal
 
 pub returns-in-Ok-clause-thinned : goal.returns-in-Ok-clause-thinned
-returns-in-Ok-clause-thinned c = λ bytes spelled.
+returns-in-Ok-clause-thinned c =
     let p = c.in_ok-accepted.accepted.program.program in
-    let q = c.in-Ok.thinned in
     let known = c.in_ok-accepted.ensures.accepted.accepted_for.accepted in
-    let is = c.in-Ok.ensures.thinned in
+    let made = c.in-Ok.ensures in
+    let q = made.0 in
+    let is = made.2.is in
     let less = reduced_chains p q (thinned_reduced p q known.numbering.0 known.numbering.1 is) in
     record {
       accepts = record { ground = c.in_ok-problem.problem.grid; tasks = c.in_ok-problem.problem.instance; texts = c.in_ok-problem.ensures.read; program = p; chain = c.in_ok-accepted.accepted.chain; accepts = c.in_ok-accepted.ensures.accepted };
       thinned = q;
       is = is;
       accepted = accepted_over p q (thinned_range p q is known.right.in_range) less (is_passable c.in_ok-problem.problem.grid) c.in_ok-problem.problem.instance known;
-      longest = c.in-Ok.ensures.chain;
-      equally = c.in-Ok.ensures.equally;
-      spelled = spelled;
-      had = rw (← c.program.ensures.program) c.total_awaits.ensures;
-      has = refl;
+      longest = made.2.longest;
+      equally = made.2.equally;
+      spelled = made.1.spelled;
+      had = rw (← c.program.ensures.program) c.total_awaits-before.ensures;
+      has = made.1.awaits;
     }

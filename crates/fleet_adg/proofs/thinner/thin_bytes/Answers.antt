@@ -1,0 +1,38 @@
+use Rattle.std.proofs.Common.{◌≡◌, [], length, sym, ap, subst, ◌∙◌, arith}
+use Rattle.fleet_model.specs.Program.{Program, total_moves}
+use Rattle.fleet_model.specs.Machine.{IsFinish}
+use Rattle.fleet_grid.specs.Ground.{is_passable}
+use Rattle.fleet_verify.proofs.RunCounts.{longest_finishes}
+use Rattle.fleet_adg.specs.Thinned.{IsThinnedFor}
+use Rattle.fleet_adg.proofs.Thinning.{thinned_is, total_same}
+use Rattle.fleet_adg.proofs.ThinnedBytes.{thinned_for, thinned_shortest}
+use Rattle.fleet_adg.proofs.thinner.thin_bytes.Goals as goal
+
+pub implied_awaits-requires-clause-finish : goal.implied_awaits-requires-clause-finish
+implied_awaits-requires-clause-finish g c =
+    let p = g.P.ProgramView.program c.program-program.result.now in
+    let known = c.program-program.ensures.accepted in
+    subst (IsFinish p []) (sym c.chain.ensures.chain) (longest_finishes p known.accepted.right.in_range c.args.accepted.now.chain known.longest)
+
+pub returns : goal.returns
+returns g c =
+    let p = g.P.ProgramView.program c.program-program.result.now in
+    let known = c.program-program.ensures.accepted in
+    let made = c.in-Ok-thinned_bytes.ensures in
+    let q : Program = made.0 in
+    let h = made.1 in
+    let is = made.2 in
+    let laws = c.programs_have_bytes.ensures in
+    let agents : c.agents-agents.result ≡ length q = c.agents-agents.ensures.count ∙ sym h.long in
+    let moves : c.total_moves-moves.result ≡ total_moves q = c.total_moves-moves.ensures ∙ sym (total_same p q h) in
+    let bytes = c.in-Ok-thinned_bytes.bytes in (
+      q,
+      record {
+        spelled = thinned_shortest laws.first laws.second p q c.agents-agents.ensures.well_formed known.accepted.right.in_range h c.shortest_version-version.result c.shortest_version-version.ensures.first bytes.items is;
+        agents = agents;
+        moves = moves;
+        awaits = c.awaits_in-awaits.ensures q (sym agents) (sym moves) (sym (c.len.ensures ∙ bytes.ok.0 ∙ ap length is));
+      },
+      subst (λ (x : Program). IsThinnedFor (is_passable c.args.accepted.now.grid) c.args.accepted.now.instance x c.args.accepted.now.chain q) (ap g.P.ProgramView.program c.program-program.ensures.program)
+          (thinned_for c.args.accepted.now.grid c.args.accepted.now.instance p c.args.accepted.now.chain q known (thinned_is p q h)),
+    )

@@ -218,7 +218,11 @@ fn programs_are_thinned(rt: HostRuntime) -> Result<(), Fail> {
     assert_eq!(rt; thin_answer(rt.alloc())?.as_slice(), LAST_BYTES);
     for (problem, due, numbers) in [
         ((ROW_MAP, ROW_SCEN, ALL_BYTES), LAST_BYTES, (3, 6, 4)),
-        ((PAIR_MAP, PAIR_SCEN, STAYING_BYTES), STAYING_BYTES, (2, 8, 2)),
+        (
+            (PAIR_MAP, PAIR_SCEN, STAYING_BYTES),
+            STAYING_BYTES,
+            (2, 8, 2),
+        ),
     ] {
         let made = thinned_bytes(rt.alloc(), problem)?;
         assert_eq!(rt; made.bytes.as_slice(), due);

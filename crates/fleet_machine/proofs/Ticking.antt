@@ -16,7 +16,7 @@ use Rattle.fleet_machine.specs.Looked.{ready_in, awaits_moving, awaiting_in, Loo
 use Rattle.fleet_machine.specs.WaitLists.{home_of}
 use Rattle.fleet_machine.specs.declared.steps.Mark.{Mark}
 use Rattle.fleet_machine.specs.Machine.{MachineState, Runs, HasRows, IsHome, IsJudged, IsRead, Lacks, flag_of, list_of, agent_of, mark_of, is_left, is_reached, least_of, passed, after_next, marks_after, moving_flags}
-use Rattle.fleet_machine.specs.Waking.{is_on, if_not_on, is_woken_by, advanced_one, held_back, after_moves, IsWoken, IsCarriedOut, IsAsBefore}
+use Rattle.fleet_machine.specs.Waking.{is_on, if_not_on, is_woken_by, advanced_one, held_back, after_moves, IsWoken, IsCarriedOut, CanJudge, HasJudged}
 use Rattle.fleet_machine.proofs.Indices.{filter_more}
 use Rattle.fleet_machine.proofs.Advanced.{onward, IsAdvanced, one_moves, one_held, all_wait, all_advanced, all_flagged}
 use Rattle.fleet_machine.proofs.Lasting.{ready_lasts, count_rises}
@@ -331,10 +331,10 @@ module _ (p : Program) (held : ℕ → Bool) (m : MachineState) (runs : Runs p m
     long_moving : length (moving_flags p held c) ≡ length p
     long_moving = length-map-range_with_len (is_moving p held c) 0 (length p)
 
-    pub configuration_woken : woken.configuration ≡ after
+    configuration_woken : woken.configuration ≡ after
     configuration_woken = ap (λ (w : MachineState). w.configuration) wakes.same
 
-    pub rows_woken : HasRows (length p) woken
+    rows_woken : HasRows (length p) woken
     rows_woken = record {
       marks = ap (λ (w : MachineState). length w.marks) wakes.same ∙ long_after p held m;
       ready = ap (λ (w : MachineState). length w.ready) wakes.same ∙ runs.rows.ready;
@@ -346,11 +346,11 @@ module _ (p : Program) (held : ℕ → Bool) (m : MachineState) (runs : Runs p m
     }
 
     -- each has read what it is to have read
-    pub read_woken : (k : ℕ) → k < length p → IsRead p woken.configuration k (mark_of woken.marks k)
+    read_woken : (k : ℕ) → k < length p → IsRead p woken.configuration k (mark_of woken.marks k)
     read_woken k agent = rw wakes.same (read_after p held m runs k agent)
 
     -- who has an action left is flagged so
-    pub flagged_woken : (k : ℕ) → k < length p → is_left p woken.configuration k ≡ true → flag_of woken.left k ≡ true
+    flagged_woken : (k : ℕ) → k < length p → is_left p woken.configuration k ≡ true → flag_of woken.left k ≡ true
     flagged_woken k agent left =
         let was : is_left p after k ≡ true = sym (ap (λ rows. is_left p rows k) configuration_woken) ∙ left in
         ap (λ (w : MachineState). flag_of w.left k) wakes.same ∙ flagged_after p held m runs k agent was
@@ -369,7 +369,7 @@ module _ (p : Program) (held : ℕ → Bool) (m : MachineState) (runs : Runs p m
         go true e = refl
         go false e = absurd cc
 
-    pub nowhere_if_due : (k : ℕ) → flag_of woken.due k ≡ true → home_of woken.waiting.homes k ≡ None
+    nowhere_if_due : (k : ℕ) → flag_of woken.due k ≡ true → home_of woken.waiting.homes k ≡ None
     nowhere_if_due k due =
         elim (cases_lt k (length p)) [
           | inl agent ↦ wakes.homes k ∙ freed (home_of m.waiting.homes k) k (runs.judged k agent).home (sym (due_is k agent) ∙ due)
@@ -397,17 +397,26 @@ module _ (p : Program) (held : ℕ → Bool) (m : MachineState) (runs : Runs p m
             let flag : flag_of (moving_flags p held c) (agent_of j) ≡ true = and_first (flag_of (moving_flags p held c) (agent_of j)) (is_reached moved j) woken_list in
             inr (rw (unready_if_lacking p c least k j home) (awaits_if_lacking p c least k j home held (sym (flag_is_moving (agent_of j) there) ∙ flag)))
 
-    module _ (new : MachineState) (same : new ≡ record woken { ready = new.ready; left = new.left; marks = new.marks; waiting = new.waiting; least = new.least }) (rows : HasRows (length p) new)
-        (judged : (k : ℕ) → k < length p → flag_of woken.due k ≡ true → IsJudged p new k)
-        (others : (k : ℕ) → flag_of woken.due k ≡ false → IsAsBefore woken new k) where
+    -- the agents that are due can be judged
+    pub can_judge_woken : CanJudge p woken
+    can_judge_woken = record {
+      well_formed = runs.well_formed;
+      agents = ap length configuration_woken ∙ length-tick p held c;
+      rows = rows_woken;
+      read = read_woken;
+      flagged = flagged_woken;
+      nowhere = nowhere_if_due;
+    }
+
+    module _ (new : MachineState) (count : ℕ) (judges : HasJudged p woken new count) where
       configuration_new : new.configuration ≡ after
-      configuration_new = ap (λ (w : MachineState). w.configuration) same ∙ configuration_woken
+      configuration_new = ap (λ (w : MachineState). w.configuration) judges.same ∙ configuration_woken
 
       undisturbed : (k : ℕ) → k < length p → flag_of woken.due k ≡ false → IsJudged p new k
       undisturbed k agent undue =
           let calm = or_parts (is_moving p held c k) (is_on woken_lists (home_of m.waiting.homes k)) (sym (due_is k agent) ∙ undue) in
           let still = home_still k agent calm.0 (home_of m.waiting.homes k) calm.1 (runs.judged k agent).home in
-          let kept = others k undue in
+          let kept = judges.others k undue in
           let here = runs.judged k agent in
           let mark : mark_of new.marks k ≡ mark_of (marks_after p held m) k = kept.mark ∙ ap (λ (w : MachineState). mark_of w.marks k) wakes.same in
           let unmoved : mark_of new.marks k ≡ mark_of m.marks k = mark ∙ mark_unmoved p held m k agent calm.0 in
@@ -430,23 +439,23 @@ module _ (p : Program) (held : ℕ → Bool) (m : MachineState) (runs : Runs p m
       runs_after = record {
         well_formed = runs.well_formed;
         agents = ap length configuration_new ∙ length-tick p held c;
-        flags = ap (λ (w : MachineState). length w.moving) (same ∙ ap (λ (w : MachineState). record w { ready = new.ready; left = new.left; marks = new.marks; waiting = new.waiting; least = new.least }) wakes.same)
+        flags = ap (λ (w : MachineState). length w.moving) (judges.same ∙ ap (λ (w : MachineState). record w { ready = new.ready; left = new.left; marks = new.marks; waiting = new.waiting; least = new.least }) wakes.same)
             ∙ length-map-range_with_len (is_moving p held c) 0 (length p);
-        rows = record { marks = rows.marks; ready = rows.ready; left = rows.left; due = rows.due; lists = rows.lists; homes = rows.homes; least = rows.least };
+        rows = judges.rows;
         judged = λ k agent.
-            let here : IsJudged p new k = elim (cases_Bool (flag_of woken.due k)) [ inl due ↦ judged k agent due | inr undue ↦ undisturbed k agent undue ] in
+            let here : IsJudged p new k = elim (cases_Bool (flag_of woken.due k)) [ inl due ↦ judges.judged k agent due | inr undue ↦ undisturbed k agent undue ] in
             record { read = here.read; all = here.all; ready = here.ready; left = here.left; home = here.home };
       }
 
-      pub settled : (count : ℕ) → count ≡ length (filter (flag_of woken.due) (indices (length p))) → IsCarriedOut p held m new count
-      settled count is = record {
+      pub settled : IsCarriedOut p held m new count
+      settled = record {
         runs = runs_after;
         configuration = configuration_new;
-        moving = ap (λ (w : MachineState). w.moving) (same ∙ ap (λ (w : MachineState). record w { ready = new.ready; left = new.left; marks = new.marks; waiting = new.waiting; least = new.least }) wakes.same);
-        looked = ap (λ (w : MachineState). w.looked) (same ∙ ap (λ (w : MachineState). record w { ready = new.ready; left = new.left; marks = new.marks; waiting = new.waiting; least = new.least }) wakes.same);
-        least = omega (arith, moved_counted);
-        most = omega (arith, due_counted);
-        few = let few = counted_le (flag_of woken.due) (length p) in omega arith;
+        moving = ap (λ (w : MachineState). w.moving) (judges.same ∙ ap (λ (w : MachineState). record w { ready = new.ready; left = new.left; marks = new.marks; waiting = new.waiting; least = new.least }) wakes.same);
+        looked = ap (λ (w : MachineState). w.looked) (judges.same ∙ ap (λ (w : MachineState). record w { ready = new.ready; left = new.left; marks = new.marks; waiting = new.waiting; least = new.least }) wakes.same);
+        least = omega (arith, judges.count, moved_counted);
+        most = omega (arith, judges.count, due_counted);
+        few = let few = counted_le (flag_of woken.due) (length p) in omega (arith, judges.count);
       }
 
 -- a machine runs its program, however many agents have been looked at

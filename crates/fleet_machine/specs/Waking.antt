@@ -1,11 +1,11 @@
 -- Steps of a tick.
-use Rattle.std.specs.Prelude.{◌≡◌, ℕ, ◌+◌, ◌<◌, ◌≤◌, Bool, false, ◌||◌, ◌&&◌, length, set, option_map, Option, Some, None, if◌then◌else◌}
+use Rattle.std.specs.Prelude.{◌≡◌, ℕ, ◌+◌, ◌<◌, ◌≤◌, Bool, true, false, ◌||◌, ◌&&◌, length, filter, set, option_map, Option, Some, None, if◌then◌else◌}
 use Rattle.fleet_model.specs.declared.program.Await.{Await}
-use Rattle.fleet_model.specs.Program.{Program}
-use Rattle.fleet_model.specs.Machine.{is_ready, tick, moved_in}
+use Rattle.fleet_model.specs.Program.{Program, IsWellFormed}
+use Rattle.fleet_model.specs.Machine.{is_ready, tick, moved_in, indices}
 use Rattle.fleet_machine.specs.WaitLists.{home_of}
 use Rattle.fleet_machine.specs.declared.steps.Mark.{Mark}
-use Rattle.fleet_machine.specs.Machine.{MachineState, Runs, flag_of, mark_of, is_left, IsLacked, IsRead, HasReadAll, is_reached, least_of, list_of, agent_of, lowered, passed, after_next, marks_after, moving_flags}
+use Rattle.fleet_machine.specs.Machine.{MachineState, Runs, HasRows, IsJudged, flag_of, mark_of, is_left, IsLacked, IsRead, HasReadAll, is_reached, least_of, list_of, agent_of, lowered, passed, after_next, marks_after, moving_flags}
 use Rattle.fleet_machine.specs.Looked.{awaiting_in}
 use Rattle.fleet_machine.specs.Confirmed.{all_but}
 
@@ -103,3 +103,27 @@ pub record IsAsBefore (before after : MachineState) (i : ℕ) : Type 0 where
   pub left : flag_of after.left i ≡ flag_of before.left i
   pub home : home_of after.waiting.homes i ≡ home_of before.waiting.homes i
   pub least : (j : ℕ) → least_of after.least j ≤ least_of before.least j
+
+-- the agents that are due can be judged: each agent has read what it is to have read, who has an action left is flagged so,
+-- and who is due stands in no list
+pub record CanJudge (p : Program) (m : MachineState) : Type 0 where
+  pub well_formed : IsWellFormed p
+  pub agents : length m.configuration ≡ length p
+  pub rows : HasRows (length p) m
+  pub read : (i : ℕ) → i < length p → IsRead p m.configuration i (mark_of m.marks i)
+  pub flagged : (i : ℕ) → i < length p → is_left p m.configuration i ≡ true → flag_of m.left i ≡ true
+  pub nowhere : (i : ℕ) → flag_of m.due i ≡ true → home_of m.waiting.homes i ≡ None
+
+-- the agents that were due are judged, so many, and each other agent is as before
+pub record HasJudged (p : Program) (before after : MachineState) (number : ℕ) : Type 0 where
+  pub same : after ≡ record before {
+    ready = after.ready;
+    left = after.left;
+    marks = after.marks;
+    waiting = after.waiting;
+    least = after.least;
+  }
+  pub rows : HasRows (length p) after
+  pub judged : (i : ℕ) → i < length p → flag_of before.due i ≡ true → IsJudged p after i
+  pub others : (i : ℕ) → flag_of before.due i ≡ false → IsAsBefore before after i
+  pub count : number ≡ length (filter (flag_of before.due) (indices (length p)))

@@ -1,16 +1,15 @@
 //! The agents of a program on their way, and one tick of all of them.
 
-ghost use Rattle.std.specs.Prelude.{◌≡◌, ◌≢◌, ◌+◌, ◌-◌, ◌*◌, ◌<◌, ◌≤◌, ◌^◌, ◌&&◌, ◌||◌, ◌==◌, if◌then◌else◌, ℕ, Bool, true, false, length, set, replicate, Some, None, filter, is_none, option_map, IfOk, IfSome, IfNone, MatchOption};
+ghost use Rattle.std.specs.Prelude.{◌≡◌, ◌≢◌, ◌+◌, ◌-◌, ◌*◌, ◌<◌, ◌≤◌, ◌^◌, ◌&&◌, ◌||◌, ◌==◌, if◌then◌else◌, ℕ, Bool, true, false, length, set, replicate, Some, None, is_none, option_map, IfOk, IfSome, IfNone, MatchOption};
 ghost use Rattle.std.specs.List.{list_any};
-ghost use Rattle.fleet_model.specs.Geometry.{place_of, stepped};
-ghost use Rattle.fleet_model.specs.Program.{moves, awaits_of, IsWellFormed};
+ghost use Rattle.fleet_model.specs.Program.{moves, IsWellFormed};
 ghost use Rattle.fleet_model.specs.Machine.{opening, is_finished, next_action, is_ready, is_met, tick, moved_in, is_ready_held, standing_at, count_at, indices};
 ghost use Rattle.fleet_model.specs.Claims.{order_of};
 ghost use Rattle.fleet_machine.specs.Confirmed.{all_but, AreAllReady, IsFirstUnready};
 ghost use Rattle.fleet_machine.specs.Looked.{ready_in, awaiting_in, LooksAt};
 ghost use Rattle.fleet_machine.specs.Near.{IsNear, AreNear};
-ghost use Rattle.fleet_machine.specs.Machine.{MachineState, Runs, HasRows, HasReadAll, IsLacked, IsJudged, IsRead, IsReadToStep, is_left, is_reached, list_of, agent_of, least_of, lowered, passed, after_next, mark_of, marks_after, moving_flags, flag_of};
-ghost use Rattle.fleet_machine.specs.Waking.{IsWoken, is_woken_by, advanced_one, held_back, carried_all, HasWoken, IsCarriedOut, IsPlaced, IsAsBefore};
+ghost use Rattle.fleet_machine.specs.Machine.{MachineState, Runs, HasRows, HasReadAll, IsLacked, IsRead, IsReadToStep, is_left, is_reached, list_of, agent_of, least_of, lowered, passed, after_next, mark_of, moving_flags, flag_of};
+ghost use Rattle.fleet_machine.specs.Waking.{IsWoken, is_woken_by, advanced_one, held_back, carried_all, HasWoken, IsCarriedOut, IsPlaced, CanJudge, HasJudged};
 ghost use Rattle.fleet_machine.specs.WaitLists.{home_of};
 
 use crate::agent_set::{AgentSet, next_flag};
@@ -410,31 +409,9 @@ impl Machine {
 
     /// Judges the agents that are due, each of which is flagged as ready, and answers how many they are.
     fn judge_supposed<P: ProgramView>(&mut self, program: &P) -> u16
-        requires well_formed { IsWellFormed (P.program program.now) }
-        requires agents { length self.old.configuration ≡ length (P.program program.now) }
-        requires rows { HasRows (length (P.program program.now)) self.old }
-        requires read { (i : ℕ) → i < length (P.program program.now)
-            → IsRead (P.program program.now) self.old.configuration i (mark_of self.old.marks i) }
-        requires flagged { (i : ℕ) → i < length (P.program program.now)
-            → is_left (P.program program.now) self.old.configuration i ≡ true
-            → flag_of self.old.left i ≡ true }
+        requires can { CanJudge (P.program program.now) self.old }
         requires ready { (i : ℕ) → flag_of self.old.due i ≡ true → flag_of self.old.ready i ≡ true }
-        requires nowhere { (i : ℕ) → flag_of self.old.due i ≡ true
-            → home_of self.old.waiting.homes i ≡ None }
-        ensures same { self.new ≡ record self.old {
-          ready = self.new.ready;
-          left = self.new.left;
-          marks = self.new.marks;
-          waiting = self.new.waiting;
-          least = self.new.least;
-        } }
-        ensures rows { HasRows (length (P.program program.now)) self.new }
-        ensures judged { (i : ℕ) → i < length (P.program program.now)
-            → flag_of self.old.due i ≡ true → IsJudged (P.program program.now) self.new i }
-        ensures others { (i : ℕ) → flag_of self.old.due i ≡ false
-            → IsAsBefore self.old self.new i }
-        ensures count { result
-            ≡ length (filter (flag_of self.old.due) (indices (length (P.program program.now)))) }
+        ensures { HasJudged (P.program program.now) self.old self.new result }
     {
         let mut cursor = self.due_cursor();
         let mut count = 0;
@@ -458,30 +435,8 @@ impl Machine {
 
     /// Judges the agents that are due, and answers how many they are.
     fn judge_due<P: ProgramView>(&mut self, program: &P) -> u16
-        requires well_formed { IsWellFormed (P.program program.now) }
-        requires agents { length self.old.configuration ≡ length (P.program program.now) }
-        requires rows { HasRows (length (P.program program.now)) self.old }
-        requires read { (i : ℕ) → i < length (P.program program.now)
-            → IsRead (P.program program.now) self.old.configuration i (mark_of self.old.marks i) }
-        requires flagged { (i : ℕ) → i < length (P.program program.now)
-            → is_left (P.program program.now) self.old.configuration i ≡ true
-            → flag_of self.old.left i ≡ true }
-        requires nowhere { (i : ℕ) → flag_of self.old.due i ≡ true
-            → home_of self.old.waiting.homes i ≡ None }
-        ensures same { self.new ≡ record self.old {
-          ready = self.new.ready;
-          left = self.new.left;
-          marks = self.new.marks;
-          waiting = self.new.waiting;
-          least = self.new.least;
-        } }
-        ensures rows { HasRows (length (P.program program.now)) self.new }
-        ensures judged { (i : ℕ) → i < length (P.program program.now)
-            → flag_of self.old.due i ≡ true → IsJudged (P.program program.now) self.new i }
-        ensures others { (i : ℕ) → flag_of self.old.due i ≡ false
-            → IsAsBefore self.old self.new i }
-        ensures count { result
-            ≡ length (filter (flag_of self.old.due) (indices (length (P.program program.now)))) }
+        requires { CanJudge (P.program program.now) self.old }
+        ensures { HasJudged (P.program program.now) self.old self.new result }
     {
         self.suppose_ready();
         self.judge_supposed(program)

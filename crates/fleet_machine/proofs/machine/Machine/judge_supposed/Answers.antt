@@ -9,7 +9,7 @@ overflow_add-count g c =
     let due = flag_of c.args.self.now.due in
     let before = c.loop-i.invariant in
     let few = counted_le due c.loop-i.cursor.from in
-    omega (arith, before.counted, before.within, c.requires.well_formed.few_agents)
+    omega (arith, before.counted, before.within, c.requires.can.well_formed.few_agents)
 
 pub loop-i-preserved : goal.loop-i-preserved
 loop-i-preserved g c =
@@ -19,7 +19,7 @@ loop-i-preserved g c =
     let before = c.loop-i.invariant in
     let i = c.in-Some.i in
     let next : IsNextFrom old.due c.loop-i.cursor.from i = rw (ap (λ (m : MachineState). m.due) before.judged.same) at c.in-Some.ensures.next in
-    let agent : i < length p = omega (arith, next.agent, c.requires.rows.due) in
+    let agent : i < length p = omega (arith, next.agent, c.requires.can.rows.due) in
     let here = some_passed p due old c.loop-i.self c.loop-i.cursor.from i next.later next.between before.judged in
     let behind = c.in-Some.ensures.behind in
     record {
@@ -29,20 +29,12 @@ loop-i-preserved g c =
       within = omega (arith, agent, behind);
     }
 
-pub returns-clause-count : goal.returns-clause-count
-returns-clause-count g c =
-    let p = g.P.ProgramView.program c.args.program.now in
-    let old = c.args.self.now in
-    let before = c.loop-i.invariant in
-    let none : AreNoneFrom old.due c.loop-i.cursor.from = rw (ap (λ (m : MachineState). m.due) before.judged.same) at c.in_default.ensures.next in
-    none_more_counted (flag_of old.due) c.loop-i.cursor.from (length p) c.loop-i.count before.within (λ k later below. none k later) before.counted
-
 pub loop-i-init : goal.loop-i-init
 loop-i-init g c =
     let from = c.due_cursor-cursor.ensures.from in
     record {
       cursor = c.due_cursor-cursor.ensures.cursor;
-      judged = rw from (none_judged (g.P.ProgramView.program c.args.program.now) (flag_of c.args.self.now.due) c.args.self.now c.requires.rows);
+      judged = rw from (none_judged (g.P.ProgramView.program c.args.program.now) (flag_of c.args.self.now.due) c.args.self.now c.requires.can.rows);
       counted = rw from refl;
       within = omega (arith, from);
     }
@@ -55,9 +47,9 @@ judge-requires-clause-read g c =
     let before = c.loop-i.invariant in
     let i = c.in-Some.i in
     let next : IsNextFrom old.due c.loop-i.cursor.from i = rw (ap (λ (m : MachineState). m.due) before.judged.same) at c.in-Some.ensures.next in
-    let agent : i < length p = omega (arith, next.agent, c.requires.rows.due) in
+    let agent : i < length p = omega (arith, next.agent, c.requires.can.rows.due) in
     let here = some_passed p due old c.loop-i.self c.loop-i.cursor.from i next.later next.between before.judged in
-    read_so_far p due old c.loop-i.self i here (c.requires.read i agent)
+    read_so_far p due old c.loop-i.self i here (c.requires.can.read i agent)
 
 pub judge-requires-clause-flagged : goal.judge-requires-clause-flagged
 judge-requires-clause-flagged g c =
@@ -67,10 +59,10 @@ judge-requires-clause-flagged g c =
     let before = c.loop-i.invariant in
     let i = c.in-Some.i in
     let next : IsNextFrom old.due c.loop-i.cursor.from i = rw (ap (λ (m : MachineState). m.due) before.judged.same) at c.in-Some.ensures.next in
-    let agent : i < length p = omega (arith, next.agent, c.requires.rows.due) in
+    let agent : i < length p = omega (arith, next.agent, c.requires.can.rows.due) in
     let here = some_passed p due old c.loop-i.self c.loop-i.cursor.from i next.later next.between before.judged in
     let config = ap (λ (m : MachineState). m.configuration) before.judged.same in
-    left_so_far p due old c.loop-i.self i here _ (λ is. c.requires.flagged i agent (sym (ap (λ rows. is_left p rows i) config) ∙ is))
+    left_so_far p due old c.loop-i.self i here _ (λ is. c.requires.can.flagged i agent (sym (ap (λ rows. is_left p rows i) config) ∙ is))
 
 pub judge-requires-clause-nowhere : goal.judge-requires-clause-nowhere
 judge-requires-clause-nowhere g c =
@@ -78,23 +70,7 @@ judge-requires-clause-nowhere g c =
     let before = c.loop-i.invariant in
     let i = c.in-Some.i in
     let next : IsNextFrom old.due c.loop-i.cursor.from i = rw (ap (λ (m : MachineState). m.due) before.judged.same) at c.in-Some.ensures.next in
-    (before.judged.later i next.later).home ∙ c.requires.nowhere i next.member
-
-pub returns-clause-same : goal.returns-clause-same
-returns-clause-same g c =
-    c.loop-i.invariant.judged.same
-
-pub returns-clause-others : goal.returns-clause-others
-returns-clause-others g c =
-    c.loop-i.invariant.judged.others
-
-pub returns-clause-judged : goal.returns-clause-judged
-returns-clause-judged g c =
-    let p = g.P.ProgramView.program c.args.program.now in
-    let old = c.args.self.now in
-    let before = c.loop-i.invariant in
-    let none : AreNoneFrom old.due c.loop-i.cursor.from = rw (ap (λ (m : MachineState). m.due) before.judged.same) at c.in_default.ensures.next in
-    (some_passed p (flag_of old.due) old c.loop-i.self c.loop-i.cursor.from (length p) before.within (λ k later below. none k later) before.judged).judged
+    (before.judged.later i next.later).home ∙ c.requires.can.nowhere i next.member
 
 pub judge-requires-clause-ready : goal.judge-requires-clause-ready
 judge-requires-clause-ready g c =
@@ -106,3 +82,18 @@ judge-requires-clause-ready g c =
     let next : IsNextFrom old.due c.loop-i.cursor.from i = rw (ap (λ (m : MachineState). m.due) before.judged.same) at c.in-Some.ensures.next in
     let here = some_passed p due old c.loop-i.self c.loop-i.cursor.from i next.later next.between before.judged in
     ready_so_far p due old c.loop-i.self i here ∙ c.requires.ready i next.member
+
+pub returns : goal.returns
+returns g c =
+    let p = g.P.ProgramView.program c.args.program.now in
+    let old = c.args.self.now in
+    let due = flag_of old.due in
+    let before = c.loop-i.invariant in
+    let none : AreNoneFrom old.due c.loop-i.cursor.from = rw (ap (λ (m : MachineState). m.due) before.judged.same) at c.in_default.ensures.next in
+    record {
+      same = before.judged.same;
+      rows = before.judged.rows;
+      judged = (some_passed p due old c.loop-i.self c.loop-i.cursor.from (length p) before.within (λ k later below. none k later) before.judged).judged;
+      others = before.judged.others;
+      count = none_more_counted due c.loop-i.cursor.from (length p) c.loop-i.count before.within (λ k later below. none k later) before.counted;
+    }

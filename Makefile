@@ -11,7 +11,7 @@ FLEET = $(BUILT)
 # The library for callers in C. LIBRARY= leaves it out, and so it is where there is no C compiler.
 LIBRARY = $(shell command -v cc > /dev/null && command -v objcopy > /dev/null && echo crates/fleet_c/out/library)
 ARCHIVE = $(LIBRARY:%=%/libfleet.a)
-PROVE = awk -v jobs=$(JOBS) -f tools/prove.awk crates.txt | $(MAKE) -j 2 -f - fleet_cli
+PROVE = awk -v jobs=$(JOBS) -v crate=fleet_cli -f tools/prove.awk crates.txt | $(MAKE) -j 2 -f -
 SOURCES = crates.txt $(shell find crates -path '*/out' -prune -o \( -name '*.rt' -o -name '*.antt' \) -print)
 
 WAREHOUSE = examples/warehouse.map examples/warehouse.scen
@@ -26,7 +26,7 @@ TO = $(DESTDIR)$(PREFIX)
 
 help:
 	@echo 'make look                  runs the program on examples within two minutes, with nothing proved'
-	@echo 'make demo                  builds the program (the first time half an hour) and shows it on examples'
+	@echo 'make demo                  builds the program (the first time 17 minutes on four processors) and shows it on examples'
 	@echo 'make lib                   builds libfleet for callers in C, C++, Rust and Python, and its header, in $(LIBRARY)'
 	@echo 'make install PREFIX=DIR    puts the program at DIR/bin/fleet ($(PREFIX) where none is given), and libfleet in DIR/lib'
 	@echo 'make test                  the gate: proofs, tests, edits that must fail, and then the examples'
@@ -50,7 +50,7 @@ test:
 # help. What the prover says goes to a file.
 $(BUILT): $(SOURCES)
 	@mkdir -p $(@D)
-	@echo 'Proving the crates and building fleet: half an hour the first time. The lines of the prover go to $(LOG).'
+	@echo 'Proving the crates and building fleet: the first time 17 minutes on four processors. The lines of the prover go to $(LOG).'
 	@($(if $(JOBS),$(PROVE) && )cd crates/fleet && rt run -- --help) > $(LOG) 2>&1 || { tail -n 20 $(LOG); exit 1; }
 	@touch $@
 

@@ -1,7 +1,8 @@
 //! Programs as text.
 
-ghost use Rattle.std.specs.Prelude.{◌≡◌, ◌<◌, ◌≤◌, ◌∷◌, [], length, map};
-ghost use Rattle.fleet_model.specs.Program.{IsWellFormed, path, moves, awaits_of};
+ghost use Rattle.std.specs.Prelude.{◌≡◌, ◌<◌, ◌∷◌, [], length, map};
+ghost use Rattle.fleet_model.specs.Program.{IsWellFormed, path, awaits_of};
+ghost use Rattle.fleet_model.specs.Chain.{IsAction};
 ghost use Rattle.fleet_text.specs.Sink.{IsWorking, TakesAll};
 ghost use Rattle.fleet_text.specs.Row.{Gathers};
 ghost use Rattle.fleet_text.specs.Words.{with_spaces, next_words, numbered_text};
@@ -9,7 +10,7 @@ ghost use Rattle.fleet_run.specs.Text.{place_text};
 ghost use Rattle.fleet_run.specs.Listing.{dir_name, step_words, await_text, await_words, agent_line, action_line, actions_text, agent_text, program_text};
 
 use crate::trace::{PLACE, write_place};
-use fleet_model::{Cell, Dir, Place, ProgramView, Step};
+use fleet_model::{ActionId, Cell, Dir, Place, ProgramView, Step};
 use fleet_text::{OutFault, Row, TraceOut, Word, put_line, put_next_word, put_words};
 
 fn dir_name(dir: Dir) -> &'static str
@@ -37,20 +38,16 @@ fn step_words(step: Step) -> (&'static str, &'static str)
 fn put_step<O: TraceOut>(
     row: &mut Row,
     out: &mut O,
-    i: u16,
-    n: u32,
+    action: ActionId,
     step: Step,
 ) -> Result<(), OutFault>
     requires { IsWorking (O.state out.old) }
     ensures { Gathers (O.state out.old) (O.state out.new) result row.old row.new
-        (with_spaces (numbered_text i n ∷ step_words step)) }
+        (with_spaces (numbered_text action.agent action.number ∷ step_words step)) }
 {
     let (first, second) = step_words(step);
-    put_words(
-        row,
-        out,
-        &[Word::Of(i, n), Word::Text(first), Word::Text(second)],
-    )
+    let name = Word::Of(action.agent, action.number);
+    put_words(row, out, &[name, Word::Text(first), Word::Text(second)])
 }
 
 /// Adds a place, with a space before it.
@@ -64,52 +61,48 @@ fn put_place<O: TraceOut>(row: &mut Row, out: &mut O, place: Place) -> Result<()
     row.add(out, &text[at..])
 }
 
-/// Adds what action `n` of agent `i` awaits, if it awaits anything: a word, and one for each await.
+/// Adds what an action awaits, if it awaits anything: a word, and one for each await.
 fn put_awaits<P: ProgramView, O: TraceOut>(
     row: &mut Row,
     out: &mut O,
     program: &P,
-    i: u16,
-    n: u32,
+    action: ActionId,
 ) -> Result<(), OutFault>
     requires working { IsWorking (O.state out.old) }
-    requires agent { i < length (P.program program.now) }
-    requires first { 1 ≤ n }
-    requires last { n ≤ moves (P.program program.now) i }
+    requires action { IsAction (P.program program.now) action }
     ensures { Gathers (O.state out.old) (O.state out.new) result row.old row.new
-        (next_words (await_words (awaits_of (P.program program.now) i n))) }
+        (next_words (await_words (awaits_of (P.program program.now) action.agent action.number))) }
 {
-    if program.await_count(i, n) == 0 {
+    let ActionId { agent, number } = action;
+    if program.await_count(agent, number) == 0 {
         return Ok(());
     }
     put_next_word(row, out, Word::Text("after"))?;
-    for k in 0..program.await_count(i, n) {
-        let one = program.await_at(i, n, k);
+    for k in 0..program.await_count(agent, number) {
+        let one = program.await_at(agent, number, k);
         put_next_word(row, out, Word::Of(one.agent, one.count))?;
     }
     Ok(())
 }
 
-/// Writes the line of action `n` of agent `i`, which leads to this place.
+/// Writes the line of an action, which leads to this place.
 fn put_action<P: ProgramView, O: TraceOut>(
     out: &mut O,
     program: &P,
-    i: u16,
-    n: u32,
+    action: ActionId,
     place: Place,
 ) -> Result<(), OutFault>
     requires working { IsWorking (O.state out.old) }
-    requires agent { i < length (P.program program.now) }
-    requires first { 1 ≤ n }
-    requires last { n ≤ moves (P.program program.now) i }
-    requires place { place ≡ path (P.program program.now) i n }
+    requires action { IsAction (P.program program.now) action }
+    requires place { place ≡ path (P.program program.now) action.agent action.number }
     ensures { TakesAll (O.state out.old) (O.state out.new) result
-        (action_line (P.program program.now) i n) }
+        (action_line (P.program program.now) action.agent action.number) }
 {
+    let step = program.step(action.agent, action.number);
     let mut row = Row::new();
-    put_step(&mut row, out, i, n, program.step(i, n))?;
+    put_step(&mut row, out, action, step)?;
     put_place(&mut row, out, place)?;
-    put_awaits(&mut row, out, program, i, n)?;
+    put_awaits(&mut row, out, program, action)?;
     row.end_line(out)
 }
 
@@ -127,8 +120,12 @@ fn put_actions<P: ProgramView, O: TraceOut>(
 {
     let mut place = Place::from(program.start(i));
     for n in 0..program.moves(i) {
-        place = place.after(program.step(i, n + 1));
-        put_action(out, program, i, n + 1, place)?;
+        let action = ActionId {
+            agent: i,
+            number: n + 1,
+        };
+        place = place.after(program.step(i, action.number));
+        put_action(out, program, action, place)?;
     }
     Ok(())
 }

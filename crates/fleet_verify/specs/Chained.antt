@@ -3,9 +3,10 @@ use Rattle.std.specs.Prelude.{◌≡◌, ℕ, ◌+◌, ◌*◌, ◌<◌, List, g
 use Rattle.fleet_model.specs.Program.{Program}
 use Rattle.fleet_model.specs.Chain.{Reaches}
 use Rattle.fleet_model.specs.Visit.{entering, leaving}
-use Rattle.fleet_needs.specs.Asked.{IsQuestion}
+use Rattle.fleet_needs.specs.Asked.{IsQuestion, AreAnswers}
 use Rattle.fleet_verify.specs.Ahead.{level_in}
 use Rattle.fleet_verify.specs.OpenPairs.{question_of}
+use Rattle.fleet_verify.specs.declared.answers.Answers.{Answers}
 use Rattle.fleet_verify.specs.declared.chained.LevelQuestion.{LevelQuestion}
 use Rattle.fleet_verify.specs.declared.chained.TheConstants.{AGENTS}
 use Rattle.fleet_verify.specs.declared.order.OpenPair.{OpenPair}
@@ -13,6 +14,10 @@ use Rattle.fleet_verify.specs.declared.order.OpenPair.{OpenPair}
 -- a chain begins with the action that leaves the first visit and ends with the one that enters the second
 abbrev pub IsChained : Program → OpenPair → Type 0
 IsChained p o = Reaches p (leaving p o.first) (entering o.second)
+
+-- its flags answer its questions
+abbrev pub AreKnown : Program → Answers → Type 0
+AreKnown p known = AreAnswers p known.questions.items known.flags.items
 
 -- by the level of the last action, then by its agent
 abbrev pub key_of : LevelQuestion → ℕ

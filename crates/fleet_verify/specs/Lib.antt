@@ -13,6 +13,7 @@ pub mod Broken
 pub mod RefusalWords
 pub mod Reach
 pub mod Ahead
+pub mod Outlook
 pub mod Chained
 pub mod Pieces
 pub mod Breaking

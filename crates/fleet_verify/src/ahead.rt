@@ -1,4 +1,4 @@
-//! A verifier without ticks: each agent runs on as far as its awaits allow. It only says yes.
+//! A verifier without ticks: each agent runs on as far as its awaits allow. It only says yes, or what was answered.
 
 ghost use Rattle.std.specs.Prelude.{◌≡◌, ◌≢◌, ◌<◌, ◌≤◌, ◌+◌, ◌-◌, ◌↔◌, get_or, set, ℕ, Some, true, IsTrue, length, max, IfOk, IfErr, IfSome, OnOk, List, [], ◌∷◌, ◌++◌, Contains};
 ghost use Rattle.fleet_model.specs.declared.geometry.Cell.{Cell};
@@ -13,10 +13,11 @@ ghost use Rattle.fleet_verify.specs.Ahead.{IsRanked, IsAhead, IsNext, IsRunner, 
 ghost use Rattle.fleet_verify.specs.Rising.{climbed, last_level};
 ghost use Rattle.fleet_verify.specs.Faults.{HasStarts};
 ghost use Rattle.fleet_verify.specs.LastVisits.{kept_at};
-ghost use Rattle.fleet_verify.specs.Parts.{IsAcceptedFor};
+ghost use Rattle.fleet_verify.specs.Outlook.{IsOutlook};
 
 use crate::agents::ends_right;
-use crate::chained::are_chained;
+use crate::answers::Answers;
+use crate::chained::unless_chained;
 use crate::last_visits::LastVisits;
 use crate::level_row::{LevelRow, row_of};
 use crate::order::{OpenPair, PlacedVisit, begins_visit, is_left_by, open_unless_after};
@@ -727,23 +728,30 @@ fn finished_chain<P: ProgramView>(
     Some(chain)
 }
 
-/// The number of actions of the longest chain, if all has been found right. Chains are asked for at open pairs alone,
-/// once the memory of all else is given back.
+/// What is found of a program by agents that ran ahead.
+pub enum Outlook {
+    /// It is accepted, and its longest chain has so many actions.
+    Accepted(u32),
+    /// It may be accepted or not, and this was answered.
+    Unknown(Answers),
+}
+
+/// Whether all has been found right. Chains are asked for at open pairs alone, once the memory of all else is given
+/// back.
 fn judge_ahead<P: ProgramView>(
     alloc: Global,
     program: &P,
     grid: &Grid,
     instance: &Instance,
     ahead: Ahead,
-) -> Result<Option<u32>, OutOfMemory>
+) -> Result<Outlook, OutOfMemory>
     requires starts { HasStarts instance.now (P.program program.now) }
     requires ahead { IsAhead (is_passable grid.now) (P.program program.now) ahead }
-    ensures { IfOk result (λ found. IfSome found
-        (IsAcceptedFor grid.now instance.now (P.program program.now))) }
+    ensures { IfOk result (IsOutlook grid.now instance.now (P.program program.now)) }
 {
     let _agents = program.agents();
     let Some(chain) = finished_chain(program, grid, instance, &ahead) else {
-        return Ok(None);
+        return Ok(Outlook::Unknown(Answers::none(alloc)));
     };
     let Ahead {
         rows,
@@ -753,11 +761,10 @@ fn judge_ahead<P: ProgramView>(
     } = ahead;
     drop(cells);
     last.let_go();
-    let is_orderly = are_chained(alloc, program, chain, rows, pairs)?;
-    if is_orderly {
-        return Ok(Some(chain));
+    match unless_chained(alloc, program, chain, rows, pairs)? {
+        None => Ok(Outlook::Accepted(chain)),
+        Some(known) => Ok(Outlook::Unknown(known)),
     }
-    Ok(None)
 }
 
 /// All agents, run on as far as their awaits allow.
@@ -769,20 +776,19 @@ fn run_all<P: ProgramView>(alloc: Global, program: &P, grid: &Grid) -> Result<Ah
     Ok(ahead)
 }
 
-/// The number of actions of the longest chain, if the program is found to be accepted. If not, nothing is said of it.
-pub fn accepts_ahead<P: ProgramView>(
+/// Whether the program is found to be accepted. If not, nothing is said of it but what was answered.
+pub fn look_ahead<P: ProgramView>(
     alloc: Global,
     program: &P,
     grid: &Grid,
     instance: &Instance,
-) -> Result<Option<u32>, OutOfMemory>
+) -> Result<Outlook, OutOfMemory>
     requires { HasStarts instance.now (P.program program.now) }
-    ensures { IfOk result (λ found. IfSome found
-        (IsAcceptedFor grid.now instance.now (P.program program.now))) }
+    ensures { IfOk result (IsOutlook grid.now instance.now (P.program program.now)) }
 {
     match run_all(alloc, program, grid) {
         Ok(ahead) => judge_ahead(alloc, program, grid, instance, ahead),
-        Err(Stop::OffGround) => Ok(None),
+        Err(Stop::OffGround) => Ok(Outlook::Unknown(Answers::none(alloc))),
         Err(Stop::OutOfMemory) => Err(OutOfMemory),
     }
 }

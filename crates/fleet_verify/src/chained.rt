@@ -1,16 +1,17 @@
-//! Whether chains of needs order all open pairs of a program whose levels are known. It only says yes.
+//! Whether chains of needs order all open pairs of a program whose levels are known. It says yes, or what was answered.
 
-ghost use Rattle.std.specs.Prelude.{◌≡◌, ◌<◌, ◌≤◌, ◌+◌, ◌-◌, ◌*◌, ℕ, true, false, [], All, Contains, IfOk, IfSome, get_or, length, map};
+ghost use Rattle.std.specs.Prelude.{◌≡◌, ◌<◌, ◌≤◌, ◌+◌, ◌-◌, ◌*◌, ℕ, true, false, [], All, Contains, IfOk, IfNone, IfSome, get_or, length, map};
 ghost use Rattle.fleet_model.specs.Program.{AreInRange};
 ghost use Rattle.fleet_model.specs.Machine.{IsFinish};
 ghost use Rattle.fleet_verify.specs.Ahead.{AreCountedUp, level_in};
 ghost use Rattle.fleet_verify.specs.OpenPairs.{AreVisits, question_of};
-ghost use Rattle.fleet_verify.specs.Chained.{IsChained, IsAskedOf, AreAsked, IsAsked, key_of};
+ghost use Rattle.fleet_verify.specs.Chained.{AreKnown, IsChained, IsAskedOf, AreAsked, IsAsked, key_of};
 
+use crate::answers::Answers;
 use crate::level_row::{LevelRow, row_of};
 use crate::order::{OpenPair, leaving};
-use fleet_model::{ActionId, OutOfMemory, ProgramView};
-use fleet_needs::{Question, answer_questions};
+use fleet_model::{ActionId, OutOfMemory, ProgramView, Visit};
+use fleet_needs::Question;
 use std::alloc::Global;
 
 /// A question for a chain, with the level of its last action.
@@ -39,31 +40,32 @@ fn key(level: u32, agent: u16) -> u64
     u64::from(level) * AGENTS + u64::from(agent)
 }
 
-/// Whether a chain orders each of the open pairs of a program that finishes after so many ticks if nobody is held.
-pub fn are_chained<P: ProgramView>(
+/// Nothing if a chain orders each of the open pairs of a program that finishes after so many ticks if nobody is held.
+/// Else, or if it is not found, what was answered.
+pub fn unless_chained<P: ProgramView>(
     alloc: Global,
     program: &P,
     ticks: u32,
     rows: Vec<LevelRow>,
     pairs: Vec<OpenPair>,
-) -> Result<bool, OutOfMemory>
+) -> Result<Option<Answers>, OutOfMemory>
     requires range { AreInRange (P.program program.now) }
     requires finish { IsFinish (P.program program.now) [] ticks }
     requires rows { length rows.items ≡ length (P.program program.now) }
     requires levels { AreCountedUp (P.program program.now) (level_in rows.items) }
     requires visits { All (AreVisits (P.program program.now)) pairs.items }
-    ensures { IfOk result (λ yes. yes ≡ true
-        → (k : ℕ) → (o : OpenPair) → k < length pairs.items
-        → IsChained (P.program program.now) (get_or pairs.items k o)) }
+    ensures chained { IfOk result (λ found. IfNone found ((k : ℕ) → (o : OpenPair)
+        → k < length pairs.items → IsChained (P.program program.now) (get_or pairs.items k o))) }
+    ensures known { IfOk result (λ found. IfSome found (AreKnown (P.program program.now))) }
 {
     match ask_all(alloc, program, &rows, &pairs)? {
         Some(found) => answer_asked(alloc, program, ticks, rows, pairs, found),
-        None => Ok(false),
+        None => Ok(Some(Answers::none(alloc))),
     }
 }
 
-/// Whether a chain orders each of the open pairs that were asked for. What is asked takes memory, so all else is given
-/// back before.
+/// Nothing if a chain orders each of the open pairs that were asked for, else what was answered. What is asked takes
+/// memory, so all else is given back before.
 fn answer_asked<P: ProgramView>(
     alloc: Global,
     program: &P,
@@ -71,27 +73,30 @@ fn answer_asked<P: ProgramView>(
     rows: Vec<LevelRow>,
     pairs: Vec<OpenPair>,
     found: Vec<LevelQuestion>,
-) -> Result<bool, OutOfMemory>
+) -> Result<Option<Answers>, OutOfMemory>
     requires range { AreInRange (P.program program.now) }
     requires finish { IsFinish (P.program program.now) [] ticks }
     requires levels { AreCountedUp (P.program program.now) (level_in rows.items) }
     requires asked { AreAsked (P.program program.now) rows.items pairs.items
         (length pairs.items) found.items }
-    ensures { IfOk result (λ yes. yes ≡ true
-        → (k : ℕ) → (o : OpenPair) → k < length pairs.items
-        → IsChained (P.program program.now) (get_or pairs.items k o)) }
+    ensures chained { IfOk result (λ found. IfNone found ((k : ℕ) → (o : OpenPair)
+        → k < length pairs.items → IsChained (P.program program.now) (get_or pairs.items k o))) }
+    ensures known { IfOk result (λ found. IfSome found (AreKnown (P.program program.now))) }
 {
     let _agents = program.agents();
     drop(rows);
     let_go(pairs);
     let asked = sorted(found);
     if !are_rising(&asked) {
-        return Ok(false);
+        return Ok(Some(Answers::none(alloc)));
     }
     let questions = questions_of(alloc, &asked)?;
     let_go(asked);
-    let flags = answer_questions(alloc, program, ticks, &questions)?;
-    Ok(is_none(&flags))
+    let answers = Answers::to(alloc, program, ticks, questions)?;
+    if is_none(&answers.flags) {
+        return Ok(None);
+    }
+    Ok(Some(answers))
 }
 
 /// Gives the memory of the list back, all but that of one item before the list ends: an allocator that gets much back
@@ -126,7 +131,7 @@ fn sorted(found: Vec<LevelQuestion>) -> Vec<LevelQuestion>
     asked
 }
 
-/// The question for each open pair, unless one is for a start.
+/// The question for each open pair, unless one is for a start or surely without a chain.
 fn ask_all<P: ProgramView>(
     alloc: Global,
     program: &P,
@@ -157,7 +162,8 @@ fn pair_at(pairs: &Vec<OpenPair>, k: usize) -> OpenPair
     pairs[k]
 }
 
-/// The question for an open pair, unless its second visit is a start.
+/// The question for an open pair, unless its second visit is a start, or begins no later than the first: no chain leads
+/// on to such a one.
 #[tactic(auto, using(crate::proofs::AskedByLevel::asked_of))]
 fn ask<P: ProgramView>(program: &P, rows: &Vec<LevelRow>, pair: OpenPair) -> Option<LevelQuestion>
     requires rows { length rows.now.items ≡ length (P.program program.now) }
@@ -172,6 +178,9 @@ fn ask<P: ProgramView>(program: &P, rows: &Vec<LevelRow>, pair: OpenPair) -> Opt
     let Ok(level) = u32::try_from(level) else {
         return None;
     };
+    if begins_late(rows, first, level) {
+        return None;
+    }
     let first = leaving(program, first);
     let last = ActionId {
         agent: second.agent,
@@ -181,6 +190,19 @@ fn ask<P: ProgramView>(program: &P, rows: &Vec<LevelRow>, pair: OpenPair) -> Opt
         level,
         question: Question { first, last },
     })
+}
+
+/// Whether the visit does not begin at a level below this one.
+fn begins_late(rows: &Vec<LevelRow>, visit: Visit, level: u32) -> bool
+    requires { visit.agent < length rows.now.items }
+{
+    if visit.position == 0 {
+        return false;
+    }
+    match row_of(rows, visit.agent).level(visit.position) {
+        Some(begun) => begun >= u64::from(level),
+        None => true,
+    }
 }
 
 /// Whether each question has a greater key than the one before.

@@ -14,30 +14,34 @@ ghost use Rattle.fleet_verify.specs.Order.{number_of, AreAllAdded, AreAllViolati
 ghost use Rattle.fleet_verify.specs.Faults.{HasRanges, IsFault};
 ghost use Rattle.std.specs.Option.{option_or};
 ghost use Rattle.fleet_needs.specs.Asked.{AreQuestions};
+ghost use Rattle.fleet_verify.specs.Chained.{AreKnown};
 ghost use Rattle.fleet_verify.specs.OpenPairs.{question_of, violation_of, AreVisits, HasNoChain, IsFlagged, AnswersFirstBad};
 
+use crate::answers::{Answers, are_questions_of};
 use crate::fault::VerifyFault;
 use crate::path::cell_after;
 use crate::unheld_run::UnheldRun;
 use fleet_grid::Grid;
 use fleet_model::{ActionId, Cell, MAX_COORDINATE, OutOfMemory, ProgramView, Step, Visit};
-use fleet_needs::{Question, answer_questions};
+use fleet_needs::Question;
 use fleet_scen::Instance;
 use indexmap::IndexMap;
 use std::alloc::Global;
 
 /// Whether the visits of each cell come one after another. The run has added all visits. Chains are asked for only if
-/// some visit does not await that the one before is left.
+/// some visit does not await that the one before is left, and the answers are not those that are known.
 pub fn check_order<P: ProgramView>(
     alloc: Global,
     program: &P,
     grid: &Grid,
     instance: &Instance,
     run: &UnheldRun,
+    known: &Answers,
 ) -> Result<(), VerifyFault>
     requires before { HasRanges (is_passable grid.now) instance.now (P.program program.now) }
     requires added { AreAllAdded (P.program program.now) run.now.visits }
     requires finish { IsFinish (P.program program.now) [] run.now.ticks }
+    requires known { AreKnown (P.program program.now) known.now }
     ensures ok { OnOk result (IsOrderly ComesAfter (P.program program.now)) }
     ensures err { IfErr result (λ f. IsFault (is_passable grid.now) instance.now
         (P.program program.now) f) }
@@ -47,7 +51,7 @@ pub fn check_order<P: ProgramView>(
         return Ok(());
     }
     let _agents = instance.agents();
-    let violations = find_violations(alloc, program, run.ticks, pairs)?;
+    let violations = find_violations(alloc, program, run.ticks, pairs, known)?;
     if violations.is_empty() {
         return Ok(());
     }
@@ -132,25 +136,31 @@ pub struct OrderViolation {
 }
 
 /// By the number of each cell its first open pair without a chain from the action that leaves the first visit to the
-/// one that enters the second. The program finishes after so many ticks if nobody is held.
+/// one that enters the second. The program finishes after so many ticks if nobody is held. Nothing is asked if it was
+/// asked before.
 pub fn find_violations<P: ProgramView>(
     alloc: Global,
     program: &P,
     ticks: u32,
     pairs: &[OpenPair],
+    known: &Answers,
 ) -> Result<IndexMap<u32, OrderViolation>, OutOfMemory>
     requires range { AreInRange (P.program program.now) }
     requires finish { IsFinish (P.program program.now) [] ticks }
     requires visits { All (AreVisits (P.program program.now)) pairs.now }
     requires questions { AreQuestions (P.program program.now)
         (map (question_of (P.program program.now)) pairs.now) }
+    requires known { AreKnown (P.program program.now) known.now }
     ensures { IfOk result (λ found. (n : ℕ)
         → AnswersFirstBad (λ _ o. HasNoChain (P.program program.now) o)
         pairs.now (length pairs.now) n (get nat_eq found n)) }
 {
+    if are_questions_of(program, pairs, &known.questions) {
+        return first_flagged(alloc, pairs, &known.flags);
+    }
     let questions = questions_of(alloc, program, pairs)?;
-    let flags = answer_questions(alloc, program, ticks, &questions)?;
-    first_flagged(alloc, pairs, &flags)
+    let asked = Answers::to(alloc, program, ticks, questions)?;
+    first_flagged(alloc, pairs, &asked.flags)
 }
 
 /// The question of each pair.

@@ -4,13 +4,15 @@
 ghost use Rattle.std.specs.Prelude.{◌≡◌, IfOk, IfErr};
 ghost use Rattle.fleet_model.specs.Program.{IsWellFormed};
 ghost use Rattle.fleet_grid.specs.Ground.{is_passable};
+ghost use Rattle.fleet_verify.specs.Chained.{AreKnown};
 ghost use Rattle.fleet_verify.specs.Faults.{HasStarts, IsFault};
 ghost use Rattle.fleet_verify.specs.Walk.{LeavesGround, IsAtStart, IsRunOnGround, HasArrived};
 ghost use Rattle.fleet_verify.specs.Parts.{IsAcceptedFor};
 ghost use Rattle.fleet_verify.specs.Promises.{Promises, IsRefusedRightly};
 
 use crate::agents::{check_paths, check_starts, has_arrived};
-use crate::ahead::accepts_ahead;
+use crate::ahead::{Outlook, look_ahead};
+use crate::answers::Answers;
 use crate::fault::VerifyFault;
 use crate::order::check_order;
 use crate::ring::find_ring;
@@ -62,7 +64,8 @@ pub fn verify<'g, P: ProgramView>(
 
 /// The number of actions of the longest chain, if the program is accepted. A run in which nobody is held passes each
 /// action of such a program once. If that run goes wrong, the first fault is searched for in the order of the faults.
-/// Before it the agents are let run ahead, which is faster, and finds most accepted programs right.
+/// Before it the agents are let run ahead, which is faster, and finds most accepted programs right. What is answered
+/// there is not asked again.
 fn judge<P: ProgramView>(
     alloc: Global,
     program: &P,
@@ -76,11 +79,13 @@ fn judge<P: ProgramView>(
     ensures formed { IsWellFormed (P.program program.now) }
 {
     check_starts(program, instance)?;
-    if let Some(chain) = accepts_ahead(alloc, program, grid, instance)? {
-        return Ok(chain);
+    match look_ahead(alloc, program, grid, instance)? {
+        Outlook::Accepted(chain) => Ok(chain),
+        Outlook::Unknown(known) => {
+            let mut run = UnheldRun::start(alloc, program)?;
+            judge_started(alloc, program, grid, instance, &mut run, &known)
+        }
     }
-    let mut run = UnheldRun::start(alloc, program)?;
-    judge_started(alloc, program, grid, instance, &mut run)
 }
 
 /// The same as `judge`, from the start of the run in which nobody is held.
@@ -90,16 +95,18 @@ fn judge_started<P: ProgramView>(
     grid: &Grid,
     instance: &Instance,
     run: &mut UnheldRun,
+    known: &Answers,
 ) -> Result<u32, VerifyFault>
     requires starts { HasStarts instance.now (P.program program.now) }
     requires run { IsAtStart (P.program program.now) run.old }
+    requires known { AreKnown (P.program program.now) known.now }
     ensures ok { IfOk result (λ chain. IsAcceptedFor grid.now instance.now
         (P.program program.now) chain) }
     ensures err { IfErr result (λ f. IsFault (is_passable grid.now) instance.now
         (P.program program.now) f) }
 {
     match run_unheld(program, grid, run) {
-        Ok(()) => judge_run(alloc, program, grid, instance, run),
+        Ok(()) => judge_run(alloc, program, grid, instance, run, known),
         Err(Stop::OffGround) => Err(path_fault(program, grid, instance)),
         Err(Stop::OutOfMemory) => Err(VerifyFault::OutOfMemory),
     }
@@ -124,16 +131,18 @@ fn judge_run<P: ProgramView>(
     grid: &Grid,
     instance: &Instance,
     run: &UnheldRun,
+    known: &Answers,
 ) -> Result<u32, VerifyFault>
     requires starts { HasStarts instance.now (P.program program.now) }
     requires run { IsRunOnGround (is_passable grid.now) (P.program program.now) run.now }
+    requires known { AreKnown (P.program program.now) known.now }
     ensures ok { IfOk result (λ chain. IsAcceptedFor grid.now instance.now
         (P.program program.now) chain) }
     ensures err { IfErr result (λ f. IsFault (is_passable grid.now) instance.now
         (P.program program.now) f) }
 {
     if has_arrived(program, instance, &run.machine) {
-        check_order(alloc, program, grid, instance, run)?;
+        check_order(alloc, program, grid, instance, run, known)?;
         Ok(run.ticks)
     } else {
         Err(fault_if_stuck(alloc, program, grid, instance, run))

@@ -1,8 +1,8 @@
 use Rattle.fleet_verify.proofs.Beginning.{done_counted, done_range, done_finish, done_visits, ahead_accepted}
 use Rattle.fleet_verify.proofs.ahead.judge_ahead.Goals as goal
 
-pub are_chained-requires : goal.are_chained-requires
-are_chained-requires g c =
+pub unless_chained-requires : goal.unless_chained-requires
+unless_chained-requires g c =
     let p = g.P.ProgramView.program c.args.program.now in
     let n = c.in-Some.ensures.0 in
     let all = c.in-Some.ensures.1 in
@@ -16,11 +16,14 @@ are_chained-requires g c =
       visits = done_visits c.args.grid.now c.args.instance.now p c.args.ahead n c.in-Some.chain wf c.requires.starts c.requires.ahead done all;
     }
 
-pub returns-then-is_orderly : goal.returns-then-is_orderly
-returns-then-is_orderly g c =
+pub returns-in-None : goal.returns-in-None
+returns-in-None g c =
     let p = g.P.ProgramView.program c.args.program.now in
     let n = c.in-Some.ensures.0 in
     let all = c.in-Some.ensures.1 in
     let done = c.in-Some.ensures.2 in
     ahead_accepted c.args.grid.now c.args.instance.now p c.args.ahead n c.in-Some.chain c.agents-agents.ensures.well_formed c.requires.starts c.requires.ahead done all
-    (c.in_ok-is_orderly.ensures c.if-is_orderly.true)
+    (rw c.in-None.is at c.in_ok-unless_chained.ensures.chained)
+
+pub returns-in_default : goal.returns-in_default
+returns-in_default g c = c.none.ensures (g.P.ProgramView.program c.args.program.now)

@@ -2,7 +2,7 @@ use Rattle.fleet_verify.proofs.verifier.judge_started.Goals as goal
 
 pub judge_run-requires : goal.judge_run-requires
 judge_run-requires g c =
-    record { starts = c.requires.starts; run = c.in-Ok.ensures }
+    record { starts = c.requires.starts; run = c.in-Ok.ensures; known = c.requires.known }
 
 pub path_fault-requires : goal.path_fault-requires
 path_fault-requires g c =

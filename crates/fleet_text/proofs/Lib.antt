@@ -4,3 +4,4 @@ pub mod BlockLaws
 pub mod DigitLemmas
 pub mod SinkLemmas
 pub mod WrittenLaws
+pub mod NumberedLemmas

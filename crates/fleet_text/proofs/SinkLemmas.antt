@@ -2,7 +2,8 @@
 use Rattle.std.proofs.Common.{◌≡◌, ℕ, ◌+◌, ◌-◌, ◌≤◌, List, [], ◌++◌, length, take, drop, None, Some, Option, Result, Ok, Err, IsErr, refl, arith, append_assoc, length-append, ◌∙◌, sym, subst, ap, append-nil, ◌<◌, ◌∷◌, get_or, map}
 use Rattle.std.proofs.Math.Seq.{take-add, take-append-add}
 use Rattle.std.proofs.lemmas.List.{take-append-le, take_all, take_more, map-append, take-append-drop}
-use Rattle.std.proofs.lemmas.Grind.{common_steps}
+use Rattle.std.specs.List.{flat_map}
+use Rattle.std.proofs.lemmas.Grind.{common_steps, flat_map-append}
 use Rattle.std.specs.Io.KnownBytes.{Keeps, Appends}
 use Rattle.fleet_text.specs.Sink.{SinkState, Takes, StopsWithin, TakesAll, IsWorking}
 use Rattle.fleet_text.specs.Row.{PassesOn, Gathers}
@@ -255,3 +256,35 @@ pub passed_element :
     → PassesOn a b r s (next_words (map text (take i xs))) → PassesOn b c s t (32 ∷ text (get_or xs i d)) → PassesOn a c r t (next_words (map text (take (i + 1) xs)))
 passed_element text a b c r s t xs i d below so_far next =
     subst (PassesOn a c r t) (sym (next_words-more text xs i d below)) (passes_more a b c r s t (next_words (map text (take i xs))) (32 ∷ text (get_or xs i d)) so_far next)
+
+-- ---- elements with some words each
+
+-- the words of one element more
+words_of_more : {X : Type 0} (words : X → List (List ℕ)) (xs : List X) (i : ℕ) (d : X) → i < length xs
+    → next_words (flat_map words (take (i + 1) xs)) ≡ next_words (flat_map words (take i xs)) ++ next_words (words (get_or xs i d))
+words_of_more words xs i d below =
+    ap (λ ys. next_words (flat_map words ys)) (take_more xs i d below)
+    ∙ ap next_words (flat_map-append words (take i xs) (get_or xs i d ∷ []) ∙ ap (λ l. flat_map words (take i xs) ++ l) (append-nil (words (get_or xs i d))))
+    ∙ next_words-append (flat_map words (take i xs)) (words (get_or xs i d))
+
+-- .. were put into the row
+pub passed_words :
+    {X : Type 0} (words : X → List (List ℕ)) (a b c : SinkState) (r s t : List ℕ) (xs : List X) (i : ℕ) (d : X) → i < length xs
+    → PassesOn a b r s (next_words (flat_map words (take i xs))) → PassesOn b c s t (next_words (words (get_or xs i d))) → PassesOn a c r t (next_words (flat_map words (take (i + 1) xs)))
+passed_words words a b c r s t xs i d below so_far next =
+    subst (PassesOn a c r t) (sym (words_of_more words xs i d below)) (passes_more a b c r s t (next_words (flat_map words (take i xs))) (next_words (words (get_or xs i d))) so_far next)
+
+-- the sink failed within them
+pub stops_within_words :
+    {X : Type 0} (words : X → List (List ℕ)) (a b c : SinkState) (r s : List ℕ) (xs : List X) (i : ℕ) (d : X) → i < length xs
+    → PassesOn a b r s (next_words (flat_map words (take i xs))) → StopsWithin b c (s ++ next_words (words (get_or xs i d))) → StopsWithin a c (r ++ next_words (flat_map words xs))
+stops_within_words words a b c r s xs i d below so_far next =
+    let within : StopsWithin a c (r ++ (next_words (flat_map words (take i xs)) ++ next_words (words (get_or xs i d)))) =
+    stops_past a b c r s (next_words (flat_map words (take i xs))) (next_words (words (get_or xs i d))) so_far next in
+    let more : StopsWithin a c (r ++ next_words (flat_map words (take (i + 1) xs))) =
+    subst (λ l. StopsWithin a c (r ++ l)) (sym (words_of_more words xs i d below)) within in
+    let whole : next_words (flat_map words (take (i + 1) xs)) ++ next_words (flat_map words (drop (i + 1) xs)) ≡ next_words (flat_map words xs) =
+    sym (next_words-append (flat_map words (take (i + 1) xs)) (flat_map words (drop (i + 1) xs)))
+    ∙ ap next_words (sym (flat_map-append words (take (i + 1) xs) (drop (i + 1) xs)))
+    ∙ ap (λ ys. next_words (flat_map words ys)) (take-append-drop (i + 1) xs) in
+    subst (λ l. StopsWithin a c (r ++ l)) whole (stops_before a c r _ (next_words (flat_map words (drop (i + 1) xs))) more)

@@ -1,6 +1,6 @@
 -- Words, lines of words, and texts of lines.
-use Rattle.std.specs.Prelude.{ℕ, List, [], ◌∷◌, ◌++◌, decimal}
-use Rattle.std.specs.List.{flat_map, join_with_byte}
+use Rattle.std.specs.Prelude.{ℕ, zero, suc, List, [], ◌∷◌, ◌++◌, map, decimal}
+use Rattle.std.specs.List.{flat_map, join_with_byte, range_with_len}
 use Rattle.fleet_text.specs.declared.writing.Word.{Word}
 use Rattle.fleet_text.specs.declared.writing.Word.TheVariants.{Text, Number, Label, Pair, Of}
 
@@ -11,6 +11,19 @@ pair_text x y = (decimal x ++ 44 ∷ []) ++ decimal y
 -- a number and another that counts within it, as `a:n`
 abbrev pub numbered_text : ℕ → ℕ → List ℕ
 numbered_text owner number = (decimal owner ++ 58 ∷ []) ++ decimal number
+
+-- a word `a:n` for each of so many numbers, from the first on
+abbrev pub numbered_words : (owner first count : ℕ) → List (List ℕ)
+numbered_words owner first count = map (numbered_text owner) (range_with_len first count)
+
+-- the digits of a number of so many tens, but for the last one
+abbrev pub tens_text : ℕ → List ℕ
+tens_text zero = []
+tens_text (suc tens) = decimal (suc tens)
+
+-- a space, and the word `a:n` of such a number but for its last digit
+abbrev pub next_front : (owner tens : ℕ) → List ℕ
+next_front owner tens = 32 ∷ (decimal owner ++ 58 ∷ []) ++ tens_text tens
 
 -- a text as it stands, a number in base ten, a number and a colon, two numbers, or a number with another that counts within it
 abbrev pub word_text : Word → List ℕ

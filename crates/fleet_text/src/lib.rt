@@ -5,11 +5,13 @@
 //!
 //! `lines` reads lines and words, `numbers` reads and writes numbers; `sink` has the sinks (`TraceOut`, and `Flush` for
 //! those that hand on what they kept back), the two over memory and over a writer among them, and `row` gathers bytes
-//! in a fixed room and hands them on in large pieces. `writing` writes words and lines of words without memory, and
-//! `refusal` has the trait of what is reported in such a line (`Refusal`).
+//! in a fixed room and hands them on in large pieces. `writing` writes words and lines of words without memory,
+//! `numbered` rows of words whose numbers follow one another, and `refusal` has the trait of what is reported in such a
+//! line (`Refusal`).
 #![tactic(auto)]
 
 mod lines;
+mod numbered;
 mod numbers;
 mod refusal;
 mod row;
@@ -19,6 +21,7 @@ mod writing;
 pub use lines::{
     BLOCK, ByteClass, Cursor, first_of, from_front, is_blank, next_line, next_word, without_cr,
 };
+pub use numbered::put_numbered;
 pub use numbers::{
     TOO_LARGE, TOO_LONG, number_of, small_number_front, small_number_of, write_byte, write_number,
     write_small_number,

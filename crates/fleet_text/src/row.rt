@@ -12,10 +12,10 @@ use std::marker::Model;
 const ROOM: usize = 4_096;
 
 /// How many bytes the longest number of 16 bits and the longest of 32 have, with a byte between them.
-const TWO: usize = 5 + 1 + 10;
+pub(crate) const TWO: usize = 5 + 1 + 10;
 
 /// How many these have with a byte before them.
-const NEXT_TWO: usize = 1 + TWO;
+pub(crate) const NEXT_TWO: usize = 1 + TWO;
 
 /// Writes two numbers with a byte between them so that they end before `TWO`, and answers where they begin.
 #[inline(always)]
@@ -100,7 +100,11 @@ impl Row {
     }
 
     /// Has the sink take what is in the row, unless there is room for so many bytes more.
-    fn make_room<O: TraceOut>(&mut self, out: &mut O, bytes: usize) -> Result<(), OutFault>
+    pub(crate) fn make_room<O: TraceOut>(
+        &mut self,
+        out: &mut O,
+        bytes: usize,
+    ) -> Result<(), OutFault>
         requires working { IsWorking (O.state out.old) }
         requires bytes { bytes ≤ ROOM }
         ensures gathered { Gathers (O.state out.old) (O.state out.new) result self.old self.new [] }
@@ -114,7 +118,7 @@ impl Row {
     }
 
     /// Adds a byte for which there is room.
-    fn append_byte(&mut self, byte: u8)
+    pub(crate) fn append_byte(&mut self, byte: u8)
         requires { length self.old + 1 ≤ ROOM }
         ensures { self.new ≡ self.old ++ byte ∷ [] }
     {
@@ -124,7 +128,7 @@ impl Row {
 
     /// Adds so many of the first bytes of a piece. All `TWO` of them are copied, for which there is room: that takes no
     /// loop.
-    fn append_front(&mut self, piece: &[u8], count: usize)
+    pub(crate) fn append_front(&mut self, piece: &[u8], count: usize)
         requires piece { length piece.now ≡ TWO }
         requires count { count ≤ TWO }
         requires room { length self.old + TWO ≤ ROOM }

@@ -10,7 +10,7 @@ use Rattle.fleet_model.specs.Program.{Program}
 use Rattle.fleet_model.specs.Chain.{Reaches}
 use Rattle.fleet_needs.specs.Rows.{IsColumn}
 use Rattle.fleet_needs.specs.Asked.{IsQuestion, IsSoonerAction, AreQuestions, AreAnswers}
-use Rattle.fleet_needs.specs.Block.{HasColumn, IsAnswer, AreAnswered}
+use Rattle.fleet_needs.specs.Block.{HasColumn, IsAnswer, AreAnswered, AreKnown}
 use Rattle.fleet_needs.specs.Columns.{AreColumns}
 use Rattle.fleet_needs.specs.JoinPass.{IsMade}
 use Rattle.fleet_needs.specs.Joins.{AreOwn, IsRow}
@@ -55,11 +55,7 @@ none_asked p questions asked flags h none long clear = record {
   each = λ k q e. near_answer p q (get_or flags k false) (clear k) (elim (h k q e) [ inr r ↦ r | inl set ↦ absurd (false≢true (sym (none q.first.agent) ∙ set)) ]);
 }
 
--- a question whose agent has no column in any block is answered before
-abbrev pub AreKnown : Program → List Bool → List Question → List Bool → Type 0
-AreKnown p asked questions flags = (m : ℕ) (q : Question) → slice_get questions m ≡ Some q → (get_or asked q.first.agent false ≡ true) ⊎ IsAnswer p q (get_or flags m false)
-
--- and stays so
+-- a question whose agent is not asked for stays answered
 pub known_on : (p : Program) (asked : List Bool) (columns : Columns) (questions : List Question) (old new : List Bool) → AreAnswered p columns questions old new → AreKnown p asked questions old
     → AreKnown p asked questions new
 known_on p asked columns questions old new a known m q e = elim (known m q e) [ inl set ↦ inl set | inr before ↦ inr (go before (get_or columns.of_agent.items q.first.agent None) refl) ]

@@ -9,7 +9,7 @@ use Rattle.fleet_model.specs.declared.program.Await.{Await}
 use Rattle.fleet_model.specs.Program.{Program, awaits_of, total_awaits, AreInRange, IsWellFormed}
 use Rattle.fleet_model.specs.Chain.{IsAction}
 use Rattle.fleet_needs.specs.Block.{HasColumn}
-use Rattle.fleet_needs.specs.Columns.{AreColumns}
+use Rattle.fleet_needs.specs.Columns.{AreColumns, BlocksLeft, IsNextBlock}
 use Rattle.fleet_needs.specs.JoinPass.{AreOthers, IsMade}
 use Rattle.fleet_needs.specs.Joins.{AddsNone, HasRowOr}
 use Rattle.fleet_needs.specs.declared.schedule.Columns.{Columns}
@@ -20,7 +20,7 @@ use Rattle.fleet_needs.specs.Implied.{AreAwaitPlaces, IsImplied, IsImpliedFlag, 
 use Rattle.fleet_needs.specs.Settled.{AreSettled, IsSettled}
 use Rattle.fleet_needs.proofs.AwaitOrder.{flag_apart}
 use Rattle.fleet_needs.specs.Flags.{AreSure, AreSureIf, IsFirstSet, IsPassed, AreSet, AreFlags, AreFlagged, AreFlaggedFor, AreLeft, AreAllFlagged, AreAwaitFlags, AreFlaggedTo, AreImplied, flags_of}
-use Rattle.fleet_needs.specs.Schedule.{AreColumnsOf, IsSchedule}
+use Rattle.fleet_needs.specs.Schedule.{IsSchedule}
 use Rattle.fleet_needs.specs.declared.implied.ImpliedAwaits.{ImpliedAwaits}
 use Rattle.fleet_needs.proofs.Joining.{awaited_action, adds_none_if_implied}
 use Rattle.fleet_needs.proofs.RowFlags.{flagged}
@@ -218,10 +218,6 @@ flagged_if_none p asked flags none settled a is k w at = elim (settled a is is k
 
 -- ---- block by block
 
--- columns of agents of the program
-pub columns_of : (p : Program) (asked : List Bool) (from : ℕ) (columns : Columns) → length asked ≡ length p → AreColumns asked from columns → AreColumnsOf p columns
-columns_of p asked from columns all h = record { agents = h.agents ∙ all; within = h.within; apart = h.apart }
-
 -- before the first block
 pub flags_first : (p : Program) (s : Schedule) (asked : List Bool) (m : ImpliedAwaits) → AreAwaitPlaces p m.places → length m.flags.items ≡ total_awaits p → AreSettled p asked m.flags.items → HasRowOr (AreSet p m.flags.items) p s.joins.items (IsAction p)
     → AreFlaggedTo p s asked 0 m
@@ -232,7 +228,7 @@ pub flags_begun : (p : Program) (s : Schedule) (asked : List Bool) (from : ℕ) 
 flags_begun p s asked from columns m h = record { places = h.places; all = h.all; flagged = flagged_none p s columns m.flags.items }
 
 -- one block more
-pub flags_on : (p : Program) (s : Schedule) (asked : List Bool) (from : ℕ) (columns : Columns) (old new : ImpliedAwaits) → IsSchedule p s → AreColumns asked from columns → AreFlaggedTo p s asked from old
+flags_on : (p : Program) (s : Schedule) (asked : List Bool) (from : ℕ) (columns : Columns) (old new : ImpliedAwaits) → IsSchedule p s → AreColumns asked from columns → AreFlaggedTo p s asked from old
     → AreAwaitFlags p s columns (length s.joins.items) new → AreLeft p columns old.flags.items new.flags.items → AreFlaggedTo p s asked columns.end new
 flags_on p s asked from columns old new schedule chosen was made left =
     let all = flagged_all p s columns new.flags.items (passed_told p s asked columns old.flags.items new.flags.items was.settled left was.passed) made.flagged in
@@ -243,6 +239,11 @@ flags_on p s asked from columns old new schedule chosen was made left =
       passed = passed_on p s asked columns old.flags.items new.flags.items was.settled left was.passed;
       flagged = flagged_to p asked from columns chosen old.flags.items new.flags.items all left was.settled was.flagged;
     }
+
+pub flags_after : (p : Program) (s : Schedule) (now after : BlocksLeft) (columns : Columns) → IsNextBlock now after columns → (old new : ImpliedAwaits) → IsSchedule p s → AreFlaggedTo p s now.asked now.from old
+    → AreAwaitFlags p s columns (length s.joins.items) new → AreLeft p columns old.flags.items new.flags.items → AreFlaggedTo p s after.asked after.from new
+flags_after p s now after columns next old new schedule was made left =
+    rw next.asked (rw next.from (flags_on p s now.asked now.from columns old new schedule next.chosen was made left))
 
 -- after the last block
 pub flags_end : (p : Program) → AreInRange p → (s : Schedule) (asked : List Bool) (from : ℕ) (m : ImpliedAwaits) → length p ≤ from → AreFlaggedTo p s asked from m → AreImplied p m

@@ -4,6 +4,7 @@ pub mod Joining
 pub mod Placed
 pub mod Counting
 pub mod Ordering
+pub mod NextBlock
 pub mod Answered
 pub mod Passing
 pub mod OthersJoined

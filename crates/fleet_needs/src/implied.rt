@@ -16,6 +16,7 @@ ghost use Rattle.fleet_needs.specs.Columns.{agents_in, column_of};
 ghost use Rattle.fleet_needs.specs.Counts.{counts_of};
 
 use crate::await_places::AwaitPlaces;
+use crate::blocks::Blocks;
 use crate::counts::Counts;
 use crate::finish_order::FinishOrder;
 use crate::join_pass::{JoinRow, JoinUse, use_joins};
@@ -135,7 +136,7 @@ fn flag_implied<P: ProgramView>(
 }
 
 /// Flags the awaits of the asked agents, block by block, each with as many columns as there is room for.
-#[tactic(auto, using(crate::proofs::Flagged::columns_of, crate::proofs::Flagged::flags_first, crate::proofs::Flagged::flags_begun))]
+#[tactic(auto, using(crate::proofs::NextBlock::columns_of, crate::proofs::NextBlock::fewer_left, crate::proofs::Flagged::flags_first, crate::proofs::Flagged::flags_begun))]
 fn flag_all<P: ProgramView>(
     alloc: Global,
     program: &P,
@@ -153,14 +154,9 @@ fn flag_all<P: ProgramView>(
         (P.program program.now) schedule.now.joins.items (IsAction (P.program program.now)) }
     ensures { OnOk result (AreImplied (P.program program.now) implied.new) }
 {
-    let most = schedule.columns_at_once();
-    let agents = program.agents();
-    let mut from = 0;
-    while from < agents {
-        let columns = Columns::choose(alloc, asked, from, most)?;
-        let end = columns.end;
+    let mut blocks = Blocks::of(program, schedule, asked);
+    while let Some(columns) = blocks.next(alloc)? {
         use_joins(alloc, program, schedule, columns, implied)?;
-        from = end;
     }
     Ok(())
 }
@@ -175,12 +171,12 @@ impl JoinUse for ImpliedAwaits {
 
     ghost keeps = { λ p columns old new. AreLeft p columns (flags_of old) (flags_of new) };
 
-    fn see_others<P: ProgramView>(&mut self, program: &P, row: &JoinRow<'_>) {
+    fn see_others<P: ProgramView>(&mut self, program: &P, row: &JoinRow) {
         flag_awaits(program, row, self);
     }
 
     /// The awaits are flagged already.
-    fn use_row<P: ProgramView>(&mut self, _: &P, _: &JoinRow<'_>) -> Result<(), OutOfMemory> {
+    fn use_row<P: ProgramView>(&mut self, _: &P, _: &JoinRow) -> Result<(), OutOfMemory> {
         Ok(())
     }
 
@@ -191,11 +187,7 @@ impl JoinUse for ImpliedAwaits {
 }
 
 /// Flags the awaits of the action whose agents have a column: whether others imply them.
-pub(crate) fn flag_awaits<P: ProgramView>(
-    program: &P,
-    row: &JoinRow<'_>,
-    implied: &mut ImpliedAwaits,
-)
+pub(crate) fn flag_awaits<P: ProgramView>(program: &P, row: &JoinRow, implied: &mut ImpliedAwaits)
     requires range { AreInRange (P.program program.now) }
     requires row { IsJoinRow (P.program program.now) row.now }
     requires others { HasOthers (P.program program.now) row.now }

@@ -76,7 +76,7 @@ pub trait JoinUse {
     ghost keeps: { Program → Columns → Self → Self → Type 0 };
 
     /// Sees what the action needs: its row, but for the count of each awaited action's own agent.
-    fn see_others<P: ProgramView>(&mut self, program: &P, row: &JoinRow<'_>)
+    fn see_others<P: ProgramView>(&mut self, program: &P, row: &JoinRow)
         requires range { AreInRange (P.program program.now) }
         requires row { IsJoinRow (P.program program.now) row.now }
         requires others { HasOthers (P.program program.now) row.now }
@@ -87,7 +87,7 @@ pub trait JoinUse {
         ensures keeps { keeps (P.program program.now) row.now.columns.now self.old self.new };
 
     /// Uses the row of the action.
-    fn use_row<P: ProgramView>(&mut self, program: &P, row: &JoinRow<'_>) -> Result<(), OutOfMemory>
+    fn use_row<P: ProgramView>(&mut self, program: &P, row: &JoinRow) -> Result<(), OutOfMemory>
         requires range { AreInRange (P.program program.now) }
         requires row { IsJoinRow (P.program program.now) row.now }
         requires made { HasWhole (P.program program.now) row.now }

@@ -22,6 +22,8 @@
 //! each awaited agent is that of all needs but this await. What is done with a row is a `JoinUse`, which is shown the row
 //! after either step; there are three, in `questions`, `gather` and `implied`.
 //!
+//! `blocks` goes through the agents that are asked for, each of whom has a column in one block.
+//!
 //! `questions` answers questions for chains: it looks a few steps back from the end of a chain first, and asks what this
 //! leaves open agent by agent, in blocks of columns.
 //!
@@ -43,6 +45,7 @@
 #![tactic(auto)]
 
 mod await_places;
+mod blocks;
 mod cost_walk;
 mod counts;
 mod critical;

@@ -5,7 +5,7 @@ ghost use Rattle.std.specs.Prelude.{◌≡◌, ◌⊎◌, ◌↔◌, ℕ, [], tr
 ghost use Rattle.fleet_model.specs.Program.{AreInRange};
 ghost use Rattle.fleet_model.specs.Machine.{IsFinish};
 ghost use Rattle.fleet_needs.specs.Asked.{AreQuestions, AreAnswers, IsQuestion};
-ghost use Rattle.fleet_needs.specs.Block.{IsAnswer, HasColumn, AreAnswered};
+ghost use Rattle.fleet_needs.specs.Block.{IsAnswer, HasColumn, AreAnswered, AreKnown};
 ghost use Rattle.fleet_needs.specs.Schedule.{HasRows, IsSchedule, AreColumnsOf, AreCounts};
 ghost use Rattle.fleet_model.specs.Chain.{IsAction, Reaches};
 ghost use Rattle.fleet_needs.specs.Columns.{column_of};
@@ -13,6 +13,7 @@ ghost use Rattle.fleet_needs.specs.Answering.{IsAsked};
 ghost use Rattle.fleet_needs.specs.Counts.{counts_of};
 ghost use Rattle.fleet_needs.specs.Joins.{AreOwn};
 
+use crate::blocks::Blocks;
 use crate::counts::Counts;
 use crate::finish_order::FinishOrder;
 use crate::join_pass::{JoinRow, JoinUse, use_joins};
@@ -62,9 +63,7 @@ fn answer_rest<P: ProgramView>(
     requires finish { IsFinish (P.program program.now) [] ticks }
     requires questions { AreQuestions (P.program program.now) questions.now }
     requires asked { length asked.now ≡ length (P.program program.now) }
-    requires flagged { (k : ℕ) (q : Question) → slice_get questions.now k ≡ Some q
-        → (get_or asked.now q.first.agent false ≡ true)
-        ⊎ IsAnswer (P.program program.now) q (get_or flags.items k false) }
+    requires known { AreKnown (P.program program.now) asked.now questions.now flags.items }
     requires flags { length flags.items ≡ length questions.now }
     ensures { IfOk result (λ flags. AreAnswers (P.program program.now) questions.now flags.items) }
 {
@@ -96,21 +95,14 @@ fn answer_all<P: ProgramView>(
     requires rows { HasRows schedule.now questions.now }
     requires questions { AreQuestions (P.program program.now) questions.now }
     requires asked { length asked.now ≡ length (P.program program.now) }
-    requires flagged { (k : ℕ) (q : Question) → slice_get questions.now k ≡ Some q
-        → (get_or asked.now q.first.agent false ≡ true)
-        ⊎ IsAnswer (P.program program.now) q (get_or flags.items k false) }
+    requires known { AreKnown (P.program program.now) asked.now questions.now flags.items }
     requires flags { length flags.items ≡ length questions.now }
     ensures { IfOk result (λ flags. AreAnswers (P.program program.now) questions.now flags.items) }
 {
     let mut flags = flags;
-    let most = schedule.columns_at_once();
-    let agents = program.agents();
-    let mut from = 0;
-    while from < agents {
-        let columns = Columns::choose(alloc, asked, from, most)?;
-        let end = columns.end;
+    let mut blocks = Blocks::of(program, schedule, asked);
+    while let Some(columns) = blocks.next(alloc)? {
         flags = answer(alloc, program, schedule, columns, questions, flags)?;
-        from = end;
     }
     Ok(flags)
 }
@@ -224,13 +216,9 @@ impl<'a> JoinUse for Answering<'a> {
     ghost keeps = { AreOthersLeft };
 
     /// The whole row alone is used.
-    fn see_others<P: ProgramView>(&mut self, _: &P, _: &JoinRow<'_>) {}
+    fn see_others<P: ProgramView>(&mut self, _: &P, _: &JoinRow) {}
 
-    fn use_row<P: ProgramView>(
-        &mut self,
-        program: &P,
-        row: &JoinRow<'_>,
-    ) -> Result<(), OutOfMemory> {
+    fn use_row<P: ProgramView>(&mut self, program: &P, row: &JoinRow) -> Result<(), OutOfMemory> {
         self.answer_next(program, row.columns, row.counts, row.action);
         Ok(())
     }

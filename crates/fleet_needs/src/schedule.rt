@@ -295,7 +295,9 @@ pub struct Columns {
     of_agent: Vec<Option<u16>>,
     /// How many columns the block has.
     pub(crate) width: u16,
-    /// All asked agents below this one, from the first of the block on, have a column.
+    /// All asked agents from this one on have a column ..
+    pub(crate) first: u16,
+    /// .. up to this one.
     pub end: u16,
 }
 
@@ -326,6 +328,7 @@ impl Columns {
         Ok(Columns {
             of_agent,
             width,
+            first: from,
             end,
         })
     }

@@ -1,12 +1,20 @@
-use Rattle.std.proofs.Common.{rules, arith}
-use Rattle.fleet_needs.proofs.Flagged.{flags_on, flags_end}
+use Rattle.std.proofs.Common.{rules, ◌≤◌, ◌∙◌, Bool, List, length, ap, arith}
+use Rattle.fleet_needs.proofs.Flagged.{flags_after, flags_end}
 use Rattle.fleet_needs.proofs.implied.flag_all.Goals as goal
 
-pub loop-from-preserved : goal.loop-from-preserved
-loop-from-preserved g c =
-    flags_on (g.P.ProgramView.program c.args.program.now) c.args.schedule.now c.args.asked.now c.loop-from.from _ c.loop-from.implied c.use_joins.new.uses c.requires.schedule (search rules) c.loop-from.invariant
-    c.in_ok-use_joins.ensures.used c.in_ok-use_joins.ensures.keeps
+pub loop-columns-preserved : goal.loop-columns-preserved
+loop-columns-preserved g c =
+    let was = c.loop-columns.invariant in
+    let next = rw c.in-Some.is at c.in_ok-columns.ensures in
+    let made = c.in_ok-use_joins.ensures in
+    record {
+      all = ap (λ (xs : List Bool). length xs) next.asked ∙ was.all;
+      flagged = flags_after (g.P.ProgramView.program c.args.program.now) c.args.schedule.now c.loop-columns.blocks c.next.new.self c.in-Some.columns next c.loop-columns.implied c.use_joins.new.uses c.requires.schedule was.flagged made.used
+          made.keeps;
+    }
 
 pub returns : goal.returns
 returns g c =
-    flags_end (g.P.ProgramView.program c.args.program.now) c.requires.range c.args.schedule.now c.args.asked.now c.loop-from.from c.loop-from.implied (omega (arith, c.loop-from-test.false, c.agents-agents.ensures.count)) c.loop-from.invariant
+    let blocks = c.loop-columns.blocks in
+    let over : length blocks.asked ≤ blocks.from = search rules in
+    flags_end (g.P.ProgramView.program c.args.program.now) c.requires.range c.args.schedule.now blocks.asked blocks.from c.loop-columns.implied (omega (arith, over, c.loop-columns.invariant.all)) c.loop-columns.invariant.flagged

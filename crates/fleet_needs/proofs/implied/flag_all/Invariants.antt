@@ -1,9 +1,12 @@
-use Rattle.std.proofs.Common.{◌-◌}
+use Rattle.std.proofs.Common.{◌≡◌, ◌-◌, length}
 use Rattle.fleet_needs.specs.Flags.{AreFlaggedTo}
 use Rattle.fleet_needs.proofs.implied.flag_all.Given as goal
 
-abbrev pub invariant-loop-from : goal.invariant-loop-from
-invariant-loop-from g l = AreFlaggedTo (g.P.ProgramView.program l.program) l.schedule l.asked l.from l.implied
+abbrev pub invariant-loop-columns : goal.invariant-loop-columns
+invariant-loop-columns g l = record {
+  all : length l.blocks.asked ≡ length (g.P.ProgramView.program l.program);
+  flagged : AreFlaggedTo (g.P.ProgramView.program l.program) l.schedule l.blocks.asked l.blocks.from l.implied;
+}
 
-abbrev pub decreases-loop-from : goal.decreases-loop-from
-decreases-loop-from g l = l.agents - l.from
+abbrev pub decreases-loop-columns : goal.decreases-loop-columns
+decreases-loop-columns g l = length l.blocks.asked - l.blocks.from

@@ -1,34 +1,31 @@
-use Rattle.std.proofs.Common.{◌<◌, length, ◌∙◌, arith}
+use Rattle.std.proofs.Common.{rules, ◌<◌, ◌≤◌, Bool, List, length, ap, subst, ◌∙◌, arith}
+use Rattle.fleet_needs.specs.Columns.{AreColumns}
 use Rattle.fleet_needs.proofs.Answered.{answered_to, known_on, question_at}
 use Rattle.fleet_needs.proofs.questions.answer_all.Goals as goal
 
-pub answer-requires-clause-columns : goal.answer-requires-clause-columns
-answer-requires-clause-columns g c = record {
-  agents = c.in_ok-columns.ensures.agents ∙ c.requires.asked;
-  within = c.in_ok-columns.ensures.within;
-  apart = c.in_ok-columns.ensures.apart;
-}
-
-pub loop-from-preserved : goal.loop-from-preserved
-loop-from-preserved g c = record {
-  answered = answered_to (g.P.ProgramView.program c.args.program.now) c.args.asked.now c.loop-from.from c.in_ok-columns.columns c.in_ok-columns.ensures c.args.questions.now c.loop-from.flags.items c.in_ok-flags.flags.items
-      c.in_ok-flags.ensures c.loop-from.invariant.known c.loop-from.invariant.answered;
-  known = known_on (g.P.ProgramView.program c.args.program.now) c.args.asked.now c.in_ok-columns.columns c.args.questions.now c.loop-from.flags.items c.in_ok-flags.flags.items c.in_ok-flags.ensures c.loop-from.invariant.known;
-  all_flags = c.in_ok-flags.ensures.all ∙ c.loop-from.invariant.all_flags;
-}
+pub loop-columns-preserved : goal.loop-columns-preserved
+loop-columns-preserved g c =
+    let p = g.P.ProgramView.program c.args.program.now in
+    let was = c.loop-columns.invariant in
+    let next = rw c.in-Some.is at c.in_ok-columns.ensures in
+    let chosen : AreColumns c.args.asked.now c.loop-columns.blocks.from c.in-Some.columns = subst (λ (xs : List Bool). AreColumns xs c.loop-columns.blocks.from c.in-Some.columns) was.asked next.chosen in
+    record {
+      asked = next.asked ∙ was.asked;
+      answered = λ m q at l. answered_to p c.args.asked.now c.loop-columns.blocks.from c.in-Some.columns chosen c.args.questions.now c.loop-columns.flags.items c.in_ok-flags.flags.items c.in_ok-flags.ensures was.known was.answered m q at
+          (omega (arith, l, next.from));
+      all_flags = c.in_ok-flags.ensures.all ∙ was.all_flags;
+      known = known_on p c.args.asked.now c.in-Some.columns c.args.questions.now c.loop-columns.flags.items c.in_ok-flags.flags.items c.in_ok-flags.ensures was.known;
+    }
 
 pub returns : goal.returns
-returns g c = record {
-  all = c.loop-from.invariant.all_flags;
-  each = λ k q e.
-      let p = g.P.ProgramView.program c.args.program.now in
-      let agent : q.first.agent < length p = (question_at p c.args.questions.now c.requires.questions.each k q e).agent in
-      c.loop-from.invariant.answered k q e (omega (arith, agent, c.loop-from-test.false, c.agents-agents.ensures.count));
-}
-
-pub loop-from-init : goal.loop-from-init
-loop-from-init g c = record {
-  answered = λ m q at l. absurd (omega arith);
-  all_flags = c.requires.flags;
-  known = c.requires.flagged;
-}
+returns g c =
+    let p = g.P.ProgramView.program c.args.program.now in
+    let was = c.loop-columns.invariant in
+    let blocks = c.loop-columns.blocks in
+    let over : length blocks.asked ≤ blocks.from = search rules in
+    record {
+      all = was.all_flags;
+      each = λ k q e.
+          let agent : q.first.agent < length p = (question_at p c.args.questions.now c.requires.questions.each k q e).agent in
+          was.answered k q e (omega (arith, agent, over, ap (λ (xs : List Bool). length xs) was.asked, c.requires.asked));
+    }

@@ -1,4 +1,4 @@
-use Rattle.std.proofs.Common.{◌≡◌, ◌≤◌, ◌+◌, ◌*◌, ℕ, List, max, slice_index, sym, ap, ◌∙◌, arith}
+use Rattle.std.proofs.Common.{◌≤◌, ◌+◌, ◌*◌, ℕ, List, max, slice_index, sym, ap, ◌∙◌, arith}
 use Rattle.std.specs.Prelude.{drop}
 use Rattle.std.proofs.lemmas.List.{get_or-drop}
 use Rattle.fleet_needs.specs.Counts.{counts_of}

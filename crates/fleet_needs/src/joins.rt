@@ -1,14 +1,14 @@
 //! Which rows are made, and of which rows each is joined: one for each action that awaits something, unless it awaits one
 //! action alone and needs it anyhow. The row of any other is that of its agent's action before.
 
-ghost use Rattle.std.specs.Prelude.{◌≡◌, ◌+◌, ◌-◌, ◌<◌, ◌≤◌, Bool, true, false, [], length, get_or, slice_index, set, IfOk, OnOk};
+ghost use Rattle.std.specs.Prelude.{◌≡◌, ◌↔◌, ◌+◌, ◌-◌, ◌<◌, ◌≤◌, Bool, true, false, [], length, get_or, slice_index, set, IfOk, OnOk};
 ghost use Rattle.fleet_model.specs.Program.{AreInRange, awaits_of, total_moves};
 ghost use Rattle.fleet_model.specs.Machine.{IsFinish};
 ghost use Rattle.fleet_model.specs.Chain.{IsAction};
 ghost use Rattle.fleet_needs.specs.Places.{ArePlacesOf, place_of_action};
 ghost use Rattle.fleet_needs.specs.Order.{IsOrder, AreMid, IsCounted};
-ghost use Rattle.fleet_needs.specs.Flags.{AreSureIf, IsPassed, IsFirstSet};
-ghost use Rattle.fleet_needs.specs.Joins.{AddsNone, IsWanted, AreJoinsOf, AreJoinsEnd, CanJoin, AreTaken, HasJoined, IsAdded, AreRaised, rows_made, lasts_known, last_of, needs_listed, room_for, StandsIn};
+ghost use Rattle.fleet_needs.specs.Flags.{AreSureIf, IsPassed, IsFirstSet, NeedsRow};
+ghost use Rattle.fleet_needs.specs.Joins.{AddsNone, AreJoinsOf, AreJoinsEnd, CanJoin, AreTaken, HasJoined, IsAdded, AreRaised, rows_made, lasts_known, last_of, needs_listed, room_for, StandsIn};
 
 use crate::await_places::ActionPlaces;
 use crate::finish_order::FinishOrder;
@@ -349,8 +349,7 @@ fn needs_row<P: ProgramView>(program: &P, course: &Course<'_>, action: ActionId)
     ensures none { result ≡ false → AddsNone (P.program program.now) action.agent action.number }
     ensures passed { result ≡ false
         → IsPassed (P.program program.now) course.now.implied action }
-    ensures wanted { IsWanted course.now.places.now course.now.wanted.now action
-        → result ≡ true }
+    ensures needed { (result ≡ true) ↔ NeedsRow (P.program program.now) course.now action }
 {
     if is_wanted(course, action) {
         return true;
@@ -371,7 +370,7 @@ fn is_first_implied<P: ProgramView>(
     requires sure { AreSureIf (P.program program.now) implied }
     requires action { IsAction (P.program program.now) action }
     requires some { 1 ≤ length (awaits_of (P.program program.now) action.agent action.number) }
-    ensures { result ≡ true → IsFirstSet (P.program program.now) implied.entry action }
+    ensures { (result ≡ true) ↔ IsFirstSet (P.program program.now) implied.entry action }
 {
     match implied {
         Some(implied) => implied.is_set(program, action, 0),

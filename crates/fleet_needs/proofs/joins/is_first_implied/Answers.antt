@@ -1,10 +1,17 @@
-use Rattle.std.proofs.Common.{◌≡◌, ◌+◌, ℕ, false, get_or, ap, ◌∙◌, sym, arith}
+use Rattle.std.proofs.Common.{◌≡◌, ◌+◌, ℕ, false, true, get_or, ap, subst, ◌∙◌, sym, arith}
+use Rattle.std.specs.Borrow.{Bor}
+use Rattle.std.proofs.lemmas.Option.{same_Some}
 use Rattle.fleet_needs.specs.Flags.{flags_of}
 use Rattle.fleet_needs.specs.Implied.{first_await}
+use Rattle.fleet_needs.specs.declared.implied.ImpliedAwaits.{ImpliedAwaits}
 use Rattle.fleet_needs.proofs.joins.is_first_implied.Goals as goal
 
 pub returns-in-Some : goal.returns-in-Some
-returns-in-Some g c = λ set.
+returns-in-Some g c =
     let first = first_await (g.P.ProgramView.program c.args.program.now) c.args.action in
+    let m = c.in-Some.implied in
     let e : first ≡ first + 0 = omega arith in
-    record { of = c.in-Some.implied; some = c.in-Some.is; set = ap (λ (n : ℕ). get_or (flags_of c.in-Some.implied.now) n false) e ∙ sym c.is_set.ensures ∙ set }
+    let there : get_or (flags_of m.now) first false ≡ c.is_set.result = ap (λ (n : ℕ). get_or (flags_of m.now) n false) e ∙ sym c.is_set.ensures in (
+      (λ set. record { of = m; some = c.in-Some.is; set = there ∙ set }),
+      (λ is. sym there ∙ subst (λ (x : Bor ImpliedAwaits). get_or (flags_of x.now) first false ≡ true) (same_Some is.of m (sym is.some ∙ c.in-Some.is)) is.set),
+    )

@@ -1,4 +1,4 @@
-use Rattle.std.proofs.Common.{◌≡◌, ◌+◌, ℕ, List, set, sym, subst, ap, ◌∙◌, arith}
+use Rattle.std.proofs.Common.{◌≡◌, ◌+◌, ℕ, List, set, sym, subst, ap, ◌∙◌, arith, inl}
 use Rattle.std.specs.Prelude.{slice_index}
 use Rattle.fleet_needs.specs.Order.{after_place, IsCounted, AreMid}
 use Rattle.fleet_needs.specs.Flags.{IsPassed}
@@ -41,7 +41,7 @@ loop-k-preserved g c =
       counts = subst (λ (f : ℕ). AreMid p t f (set counts c.from.result a.number)) (sym place) (subst (AreMid p t (a.agent + 1)) written (mid_on p t _ counts mid a.agent next.ready a.number next.number));
       joins = subst (λ (xs : List ℕ). AreJoinsOf p places wanted passed (IsCounted xs) c.add_action.new.self) written
           (joins_more p places wanted passed counts a (is_next p t _ counts mid a.agent next.ready a.number next.number) (next_counted p t _ counts mid a.agent next.ready a.number next.number c.requires.range) c.loop-k.joins
-          c.add_action.new.self c.needs_row-is_made.result made.none made.passed made.wanted c.loop-k.invariant.joins c.in_ok-add_action.ensures);
+          c.add_action.new.self c.needs_row-is_made.result made.none made.passed (λ w. made.needed.1 (inl w)) c.loop-k.invariant.joins c.in_ok-add_action.ensures);
     }
 
 pub returns-clause-counts : goal.returns-clause-counts

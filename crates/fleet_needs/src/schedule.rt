@@ -23,8 +23,8 @@ use crate::questions::Question;
 use fleet_model::{ActionId, MAX_AGENTS, OutOfMemory, ProgramView, total_moves};
 use std::alloc::Global;
 
-/// There is room for so many counts of rows at once, of four bytes each: 4 MB.
-const COUNTS: u32 = 1_048_576;
+/// There is room for so many counts of rows at once, of four bytes each: 3 MB.
+const COUNTS: u32 = 786_432;
 
 /// The least number of columns of a block.
 const LEAST_COLUMNS: u32 = 8;

@@ -251,12 +251,11 @@ fn arrive<P: ProgramView>(
 {
     let _agents = program.agents();
     let Runner { finished, x, y, .. } = runner;
-    let from = Cell { x, y };
+    let Some(cell) = next_cell(Cell { x, y }, needs.step) else {
+        return Err(Stop::OffGround);
+    };
     match needs.step {
         Step::Go(_) => {
-            let Some(cell) = next_cell(from, needs.step) else {
-                return Err(Stop::OffGround);
-            };
             let visit = Visit {
                 agent,
                 position: finished + 1,
@@ -272,7 +271,7 @@ fn arrive<P: ProgramView>(
             )?;
             Ok(cell)
         }
-        Step::Dwell => Ok(from),
+        Step::Dwell => Ok(cell),
     }
 }
 

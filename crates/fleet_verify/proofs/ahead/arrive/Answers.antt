@@ -1,7 +1,9 @@
-use Rattle.std.proofs.Common.{◌+◌, ◌∙◌, sym, ◌++◌, ◌∷◌, [], ap, Some, arith}
+use Rattle.std.proofs.Common.{◌≡◌, ◌+◌, ◌∙◌, sym, ◌++◌, ◌∷◌, [], ap, subst, arith}
+use Rattle.std.specs.Prelude.{IsTrue}
 use Rattle.std.proofs.lemmas.List.{map-append}
 use Rattle.std.proofs.lemmas.List.Elements.{All-push}
-use Rattle.fleet_model.specs.Geometry.{is_move, place_of}
+use Rattle.fleet_model.specs.declared.geometry.Place.{Place}
+use Rattle.fleet_model.specs.Geometry.{is_move, place_of, stepped}
 use Rattle.fleet_grid.specs.Ground.{is_passable}
 use Rattle.fleet_verify.specs.declared.order.PlacedVisit.{PlacedVisit}
 use Rattle.fleet_verify.specs.Ahead.{IsArrival, count_in, climbed_in, stand}
@@ -50,18 +52,19 @@ returns-in_ok-enter-in-Go-clause-added g c = λ visits old.
 
 pub returns-in-Dwell-clause-here : goal.returns-in-Dwell-clause-here
 returns-in-Dwell-clause-here g c =
-    let p = g.P.ProgramView.program c.args.program.now in
-    leads_on p c.args.agent c.args.runner.finished _ (place_of (stand c.args.runner)) (c.requires.needs.step ∙ ap Some c.in-Dwell.is) (runner_place c.requires.runner)
+    (arrival_by c.requires.runner c.requires.left c.requires.needs c.in-Some.cell c.in-Some.ensures.some).here
 
 pub returns-in-Dwell-clause-ground : goal.returns-in-Dwell-clause-ground
-returns-in-Dwell-clause-ground g c = runner_ground c.requires.runner
+returns-in-Dwell-clause-ground g c =
+    let from : Place = place_of (stand c.args.runner) in
+    let stays : place_of c.in-Some.cell ≡ from = c.in-Some.ensures.some ∙ ap (stepped from) c.in-Dwell.is in
+    subst (λ (q : Place). IsTrue (is_passable c.args.grid.now q)) (sym stays) (runner_ground c.requires.runner)
 
 pub returns-in-Dwell-clause-added : goal.returns-in-Dwell-clause-added
 returns-in-Dwell-clause-added g c = λ visits old.
     let p = g.P.ProgramView.program c.args.program.now in
-    let s : PlacedVisit = record { visit = record { agent = c.args.agent; position = c.args.runner.finished + 1 }; cell = stand c.args.runner } in
-    let here = leads_on p c.args.agent c.args.runner.finished _ (place_of (stand c.args.runner)) (c.requires.needs.step ∙ ap Some c.in-Dwell.is) (runner_place c.requires.runner) in
-    let arrival : IsArrival p s c.args.needs = record { first = omega arith; last = omega (arith, c.requires.left); here = here; step = c.requires.needs.step; latest = c.requires.needs.latest } in
+    let s : PlacedVisit = record { visit = record { agent = c.args.agent; position = c.args.runner.finished + 1 }; cell = c.in-Some.cell } in
+    let arrival = arrival_by c.requires.runner c.requires.left c.requires.needs c.in-Some.cell c.in-Some.ensures.some in
     record {
       placed = old.placed;
       same = old.same ∙ sym (entry_none p visits s.visit (enters_by p s c.args.needs arrival ∙ ap is_move c.in-Dwell.is));

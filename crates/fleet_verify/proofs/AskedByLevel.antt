@@ -4,7 +4,7 @@ use Rattle.std.specs.Prelude.{All, Contains}
 use Rattle.std.proofs.lemmas.Bool.{cases_lt}
 use Rattle.std.proofs.lemmas.List.{length-map, get_or-map, get_or_default}
 use Rattle.std.proofs.lemmas.List.Elements.{All-map, All-push, Contains-push, Contains-append_left}
-use Rattle.std.proofs.lemmas.Option.{slice_get-get_or}
+use Rattle.std.proofs.lemmas.Option.{slice_get-get_or, slice_get_within}
 use Rattle.fleet_model.specs.declared.program.ActionId.{ActionId}
 use Rattle.fleet_model.specs.Program.{Program, IsWellFormed}
 use Rattle.fleet_model.specs.Chain.{Reaches}
@@ -12,8 +12,9 @@ use Rattle.fleet_model.specs.Visit.{entering, leaving}
 use Rattle.fleet_needs.specs.declared.questions.Question.{Question}
 use Rattle.fleet_needs.specs.Asked.{IsQuestion, IsSoonerAction, AreQuestions, AreAnswers}
 use Rattle.fleet_verify.specs.Ahead.{AreCountedUp, level_in}
-use Rattle.fleet_verify.specs.Chained.{IsChained, IsAsked, IsAskedOf, AreAsked, key_of}
+use Rattle.fleet_verify.specs.Chained.{AreKnown, IsChained, IsAsked, IsAskedOf, AreAsked, key_of}
 use Rattle.fleet_verify.specs.OpenPairs.{AreVisits, question_of}
+use Rattle.fleet_verify.specs.declared.answers.Answers.{Answers}
 use Rattle.fleet_verify.specs.declared.chained.LevelQuestion.{LevelQuestion}
 use Rattle.fleet_verify.specs.declared.order.OpenPair.{OpenPair}
 use Rattle.fleet_verify.proofs.Decide.{Reaches-dec}
@@ -33,6 +34,14 @@ asked_of p rows o level first visits leaves number entered is = record {
   };
   question = λ i. record { first = leaves i; last = entering o.second };
 }
+
+-- no questions are answered by no flags
+pub known_none : (p : Program) (known : Answers) → known.questions.items ≡ [] → known.flags.items ≡ [] → AreKnown p known
+known_none p known questions flags =
+    subst (λ (qs : List Question). AreAnswers p qs known.flags.items) (sym questions) (subst (λ (fs : List Bool). AreAnswers p [] fs) (sym flags) (record {
+      all = refl;
+      each = λ k q here. absurd (omega (arith, slice_get_within [] k q here));
+    }))
 
 module _ (p : Program) (rows : List (List ℕ)) (pairs : List OpenPair) where
   pub asked_none : AreAsked p rows pairs 0 []

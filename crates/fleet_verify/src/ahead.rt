@@ -737,6 +737,7 @@ pub enum Outlook {
 
 /// Whether all has been found right. Chains are asked for at open pairs alone, once the memory of all else is given
 /// back.
+#[tactic(auto, using(crate::proofs::AskedByLevel::known_none))]
 fn judge_ahead<P: ProgramView>(
     alloc: Global,
     program: &P,
@@ -776,6 +777,7 @@ fn run_all<P: ProgramView>(alloc: Global, program: &P, grid: &Grid) -> Result<Ah
 }
 
 /// Whether the program is found to be accepted. If not, nothing is said of it but what was answered.
+#[tactic(auto, using(crate::proofs::AskedByLevel::known_none))]
 pub fn look_ahead<P: ProgramView>(
     alloc: Global,
     program: &P,

@@ -18,14 +18,15 @@ pub struct Answers {
 
 impl Answers {
     ghost use Rattle.std.specs.Prelude.{◌≡◌, [], IfOk};
-    ghost use Rattle.fleet_model.specs.Program.{Program, AreInRange};
+    ghost use Rattle.fleet_model.specs.Program.{AreInRange};
     ghost use Rattle.fleet_model.specs.Machine.{IsFinish};
     ghost use Rattle.fleet_needs.specs.Asked.{AreQuestions};
     ghost use Rattle.fleet_verify.specs.Chained.{AreKnown};
 
     /// Nothing was asked. Takes no memory.
     pub fn none(alloc: Global) -> Answers
-        ensures { (p : Program) → AreKnown p result }
+        ensures questions { result.questions.items ≡ [] }
+        ensures flags { result.flags.items ≡ [] }
     {
         Answers {
             questions: Vec::new(alloc),

@@ -42,6 +42,7 @@ fn key(level: u32, agent: u16) -> u64
 
 /// Nothing if a chain orders each of the open pairs of a program that finishes after so many ticks if nobody is held.
 /// Else, or if it is not found, what was answered.
+#[tactic(auto, using(crate::proofs::AskedByLevel::known_none))]
 pub fn unless_chained<P: ProgramView>(
     alloc: Global,
     program: &P,
@@ -66,6 +67,7 @@ pub fn unless_chained<P: ProgramView>(
 
 /// Nothing if a chain orders each of the open pairs that were asked for, else what was answered. What is asked takes
 /// memory, so all else is given back before.
+#[tactic(auto, using(crate::proofs::AskedByLevel::known_none))]
 fn answer_asked<P: ProgramView>(
     alloc: Global,
     program: &P,

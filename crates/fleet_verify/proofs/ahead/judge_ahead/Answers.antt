@@ -24,6 +24,3 @@ returns-in-None g c =
     let done = c.in-Some.ensures.2 in
     ahead_accepted c.args.grid.now c.args.instance.now p c.args.ahead n c.in-Some.chain c.agents-agents.ensures.well_formed c.requires.starts c.requires.ahead done all
     (rw c.in-None.is at c.in_ok-unless_chained.ensures.chained)
-
-pub returns-in_default : goal.returns-in_default
-returns-in_default g c = c.none.ensures (g.P.ProgramView.program c.args.program.now)

@@ -24,6 +24,3 @@ returns-then-is_none-clause-chained g c =
     (c.are_rising.ensures c.if-not-are_rising.false)
     (subst (λ (qs : List Question). AreAnswers p qs answers.flags.items) (c.in_ok-answers.ensures.questions ∙ c.in_ok-questions.ensures) c.in_ok-answers.ensures.known)
     (c.is_none.ensures c.if-is_none.true)
-
-pub returns-then-not-are_rising-clause-known : goal.returns-then-not-are_rising-clause-known
-returns-then-not-are_rising-clause-known g c = c.none.ensures (g.P.ProgramView.program c.args.program.now)

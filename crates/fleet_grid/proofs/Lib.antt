@@ -1,5 +1,6 @@
 pub mod BitLaws
 pub mod RowLaws
+pub mod GlyphLaws
 pub mod StoredLaws
 pub mod MapLoops
 pub mod MapLaws

@@ -1,10 +1,13 @@
 -- A row of glyphs, kept block by block.
-use Rattle.std.proofs.Common.{◌≡◌, ℕ, zero, suc, ◌+◌, ◌-◌, ◌*◌, ◌<◌, Bool, false, cond, List, ◌∷◌, ◌++◌, length, take, replicate, refl, sym, ap, ◌∙◌, append_assoc, arith}
+use Rattle.std.proofs.Common.{◌≡◌, ℕ, zero, suc, ◌+◌, ◌-◌, ◌*◌, ◌<◌, Bool, true, false, ◌&&◌, cond, List, ◌∷◌, ◌++◌, length, take, replicate, refl, sym, ap, ◌∙◌, append_assoc, arith}
 use Rattle.std.specs.Prelude.{count_by}
+use Rattle.std.proofs.Math.Bool.{and_assoc, and-true}
 use Rattle.std.proofs.Math.Seq.{take-append-add}
 use Rattle.std.proofs.lemmas.List.{length-append, length-map, take_all, take-replicate, map-append}
 use Rattle.std.proofs.lemmas.List.Sums.{sum_by-append, sum_by-cons}
-use Rattle.fleet_grid.specs.MapText.{is_ground_glyph, cells_of}
+use Rattle.std.specs.List.{list_all}
+use Rattle.std.proofs.lemmas.List.Folds.{list_all-append}
+use Rattle.fleet_grid.specs.MapText.{is_ground_glyph, is_glyph, cells_of}
 use Rattle.fleet_grid.specs.Stored.{byte_count, with_padding}
 
 -- a block of 64 cells fills its bytes
@@ -33,6 +36,13 @@ count-blocked : (n : ℕ) → count_by is_ground_glyph (replicate n 64) ≡ 0
 count-blocked zero = refl
 count-blocked (suc n) = sum_by-cons (λ (b : ℕ). cond (is_ground_glyph b) 1 0) 64 (replicate n 64) ∙ ap (λ k. 0 + k) (count-blocked n)
 
+all-append : (xs ys : List ℕ) → list_all is_glyph (xs ++ ys) ≡ (list_all is_glyph xs && list_all is_glyph ys)
+all-append xs ys = list_all-append is_glyph xs ys
+
+all-blocked : (n : ℕ) → list_all is_glyph (replicate n 64) ≡ true
+all-blocked zero = refl
+all-blocked (suc n) = all-blocked n
+
 -- ---- the loop over blocks, where the rest is a block and what comes after it
 
 module _ (rest block after : List ℕ) (whole : rest ≡ block ++ after) (size : length block ≡ 64) where
@@ -45,6 +55,11 @@ module _ (rest block after : List ℕ) (whole : rest ≡ block ++ after) (size :
 
   pub count_goes_on : (m n all : ℕ) → m + count_by is_ground_glyph rest ≡ all → n ≡ m + count_by is_ground_glyph block → n + count_by is_ground_glyph after ≡ all
   count_goes_on m n all so_far put = omega (arith, ap (count_by is_ground_glyph) whole ∙ count-append block after)
+
+  pub glyphs_go_on : (was now all : Bool) → (was && list_all is_glyph rest) ≡ all → now ≡ (was && list_all is_glyph block) → (now && list_all is_glyph after) ≡ all
+  glyphs_go_on was now all so_far judged =
+      ap (λ b. b && list_all is_glyph after) judged ∙ and_assoc was (list_all is_glyph block) (list_all is_glyph after)
+      ∙ ap (λ b. was && b) (sym (all-append block after) ∙ ap (list_all is_glyph) (sym whole)) ∙ so_far
 
 -- ---- its last block, which is filled up with blocked cells
 
@@ -59,3 +74,8 @@ module _ (rest block : List ℕ) (few : length rest < 64) (filled : block ≡ re
 
   pub count_ends : (m n all : ℕ) → m + count_by is_ground_glyph rest ≡ all → n ≡ m + count_by is_ground_glyph block → n ≡ all
   count_ends m n all so_far put = omega (arith, ap (count_by is_ground_glyph) filled ∙ count-append rest (replicate (64 - length rest) 64), count-blocked (64 - length rest))
+
+  pub glyphs_end : (was now all : Bool) → (was && list_all is_glyph rest) ≡ all → now ≡ (was && list_all is_glyph block) → now ≡ all
+  glyphs_end was now all so_far judged =
+      let same : list_all is_glyph block ≡ list_all is_glyph rest = ap (list_all is_glyph) filled ∙ all-append rest (replicate (64 - length rest) 64) ∙ rw (all-blocked (64 - length rest)) (and-true (list_all is_glyph rest)) in
+      judged ∙ ap (λ b. was && b) same ∙ so_far

@@ -4,10 +4,11 @@ ghost use Rattle.std.specs.Prelude.{◌≡◌, ◌<◌, ◌*◌, IsTrue, IfSome,
 ghost use Rattle.fleet_model.specs.Geometry.{place_of, moved};
 ghost use Rattle.fleet_grid.specs.Ground.{is_passable, passable_cells, cell_index, IsNoCell, IsGround};
 ghost use Rattle.fleet_grid.specs.declared.grid.TheConstants.{MAX_SIDE};
-ghost use Rattle.fleet_grid.specs.MapText.{is_ground_glyph, cells_of};
+ghost use Rattle.fleet_grid.specs.MapText.{is_ground_glyph, is_glyph, cells_of};
+ghost use Rattle.std.specs.List.{list_all};
 ghost use Rattle.fleet_grid.specs.Stored.{stored_cells, byte_count, with_padding};
 
-use crate::reading::ground_mask;
+use crate::glyphs::{are_glyphs, ground_mask};
 use fleet_model::{Cell, Dir};
 use fleet_text::BLOCK;
 use std::alloc::{AllocError, Global};
@@ -201,28 +202,30 @@ impl Cells {
         })
     }
 
-    /// Adds a row of glyphs.
-    pub(crate) fn put_row(&mut self, line: &[u8]) -> Result<(), AllocError>
+    /// Adds a row of bytes, of which those that are no glyphs are blocked, and answers whether all are glyphs.
+    pub(crate) fn put_row(&mut self, line: &[u8]) -> Result<bool, AllocError>
         requires few { length line.now ≤ MAX_SIDE }
         requires count { self.old.passable_count + length line.now ≤ 2 ^ 24 }
         ensures bytes { OnOk result (stored_cells self.new.bytes.items
             ≡ stored_cells self.old.bytes.items ++ with_padding (cells_of line.now)) }
         ensures count { OnOk result (self.new.passable_count
             ≡ self.old.passable_count + count_by is_ground_glyph line.now) }
+        ensures glyphs { IfOk result (λ are. are ≡ list_all is_glyph line.now) }
     {
         let mut rest = line;
+        let mut are_glyphs = true;
         while let Some((block, after)) = rest.split_first_chunk::<BLOCK>() {
-            self.put_block(block, BLOCK)?;
+            are_glyphs &= self.put_block(block, BLOCK)?;
             rest = after;
         }
-        self.put_block(&block_of(rest), rest.len())?;
-        Ok(())
+        are_glyphs &= self.put_block(&block_of(rest), rest.len())?;
+        Ok(are_glyphs)
     }
 
-    /// Adds the bytes that keep the first `len` glyphs of a block, the others of which are blocked. It is inlined, so
-    /// that the compiler knows the length of a whole block.
+    /// Adds the bytes that keep the first `len` glyphs of a block, the others of which are blocked, and answers whether
+    /// all are glyphs. It is inlined, so that the compiler knows the length of a whole block.
     #[inline(always)]
-    fn put_block(&mut self, block: &[u8; BLOCK], len: usize) -> Result<(), AllocError>
+    fn put_block(&mut self, block: &[u8; BLOCK], len: usize) -> Result<bool, AllocError>
         requires len { len ≤ BLOCK }
         requires count { self.old.passable_count ≤ 2 ^ 24 }
         ensures bytes { OnOk result (stored_cells self.new.bytes.items
@@ -230,12 +233,14 @@ impl Cells {
             (map is_ground_glyph block.now)) }
         ensures count { OnOk result (self.new.passable_count
             ≡ self.old.passable_count + count_by is_ground_glyph block.now) }
+        ensures glyphs { IfOk result (λ are. are ≡ list_all is_glyph block.now) }
     {
-        let mask = ground_mask(u8x64::from_array(*block));
+        let glyphs = u8x64::from_array(*block);
+        let mask = ground_mask(glyphs);
         self.bytes
             .extend_from_slice(&mask.to_le_bytes()[..byte_count(len)])?;
         self.passable_count += mask.count_ones();
-        Ok(())
+        Ok(are_glyphs(glyphs))
     }
 }
 

@@ -1,22 +1,19 @@
 //! Reading a map from its text.
 
-ghost use Rattle.std.specs.Prelude.{◌≡◌, ◌≢◌, ◌&&◌, if◌then◌else◌, Ok, Err, drop, length, IfOk, OnOk, IfErr, IsOkUnless, option_map, option_copied, min, map, position};
+ghost use Rattle.std.specs.Prelude.{◌≡◌, ◌≢◌, ◌≤◌, ◌+◌, ◌^◌, ◌++◌, ◌&&◌, if◌then◌else◌, Ok, Err, drop, length, IfOk, OnOk, IfErr, IsOkUnless, option_map, option_copied, min, count_by};
 ghost use Rattle.std.specs.List.{list_all};
 ghost use Rattle.fleet_model.specs.Answer.{IsDueUnless};
 ghost use Rattle.fleet_text.specs.Text.{lines, words_from_front};
 ghost use Rattle.fleet_grid.specs.Ground.{Ground, IsSide};
-ghost use Rattle.fleet_grid.specs.MapText.{line_at, is_row_space, cells_of, IsMapText, IsFirstMapFault, is_ground_glyph, is_no_glyph};
+ghost use Rattle.fleet_grid.specs.MapText.{line_at, is_row_space, cells_of, IsMapText, IsFirstMapFault, is_ground_glyph};
 ghost use Rattle.fleet_grid.specs.MapReading.{field, number_field, is_alone, is_side, header_at, row_at, rows_at, map_at};
-ghost use Rattle.fleet_grid.specs.Stored.{ground_of, IsStored};
-ghost use Rattle.std.specs.Simd.Lanes.{mask_l};
+ghost use Rattle.fleet_grid.specs.Stored.{ground_of, IsStored, stored_cells, with_padding};
 
 use crate::fault::MapFault;
+use crate::glyphs::wrong_column;
 use crate::grid::{Cells, Grid, MAX_SIDE};
-use fleet_text::{
-    ByteClass, Cursor, TOO_LONG, first_of, from_front, is_blank, next_word, number_of,
-};
+use fleet_text::{Cursor, TOO_LONG, from_front, is_blank, next_word, number_of};
 use std::alloc::Global;
-use std::simd::prelude::*;
 
 /// The next line. A missing one counts as empty.
 fn next_of<'a>(lines: &mut Cursor<'a>) -> &'a [u8]
@@ -117,6 +114,29 @@ fn judge_row(width: u16, row: u16, line: &[u8]) -> Result<(), MapFault>
     Ok(())
 }
 
+/// Adds the line as a row, if it is one.
+#[tactic(auto, unfolding(crate::specs::MapReading::row_at))]
+fn put_row(cells: &mut Cells, width: u16, row: u16, line: &[u8]) -> Result<(), MapFault>
+    requires width { width ≤ MAX_SIDE }
+    requires count { cells.old.passable_count + width ≤ 2 ^ 24 }
+    ensures value { IsDueUnless (λ _. cells_of line.now) result
+        (row_at width row line.now) MapFault.OutOfMemory }
+    ensures width { OnOk result (length line.now ≡ width) }
+    ensures bytes { OnOk result (stored_cells cells.new.bytes.items
+        ≡ stored_cells cells.old.bytes.items ++ with_padding (cells_of line.now)) }
+    ensures count { OnOk result (cells.new.passable_count
+        ≡ cells.old.passable_count + count_by is_ground_glyph line.now) }
+{
+    if line.len() != usize::from(width) {
+        return Err(MapFault::RowLength { row });
+    }
+    let are_glyphs = cells.put_row(line)?;
+    if are_glyphs {
+        return Ok(());
+    }
+    judge_row(width, row, line)
+}
+
 /// The cells of all rows.
 fn cells_of(alloc: Global, width: u16, height: u16, lines: &mut Cursor) -> Result<Cells, MapFault>
     requires width { IsSide width }
@@ -131,8 +151,7 @@ fn cells_of(alloc: Global, width: u16, height: u16, lines: &mut Cursor) -> Resul
         let Some(line) = lines.next_line() else {
             return Err(MapFault::RowCount);
         };
-        judge_row(width, row, line)?;
-        cells.put_row(line)?;
+        put_row(&mut cells, width, row, line)?;
     }
     Ok(cells)
 }
@@ -182,43 +201,4 @@ pub fn read_map(alloc: Global, bytes: &[u8]) -> Result<Grid, MapFault>
     ensures fault { IfErr result (λ f. f ≢ MapFault.OutOfMemory → IsFirstMapFault bytes.now f) }
 {
     map_of(alloc, bytes)
-}
-
-/// Bytes that are no glyph.
-struct NoGlyph;
-
-impl ByteClass for NoGlyph {
-    ghost test = { is_no_glyph };
-
-    fn has(byte: u8) -> bool {
-        !matches!(byte, b'.' | b'G' | b'S' | b'@' | b'O' | b'T' | b'W')
-    }
-
-    fn mask(glyphs: u8x64) -> u64 {
-        let is_glyph = glyphs.simd_eq(u8x64::splat(b'.'))
-            | glyphs.simd_eq(u8x64::splat(b'G'))
-            | glyphs.simd_eq(u8x64::splat(b'S'))
-            | glyphs.simd_eq(u8x64::splat(b'@'))
-            | glyphs.simd_eq(u8x64::splat(b'O'))
-            | glyphs.simd_eq(u8x64::splat(b'T'))
-            | glyphs.simd_eq(u8x64::splat(b'W'));
-        (!is_glyph).to_bitmask()
-    }
-}
-
-/// The first column whose byte is no glyph.
-pub(crate) fn wrong_column(line: &[u8]) -> Option<usize>
-    ensures { result ≡ position is_no_glyph line.now }
-{
-    first_of::<NoGlyph>(line)
-}
-
-/// Bit k says whether glyph k of the block is that of a passable cell.
-pub(crate) fn ground_mask(glyphs: u8x64) -> u64
-    ensures { result ≡ mask_l (map is_ground_glyph glyphs) }
-{
-    let is_ground = glyphs.simd_eq(u8x64::splat(b'.'))
-        | glyphs.simd_eq(u8x64::splat(b'G'))
-        | glyphs.simd_eq(u8x64::splat(b'S'));
-    is_ground.to_bitmask()
 }

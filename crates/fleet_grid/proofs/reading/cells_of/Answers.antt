@@ -21,11 +21,11 @@ pub returns-in_default-clause-value : goal.returns-in_default-clause-value
 returns-in_default-clause-value c =
     λ other. row_missing c.args.width c.args.height c.loop-row.row _ c.loop-row.lines _ c.loop-row.invariant.so_far c.loop-row-test.true c.in_default.ensures.0
 
-pub returns-in_err-judge_row-clause-value : goal.returns-in_err-judge_row-clause-value
-returns-in_err-judge_row-clause-value c =
-    let p = err_from_is_err_and c.from_residual-in_err-judge_row.result c.from_residual-in_err-judge_row.ensures.1 in
+pub returns-in_err-put_row-clause-value : goal.returns-in_err-put_row-clause-value
+returns-in_err-put_row-clause-value c =
+    let p = err_from_is_err_and c.from_residual-in_err-put_row.result c.from_residual-in_err-put_row.ensures.1 in
     rw (p.1, p.2)
-    (row_fails c.args.width c.args.height c.loop-row.row _ c.loop-row.lines _ c.loop-row.invariant.so_far c.in_err-judge_row.field-0.0 c.in-Some.line.now c.next_line.new.self c.loop-row-test.true c.in-Some.ensures c.in_err-judge_row.ensures.value)
+    (row_fails c.args.width c.args.height c.loop-row.row _ c.loop-row.lines _ c.loop-row.invariant.so_far c.in_err-put_row.field-0.0 c.in-Some.line.now c.next_line.new.self c.loop-row-test.true c.in-Some.ensures c.in_err-put_row.ensures.value)
 
 pub loop-row-preserved : goal.loop-row-preserved
 loop-row-preserved c =
@@ -33,16 +33,16 @@ loop-row-preserved c =
     let k = c.loop-row.row in
     let line = c.in-Some.line.now in
     let old = c.loop-row.cells.bytes.items in
-    let new = c.put_row.new.self.bytes.items in
+    let new = c.put_row.new.cells.bytes.items in
     let size = c.loop-row.invariant.size in
-    let width = c.in_ok-judge_row.ensures.width in
+    let width = c.in_ok-put_row.ensures.width in
     let put = c.in_ok-put_row.ensures.bytes in
     let counted = c.in_ok-put_row.ensures.count in
-    let next = row_next w c.args.height k _ c.loop-row.lines _ c.loop-row.invariant.so_far line c.next_line.new.self (cells_of line) c.loop-row-test.true c.in-Some.ensures c.in_ok-judge_row.ensures.value in
+    let next = row_next w c.args.height k _ c.loop-row.lines _ c.loop-row.invariant.so_far line c.next_line.new.self (cells_of line) c.loop-row-test.true c.in-Some.ensures c.in_ok-put_row.ensures.value in
     record {
       so_far = rw (rows_put w k old new line size width put) next;
       size = size_put w k old new line size width put;
-      count = count_put w k old new line size width put c.loop-row.cells.passable_count c.put_row.new.self.passable_count c.loop-row.invariant.count counted;
+      count = count_put w k old new line size width put c.loop-row.cells.passable_count c.put_row.new.cells.passable_count c.loop-row.invariant.count counted;
       few = omega (arith, counted, c.loop-row.invariant.few, count_by-le-length is_ground_glyph line, width);
     }
 

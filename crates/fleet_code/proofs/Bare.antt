@@ -1,5 +1,5 @@
 -- Actions of one byte each.
-use Rattle.std.proofs.Common.{◌≡◌, ℕ, zero, suc, ◌+◌, ◌≤◌, List, [], ◌∷◌, length, take, drop, All, Some, Ok, refl, ap, arith}
+use Rattle.std.proofs.Common.{◌≡◌, ℕ, zero, suc, ◌+◌, ◌≤◌, List, [], ◌∷◌, length, take, drop, All, Some, Ok, refl, sym, ap, subst, arith}
 use Rattle.std.specs.List.{range_with_len}
 use Rattle.std.proofs.lemmas.List.Elements.{All-head, All-tail}
 use Rattle.fleet_model.specs.declared.geometry.Step.{Step}
@@ -9,7 +9,7 @@ use Rattle.fleet_model.specs.declared.program.Action.{Action}
 use Rattle.fleet_code.specs.declared.format.Version.{Version}
 use Rattle.fleet_code.specs.declared.format.Version.TheVariants.{One, Two}
 use Rattle.fleet_code.specs.Reading.{stay_in, step_at, action_at, actions_at}
-use Rattle.fleet_code.specs.Offsets.{last_step, ends_of}
+use Rattle.fleet_code.specs.Offsets.{last_step, opcodes, ends_of}
 
 stay_there : (v : Version) → 4 ≤ last_step v → (s : Step) × (stay_in v ≡ Some s)
 stay_there One le = absurd (omega (arith, le))
@@ -46,3 +46,13 @@ pub bare_offsets : (count : ℕ) (actions : List Action) → ends_of 0 actions �
 bare_offsets count actions e =
     let more : count + 1 ≡ suc count = omega arith in
     rw (more, e) refl
+
+-- an action, and then others without awaits
+pub bare_later : (v : Version) (count whole n i : ℕ) (bytes after : List ℕ) (first : Action) → action_at v (length bytes) whole n i 0 bytes ≡ Ok (first, after) → count ≤ length after
+    → All (λ b. b ≤ last_step v) (take count after)
+    → (actions : List Action) × (actions_at v (suc count) whole n i bytes ≡ Ok (actions, drop count after)) × (0 ∷ range_with_len (opcodes first) (suc count) ≡ 0 ∷ ends_of 0 actions)
+unfolding actions_at
+bare_later v count whole n i bytes after first e le steps =
+    let others = bare_actions v count whole n i (opcodes first) after le steps in
+    let on : 0 + opcodes first ≡ opcodes first = omega arith in
+    (first ∷ others.0, rw (e, others.1) refl, subst (λ (k : ℕ). 0 ∷ range_with_len (opcodes first) (suc count) ≡ 0 ∷ k ∷ ends_of k others.0) (sym on) (ap (λ (ends : List ℕ). 0 ∷ opcodes first ∷ ends) (sym others.2)))

@@ -1,5 +1,5 @@
 -- Offsets of which those after one are as far from each other.
-use Rattle.std.proofs.Common.{◌≡◌, ℕ, suc, ◌+◌, ◌-◌, ◌*◌, ◌^◌, ◌≤◌, ◌<◌, List, [], ◌∷◌, length, map, min, take, slice_index_or, get_or, ap, sym, ◌∙◌, arith, inl, inr}
+use Rattle.std.proofs.Common.{◌≡◌, ℕ, zero, suc, refl, ◌+◌, ◌-◌, ◌*◌, ◌^◌, ◌≤◌, ◌<◌, List, [], ◌∷◌, length, map, min, take, slice_index_or, get_or, ap, sym, ◌∙◌, arith, inl, inr}
 use Rattle.std.specs.List.{range_with_len}
 use Rattle.std.proofs.Math.Nat.{suc-mul}
 use Rattle.std.proofs.Math.Seq.{get_or-append_right}
@@ -85,3 +85,34 @@ offsets_are actions stride offsets at many l even = same_number_lists (offsets_o
 pub none_kept : (actions stride : ℕ) (kept : List ℕ) (n : ℕ) → length kept ≡ 0 → n < actions + 1 → slice_index_or (offsets_of actions stride kept) n 0 ≡ n
 none_kept actions stride [] n none l = bare_offsets_at actions n l
 none_kept actions stride (o ∷ kept) n none l = absurd (omega arith)
+
+-- ---- offsets of actions of which the first alone has more than one opcode
+
+pub later_even : (actions first : ℕ) → IsEvenFrom (0 ∷ range_with_len first actions) 1 1
+later_even actions first zero a b = absurd (omega (arith, a))
+later_even actions first (suc n) a b =
+    let long = length-range_with_len first actions in
+    let within : n < actions = omega (arith, b, long) in
+    let some : 0 < actions = omega (arith, within) in
+    let here = get_or-range_with_len first actions n 0 within in
+    let one = get_or-range_with_len first actions 0 0 some in
+    omega (arith, here, one)
+
+front : (actions first : ℕ) → 1 ≤ actions → take 2 (0 ∷ range_with_len first actions) ≡ 0 ∷ first ∷ []
+front zero first l = absurd (omega (arith, l))
+front (suc n) first l = refl
+
+pub later_offsets : (actions first : ℕ) → 1 ≤ actions → offsets_of actions 1 (0 ∷ first ∷ []) ≡ 0 ∷ range_with_len first actions
+later_offsets actions first some =
+    let long = length-range_with_len first actions in
+    ap (offsets_of actions 1) (sym (front actions first some)) ∙ offsets_are actions 1 (0 ∷ range_with_len first actions) 1 (omega (arith, long)) (omega (arith, long, some)) (later_even actions first)
+
+pub are_later_offsets : (actions first : ℕ) → first + actions < 2 ^ 32 → AreOffsets actions (0 ∷ range_with_len first actions)
+are_later_offsets actions first few = record { count = omega (arith, length-range_with_len first actions); fit = fit }
+  where
+    fit : (k d : ℕ) → k < length (0 ∷ range_with_len first actions) → get_or (0 ∷ range_with_len first actions) k d < 2 ^ 32
+    fit zero d l = omega (arith, few)
+    fit (suc k) d l =
+        let within : k < actions = omega (arith, l, length-range_with_len first actions) in
+        let here = get_or-range_with_len first actions k d within in
+        omega (arith, here, within, few)

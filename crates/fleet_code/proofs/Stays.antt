@@ -1,5 +1,5 @@
 -- Programs that never stay, action by action.
-use Rattle.std.proofs.Common.{◌≡◌, ℕ, zero, suc, ◌<◌, ◌≤◌, ◌∙◌, List, [], length, get_or, sym, ap, subst, arith, inl, inr, ◌↔◌}
+use Rattle.std.proofs.Common.{◌≡◌, ℕ, zero, suc, ◌<◌, ◌≤◌, ◌∙◌, [], length, get_or, sym, ap, subst, inl, inr, ◌↔◌}
 use Rattle.std.specs.Prelude.{Option, Some, None, slice_get, option_map, IsTrue}
 use Rattle.std.specs.Option.{option_map_or}
 use Rattle.std.proofs.lemmas.Bool.{cases_lt}
@@ -9,7 +9,7 @@ use Rattle.fleet_model.specs.declared.geometry.Step.TheVariants.{Dwell}
 use Rattle.fleet_model.specs.declared.program.Action.{Action}
 use Rattle.fleet_model.specs.declared.program.AgentProgram.{AgentProgram}
 use Rattle.fleet_model.specs.Geometry.{is_move}
-use Rattle.fleet_model.specs.Program.{Program, origin, actions_of, step_of, NeverStays}
+use Rattle.fleet_model.specs.Program.{Program, origin, step_of, NeverStays}
 use Rattle.fleet_code.specs.Stays.{MovesAlways}
 
 -- the step of an action that is there

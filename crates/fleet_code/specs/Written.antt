@@ -1,5 +1,5 @@
 -- The actions of an agent as bytes of a version, while they are found.
-use Rattle.std.specs.Prelude.{ℕ, ◌+◌, List, length}
+use Rattle.std.specs.Prelude.{ℕ, List, length}
 use Rattle.std.specs.List.{flat_map}
 use Rattle.fleet_model.specs.declared.program.Action.{Action}
 use Rattle.fleet_code.specs.declared.format.Version.{Version}

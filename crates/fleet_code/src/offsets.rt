@@ -1,7 +1,8 @@
 //! Where the actions of an agent stand in the bytes.
 
-ghost use Rattle.std.specs.Prelude.{◌≡◌, ◌<◌, ◌≤◌, ◌+◌, ◌-◌, ◌/◌, ◌∷◌, [], min, replicate, true, length, vec_len, vec_capacity, IfOk, ◌^◌, All, slice_index_or};
+ghost use Rattle.std.specs.Prelude.{◌≡◌, ◌<◌, ◌≤◌, ◌+◌, ◌-◌, ◌/◌, ◌∷◌, [], min, replicate, true, length, vec_len, vec_capacity, IfOk, IfSome, Ok, List, ◌^◌, All, slice_index_or};
 ghost use Rattle.fleet_model.specs.Answer.{IsDueUnless};
+ghost use Rattle.fleet_model.specs.declared.program.Action.{Action};
 ghost use Rattle.fleet_code.specs.Spelling.{action, agent};
 ghost use Rattle.fleet_code.specs.Heads.{head_at, agent_head_at};
 ghost use Rattle.fleet_code.specs.Reading.{action_at, actions_at, agent_at, agents_at, program_as};
@@ -92,6 +93,7 @@ struct Head {
 
 /// Judges the awaits and the step of an action of agent `own`, and answers how many opcodes the action has, and the
 /// bytes after it.
+#[inline(always)]
 fn after_action(head: Head, own: u16, bytes: &[u8]) -> Result<(u32, &[u8]), LoadFault>
     requires whole { length bytes.now ≤ head.whole }
     requires few { head.agents ≤ MAX_AGENTS }
@@ -180,8 +182,41 @@ fn actions_in(
         let (_, rest) = bytes.split_at(count as usize);
         return Ok((ActionOffsets::bare(alloc, count), rest));
     }
+    if let Some(found) = bare_after_first(alloc, head, own, count, bytes)? {
+        return Ok(found);
+    }
     let (offsets, rest) = actions_after(alloc, head, own, count, bytes)?;
     Ok((ActionOffsets::of(count, offsets), rest))
+}
+
+/// The same, if only the first of the actions has awaits.
+#[inline(never)]
+fn bare_after_first(
+    alloc: Global,
+    head: Head,
+    own: u16,
+    count: u32,
+    bytes: &[u8],
+) -> Result<Option<(ActionOffsets, &[u8])>, OutOfMemory>
+    requires whole { length bytes.now ≤ head.whole }
+    requires few { head.agents ≤ MAX_AGENTS }
+    requires count { count ≤ MAX_MOVES }
+    ensures value { IfOk result (λ found. IfSome found (λ x. (actions : List Action)
+        × (actions_at head.version count head.whole head.agents own bytes.now
+        ≡ Ok (actions, x.1.now)) × (x.0 ≡ 0 ∷ ends_of 0 actions))) }
+    ensures count { IfOk result (λ found. IfSome found (λ x. length x.0 ≡ count + 1)) }
+{
+    if count == 0 {
+        return Ok(None);
+    }
+    let Ok((opcodes, after)) = after_action(head, own, bytes) else {
+        return Ok(None);
+    };
+    if !are_bare(head.version, count - 1, after) {
+        return Ok(None);
+    }
+    let (_, rest) = after.split_at(count as usize - 1);
+    Ok(Some((ActionOffsets::bare_after(alloc, count, opcodes)?, rest)))
 }
 
 /// How many actions an agent has, its start and its goal, if the agents before it have `total` actions together.
@@ -323,6 +358,22 @@ impl ActionOffsets {
             kept: Vec::new(alloc),
             stride: 1,
         }
+    }
+
+    /// The offsets of actions of which the first has so many opcodes, and the others no awaits: two are kept.
+    pub fn bare_after(alloc: Global, actions: u32, first: u32) -> Result<Self, OutOfMemory>
+        requires some { 1 ≤ actions }
+        requires few { first + actions < 2 ^ 32 }
+        ensures { IfOk result (λ o. o ≡ 0 ∷ range_with_len first actions) }
+    {
+        let mut kept = Vec::with_capacity(alloc, 2)?;
+        kept.push(0)?;
+        kept.push(first)?;
+        Ok(ActionOffsets {
+            actions,
+            kept,
+            stride: 1,
+        })
     }
 
     /// These offsets of so many actions.

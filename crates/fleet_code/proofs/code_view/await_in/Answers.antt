@@ -1,5 +1,5 @@
 use Rattle.std.proofs.Common.{◌+◌, ◌∷◌, [], ◌++◌, refl, arith}
-use Rattle.fleet_code.specs.declared.format.Version.TheVariants.{One, Two}
+use Rattle.fleet_code.specs.declared.format.Version.TheVariants.{Two}
 use Rattle.fleet_code.specs.Spelling.{two_bytes, count}
 use Rattle.fleet_code.specs.Offsets.{StandsAt}
 use Rattle.fleet_code.proofs.InPlace.{front_stands, back_stands}

@@ -1,4 +1,4 @@
-use Rattle.std.proofs.Common.{◌<◌, ◌≡◌, ◌∙◌, ℕ, length, refl, sym, subst, arith, inl, inr}
+use Rattle.std.proofs.Common.{◌<◌, ◌≡◌, ◌∙◌, length, refl, sym, subst, arith, inl, inr}
 use Rattle.std.proofs.lemmas.Bool.{cases_lt, false≢true}
 use Rattle.fleet_code.specs.Stays.{MovesAlways}
 use Rattle.fleet_code.proofs.Stays.{none_stays}

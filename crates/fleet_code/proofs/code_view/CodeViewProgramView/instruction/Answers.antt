@@ -1,12 +1,6 @@
-use Rattle.std.proofs.Common.{◌+◌, ◌≡◌, ◌≤◌, ◌∙◌, sym, subst, ap, arith, inl, inr, Some, ℕ}
-use Rattle.std.specs.Prelude.{slice_index_or}
-use Rattle.std.proofs.lemmas.Option.{none-some}
-use Rattle.fleet_model.specs.declared.program.Await.{Await}
-use Rattle.fleet_code.specs.declared.format.Version.{Version}
-use Rattle.fleet_code.specs.Spelling.{await, most_count}
-use Rattle.fleet_code.specs.Reading.{step_at}
-use Rattle.fleet_code.specs.Offsets.{Viewed, StandsAt, await_len, after_opcodes}
-use Rattle.fleet_code.proofs.InPlace.{viewed, instruction_read, instruction_within, step_no_await}
+use Rattle.std.proofs.Common.{◌+◌, ap, arith, ℕ}
+use Rattle.fleet_code.specs.Offsets.{after_opcodes}
+use Rattle.fleet_code.proofs.InPlace.{instruction_within}
 use Rattle.fleet_code.proofs.code_view.CodeViewProgramView.instruction.Goals as goal
 
 pub after-at-requires-clause-within : goal.after-at-requires-clause-within

@@ -1,4 +1,4 @@
-use Rattle.std.proofs.Common.{◌+◌, ◌≡◌, ◌≤◌, ◌∙◌, sym, subst, ap, refl, arith, inl, inr, Some, ℕ}
+use Rattle.std.proofs.Common.{◌≡◌, ◌≤◌, ◌∙◌, sym, subst, ap, refl, arith, inl, inr, Some, ℕ}
 use Rattle.std.specs.Prelude.{slice_index_or}
 use Rattle.std.proofs.lemmas.Option.{none-some}
 use Rattle.fleet_model.specs.declared.program.Await.{Await}
@@ -6,7 +6,7 @@ use Rattle.fleet_model.specs.Program.{awaits_before}
 use Rattle.fleet_code.specs.declared.format.Version.{Version}
 use Rattle.fleet_code.specs.Spelling.{await, most_count}
 use Rattle.fleet_code.specs.Reading.{step_at}
-use Rattle.fleet_code.specs.Offsets.{Viewed, StandsAt, await_len, after_opcodes}
+use Rattle.fleet_code.specs.Offsets.{Viewed, StandsAt, await_len}
 use Rattle.fleet_code.proofs.InPlace.{viewed, instruction_read, step_after, step_no_await}
 use Rattle.fleet_code.proofs.code_view.CodeViewProgramView.read.Goals as goal
 

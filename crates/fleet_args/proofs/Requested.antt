@@ -25,9 +25,9 @@ use Rattle.fleet_args.specs.declared.arguments.Argument.TheVariants as a
 use Rattle.fleet_args.specs.declared.commands.Best.TheVariants as best_is
 use Rattle.fleet_model.specs.declared.limits.TheConstants.{MAX_MOVES, MAX_TRIES}
 use Rattle.fleet_model.specs.declared.deps.Deps.TheVariants as deps
-use Rattle.fleet_args.specs.Arguments.{AreNames, agents_rule, horizon_rule, tries_rule, best_rule, deps_rule, dwell_rule, ahead_rule, rule_for, word}
+use Rattle.fleet_args.specs.Arguments.{AreNames, agents_rule, best_rule, defaulted, deps_rule, rule_for, word}
 use Rattle.fleet_args.specs.Commands.{commands, fleet, fleet_top, shape_in}
-use Rattle.fleet_args.specs.Values.{Values, values_of, best_by, deps_in, number_by, number_in, has_text, reads_number, has_number, has_count, has_kind, reads_best, has_value}
+use Rattle.fleet_args.specs.Values.{Values, values_of, best_by, deps_in, number_by, number_in, has_text, reads_number, has_kind, reads_best, has_value}
 use Rattle.fleet_args.specs.Request.{is_answered_by}
 use Rattle.fleet_args.proofs.RequestLemmas.{digits_from, is_small, is_small_number}
 use Rattle.fleet_args.proofs.MatchedRows.{Among}
@@ -134,28 +134,12 @@ module _ (shape : Shape) (negates : (leaf shape).subcommand_negates_reqs ≡ fal
       let rows = rows_after (leaf shape).rules [] words in
       ap is_some (number_option (at place agents_rule) rows 0 65535 refl (omega arith) (optional_value (leaf shape) words none (at place agents_rule) alone refl)).1
 
-  horizon : (place : ℕ) → IsAt shape place (codes "horizon") horizon_rule → has_number values (codes "horizon") ≡ true
-  horizon place alone =
-      let rows = rows_after (leaf shape).rules [] words in
-      let value = number_value 16 (at place horizon_rule) rows 1 65535 refl (omega arith) (default_value (leaf shape) words none (at place horizon_rule) alone refl refl) in
-      ap (λ number. is_some (option_and_then (λ n. n) number)) value.1
-
-  ahead : (place : ℕ) → IsAt shape place (codes "ahead") ahead_rule → has_number values (codes "ahead") ≡ true
-  ahead place alone =
-      let rows = rows_after (leaf shape).rules [] words in
-      let value = number_value 16 (at place ahead_rule) rows 1 255 refl (omega arith) (default_value (leaf shape) words none (at place ahead_rule) alone refl refl) in
-      ap (λ number. is_some (option_and_then (λ n. n) number)) value.1
-
-  tries : (place : ℕ) → IsAt shape place (codes "tries") tries_rule → has_count values (codes "tries") ≡ true
-  tries place alone =
-      let rows = rows_after (leaf shape).rules [] words in
-      let value = number_value 32 (at place tries_rule) rows 1 MAX_TRIES refl (omega arith) (default_value (leaf shape) words none (at place tries_rule) alone refl refl) in
-      ap (λ number. is_some (option_and_then (λ n. n) number)) value.1
-
-  dwell : (place : ℕ) → IsAt shape place (codes "dwell") dwell_rule → has_count values (codes "dwell") ≡ true
-  dwell place alone =
-      let rows = rows_after (leaf shape).rules [] words in
-      let value = number_value 32 (at place dwell_rule) rows 0 MAX_MOVES refl (omega arith) (default_value (leaf shape) words none (at place dwell_rule) alone refl refl) in
+  -- a number of so many bits, by an option with a default
+  numbered : (bits place low high : ℕ) (id default : Text) → high < 2 ^ bits → IsAt shape place id (defaulted id (parser.Signed (pos low) (pos high)) default)
+      → is_some (option_and_then (λ n. n) (number_by bits (values.one id))) ≡ true
+  numbered bits place low high id default fits alone =
+      let rule = at place (defaulted id (parser.Signed (pos low) (pos high)) default) in
+      let value = number_value bits rule (rows_after (leaf shape).rules [] words) low high refl fits (default_value (leaf shape) words none rule alone refl refl) in
       ap (λ number. is_some (option_and_then (λ n. n) number)) value.1
 
   kind : (names : OptionNames) → AreNames names → (place : ℕ) → IsAt shape place (codes "deps") (deps_rule names) → has_kind values (codes "deps") ≡ true
@@ -196,14 +180,14 @@ module _ (names : OptionNames) (are : AreNames names) (shape : Shape) (negates :
   has a.Out place alone = text shape negates words none place (codes "out") alone
   has a.Program place alone = text shape negates words none place (codes "program") alone
   has a.Agents place alone = agents shape negates words none place alone
-  has a.Horizon place alone = horizon shape negates words none place alone
-  has a.Tries place alone = tries shape negates words none place alone
+  has a.Horizon place alone = numbered shape negates words none 16 place 1 65535 (codes "horizon") (codes "1024") (omega arith) alone
+  has a.Tries place alone = numbered shape negates words none 32 place 1 MAX_TRIES (codes "tries") (codes "1") (omega arith) alone
   has a.Best place alone = best shape negates words none names are place alone
   has a.Deps place alone = kind shape negates words none names are place alone
-  has a.Dwell place alone = dwell shape negates words none place alone
+  has a.Dwell place alone = numbered shape negates words none 32 place 0 MAX_MOVES (codes "dwell") (codes "0") (omega arith) alone
   has a.Holds place alone = refl
   has a.Numbers place alone = refl
-  has a.Ahead place alone = ahead shape negates words none place alone
+  has a.Ahead place alone = numbered shape negates words none 16 place 1 255 (codes "ahead") (codes "1") (omega arith) alone
   has a.Unnumbered place alone = refl
   has a.Resume place alone = refl
   has a.Costs place alone = refl

@@ -353,14 +353,6 @@ fn program_in<'a>(matches: &ArgMatches<'a>) -> ProgramFor<'a>
     }
 }
 
-/// The request of `instance`.
-fn instance_in<'a>(matches: &ArgMatches<'a>) -> Request<'a>
-    requires { has_values (codes "instance") (values_in matches.now) ≡ true }
-    ensures { AsksCommand (codes "instance") (values_in matches.now) result }
-{
-    Request::Instance(tasks_in(matches))
-}
-
 /// The request of `check`.
 fn check_in<'a>(matches: &ArgMatches<'a>) -> Request<'a>
     requires { has_values (codes "check") (values_in matches.now) ≡ true }
@@ -399,36 +391,6 @@ fn compile_in<'a>(matches: &ArgMatches<'a>) -> Request<'a>
     })
 }
 
-/// The request of `verify`.
-fn verify_in<'a>(matches: &ArgMatches<'a>) -> Request<'a>
-    requires { has_values (codes "verify") (values_in matches.now) ≡ true }
-    ensures { AsksCommand (codes "verify") (values_in matches.now) result }
-{
-    Request::Verify(program_in(matches))
-}
-
-/// The request of `run`.
-fn run_in<'a>(matches: &ArgMatches<'a>) -> Request<'a>
-    requires { has_values (codes "run") (values_in matches.now) ≡ true }
-    ensures { AsksCommand (codes "run") (values_in matches.now) result }
-{
-    Request::Run(RunRequest {
-        subject: program_in(matches),
-        holds: matches.get_str("holds"),
-    })
-}
-
-/// The request of `rehearse`.
-fn rehearse_in<'a>(matches: &ArgMatches<'a>) -> Request<'a>
-    requires { has_values (codes "rehearse") (values_in matches.now) ≡ true }
-    ensures { AsksCommand (codes "rehearse") (values_in matches.now) result }
-{
-    Request::Rehearse(RehearseRequest {
-        program: text(matches, "program"),
-        holds: matches.get_str("holds"),
-    })
-}
-
 /// The request of `auto`.
 fn auto_in<'a>(matches: &ArgMatches<'a>) -> Request<'a>
     requires { has_values (codes "auto") (values_in matches.now) ≡ true }
@@ -441,38 +403,6 @@ fn auto_in<'a>(matches: &ArgMatches<'a>) -> Request<'a>
         deps: given_deps(matches, "deps"),
         holds: matches.get_str("holds"),
         numbers: used(matches, "numbers"),
-    })
-}
-
-/// The request of `thin`.
-fn thin_in<'a>(matches: &ArgMatches<'a>) -> Request<'a>
-    requires { has_values (codes "thin") (values_in matches.now) ≡ true }
-    ensures { AsksCommand (codes "thin") (values_in matches.now) result }
-{
-    Request::Thin(ThinRequest {
-        subject: program_in(matches),
-        out: text(matches, "out"),
-    })
-}
-
-/// The request of `migrate`.
-fn migrate_in<'a>(matches: &ArgMatches<'a>) -> Request<'a>
-    requires { has_values (codes "migrate") (values_in matches.now) ≡ true }
-    ensures { AsksCommand (codes "migrate") (values_in matches.now) result }
-{
-    Request::Migrate(MigrateRequest {
-        program: text(matches, "program"),
-        out: text(matches, "out"),
-    })
-}
-
-/// The request of `list`.
-fn list_in<'a>(matches: &ArgMatches<'a>) -> Request<'a>
-    requires { has_values (codes "list") (values_in matches.now) ≡ true }
-    ensures { AsksCommand (codes "list") (values_in matches.now) result }
-{
-    Request::List(ListRequest {
-        program: text(matches, "program"),
     })
 }
 
@@ -524,17 +454,31 @@ pub(crate) fn request_by<'a>(name: &str, matches: &ArgMatches<'a>) -> Request<'a
     ensures { AsksCommand name.now (values_in matches.now) result }
 {
     match name {
-        "instance" => instance_in(matches),
+        "instance" => Request::Instance(tasks_in(matches)),
         "check" => check_in(matches),
         "plan" => plan_in(matches),
         "compile" => compile_in(matches),
-        "verify" => verify_in(matches),
-        "run" => run_in(matches),
-        "rehearse" => rehearse_in(matches),
+        "verify" => Request::Verify(program_in(matches)),
+        "run" => Request::Run(RunRequest {
+            subject: program_in(matches),
+            holds: matches.get_str("holds"),
+        }),
+        "rehearse" => Request::Rehearse(RehearseRequest {
+            program: text(matches, "program"),
+            holds: matches.get_str("holds"),
+        }),
         "auto" => auto_in(matches),
-        "thin" => thin_in(matches),
-        "migrate" => migrate_in(matches),
-        "list" => list_in(matches),
+        "thin" => Request::Thin(ThinRequest {
+            subject: program_in(matches),
+            out: text(matches, "out"),
+        }),
+        "migrate" => Request::Migrate(MigrateRequest {
+            program: text(matches, "program"),
+            out: text(matches, "out"),
+        }),
+        "list" => Request::List(ListRequest {
+            program: text(matches, "program"),
+        }),
         "dispatch" => dispatch_in(matches),
         "times" => times_in(matches),
         "rest" => rest_in(matches),

@@ -7,4 +7,3 @@ pub mod OutputLemmas
 pub mod CommandLemmas
 pub mod CommandCases
 mod WrittenFiles
-mod DeadLemmas

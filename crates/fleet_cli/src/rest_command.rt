@@ -58,6 +58,7 @@ fn dead_in<'a>(
     program: &Program,
 ) -> Result<Option<DeadRobot>, Fault<'a>>
     ensures dead { IfOk result (IsDead grid.now (length program.now) without.entry) }
+    ensures agent { IfOk result (λ dead. IfSome dead (λ d. d.agent < length program.now)) }
     ensures fault { IfErr result (IsDeadRefusal grid.now (length program.now) without.entry) }
 {
     let Some(text) = without else {

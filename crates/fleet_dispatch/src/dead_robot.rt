@@ -1,6 +1,6 @@
 //! Which robot is dead, and on which cells it stands, by a text.
 
-ghost use Rattle.std.specs.Prelude.{◌≡◌, position};
+ghost use Rattle.std.specs.Prelude.{◌≡◌, ◌<◌, position, IfSome};
 ghost use Rattle.fleet_dispatch.specs.DeadRobot.{is_comma, number_below, cell_of, cells_of, dead_robot_of};
 
 use crate::number::long_number_of;
@@ -17,7 +17,8 @@ pub struct DeadRobot {
 
 /// The number that a word spells, if it is below this one.
 fn number_below(limit: u16, word: &[u8]) -> Option<u16>
-    ensures { result ≡ number_below limit word.now }
+    ensures number { result ≡ number_below limit word.now }
+    ensures below { IfSome result (λ n. n < limit) }
 {
     let number = long_number_of(word)?;
     if number < u32::from(limit) {
@@ -59,7 +60,8 @@ fn cells_of(width: u16, height: u16, word: &[u8]) -> Option<(Cell, Cell)>
 
 /// The agent and its cells that a text `A:X,Y` or `A:X,Y:X,Y` names, of so many agents on a map of these sizes.
 pub fn dead_robot_of(agents: u16, width: u16, height: u16, text: &[u8]) -> Option<DeadRobot>
-    ensures { result ≡ dead_robot_of agents width height text.now }
+    ensures robot { result ≡ dead_robot_of agents width height text.now }
+    ensures agent { IfSome result (λ d. d.agent < agents) }
 {
     let end = colon_in(text)?;
     let agent = number_below(agents, &text[..end])?;

@@ -14,14 +14,13 @@ use Rattle.fleet_verify.specs.Rest.{cell_at, rest, rest_tasks}
 use Rattle.fleet_adg.specs.Remaining.{task_of, tasks_of}
 use Rattle.fleet_dispatch.specs.declared.dead_robot.DeadRobot.{DeadRobot}
 use Rattle.fleet_cli.specs.RestCommand.{IsRestOf, AreOthers}
-use Rattle.fleet_cli.proofs.DeadLemmas.{dead_is_one}
 use Rattle.fleet_cli.proofs.rest_command.rest_texts.Goals as goal
 
 pub others_around-requires : goal.others_around-requires
 others_around-requires c =
     let q = c.in_ok-program.program in
     let long : length c.in-Ok.tasks.items ≡ length q = ap length c.in-Ok.ensures ∙ (length-map (indices (length q)) (task_of q) ∙ length-range_with_len 0 (length q)) in
-    subst (λ (n : ℕ). IfSome c.in_ok-dead.dead (λ (d : DeadRobot). d.agent < n)) (sym long) (dead_is_one c.in_ok-problem.problem.grid (length q) c.args.request.now.without c.in_ok-dead.dead c.in_ok-dead.ensures.dead)
+    subst (λ (n : ℕ). IfSome c.in_ok-dead.dead (λ (d : DeadRobot). d.agent < n)) (sym long) c.in_ok-dead.ensures.agent
 
 pub returns-clause-made : goal.returns-clause-made
 returns-clause-made c =

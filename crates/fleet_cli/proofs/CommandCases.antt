@@ -31,7 +31,10 @@ use Rattle.fleet_args.specs.declared.commands.Tries.{Tries}
 use Rattle.fleet_cli.specs.Faults.{step_fault}
 use Rattle.fleet_cli.specs.Output.{Finishes, IsOutFault, end_status}
 use Rattle.fleet_cli.specs.Steps.{AreTextsOf, IsMakingFault, AcceptsTexts, ReadsProgram, IsProblemRefusal, IsLoadRefusal, IsAcceptRefusal, IsTextsRefusal}
-use Rattle.fleet_cli.specs.RunCommands.{TracesFlushed, RehearsesFlushed, RehearsesProgram, Runs, TellsNumbers, MakesProgram, IsMakingRefusal, IsTextOf, ReadsInput, IsInputRefusal, AnswersRun, AnswersAuto, AnswersHex, plan_numbers_text}
+use Rattle.fleet_cli.proofs.RunLemmas.{TracesFlushed, RehearsesFlushed, flushed_trace, flushed_rehearsal}
+use Rattle.fleet_run.specs.declared.run.RunFault.{RunFault}
+use Rattle.std.specs.Result.{result_map_both}
+use Rattle.fleet_cli.specs.RunCommands.{RehearsesProgram, Runs, TellsNumbers, MakesProgram, IsMakingRefusal, IsTextOf, ReadsInput, IsInputRefusal, AnswersRun, AnswersAuto, AnswersHex, plan_numbers_text}
 use Rattle.fleet_cli.specs.declared.named.FileTexts.{FileTexts}
 use Rattle.fleet_cli.specs.declared.steps.PlanNumbers.{PlanNumbers}
 use Rattle.fleet_cli.specs.declared.fault.AutoFault.{AutoFault}
@@ -199,10 +202,15 @@ module _ (map scen : List ℕ) (asked : Option ℕ) (bytes held : List ℕ) (out
 
 -- what `run` answers
 module _ (r : RunRequest) (texts : FileTexts) (out out' : SinkState) where
+  ended : (x : AcceptsTexts texts.map.items texts.scen.items r.subject.tasks.agents texts.subject.items) (answer : Result Report RunFault)
+      → TracesFlushed x.program x.chain texts.holds.items out out' answer → ToldBy (RunAnswer r texts out out') (result_map_both (λ report. 0) f.Run answer)
+  ended x (Ok report) h = itself (RunAnswer r texts out out') (Ok 0) (record { accepts = x; report = report; writes = h.0; flushed = h.1 }, refl)
+  ended x (Err e) h = itself (RunAnswer r texts out out') (Err (f.Run e)) (x, h)
+
   ran : (done : Result ℕ Fault) (x : AcceptsTexts texts.map.items texts.scen.items r.subject.tasks.agents texts.subject.items) → Runs x.program x.chain texts.holds.items out out' done
       → ToldBy (RunAnswer r texts out out') done
-  ran (Ok status) x (report, h, zero) = itself (RunAnswer r texts out out') (Ok status) (record { accepts = x; report = report; writes = h.0; flushed = h.1 }, zero)
-  ran (Err fault) x (e, same, h) = subst (λ d. ToldBy (RunAnswer r texts out out') (Err d)) (sym same) (itself (RunAnswer r texts out out') (Err (f.Run e)) (x, h))
+  ran done x (mid, one, answer, traced, flushed, is) =
+      subst (ToldBy (RunAnswer r texts out out')) (sym is) (ended x answer (flushed_trace x.program x.chain texts.holds.items out mid out' one answer traced flushed))
 
   pub run_answers : (done : Result ℕ Fault) → AnswersRun r texts out out' done → ToldBy (RunAnswer r texts out out') done
   run_answers done (inl (x, h)) = ran done x h
@@ -237,17 +245,24 @@ module _ (r : AutoRequest) (map scen held : List ℕ) (out out' : SinkState) whe
       itself (AutoAnswer map scen r held out out') (Ok status) (mid, x, told, zero)
   numbered mid x true asked (Err fault) (out_fault, fails) = itself (AutoAnswer map scen r held out out') (Err fault) (inr (mid, x, asked, out_fault, fails))
 
-  numbered_after : (mid : SinkState) (x : MakesProgram map scen r.tasks.agents r.horizon r.tries r.deps) → Runs x.program x.chain held out mid (Ok 0) → (done : Result ℕ Fault)
+  numbered_after : (mid : SinkState) (status : ℕ) (x : MakesProgram map scen r.tasks.agents r.horizon r.tries r.deps) → Runs x.program x.chain held out mid (Ok status) → (done : Result ℕ Fault)
       → TellsNumbers r.numbers x.numbers mid out' done → ToldBy (AutoAnswer map scen r held out out') done
-  numbered_after mid x (report, h, zero) done tells =
-      numbered mid (record { makes = x; report = report; writes = h.0; flushed = h.1 }) r.numbers refl done tells
+  numbered_after mid status x (before, one, answer, traced, flushed, is) done tells = go answer (flushed_trace x.program x.chain held out before mid one answer traced flushed) is
+    where
+      go : (a : Result Report RunFault) → TracesFlushed x.program x.chain held out mid a → ◌≡◌ {A = Result ℕ Fault} (Ok status) (result_map_both (λ report. 0) f.Run a) → ToldBy (AutoAnswer map scen r held out out') done
+      go (Ok report) h so = numbered mid (record { makes = x; report = report; writes = h.0; flushed = h.1 }) r.numbers refl done tells
+      go (Err e) h so = absurd cc
 
   stopped : (x : MakesProgram map scen r.tasks.agents r.horizon r.tries r.deps) (done : Result ℕ Fault) (fault : Fault) → done ≡ Err fault → Runs x.program x.chain held out out' (Err fault)
       → ToldBy (AutoAnswer map scen r held out out') done
-  stopped x done fault same (e, at_run, h) =
-      let there : AutoAnswer map scen r held out out' (Err (f.Run e)) = inl (x, h) in
-      let here : AutoAnswer map scen r held out out' (Err fault) = subst (λ d. AutoAnswer map scen r held out out' (Err d)) (sym at_run) there in
-      refused (AutoAnswer map scen r held out out') done fault fault same (λ err err' status told. told) here
+  stopped x done fault same (mid, one, answer, traced, flushed, is) = go answer (flushed_trace x.program x.chain held out mid out' one answer traced flushed) is
+    where
+      go : (a : Result Report RunFault) → TracesFlushed x.program x.chain held out out' a → ◌≡◌ {A = Result ℕ Fault} (Err fault) (result_map_both (λ report. 0) f.Run a) → ToldBy (AutoAnswer map scen r held out out') done
+      go (Ok report) h so = absurd cc
+      go (Err e) h so =
+          let there : AutoAnswer map scen r held out out' (Err (f.Run e)) = inl (x, h) in
+          let here : AutoAnswer map scen r held out out' (Err fault) = subst (AutoAnswer map scen r held out out') (sym so) there in
+          refused (AutoAnswer map scen r held out out') done fault fault same (λ err err' status told. told) here
 
   making : (done : Result ℕ Fault) (fault : Fault) → done ≡ Err fault → IsMakingRefusal map scen r.tasks.agents r.horizon r.tries r.deps fault → IsUnwritten out out'
       → ToldBy (AutoAnswer map scen r held out out') done
@@ -261,7 +276,7 @@ module _ (r : AutoRequest) (map scen held : List ℕ) (out out' : SinkState) whe
 
 pub auto_answers : (r : AutoRequest) (texts : FileTexts) (out out' : SinkState) (done : Result ℕ Fault) → AnswersAuto r texts out out' done
     → ToldBy (AutoAnswer texts.map.items texts.scen.items r texts.holds.items out out') done
-auto_answers r texts out out' done (inl (x, (inl (mid, ran, tells)))) = numbered_after r texts.map.items texts.scen.items texts.holds.items out out' mid x ran done tells
+auto_answers r texts out out' done (inl (x, (inl (mid, status, ran, tells)))) = numbered_after r texts.map.items texts.scen.items texts.holds.items out out' mid status x ran done tells
 auto_answers r texts out out' done (inl (x, (inr (fault, same, ran)))) = stopped r texts.map.items texts.scen.items texts.holds.items out out' x done fault same ran
 auto_answers r texts out out' done (inr (fault, same, refusal, unwritten)) = making r texts.map.items texts.scen.items texts.holds.items out out' done fault same refusal unwritten
 
@@ -280,10 +295,12 @@ module _ (input : Option (List ℕ)) (out out' : SinkState) where
 
   rehearsed : (bytes : List ℕ) (x : ReadsInput input bytes) (p : ReadsProgram bytes) (done : Result ℕ Fault) → RehearsesProgram p.program [] out out' done → ToldBy (HexAnswer input out out') done
   unfolding text.lines text.ended_lines
-  rehearsed bytes x p (Ok status) (source, r, h, so) = itself (HexAnswer input out out') (Ok status) (r.end, ends bytes x p source r h, so)
-  rehearsed bytes x p (Err fault) (source, e, same, h) =
-      let there : HexAnswer input out out' (Err (f.Run e)) = (x.text, p.program, source, x.read, record { bytes = bytes; pairs = x.pairs; spelled = p.spelled }, h) in
-      itself (HexAnswer input out out') (Err fault) (subst (λ d. HexAnswer input out out' (Err d)) (sym same) there)
+  rehearsed bytes x p done (source, (mid, one, answer, told, (kept, flushed), is)) =
+      subst (ToldBy (HexAnswer input out out')) (sym is) (go answer (flushed_rehearsal p.program (hold_source p.program []) source out mid out' kept one answer told flushed))
+    where
+      go : (a : Result Rehearsal RunFault) → RehearsesFlushed p.program (hold_source p.program []) source out out' a → ToldBy (HexAnswer input out out') (result_map_both (λ r. end_status r.end) f.Run a)
+      go (Ok r) h = itself (HexAnswer input out out') (Ok (end_status r.end)) (r.end, ends bytes x p source r h, refl)
+      go (Err e) h = itself (HexAnswer input out out') (Err (f.Run e)) (x.text, p.program, source, x.read, record { bytes = bytes; pairs = x.pairs; spelled = p.spelled }, h)
 
   unread : (fault : Fault) → IsInputRefusal input fault → IsUnwritten out out' → InputFault input out out' fault
   unread (f.Hex fault) (text, read, h) unwritten = (text, read, h, unwritten)

@@ -16,8 +16,8 @@ use Rattle.fleet_run.specs.Source.{SourceState}
 use Rattle.fleet_run.specs.Drive.{Drives}
 use Rattle.fleet_run.specs.Outcome.{EndTest, StopsAtSource, StopsAtSink, StopsAtTickLimit}
 use Rattle.fleet_run.specs.HoldText.{HoldLines, source_of}
-use Rattle.fleet_run.specs.Rehearsal.{Rehearses}
-use Rattle.fleet_run.specs.Trace.{StopsTrace, Traces, hold_source}
+use Rattle.fleet_run.specs.Rehearsal.{IsRehearsed, Rehearses}
+use Rattle.fleet_run.specs.Trace.{WritesTrace, StopsTrace, Traces, hold_source}
 use Rattle.fleet_run.specs.declared.source.SourceFault.{SourceFault}
 use Rattle.fleet_run.specs.declared.source.SourceFault.TheVariants.{Broken, Text}
 use Rattle.fleet_run.specs.declared.report.Rehearsal.{Rehearsal}
@@ -29,7 +29,32 @@ use Rattle.fleet_cli.specs.declared.steps.PlanNumbers.{PlanNumbers}
 use Rattle.fleet_cli.specs.Faults.{in_step}
 use Rattle.fleet_cli.specs.declared.fault.AutoFault.TheVariants as a
 use Rattle.fleet_cli.specs.Steps.{AreTextsOf, SpellsMade, Accepts}
-use Rattle.fleet_cli.specs.RunCommands.{RehearsesFlushed, unfailed, FlushesRun, TracesFlushed, MakesProgram, AutoRuns, one_try}
+use Rattle.fleet_cli.specs.RunCommands.{FlushesRun, Runs, MakesProgram, AutoRuns, one_try}
+
+-- the sink before it failed to hand on
+abbrev pub unfailed : SinkState → SinkState
+unfailed out = record { taken = out.taken; has_failed = false; is_flushed = out.is_flushed }
+
+-- a rehearsal was done or refused, and the sink then failed to hand on what it took of it
+abbrev pub IsLost : Program → (source source' : SourceState) (out out' : SinkState) → Type 0
+IsLost p source source' out out' = HasFailed out' × ((ran : Result Rehearsal RunFault) × Rehearses p source source' out (unfailed out') ran)
+
+-- A rehearsal, and the flush after it, as it was said before
+abbrev pub RehearsesFlushed : Program → (source source' : SourceState) (out out' : SinkState) → Result Rehearsal RunFault → Type 0
+RehearsesFlushed p source source' out out' (Ok r) = IsRehearsed p source source' out out' r × (out'.is_flushed ≡ true)
+RehearsesFlushed p source source' out out' (Err fault) =
+    (Rehearses p source source' out out' (Err fault) × (IsWorking out' → out'.is_flushed ≡ true)) ⊎ ((fault ≡ Write) × IsLost p source source' out out')
+
+-- a run was done or refused, and the sink then failed to hand on what it took of it
+abbrev pub IsLostTrace : Program → ℕ → (held : List ℕ) → (out out' : SinkState) → Type 0
+IsLostTrace p chain held out out' = HasFailed out' × ((ran : Result Report RunFault) × Traces p chain held out (unfailed out') ran)
+
+-- A run, and the flush after it, as it was said before
+abbrev pub TracesFlushed : Program → ℕ → (held : List ℕ) → (out out' : SinkState) → Result Report RunFault → Type 0
+TracesFlushed p chain held out out' (Ok r) = WritesTrace p chain held out out' r × (out'.is_flushed ≡ true)
+TracesFlushed p chain held out out' (Err fault) =
+    (Traces p chain held out out' (Err fault) × (IsWorking out' → out'.is_flushed ≡ true))
+    ⊎ ((fault ≡ Write) × IsLostTrace p chain held out out')
 
 pub keeps_self : (a : Option (List ℕ)) → Keeps a a
 keeps_self None = tt
@@ -166,11 +191,17 @@ module _ (p : Program) (chain : ℕ) (held : List ℕ) (before mid after : SinkS
 
 -- a rehearsal under holds that are read in place, said of the bytes of the holds
 pub held_by : (held : List ℕ) (p : Program) (n : ℕ) (s : HoldLines) (source : SourceState) (out out' : SinkState) (r : Result Rehearsal RunFault) → n ≡ length p
-    → s ≡ record { lines = lines held; agents = n; has_failed = false } → RehearsesFlushed p (source_of s) source out out' r → RehearsesFlushed p (hold_source p held) source out out' r
+    → s ≡ record { lines = lines held; agents = n; has_failed = false } → Rehearses p (source_of s) source out out' r → Rehearses p (hold_source p held) source out out' r
 held_by held p n s source out out' r agents first h =
-    let Told : HoldLines → Type 0 = λ x. RehearsesFlushed p (source_of x) source out out' r in
-    let At : ℕ → Type 0 = λ k. Told (record { lines = lines held; agents = k; has_failed = false }) in
-    subst At agents (subst Told first h)
+    let At : ℕ → Type 0 = λ k. Rehearses p (source_of (record { lines = lines held; agents = k; has_failed = false })) source out out' r in
+    subst At agents (subst (λ x. Rehearses p (source_of x) source out out' r) first h)
+
+-- the sink of a run that is done works
+pub works_after : {p : Program} {chain : ℕ} {held : List ℕ} {out out' : SinkState} {status : ℕ} → Runs p chain held out out' (Ok status) → IsWorking out'
+works_after (mid, Ok r, Ok report, traced, (kept, inl (same, still, all)), is) = still ∙ traced.written.working
+works_after (mid, Err e, Ok report, traced, (kept, inl (same, still, all)), is) = absurd cc
+works_after (mid, r, Ok report, traced, (kept, inr (write, worked, fails)), is) = absurd cc
+works_after (mid, r, Err e, traced, flushed, is) = absurd cc
 
 -- bytes were made of the texts, and they are accepted: so the program that they spell was made of the texts
 abbrev pub made : (one : OneProgramEach) {map scen : List ℕ} {asked : Option ℕ} {horizon : ℕ} {tries : Tries} {deps : Deps} {g : Ground} {tasks : List Task} {bytes : List ℕ} {q : Program} {chain : ℕ}

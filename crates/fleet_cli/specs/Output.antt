@@ -55,7 +55,7 @@ Does A Refuses After out out' result = ((a : A) × After a out out' result) ⊎ 
 
 -- the one was done, and this is what came of the other; or the one was refused
 abbrev pub Follow : (first second : (out out' : SinkState) → Result ℕ Fault → Type 0) → (out out' : SinkState) → Result ℕ Fault → Type 0
-Follow first second out out' result = ((mid : SinkState) × first out mid (Ok 0) × second mid out' result) ⊎ ((fault : Fault) × (result ≡ Err fault) × first out out' (Err fault))
+Follow first second out out' result = ((mid : SinkState) × (status : ℕ) × first out mid (Ok status) × second mid out' result) ⊎ ((fault : Fault) × (result ≡ Err fault) × first out out' (Err fault))
 
 -- the file holds the bytes, every other file is as before, and the text was printed and handed on
 pub record WritesOut (files after : Option Store) (name bytes : List ℕ) (out out' : SinkState) (text : List ℕ) : Type 0 where

@@ -1,13 +1,13 @@
 -- What the commands `run`, `auto` and `rehearse` do, and the program without words: a run, and the flush of its sink.
 use Rattle.std.specs.Prelude.{◌≡◌, true, false, Result, Ok, Err, ◌⊎◌, ℕ, List, Option, None, Bool, [], ◌∷◌, codes, length, ◌≢◌, ◌≤◌, IfSome}
 use Rattle.std.specs.Io.KnownBytes.{Keeps}
+use Rattle.std.specs.Result.{result_map_both}
 use Rattle.fleet_model.specs.Program.{Program}
 use Rattle.fleet_text.specs.Sink.{SinkState, IsWorking, HasFailed, IsUnwritten}
 use Rattle.fleet_run.specs.Source.{SourceState}
-use Rattle.fleet_run.specs.Rehearsal.{IsRehearsed, Rehearses}
+use Rattle.fleet_run.specs.Rehearsal.{Rehearses}
 use Rattle.fleet_run.specs.declared.run.RunFault.{RunFault}
 use Rattle.fleet_run.specs.declared.run.RunFault.TheVariants.{Write}
-use Rattle.fleet_run.specs.declared.report.Rehearsal.{Rehearsal}
 use Rattle.fleet_run.specs.declared.trace.Report.{Report}
 use Rattle.fleet_run.specs.Trace.{WritesTrace, Traces, StopsTrace, hold_source}
 use Rattle.fleet_args.specs.declared.commands.RunRequest.{RunRequest}
@@ -42,37 +42,14 @@ FlushesRun out out' ran answer =
     × (((answer ≡ ran) × (out'.has_failed ≡ out.has_failed) × (IsWorking out' → out'.is_flushed ≡ true))
     ⊎ ((answer ≡ Err Write) × IsWorking out × HasFailed out'))
 
--- the sink before it failed to hand on
-abbrev pub unfailed : SinkState → SinkState
-unfailed out = record { taken = out.taken; has_failed = false; is_flushed = out.is_flushed }
+-- a run wrote to the sink and ended so, the sink was flushed, and the status of the answer after that, or its fault, is answered
+abbrev pub Ends : {T : Type 0} → ((out' : SinkState) → Result T RunFault → Type 0) → (T → ℕ) → (out' : SinkState) → Result ℕ Fault → Type 0
+Ends {T} Ran status out' result =
+    (mid : SinkState) × (ran answer : Result T RunFault) × Ran mid ran × FlushesRun mid out' ran answer × (result ≡ result_map_both status f.Run answer)
 
--- a rehearsal was done or refused, and the sink then failed to hand on what it took of it
-abbrev pub IsLost : Program → (source source' : SourceState) (out out' : SinkState) → Type 0
-IsLost p source source' out out' = HasFailed out' × ((ran : Result Rehearsal RunFault) × Rehearses p source source' out (unfailed out') ran)
-
--- A rehearsal, and the flush after it. If it answers, its text was written and handed on. Its refusal is the rehearsal's, and all
--- that was written is handed on, unless the sink failed; or it is `Write`, since the text that was written could not be handed on.
-abbrev pub RehearsesFlushed : Program → (source source' : SourceState) (out out' : SinkState) → Result Rehearsal RunFault → Type 0
-RehearsesFlushed p source source' out out' (Ok r) = IsRehearsed p source source' out out' r × (out'.is_flushed ≡ true)
-RehearsesFlushed p source source' out out' (Err fault) =
-    (Rehearses p source source' out out' (Err fault) × (IsWorking out' → out'.is_flushed ≡ true)) ⊎ ((fault ≡ Write) × IsLost p source source' out out')
-
--- a run was done or refused, and the sink then failed to hand on what it took of it
-abbrev pub IsLostTrace : Program → ℕ → (held : List ℕ) → (out out' : SinkState) → Type 0
-IsLostTrace p chain held out out' = HasFailed out' × ((ran : Result Report RunFault) × Traces p chain held out (unfailed out') ran)
-
--- A run, and the flush after it. If it answers, its trace was written and handed on. Its refusal is the run's, and all that was written is
--- handed on, unless the sink failed; or it is `Write`, since the text that was written could not be handed on.
-abbrev pub TracesFlushed : Program → ℕ → (held : List ℕ) → (out out' : SinkState) → Result Report RunFault → Type 0
-TracesFlushed p chain held out out' (Ok r) = WritesTrace p chain held out out' r × (out'.is_flushed ≡ true)
-TracesFlushed p chain held out out' (Err fault) =
-    (Traces p chain held out out' (Err fault) × (IsWorking out' → out'.is_flushed ≡ true))
-    ⊎ ((fault ≡ Write) × IsLostTrace p chain held out out')
-
--- The program was run under the holds, its trace was written and handed on, and 0 is answered; or the run or the flush after it was refused
+-- the program was run under the holds, and its trace written; of a run that is done 0 is answered
 abbrev pub Runs : Program → ℕ → (held : List ℕ) → (out out' : SinkState) → Result ℕ Fault → Type 0
-Runs p chain held out out' (Ok status) = (report : Report) × TracesFlushed p chain held out out' (Ok report) × (status ≡ 0)
-Runs p chain held out out' (Err fault) = (e : RunFault) × (fault ≡ f.Run e) × TracesFlushed p chain held out out' (Err e)
+Runs p chain held out = Ends (Traces p chain held out) (λ report. 0)
 
 -- what `run` answers for the texts of its files
 abbrev pub AnswersRun : RunRequest → FileTexts → (out out' : SinkState) → Result ℕ Fault → Type 0
@@ -141,13 +118,9 @@ AnswersAuto r texts out out' result =
     Does (MakesProgram texts.map.items texts.scen.items r.tasks.agents r.horizon r.tries r.deps) (IsMakingRefusal texts.map.items texts.scen.items r.tasks.agents r.horizon r.tries r.deps)
     (λ x. Follow (Runs x.program x.chain texts.holds.items) (TellsNumbers r.numbers x.numbers)) out out' result
 
--- The program was rehearsed under the holds for which the bytes stand, and the text of that was written and handed on; the status says how
--- it ended. Or the rehearsal or the flush after it was refused
+-- the program was rehearsed under the holds for which the bytes stand; the status says how it ended
 abbrev pub RehearsesProgram : Program → (held : List ℕ) → (out out' : SinkState) → Result ℕ Fault → Type 0
-RehearsesProgram p held out out' (Ok status) =
-    (source : SourceState) × (r : Rehearsal) × RehearsesFlushed p (hold_source p held) source out out' (Ok r) × (status ≡ end_status r.end)
-RehearsesProgram p held out out' (Err fault) =
-    (source : SourceState) × (e : RunFault) × (fault ≡ f.Run e) × RehearsesFlushed p (hold_source p held) source out out' (Err e)
+RehearsesProgram p held out out' result = (source : SourceState) × Ends (Rehearses p (hold_source p held) source out) (λ r. end_status r.end) out' result
 
 -- what `rehearse` answers for the texts of its files
 abbrev pub AnswersRehearse : FileTexts → (out out' : SinkState) → Result ℕ Fault → Type 0

@@ -2,7 +2,7 @@ use Rattle.std.proofs.Common.{List, ℕ, Ok, Err, inl, inr, refl, subst}
 use Rattle.std.proofs.lemmas.Result.{err_from_is_err_and}
 use Rattle.fleet_cli.specs.Steps.{SpellsMade}
 use Rattle.fleet_cli.specs.RunCommands.{Runs}
-use Rattle.fleet_cli.proofs.RunLemmas.{made}
+use Rattle.fleet_cli.proofs.RunLemmas.{made, works_after}
 use Rattle.fleet_cli.proofs.OutputLemmas.{does_nothing, nothing_written}
 use Rattle.fleet_cli.proofs.run_commands.do_auto.Goals as goal
 
@@ -14,7 +14,7 @@ returns-in-Err g c =
     rw c.step_fault.ensures (inr (_, refl, inr (_, _, c.in-Err.fault, refl, c.in_ok-problem.ensures.read, c.in-Err.ensures.fault), nothing_written _ c.requires))
 
 pub tell_numbers-requires : goal.tell_numbers-requires
-tell_numbers-requires g c = c.in_ok-run_flushed.ensures.1.0.written.working
+tell_numbers-requires g c = works_after c.in_ok-run_flushed.ensures
 
 pub returns-in_err-run_flushed : goal.returns-in_err-run_flushed
 returns-in_err-run_flushed g c =
@@ -30,4 +30,4 @@ returns g c =
     let spelled : SpellsMade c.in_ok-problem.problem.grid c.in_ok-problem.problem.instance c.args.request.now.horizon c.args.request.now.tries c.args.request.now.deps c.in-Ok.made.numbers c.deref.result.now = rw c.deref.ensures.value c.in-Ok.ensures.made in
     let one = made c.each_spelling_has_one_program.ensures.program c.in_ok-problem.ensures.read spelled c.in-Ok-accept_made.ensures in
     let ran = rw c.deref-2.ensures.value at c.in_ok-run_flushed.ensures in
-    inl (one, inl (g.O.TraceOut.state c.run_flushed.new.out, (ran.0, ran.1, refl), c.tell_numbers.ensures))
+    inl (one, inl (g.O.TraceOut.state c.run_flushed.new.out, _, ran, c.tell_numbers.ensures))

@@ -6,4 +6,3 @@ pub mod PrintLemmas
 pub mod OutputLemmas
 pub mod CommandLemmas
 pub mod CommandCases
-mod WrittenFiles

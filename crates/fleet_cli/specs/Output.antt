@@ -1,5 +1,5 @@
 -- What commands write, and what several of them print or write in the same way.
-use Rattle.std.specs.Prelude.{◌≡◌, ℕ, Result, Ok, Err, codes, List, [], ◌∷◌, ◌++◌, ◌⊎◌, Option, map}
+use Rattle.std.specs.Prelude.{◌≡◌, ℕ, Result, Ok, Err, codes, List, [], ◌∷◌, ◌++◌, ◌⊎◌, Option, None, Some, map}
 use Rattle.fleet_text.specs.Sink.{SinkState, Receives, IsDelivered, IsUnwritten, FailsAfter}
 use Rattle.fleet_cli.specs.Faults.{refusal_line, status_of}
 use Rattle.fleet_run.specs.declared.run.End.{End}
@@ -57,26 +57,23 @@ Does A Refuses After out out' result = ((a : A) × After a out out' result) ⊎ 
 abbrev pub Follow : (first second : (out out' : SinkState) → Result ℕ Fault → Type 0) → (out out' : SinkState) → Result ℕ Fault → Type 0
 Follow first second out out' result = ((mid : SinkState) × (status : ℕ) × first out mid (Ok status) × second mid out' result) ⊎ ((fault : Fault) × (result ≡ Err fault) × first out out' (Err fault))
 
--- the file holds the bytes, every other file is as before, and the text was printed and handed on
-pub record WritesOut (files after : Option Store) (name bytes : List ℕ) (out out' : SinkState) (text : List ℕ) : Type 0 where
-  pub written : Replaces files after name bytes
-  pub printed : IsDelivered out out' text
+-- the file that is named was written or not, and every other one is as before; without a name nothing is done
+abbrev pub WritesGiven : (files after : Option Store) → Option (Bor (List ℕ)) → List ℕ → Result (Unit {0}) Fault → Type 0
+WritesGiven files after None bytes result = (after ≡ files) × (result ≡ Ok tt)
+WritesGiven files after (Some name) bytes (Ok _) = Replaces files after name.now bytes
+WritesGiven files after (Some name) bytes (Err fault) = IsWriteFault name.now fault × ChangesOnly files after name.now
 
--- The file could not be written: every other file is as before, and nothing was printed. Or it holds the bytes, every other file is as
--- before, and the output failed
-abbrev pub IsOutRefusal : (files after : Option Store) → (name bytes : List ℕ) → (out out' : SinkState) → (text : List ℕ) → Fault → Type 0
-IsOutRefusal files after name bytes out out' text fault =
-    (IsWriteFault name fault × ChangesOnly files after name × IsUnwritten out out')
-    ⊎ (Replaces files after name bytes × IsOutFault fault × FailsAfter out out' text)
+-- the files that are named were written one after another, and then the text was printed; or one could not be written, and nothing more was
+-- done
+abbrev pub WritesFiles : (files after : Option Store) → List (Option (Bor (List ℕ)) × List ℕ) → (text : List ℕ) → (out out' : SinkState) → Result ℕ Fault → Type 0
+WritesFiles files after [] text out out' result = (after ≡ files) × Prints text out out' result
+WritesFiles files after (one ∷ others) text out out' result =
+    ((mid : Option Store) × WritesGiven files mid one.0 one.1 (Ok tt) × WritesFiles mid after others text out out' result)
+    ⊎ ((fault : Fault) × (result ≡ Err fault) × WritesGiven files after one.0 one.1 (Err fault) × IsUnwritten out out')
 
--- the bytes were written to the file, the text was printed, and 0 is answered; or one of the two was refused
-abbrev pub Stores : (files after : Option Store) → (name bytes text : List ℕ) → (out out' : SinkState) → Result ℕ Fault → Type 0
-Stores files after name bytes text out out' (Ok status) = WritesOut files after name bytes out out' text × (status ≡ 0)
-Stores files after name bytes text out out' (Err fault) = IsOutRefusal files after name bytes out out' text fault
-
--- What a command answers that makes a value, writes its bytes to a file and then prints a text of it. The value was made, and this came of
--- the writing; or it was refused, before anything is written: every file is as before
-abbrev pub AnswersOut : {A : Type 0} → (files after : Option Store) → (name : List ℕ) → (A → Type 0) → (Fault → Type 0) → (A → List ℕ) → (A → List ℕ) → (out out' : SinkState) → Result ℕ Fault → Type 0
-AnswersOut {A} files after name Makes Refuses bytes text out out' result =
-    ((made : A) × Makes made × Stores files after name (bytes made) (text made) out out' result)
+-- What a command answers that makes a value, writes files of it and then prints a text of it. The value was made, and this came of the
+-- writing; or it was refused, before anything is written: every file is as before
+abbrev pub AnswersOut : {A : Type 0} → (files after : Option Store) → (A → Type 0) → (Fault → Type 0) → (A → List (Option (Bor (List ℕ)) × List ℕ)) → (A → List ℕ) → (out out' : SinkState) → Result ℕ Fault → Type 0
+AnswersOut {A} files after Makes Refuses written text out out' result =
+    ((made : A) × Makes made × WritesFiles files after (written made) (text made) out out' result)
     ⊎ ((fault : Fault) × (result ≡ Err fault) × Refuses fault × AreUnchanged files after × IsUnwritten out out')

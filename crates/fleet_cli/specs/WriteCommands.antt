@@ -1,5 +1,5 @@
 -- What the commands `compile`, `thin` and `migrate` write and print.
-use Rattle.std.specs.Prelude.{◌≡◌, ◌≢◌, ℕ, List, [], ◌∷◌, length, Option, Ok, Err, codes, Result}
+use Rattle.std.specs.Prelude.{◌≡◌, ◌≢◌, ℕ, List, [], ◌∷◌, length, Option, Some, Ok, Err, codes, Result}
 use Rattle.fleet_model.specs.declared.task.Task.{Task}
 use Rattle.fleet_model.specs.Program.{Program, total_moves, total_awaits}
 use Rattle.fleet_model.specs.Accepted.{IsAccepted}
@@ -52,21 +52,16 @@ IsCompileFault map scen plan asked deps dwell (f.Compile fault) =
 IsCompileFault map scen plan asked deps dwell fault = IsPlanRefusal map scen plan asked fault
 
 -- the agents, the moves and the awaits of the program, and its bytes, each with its number
-abbrev pub compiled_text : Program → List ℕ → List ℕ
-compiled_text p bytes =
+abbrev pub numbers_text : Program → List ℕ → List ℕ
+numbers_text p bytes =
     count_lines ((codes "agents", length p) ∷ (codes "moves", total_moves p) ∷ (codes "awaits", total_awaits p) ∷ (codes "bytes", length bytes) ∷ [])
-
--- .. as they are told beside the bytes
-abbrev pub compiled_numbers : ProgramBytes → List ℕ
-compiled_numbers c =
-    count_lines ((codes "agents", c.agents) ∷ (codes "moves", c.moves) ∷ (codes "awaits", c.awaits) ∷ (codes "bytes", length c.bytes.items) ∷ [])
 
 -- What the command answers for the texts of its files. The file OUT holds the program's bytes, every other file is as before, and the
 -- program's numbers were printed; or a refusal before anything is written; or OUT could not be written, or the output failed
 abbrev pub AnswersCompile : (files after : Option Store) → CompileRequest → FileTexts → (out out' : SinkState) → Result ℕ Fault → Type 0
 AnswersCompile files after r texts out out' result =
-    AnswersOut {A = Program × List ℕ} files after r.out.now (λ made. CompilesTexts texts.map.items texts.scen.items texts.subject.items r.tasks.agents r.deps r.dwell made.0 made.1)
-    (IsCompileFault texts.map.items texts.scen.items texts.subject.items r.tasks.agents r.deps r.dwell) (λ made. made.1) (λ made. compiled_text made.0 made.1) out out' result
+    AnswersOut {A = Program × List ℕ} files after (λ made. CompilesTexts texts.map.items texts.scen.items texts.subject.items r.tasks.agents r.deps r.dwell made.0 made.1)
+    (IsCompileFault texts.map.items texts.scen.items texts.subject.items r.tasks.agents r.deps r.dwell) (λ made. (Some r.out, made.1) ∷ []) (λ made. numbers_text made.0 made.1) out out' result
 
 -- the program of the bytes is accepted for the texts; the bytes that are written spell that program without its implied awaits, in
 -- version 1 if that has bytes for it; it is accepted for the same map and tasks, has the same longest chain and runs equally; and the
@@ -90,8 +85,8 @@ thinned_text before after = count_lines ((codes "awaits", before) ∷ (codes "aw
 -- awaits were printed; or a refusal before anything is written; or OUT could not be written, or the output failed
 abbrev pub AnswersThin : (files after : Option Store) → ThinRequest → FileTexts → (out out' : SinkState) → Result ℕ Fault → Type 0
 AnswersThin files after r texts out out' result =
-    AnswersOut {A = ℕ × ℕ × List ℕ} files after r.out.now (λ made. ThinsTexts texts.map.items texts.scen.items r.subject.tasks.agents texts.subject.items made.0 made.1 made.2)
-    (IsTextsRefusal texts.map.items texts.scen.items r.subject.tasks.agents texts.subject.items) (λ made. made.2) (λ made. thinned_text made.0 made.1) out out' result
+    AnswersOut {A = ℕ × ℕ × List ℕ} files after (λ made. ThinsTexts texts.map.items texts.scen.items r.subject.tasks.agents texts.subject.items made.0 made.1 made.2)
+    (IsTextsRefusal texts.map.items texts.scen.items r.subject.tasks.agents texts.subject.items) (λ made. (Some r.out, made.2) ∷ []) (λ made. thinned_text made.0 made.1) out out' result
 
 -- the bytes spell a program, in either version, and the others spell it in version 2
 pub record MigratesBytes (bytes migrated : List ℕ) : Type 0 where
@@ -107,4 +102,4 @@ migrated_text migrated = count_lines ((codes "bytes", length migrated) ∷ [])
 -- and how many they are was printed; or a refusal before anything is written; or OUT could not be written, or the output failed
 abbrev pub AnswersMigrate : (files after : Option Store) → MigrateRequest → FileTexts → (out out' : SinkState) → Result ℕ Fault → Type 0
 AnswersMigrate files after r texts out out' result =
-    AnswersOut files after r.out.now (MigratesBytes texts.subject.items) (IsLoadRefusal texts.subject.items) (λ migrated. migrated) migrated_text out out' result
+    AnswersOut files after (MigratesBytes texts.subject.items) (IsLoadRefusal texts.subject.items) (λ migrated. (Some r.out, migrated) ∷ []) migrated_text out out' result

@@ -1,8 +1,8 @@
 //! What several commands print or write in the same way: counts, and a file OUT with counts of it.
 
-ghost use Rattle.std.specs.Prelude.{ℕ, List};
+ghost use Rattle.std.specs.Prelude.{ℕ, List, Some, [], ◌∷◌};
 ghost use Rattle.fleet_text.specs.Sink.{IsWorking, SinkState, TakesAll};
-ghost use Rattle.fleet_cli.specs.Output.{with_labels, count_lines, report, Prints, Stores};
+ghost use Rattle.fleet_cli.specs.Output.{with_labels, count_lines, report, Prints, WritesFiles};
 
 use crate::fault::Fault;
 use crate::files::Files;
@@ -62,8 +62,9 @@ pub(crate) fn write_out<'a, F: Files, O: Flush>(
     counts: &[(&'static str, u64)],
 ) -> Result<u8, Fault<'a>>
     requires { IsWorking (O.state out.old) }
-    ensures { Stores (F.contents files.old) (F.contents files.new) name.entry.now bytes.now
-        (count_lines (with_labels counts.now)) (O.state out.old) (O.state out.new) result }
+    ensures { WritesFiles (F.contents files.old) (F.contents files.new)
+        ((Some name.entry, bytes.now) ∷ []) (count_lines (with_labels counts.now))
+        (O.state out.old) (O.state out.new) result }
 {
     write_file(files, name, bytes)?;
     let printed = put_counts(out, counts);

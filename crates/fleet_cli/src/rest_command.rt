@@ -3,7 +3,9 @@
 ghost use Rattle.std.specs.Prelude.{◌≡◌, ◌<◌, IfOk, IfErr, IfSome, length};
 ghost use Rattle.fleet_scen.specs.ScenWriting.{scen_text};
 ghost use Rattle.fleet_text.specs.Sink.{IsWorking, TakesAll};
-ghost use Rattle.fleet_cli.specs.RestCommand.{IsRestOf, IsRestFault, IsDead, IsDeadRefusal, IsMapAround, AreOthers, RestsTexts, IsRestRefusal, rest_text, rest_files, WritesGiven, WritesFiles, AnswersRest};
+ghost use Rattle.fleet_cli.specs.Output.{WritesFiles, WritesGiven};
+ghost use Rattle.fleet_cli.specs.RestCommand.{IsRestOf, IsRestFault, IsDead, IsDeadRefusal, IsMapAround, AreOthers, RestsTexts, IsRestRefusal, rest_files, AnswersRest};
+ghost use Rattle.fleet_cli.specs.WriteCommands.{numbers_text};
 
 use crate::fault::Fault;
 use crate::files::Files;
@@ -139,8 +141,7 @@ fn rest_texts<'a>(
     request: &RestRequest<'_>,
     texts: &FileTexts,
 ) -> Result<Rest, Fault<'a>>
-    ensures made { IfOk result (λ m. RestsTexts texts.now request.now
-        m.program m.scen.items m.map.items m.others.items m.bytes.items) }
+    ensures made { IfOk result (RestsTexts texts.now request.now) }
     ensures fault { IfErr result (IsRestRefusal texts.now request.now) }
 {
     rests_are_accepted();
@@ -189,7 +190,7 @@ fn write_given<'a, F: Files>(
 fn put_rest<O: TraceOut>(out: &mut O, rest: &Rest) -> Result<(), OutFault>
     requires { IsWorking (O.state out.old) }
     ensures { TakesAll (O.state out.old) (O.state out.new) result
-        (rest_text rest.now.program rest.now.bytes.items) }
+        (numbers_text rest.now.program rest.now.bytes.items) }
 {
     put_counts(
         out,
@@ -211,15 +212,13 @@ fn write_rest<'a, F: Files, O: Flush>(
 ) -> Result<u8, Fault<'a>>
     requires { IsWorking (O.state out.old) }
     ensures { WritesFiles (F.contents files.old) (F.contents files.new)
-        (rest_files request.now rest.now.scen.items rest.now.map.items rest.now.others.items
-        rest.now.bytes.items)
-        (rest_text rest.now.program rest.now.bytes.items)
+        (rest_files request.now rest.now) (numbers_text rest.now.program rest.now.bytes.items)
         (O.state out.old) (O.state out.new) result }
 {
-    write_file(files, request.scen_out, &rest.scen)?;
+    write_given(files, Some(request.scen_out), &rest.scen)?;
     write_given(files, request.map_out, &rest.map)?;
     write_given(files, request.others_out, &rest.others)?;
-    write_file(files, request.program_out, &rest.bytes)?;
+    write_given(files, Some(request.program_out), &rest.bytes)?;
     let printed = put_rest(out, rest);
     hand_on(out, printed)
 }

@@ -1,5 +1,5 @@
 -- A dispatch that keeps its reports in a file of a store.
-use Rattle.std.proofs.Common.{◌≡◌, ◌∙◌, ℕ, Bool, false, List, Option, None, Some, Result, Ok, Err, inl, refl, sym, ap, subst}
+use Rattle.std.proofs.Common.{◌≡◌, ℕ, Bool, false, List, Option, None, Some, Result, inl, refl, subst}
 use Rattle.std.specs.Borrow.{Bor}
 use Rattle.fleet_text.specs.Sink.{SinkState}
 use Rattle.fleet_model.specs.Program.{Program}
@@ -14,7 +14,7 @@ use Rattle.fleet_dispatch.specs.Replay.{DispatchesAfter}
 use Rattle.fleet_dispatch.proofs.Said.{after_more}
 use Rattle.fleet_args.specs.declared.commands.DispatchRequest.{DispatchRequest}
 use Rattle.fleet_cli.specs.declared.fault.Fault.{Fault}
-use Rattle.fleet_cli.specs.Files.{Store, AreUnchanged, ChangesOnly, bytes_of}
+use Rattle.fleet_cli.specs.Files.{Store, bytes_of}
 use Rattle.fleet_cli.specs.Journal.{ChangesOnlyLog, IsKeptAfter, log_in, log_state, lines_in}
 use Rattle.fleet_cli.specs.JournalLaws.{log_longer}
 use Rattle.fleet_cli.specs.DispatchCommand.{AnswersTold, Leads, pace_of}

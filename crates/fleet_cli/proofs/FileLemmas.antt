@@ -1,5 +1,5 @@
 -- Files that a command names, of a store that was only read before.
-use Rattle.std.proofs.Common.{ℕ, List, Option, Some, None, refl, sym, ◌∙◌, ◌≡◌, [], ◌∷◌, ◌++◌, inl, inr}
+use Rattle.std.proofs.Common.{ℕ, List, Option, Some, None, refl, sym, ◌∙◌, [], ◌∷◌, ◌++◌, inl, inr}
 use Rattle.fleet_cli.specs.Files.{Store, HoldsBytes, IsRead, IsUnreadable, AreUnchanged}
 use Rattle.std.specs.Borrow.{Bor}
 use Rattle.fleet_cli.specs.Named.{IsReadFault, IsUnread, IsGiven, given_name}

@@ -5,4 +5,3 @@ pub mod RunLemmas
 pub mod PrintLemmas
 pub mod OutputLemmas
 pub mod CommandLemmas
-pub mod CommandCases

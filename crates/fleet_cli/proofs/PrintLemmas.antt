@@ -9,7 +9,7 @@ use Rattle.fleet_text.specs.Sink.{SinkState, Takes, StopsWithin}
 use Rattle.fleet_cli.specs.PrintCommands.{start_in, goal_in, task_line, task_lines}
 use Rattle.fleet_text.proofs.SinkLemmas.{takes_more, stops_within_more, stops_after}
 use Rattle.fleet_model.specs.Program.{Program}
-use Rattle.fleet_grid.specs.Ground.{Ground, is_passable}
+use Rattle.fleet_grid.specs.Ground.{Ground}
 use Rattle.fleet_code.specs.Spelling.{Spells}
 use Rattle.fleet_verify.specs.Parts.{IsAcceptedFor}
 use Rattle.fleet_cli.specs.Steps.{Accepts}

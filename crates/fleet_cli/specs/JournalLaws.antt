@@ -1,5 +1,5 @@
 -- Stretches of a log, one after another.
-use Rattle.std.specs.Prelude.{◌≡◌, ℕ, List, Option, Some, None, ⊤}
+use Rattle.std.specs.Prelude.{◌≡◌, ℕ, List, Option, Some, None}
 use Rattle.std.proofs.Common.{refl, ◌∙◌, subst}
 use Rattle.fleet_cli.specs.Files.{Store, ChangesOnly}
 

@@ -1,5 +1,4 @@
-use Rattle.std.proofs.Common.{◌≡◌, ◌∙◌, false, Option, List, ℕ, ap, rules, refl}
-use Rattle.fleet_text.specs.Sink.{SinkState}
+use Rattle.std.proofs.Common.{◌≡◌, ◌∙◌, false, List, ℕ, ap, rules, refl}
 use Rattle.fleet_dispatch.specs.Talk.{IsLogged}
 use Rattle.fleet_cli.specs.Files.{bytes_of}
 use Rattle.fleet_cli.specs.Journal.{log_state}

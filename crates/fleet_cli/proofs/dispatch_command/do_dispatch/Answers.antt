@@ -1,11 +1,8 @@
-use Rattle.std.proofs.Common.{◌≡◌, ◌∙◌, List, ℕ, Option, Ok, Err, Result, inl, inr, refl, subst, rules}
+use Rattle.std.proofs.Common.{List, ℕ, Ok, Err, inl, inr, refl, subst}
 use Rattle.std.proofs.lemmas.Result.{err_from_is_err_and}
 use Rattle.fleet_dispatch.specs.Talk.{IsLogged}
 use Rattle.fleet_dispatch.specs.Session.{first_course}
 use Rattle.fleet_dispatch.specs.Replay.{DispatchesAfter}
-use Rattle.fleet_cli.specs.Files.{Store}
-use Rattle.fleet_cli.specs.DispatchCommand.{AnswersDispatch}
-use Rattle.fleet_cli.specs.Steps.{AcceptsTexts}
 use Rattle.fleet_cli.specs.Journal.{IsKeptAfter, log_in}
 use Rattle.fleet_cli.specs.declared.fault.Fault.TheVariants as f
 use Rattle.fleet_cli.proofs.DispatchLemmas.{led, others_on}

@@ -1,4 +1,4 @@
-use Rattle.std.proofs.Common.{◌≡◌, ◌≤◌, false, length, drop, ℕ}
+use Rattle.std.proofs.Common.{◌≡◌, ◌≤◌, false, length, drop}
 use Rattle.std.specs.List.{list_any}
 use Rattle.fleet_text.specs.Text.{is_lf}
 use Rattle.fleet_cli.proofs.files.lines_end.Given as goal

@@ -2,7 +2,7 @@ use Rattle.std.proofs.Common.{List, ℕ, Option, ap, inl, inr, refl, subst}
 use Rattle.fleet_text.specs.Sink.{TakesAll}
 use Rattle.fleet_plan.specs.Plan.{Plan}
 use Rattle.fleet_plan.specs.PlanText.{IsPlanText}
-use Rattle.fleet_cli.proofs.OutputLemmas.{does_nothing, nothing_written}
+use Rattle.fleet_cli.proofs.OutputLemmas.{nothing_written}
 use Rattle.fleet_cli.proofs.print_commands.do_check.Goals as goal
 use Rattle.fleet_cli.specs.Steps.{IsProblemRefusal}
 use Rattle.fleet_cli.specs.PrintCommands.{IsPlanRefusal, check_text}
@@ -14,9 +14,6 @@ plan_refuses : (map scen plan : List ℕ) (asked : Option ℕ) (fault : Fault) �
 plan_refuses map scen plan asked (f.Text x) h = absurd h
 plan_refuses map scen plan asked (f.Check x) h = absurd h
 plan_refuses map scen plan asked _ h = h
-
-pub returns-in_err-problem : goal.returns-in_err-problem
-returns-in_err-problem g c = does_nothing _ _ _ _ c.from_residual.ensures.1 c.requires (plan_refuses c.args.texts.map.items c.args.texts.scen.items c.args.texts.subject.items c.args.request.now.tasks.agents _ c.in_err-problem.ensures.fault)
 
 pub returns-in-Err-check : goal.returns-in-Err-check
 returns-in-Err-check g c =

@@ -1,7 +1,7 @@
-use Rattle.std.proofs.Common.{List, ℕ, Option, Result, ap, ◌∙◌, inl, inr, refl, subst}
+use Rattle.std.proofs.Common.{List, ℕ, Option, ap, ◌∙◌, inl, inr, refl, subst}
 use Rattle.fleet_plan.specs.PlanText.{plan_text}
 use Rattle.fleet_text.specs.Sink.{TakesAll}
-use Rattle.fleet_cli.proofs.OutputLemmas.{does_nothing, nothing_written}
+use Rattle.fleet_cli.proofs.OutputLemmas.{nothing_written}
 use Rattle.fleet_cli.proofs.print_commands.do_plan.Goals as goal
 use Rattle.fleet_args.specs.declared.commands.Tries.{Tries}
 use Rattle.fleet_cli.specs.Steps.{IsProblemRefusal}
@@ -13,9 +13,6 @@ use Rattle.fleet_cli.specs.declared.fault.Fault.TheVariants as f
 search_refuses : (map scen : List ℕ) (asked : Option ℕ) (horizon : ℕ) (tries : Tries) (fault : Fault) → IsProblemRefusal map scen asked fault → IsSearchRefusal map scen asked horizon tries fault
 search_refuses map scen asked horizon tries (f.Search x) h = absurd h
 search_refuses map scen asked horizon tries _ h = h
-
-pub returns-in_err-problem : goal.returns-in_err-problem
-returns-in_err-problem g c = does_nothing _ _ _ _ c.from_residual.ensures.1 c.requires (search_refuses c.args.texts.map.items c.args.texts.scen.items c.args.request.now.tasks.agents c.args.request.now.horizon c.args.request.now.tries _ c.in_err-problem.ensures.fault)
 
 pub returns-in-Err : goal.returns-in-Err
 returns-in-Err g c =

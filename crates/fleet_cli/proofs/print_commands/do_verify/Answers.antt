@@ -5,14 +5,7 @@ use Rattle.fleet_grid.specs.Ground.{is_passable}
 use Rattle.fleet_verify.specs.Faults.{IsFault}
 use Rattle.fleet_verify.specs.Broken.{IsBrokenBy}
 use Rattle.fleet_cli.proofs.PrintLemmas.{returned_accepts}
-use Rattle.fleet_cli.proofs.OutputLemmas.{does_nothing}
 use Rattle.fleet_cli.proofs.print_commands.do_verify.Goals as goal
-
-pub returns-in_err-problem : goal.returns-in_err-problem
-returns-in_err-problem g c = inl (does_nothing _ _ _ _ c.from_residual.ensures.1 c.requires (inl c.in_err-problem.ensures.fault))
-
-pub returns-in_err-program : goal.returns-in_err-program
-returns-in_err-program g c = inl (does_nothing _ _ _ _ c.from_residual-in_err-program.ensures.1 c.requires (inr (_, _, c.in_ok-problem.ensures.read, c.in_err-program.ensures.fault)))
 
 pub returns-in-Err : goal.returns-in-Err
 returns-in-Err g c =

@@ -1,5 +1,4 @@
-use Rattle.std.proofs.Common.{◌≢◌, ℕ, List, Option, Result, Err}
-use Rattle.std.proofs.lemmas.Result.{err_from_is_err_and}
+use Rattle.std.proofs.Common.{◌≢◌, ℕ, List, Option, Err}
 use Rattle.fleet_model.specs.declared.deps.Deps.{Deps}
 use Rattle.fleet_text.specs.Sink.{SinkState, IsUnwritten}
 use Rattle.fleet_grid.specs.Ground.{Ground}

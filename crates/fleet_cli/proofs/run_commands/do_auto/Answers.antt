@@ -3,11 +3,8 @@ use Rattle.std.proofs.lemmas.Result.{err_from_is_err_and}
 use Rattle.fleet_cli.specs.Steps.{SpellsMade}
 use Rattle.fleet_cli.specs.RunCommands.{Runs}
 use Rattle.fleet_cli.proofs.RunLemmas.{made, works_after}
-use Rattle.fleet_cli.proofs.OutputLemmas.{does_nothing, nothing_written}
+use Rattle.fleet_cli.proofs.OutputLemmas.{nothing_written}
 use Rattle.fleet_cli.proofs.run_commands.do_auto.Goals as goal
-
-pub returns-in_err-problem : goal.returns-in_err-problem
-returns-in_err-problem g c = does_nothing _ _ _ _ c.from_residual.ensures.1 c.requires (inl c.in_err-problem.ensures.fault)
 
 pub returns-in-Err : goal.returns-in-Err
 returns-in-Err g c =

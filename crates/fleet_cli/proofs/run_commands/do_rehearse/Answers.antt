@@ -1,10 +1,6 @@
-use Rattle.std.proofs.Common.{List, ℕ, inl, inr, refl, subst}
+use Rattle.std.proofs.Common.{List, ℕ, inl, subst}
 use Rattle.fleet_cli.specs.RunCommands.{RehearsesProgram}
-use Rattle.fleet_cli.proofs.OutputLemmas.{does_nothing}
 use Rattle.fleet_cli.proofs.run_commands.do_rehearse.Goals as goal
-
-pub returns-in_err-program : goal.returns-in_err-program
-returns-in_err-program g c = does_nothing _ _ _ _ c.from_residual.ensures.1 c.requires c.in_err-program.ensures.fault
 
 pub returns : goal.returns
 returns g c =

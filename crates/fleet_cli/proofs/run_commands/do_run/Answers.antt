@@ -1,13 +1,6 @@
-use Rattle.std.proofs.Common.{List, ℕ, inl, inr, refl, subst}
+use Rattle.std.proofs.Common.{List, ℕ, inl, subst}
 use Rattle.fleet_cli.specs.RunCommands.{Runs}
-use Rattle.fleet_cli.proofs.OutputLemmas.{does_nothing}
 use Rattle.fleet_cli.proofs.run_commands.do_run.Goals as goal
-
-pub returns-in_err-problem : goal.returns-in_err-problem
-returns-in_err-problem g c = does_nothing _ _ _ _ c.from_residual.ensures.1 c.requires (inl c.in_err-problem.ensures.fault)
-
-pub returns-in_err-accepted : goal.returns-in_err-accepted
-returns-in_err-accepted g c = does_nothing _ _ _ _ c.from_residual-in_err-accepted.ensures.1 c.requires (inr (_, _, c.in_ok-problem.ensures.read, c.in_err-accepted.ensures.fault))
 
 pub returns : goal.returns
 returns g c =

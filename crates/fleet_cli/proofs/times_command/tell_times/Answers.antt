@@ -1,5 +1,4 @@
-use Rattle.std.proofs.Common.{◌≡◌, List, ℕ, ap, subst, ◌∙◌, inl, inr, refl}
-use Rattle.std.proofs.lemmas.Result.{err_from_is_err_and}
+use Rattle.std.proofs.Common.{◌≡◌, List, ℕ, ap, subst, ◌∙◌, inl}
 use Rattle.fleet_model.specs.Program.{total_moves}
 use Rattle.fleet_run.specs.TimesText.{times_text}
 use Rattle.fleet_cli.specs.Output.{Prints}

@@ -1,9 +1,5 @@
 use Rattle.std.proofs.Common.{◌∙◌, inl}
-use Rattle.fleet_cli.proofs.OutputLemmas.{writes_nothing}
 use Rattle.fleet_cli.proofs.write_commands.do_compile.Goals as goal
-
-pub returns-in_err-compiled : goal.returns-in_err-compiled
-returns-in_err-compiled g c = writes_nothing _ _ _ _ _ c.from_residual.ensures.1 c.requires c.in_err-compiled.ensures.fault
 
 pub returns : goal.returns
 returns g c =

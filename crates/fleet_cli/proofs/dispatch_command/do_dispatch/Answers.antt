@@ -6,7 +6,6 @@ use Rattle.fleet_dispatch.specs.Replay.{DispatchesAfter}
 use Rattle.fleet_cli.specs.Journal.{IsKeptAfter, log_in}
 use Rattle.fleet_cli.specs.declared.fault.Fault.TheVariants as f
 use Rattle.fleet_cli.proofs.DispatchLemmas.{led, others_on}
-use Rattle.fleet_cli.proofs.FileLemmas.{kept_self}
 use Rattle.fleet_cli.proofs.dispatch_command.do_dispatch.Goals as goal
 
 pub returns-in-Ok : goal.returns-in-Ok
@@ -38,16 +37,6 @@ returns g c =
       led files mid after r p c.args.texts.log.items _ talks (Err c.in-Err.fault) (Err (f.Dispatch c.in-Err.fault)) c.pace_of.result c.in_ok-begin_log.ensures.lines c.pace_of.ensures past refl,
       others_on files mid after r.log c.in_ok-begin_log.ensures.others c.in-Err.ensures.others,
     )
-
-pub returns-in_err-problem : goal.returns-in_err-problem
-returns-in_err-problem g c =
-    let e = err_from_is_err_and c.from_residual.result c.from_residual.ensures.1 in
-    rw (e.1, e.2) (inr (_, refl, inl c.in_err-problem.ensures.fault, kept_self _, (refl, refl)))
-
-pub returns-in_err-accepted : goal.returns-in_err-accepted
-returns-in_err-accepted g c =
-    let e = err_from_is_err_and c.from_residual-in_err-accepted.result c.from_residual-in_err-accepted.ensures.1 in
-    rw (e.1, e.2) (inr (_, refl, inr (_, _, c.in_ok-problem.ensures.read, c.in_err-accepted.ensures.fault), kept_self _, (refl, refl)))
 
 pub returns-in_err-begin_log : goal.returns-in_err-begin_log
 returns-in_err-begin_log g c =

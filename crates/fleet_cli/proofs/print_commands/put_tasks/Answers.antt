@@ -1,14 +1,9 @@
 use Rattle.std.proofs.Common.{rules, length, arith}
 use Rattle.fleet_text.proofs.SinkLemmas.{takes_err}
-use Rattle.fleet_cli.proofs.PrintLemmas.{one_task_more, stops_in_task}
+use Rattle.fleet_cli.proofs.PrintLemmas.{stops_in_task}
 use Rattle.fleet_cli.proofs.print_commands.put_tasks.Goals as goal
 
 pub returns-in_err-put_task : goal.returns-in_err-put_task
 returns-in_err-put_task g c =
     takes_err _ _ _ _ (search rules)
     (stops_in_task _ _ _ _ c.loop-i.i _ _ c.loop-i.invariant.written c.start.ensures c.goal.ensures (length c.args.instance.now) (omega (arith, c.agents-i-end.ensures.count)) c.in_err-put_task.ensures)
-
-pub loop-i-preserved : goal.loop-i-preserved
-loop-i-preserved g c = record {
-  written = one_task_more _ _ _ _ c.loop-i.i _ _ c.loop-i.invariant.written c.start.ensures c.goal.ensures c.in_ok-put_task.ensures;
-}

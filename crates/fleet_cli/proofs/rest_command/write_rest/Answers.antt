@@ -3,11 +3,6 @@ use Rattle.std.proofs.lemmas.Result.{err_from_is_err_and}
 use Rattle.fleet_cli.proofs.OutputLemmas.{nothing_written}
 use Rattle.fleet_cli.proofs.rest_command.write_rest.Goals as goal
 
-pub returns-in_err-write_given : goal.returns-in_err-write_given
-returns-in_err-write_given g c =
-    let e = err_from_is_err_and c.from_residual.result c.from_residual.ensures.1 in
-    rw (e.1, e.2) (inr (_, refl, c.in_err-write_given.ensures, nothing_written _ c.requires))
-
 pub returns-in_err-write_given-2 : goal.returns-in_err-write_given-2
 returns-in_err-write_given-2 g c =
     let e = err_from_is_err_and c.from_residual-in_err-write_given-2.result c.from_residual-in_err-write_given-2.ensures.1 in

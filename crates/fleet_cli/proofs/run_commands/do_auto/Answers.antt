@@ -2,16 +2,8 @@ use Rattle.std.proofs.Common.{List, ℕ, Ok, Err, inl, inr, refl, subst}
 use Rattle.std.proofs.lemmas.Result.{err_from_is_err_and}
 use Rattle.fleet_cli.specs.Steps.{SpellsMade}
 use Rattle.fleet_cli.specs.RunCommands.{Runs}
-use Rattle.fleet_cli.proofs.RunLemmas.{made, works_after}
-use Rattle.fleet_cli.proofs.OutputLemmas.{nothing_written}
+use Rattle.fleet_cli.proofs.RunLemmas.{made}
 use Rattle.fleet_cli.proofs.run_commands.do_auto.Goals as goal
-
-pub returns-in-Err : goal.returns-in-Err
-returns-in-Err g c =
-    rw c.step_fault.ensures (inr (_, refl, inr (_, _, c.in-Err.fault, refl, c.in_ok-problem.ensures.read, c.in-Err.ensures.fault), nothing_written _ c.requires))
-
-pub tell_numbers-requires : goal.tell_numbers-requires
-tell_numbers-requires g c = works_after c.in_ok-run_flushed.ensures
 
 pub returns-in_err-run_flushed : goal.returns-in_err-run_flushed
 returns-in_err-run_flushed g c =

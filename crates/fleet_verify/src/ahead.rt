@@ -1,6 +1,6 @@
 //! A verifier without ticks: each agent runs on as far as its awaits allow. It only says yes, or what was answered.
 
-ghost use Rattle.std.specs.Prelude.{◌≡◌, ◌≢◌, ◌<◌, ◌≤◌, ◌+◌, ◌-◌, ◌↔◌, get_or, set, ℕ, Some, true, IsTrue, length, max, IfOk, IfErr, IfSome, OnOk, List, [], ◌∷◌, ◌++◌, Contains};
+ghost use Rattle.std.specs.Prelude.{◌≡◌, ◌≢◌, ◌<◌, ◌≤◌, ◌+◌, ◌-◌, ◌↔◌, get_or, set, ℕ, Some, true, IsTrue, length, max, IfOk, IfErr, IfNone, IfSome, OnOk, List, [], ◌∷◌, ◌++◌, Contains};
 ghost use Rattle.fleet_model.specs.declared.geometry.Cell.{Cell};
 ghost use Rattle.fleet_model.specs.declared.program.Visit.{Visit};
 ghost use Rattle.fleet_model.specs.Geometry.{place_of};
@@ -48,6 +48,7 @@ fn greater_level(rows: &Vec<LevelRow>, least: u64, w: Await) -> Option<u64>
     requires count { 1 ≤ w.count }
     ensures met { IfSome result (λ _. IsRanked rows.now.items (awaited w)) }
     ensures greater { IfSome result (λ l. l ≡ max least (level_in rows.now.items (awaited w))) }
+    ensures none { IfNone result (count_in rows.now.items w.agent < w.count) }
 {
     let level = row_of(rows, w.agent).level(w.count)?;
     Some(least.max(level))
@@ -336,7 +337,7 @@ fn follows<P: ProgramView>(program: &P, first: Visit, second: Visit, latest: Awa
 #[inline(always)]
 fn is_left_if_met<P: ProgramView>(program: &P, visit: Visit, awaited: Await) -> bool
     requires { awaited.agent < length (P.program program.now) }
-    ensures { IsTrue result → (awaited.agent ≡ visit.agent)
+    ensures { IsTrue result ↔ (awaited.agent ≡ visit.agent)
         × ((leaving (P.program program.now) visit).number ≤ awaited.count) }
 {
     awaited.agent == visit.agent && is_left_by(program, visit, awaited.count)
@@ -694,8 +695,8 @@ fn look_at<P: ProgramView>(
 fn has_finished<P: ProgramView>(program: &P, ahead: &Ahead, agent: u16) -> bool
     requires rows { length ahead.now.rows.items ≡ length (P.program program.now) }
     requires agent { agent < length (P.program program.now) }
-    ensures { result ≡ true
-        → count_in ahead.now.rows.items agent ≡ moves (P.program program.now) agent }
+    ensures { IsTrue result
+        ↔ (count_in ahead.now.rows.items agent ≡ moves (P.program program.now) agent) }
 {
     row_of(&ahead.rows, agent).count() == program.moves(agent)
 }

@@ -7,7 +7,7 @@ loop-agent-preserved g c =
     let p = g.P.ProgramView.program c.args.program.now in
     let i = c.loop-agent.agent in
     done_more c.args.instance.now p c.args.ahead.now.rows.items i c.loop-agent.chain c.loop-agent.invariant
-    (c.has_finished.ensures c.if-not-has_finished.false)
+    (c.has_finished.ensures.0 c.if-not-has_finished.false)
     (c.ends_right.ensures.0 c.if-not-ends_right.false) c.last.result c.max-chain.result
     (subst (λ (row : List ℕ). c.last.result ≡ slice_index row (length row - 1)) c.row_of.ensures c.last.ensures) c.max-chain.ensures
 

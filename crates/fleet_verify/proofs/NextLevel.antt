@@ -68,8 +68,8 @@ least_max p rows i n k l h w here first last v level m is = elim (cases_lt l v) 
   | inr less ↦ let e : m ≡ l = grind (arith, is, less) in least_more p rows i n k l h w here first last m (omega (arith, e)) (omega (arith, e, less, level)) (inl e)
 ]
 
-pub least_ends : (p : Program) (rows : List (List ℕ)) (i n k l : ℕ) → IsLeastTo p rows i n k l → n ≡ count_in rows i + 1 → length (awaits_of p i n) ≤ k → IsNextLevel p rows i (l + 1)
-least_ends p rows i n k l h next all = subst (λ (a : ActionId). IsNextOf a) (ap (λ (m : ℕ). record { agent = i; number = m }) next) now
+pub least_ends : (p : Program) (rows : List (List ℕ)) (i n k l : ℕ) → IsLeastTo p rows i n k l → n ≡ count_in rows i + 1 → length (awaits_of p i n) ≤ k → (m : ℕ) → m ≡ l + 1 → IsNextLevel p rows i m
+least_ends p rows i n k l h next all m is = rw is (subst (λ (a : ActionId). IsNextOf a) (ap (λ (m : ℕ). record { agent = i; number = m }) next) now)
   where
     IsNextOf : ActionId → Type 0
     IsNextOf a = IsNextLevel p rows i (l + 1)

@@ -47,7 +47,7 @@ returns-in-Step-clause-needs g c =
     let said = rw c.in-Step.is at c.read-reading.ensures.instruction in
     let all : c.instructions.k ≡ length (awaits_of p c.args.agent (c.args.runner.finished + 1)) = said.0 in
     record {
-      level = least_ends p (climbed_in rows c.args.agent c.args.runner.finished) c.args.agent (c.args.runner.finished + 1) c.instructions.k c.instructions.least c.instructions.invariant.least (omega (arith, count)) (omega (arith, all));
+      level = least_ends p (climbed_in rows c.args.agent c.args.runner.finished) c.args.agent (c.args.runner.finished + 1) c.instructions.k c.instructions.least c.instructions.invariant.least (omega (arith, count)) (omega (arith, all)) _ (omega arith);
       latest = c.instructions.invariant.latest;
       step = said.1;
       after = rw c.in-Step.is at c.read-reading.ensures.after;

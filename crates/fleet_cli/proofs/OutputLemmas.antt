@@ -1,16 +1,12 @@
 -- The lines of counts, and the answers of what was to be printed or written.
-use Rattle.std.proofs.Common.{◌≡◌, ◌∙◌, ℕ, ◌+◌, ◌<◌, List, [], ◌∷◌, ◌++◌, length, take, drop, get_or, ap, refl, sym, subst, append_assoc, append-nil, Option, Result, Ok, Err, inr, ◌⊎◌}
+use Rattle.std.proofs.Common.{◌≡◌, ◌∙◌, ℕ, ◌+◌, ◌<◌, List, [], ◌∷◌, ◌++◌, length, take, drop, get_or, ap, refl, sym, subst, append_assoc, append-nil}
 use Rattle.std.proofs.lemmas.List.{take_more, map-append, take-append-drop}
 use Rattle.std.specs.Borrow.{Bor}
-use Rattle.std.specs.Result.{IsErrAnd}
 use Rattle.fleet_text.specs.Sink.{SinkState, IsWorking, IsUnwritten, Takes, StopsWithin}
 use Rattle.fleet_text.proofs.SinkLemmas.{takes_more, stops_after, stops_within_more}
 use Rattle.fleet_text.specs.Words.{count_line}
 use Rattle.fleet_cli.specs.Output.{with_labels, count_lines}
-use Rattle.fleet_cli.proofs.FileLemmas.{kept_self}
 use Rattle.fleet_cli.proofs.RunLemmas.{keeps_self}
-use Rattle.fleet_cli.specs.Files.{Store, AreUnchanged}
-use Rattle.fleet_cli.specs.declared.fault.Fault.{Fault}
 
 count_lines-append : (xs ys : List (List ℕ × ℕ)) → count_lines (xs ++ ys) ≡ count_lines xs ++ count_lines ys
 count_lines-append [] ys = refl
@@ -43,15 +39,3 @@ module _ (counts : List (Bor (List ℕ) × ℕ)) (i : ℕ) (d : Bor (List ℕ) �
 -- nothing was written to a sink that is as before
 pub nothing_written : (out : SinkState) → IsWorking out → IsUnwritten out out
 nothing_written out working = record { kept = keeps_self out.taken; working = working }
-
--- what a command is made of was refused, which it hands on
-pub does_nothing : {L : Type 0} (Refuses : Fault → Type 0) (out : SinkState) (r : Result ℕ Fault) (fault : Fault) → IsErrAnd r (λ e. e ≡ fault) → IsWorking out → Refuses fault
-    → L ⊎ ((e : Fault) × (r ≡ Err e) × Refuses e × IsUnwritten out out)
-does_nothing Refuses out (Ok status) fault handed working refuses = absurd handed
-does_nothing Refuses out (Err e) fault handed working refuses = inr (e, refl, subst Refuses (sym handed) refuses, nothing_written out working)
-
--- .. and writes no file
-pub writes_nothing : {L : Type 0} (Refuses : Fault → Type 0) (files : Option Store) (out : SinkState) (r : Result ℕ Fault) (fault : Fault) → IsErrAnd r (λ e. e ≡ fault) → IsWorking out → Refuses fault
-    → L ⊎ ((e : Fault) × (r ≡ Err e) × Refuses e × AreUnchanged files files × IsUnwritten out out)
-writes_nothing Refuses files out (Ok status) fault handed working refuses = absurd handed
-writes_nothing Refuses files out (Err e) fault handed working refuses = inr (e, refl, subst Refuses (sym handed) refuses, kept_self files, nothing_written out working)

@@ -1,19 +1,10 @@
-use Rattle.std.proofs.Common.{List, ℕ, Option, ap, inl, inr, refl, subst}
+use Rattle.std.proofs.Common.{ap, inl, inr, refl, subst}
 use Rattle.fleet_text.specs.Sink.{TakesAll}
 use Rattle.fleet_plan.specs.Plan.{Plan}
 use Rattle.fleet_plan.specs.PlanText.{IsPlanText}
 use Rattle.fleet_cli.proofs.OutputLemmas.{nothing_written}
 use Rattle.fleet_cli.proofs.print_commands.do_check.Goals as goal
-use Rattle.fleet_cli.specs.Steps.{IsProblemRefusal}
-use Rattle.fleet_cli.specs.PrintCommands.{IsPlanRefusal, check_text}
-use Rattle.fleet_cli.specs.declared.fault.Fault.{Fault}
-use Rattle.fleet_cli.specs.declared.fault.Fault.TheVariants as f
-
--- what is refused of a map and a scenario is refused of a plan for them
-plan_refuses : (map scen plan : List ℕ) (asked : Option ℕ) (fault : Fault) → IsProblemRefusal map scen asked fault → IsPlanRefusal map scen plan asked fault
-plan_refuses map scen plan asked (f.Text x) h = absurd h
-plan_refuses map scen plan asked (f.Check x) h = absurd h
-plan_refuses map scen plan asked _ h = h
+use Rattle.fleet_cli.specs.PrintCommands.{check_text}
 
 pub returns-in-Err-check : goal.returns-in-Err-check
 returns-in-Err-check g c =

@@ -1,18 +1,8 @@
-use Rattle.std.proofs.Common.{List, ℕ, Option, ap, ◌∙◌, inl, inr, refl, subst}
+use Rattle.std.proofs.Common.{List, ℕ, ap, ◌∙◌, inl, inr, refl, subst}
 use Rattle.fleet_plan.specs.PlanText.{plan_text}
 use Rattle.fleet_text.specs.Sink.{TakesAll}
 use Rattle.fleet_cli.proofs.OutputLemmas.{nothing_written}
 use Rattle.fleet_cli.proofs.print_commands.do_plan.Goals as goal
-use Rattle.fleet_args.specs.declared.commands.Tries.{Tries}
-use Rattle.fleet_cli.specs.Steps.{IsProblemRefusal}
-use Rattle.fleet_cli.specs.PrintCommands.{IsSearchRefusal}
-use Rattle.fleet_cli.specs.declared.fault.Fault.{Fault}
-use Rattle.fleet_cli.specs.declared.fault.Fault.TheVariants as f
-
--- what is refused of a map and a scenario is refused of a plan for them
-search_refuses : (map scen : List ℕ) (asked : Option ℕ) (horizon : ℕ) (tries : Tries) (fault : Fault) → IsProblemRefusal map scen asked fault → IsSearchRefusal map scen asked horizon tries fault
-search_refuses map scen asked horizon tries (f.Search x) h = absurd h
-search_refuses map scen asked horizon tries _ h = h
 
 pub returns-in-Err : goal.returns-in-Err
 returns-in-Err g c =

@@ -32,8 +32,9 @@ fi
 EOF
 
 # growths COMMAND..: with each growth refused in turn. Prints wrong answers, and `each` if memory lacked each time, or
-# all but once: the buffer of the output can be done without. A dispatch, which copies the counts of its agents four
-# times, can do without the room that is asked for at once for each copy: so many growths $spare has.
+# all but once: the buffer of the output can be done without. A dispatch, and `rest`, which goes through its reports, copy
+# the counts of the agents four times, and can do without the room that is asked for at once for each copy: so many growths
+# $spare has.
 cat > "$work/bin/growths" <<'EOF'
 #!/bin/sh
 . due
@@ -100,6 +101,15 @@ limits=shallow
 echo $was
 EOF
 
+# listed MAP SCEN PLAN PROGRAM: the words of each command of commands.list but `dispatch`, which reads reports, with these
+# files.
+cat > "$work/bin/listed" <<'EOF'
+#!/bin/sh
+grep -v -e '^#' -e '|dispatch ' "$LIST" | sed "s/.*|//; s/ --holds .*//; s/OUT OUT/tasks out/; s/OUT/out/
+    s#examples/corridor.map#$1#; s#examples/corridor.scen#$2#; s#examples/corridor.plan#$3#; s#examples/corridor.program#$4#
+    s#examples/corridor.log#log#"
+EOF
+
 # extra COMMAND..: how many more growths the command asks for than `instance` on the same files.
 cat > "$work/bin/extra" <<'EOF'
 #!/bin/sh
@@ -108,10 +118,11 @@ all=$(cat count)
 GROWTHS=count LD_PRELOAD=$REFUSER fleet instance "$3" "$4" > got 2>&1 < "$input"
 echo $((all - $(cat count)))
 EOF
-chmod +x "$work/bin/extra" "$work/bin/growths" "$work/bin/spaces" "$work/bin/within" "$work/bin/shallow" "$work/bin/stack"
+chmod +x "$work/bin/extra" "$work/bin/listed" "$work/bin/growths" "$work/bin/spaces" "$work/bin/within" "$work/bin/shallow" "$work/bin/stack"
 input=/dev/null
 REFUSER=$work/bin/refuse.so
-export input REFUSER
+LIST=$root/tests/commands.list
+export input REFUSER LIST
 
 check 'a program that holds break' 0 '' '' "{ head -c 28 examples/pair.program; printf '\\1\\20\\0\\0\\0\\2\\1'; } > unordered"
 check 'a program with implied awaits' 0 '' '' "fleet compile examples/corridor.map examples/corridor.scen examples/corridor.plan all --deps all > numbers"
@@ -121,39 +132,29 @@ check 'a program in version 2' 0 'bytes 48\n' '' 'fleet migrate examples/pair.pr
 check 'costs, and a log' 0 '' '' "printf '0 2\n1:2 3\n' > costs && printf '0:1\n' > log"
 if ${CC:-cc} -shared -fPIC -o "$REFUSER" "$root/tests/refuse.c" -ldl 2> /dev/null; then
     while read -r words; do
-        check "each growth refused: $words" 0 'each\n' '' "growths fleet $words"
+        case $words in rest*) spare=4 ;; *) spare=0 ;; esac
+        check "each growth refused: $words" 0 'each\n' '' "spare=$spare growths fleet $words"
     done <<EOF
-instance $on
-check $on examples/pair.plan
+$("$work/bin/listed" $on examples/pair.plan examples/pair.program)
 check $on examples/pair.plan --numbers
-plan $on
 plan $on --horizon 1
 plan square.map square.scen
 plan mouth.map mouth.scen --tries 2
 plan mouth.map mouth.scen --tries 3 --best cost
 plan mouth.map mouth.scen --tries 3 --best chain
-compile $on examples/pair.plan out
 compile $on examples/pair.plan out --deps all
 compile $on examples/pair.plan out --dwell 2
-verify $on examples/pair.program
 verify $on unordered
-run $on examples/pair.program
 run $on examples/pair.program --holds examples/corridor.holds
-rehearse examples/pair.program
 rehearse examples/pair.program --holds examples/corridor.holds
 rehearse examples/pair.map
-list examples/pair.program
-migrate examples/pair.program out
 migrate examples/pair.map out
 migrate pair2 out
-auto $on
 auto $on --holds examples/corridor.holds
 auto $on --horizon 1
 auto mouth.map mouth.scen --tries 2
 auto mouth.map mouth.scen --tries 3 --best chain --numbers
-thin $on examples/pair.program out
 thin examples/corridor.map examples/corridor.scen all out
-times $on examples/pair.program
 times $on examples/pair.program --costs costs
 times $on examples/pair.program --broken 0:1
 times $on examples/pair.program --broken 0:3
@@ -192,17 +193,7 @@ EOF
 while read -r words; do
     check "a small stack: $words" 0 'right\n' '' "stack fleet $words"
 done <<EOF
-instance $many
-check $many plan
-plan $many
-compile $many plan out
-verify $many program
-run $many program
-rehearse program
-auto $many
-thin $many program out
-migrate program out
-list program
+$("$work/bin/listed" $many plan program)
 dispatch $many program
 EOF
 check 'a small stack: no words' 0 'right\n' '' 'input=examples/pair.hex stack fleet'

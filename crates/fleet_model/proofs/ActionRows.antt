@@ -1,10 +1,11 @@
 -- The actions in three rows: how many they are, each of them, and one more.
 use Rattle.std.proofs.Common.{◌≡◌, ℕ, zero, suc, ◌+◌, ◌-◌, ◌<◌, ◌≤◌, List, [], ◌∷◌, ◌++◌, length, take, drop, get_or, refl, sym, ap, ◌∙◌, arith}
-use Rattle.std.specs.Prelude.{slice_get, slice_range, option_map, Some, All}
+use Rattle.std.specs.Prelude.{slice_get, slice_range, sum_by, option_map, Some, All}
 use Rattle.std.proofs.lemmas.List.Elements.{All-get_or, All-more}
 use Rattle.std.proofs.lemmas.Option.{same_Some, slice_get-get_or}
-use Rattle.std.proofs.lemmas.List.{get_or_default, take-append-le, drop-append-le, length-append, length-drop, length-map, map-append, get_or-map}
+use Rattle.std.proofs.lemmas.List.{get_or_default, take-append-le, drop-append-le, length-append, length-drop, length-take-le, length-map, map-append, get_or-map}
 use Rattle.std.proofs.Math.Seq.{drop-append_seam, take-length}
+use Rattle.std.proofs.lemmas.List.Sums.{sum_by-cons}
 use Rattle.fleet_model.specs.declared.geometry.Step.{Step}
 use Rattle.fleet_model.specs.declared.geometry.Step.TheVariants.{Dwell}
 use Rattle.fleet_model.specs.declared.program.Await.{Await}
@@ -157,3 +158,22 @@ pub action_is : (actions : List Action) (k : ℕ) (s : Step) (ws : List Await) �
 action_is actions k s ws lt step awaits =
     slice_get-get_or actions k free lt
     ∙ (λ t. Some (record { step = read_is (λ (a : Action). a.step) actions k s lt step t; awaits = read_is (λ (a : Action). a.awaits) actions k ws lt awaits t }))
+
+-- ---- how many awaits the first actions have
+
+sum_after : (begin : ℕ) (steps : List Step) (ends : List ℕ) (awaits : List Await) (k : ℕ) → length ends ≡ length steps → RiseTo begin ends (length awaits) → k ≤ length steps
+    → begin + sum_by (λ (a : Action). length a.awaits) (take k (actions_after begin steps ends awaits)) ≡ get_or (begin ∷ ends) k 0
+sum_after begin steps ends awaits zero same rise le = omega arith
+sum_after begin [] ends awaits (suc k) same rise le = absurd (omega (arith, le))
+sum_after begin (s ∷ steps) [] awaits (suc k) same rise le = absurd (omega (arith, same))
+sum_after begin (s ∷ steps) (e ∷ ends) awaits (suc k) same rise le =
+    let low : begin ≤ e = rise.0 in
+    let last : e ≤ length awaits = rises_to_last e ends (length awaits) rise.1 in
+    let own : length (slice_range awaits begin e) ≡ e - begin = length-take-le (e - begin) (drop begin awaits) (omega (arith, low, last, length-drop begin awaits)) in
+    let rest = sum_after e steps ends awaits k (omega (arith, same)) rise.1 (omega (arith, le)) in
+    let first = sum_by-cons (λ (a : Action). length a.awaits) (record { step = s; awaits = slice_range awaits begin e }) (take k (actions_after e steps ends awaits)) in
+    ap (λ (n : ℕ). begin + n) first ∙ omega (arith, low, own) ∙ rest
+
+pub sum_there : (steps : List Step) (ends : List ℕ) (awaits : List Await) (k : ℕ) → AreRows steps ends awaits → k ≤ length steps
+    → get_or (0 ∷ ends) k 0 ≡ sum_by (λ (a : Action). length a.awaits) (take k (actions_in steps ends awaits))
+sum_there steps ends awaits k rows le = let sum = sum_after 0 steps ends awaits k rows.count rows.rising le in omega (arith, sum)

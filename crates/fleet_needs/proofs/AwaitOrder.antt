@@ -1,8 +1,8 @@
 -- The order of awaits, among those of an action and among all.
 use Rattle.std.proofs.Common.{◌≡◌, ◌≢◌, ℕ, zero, suc, ◌+◌, ◌-◌, ◌<◌, ◌≤◌, List, length, take, get_or, map, sym, ap, subst, ◌∙◌, arith, inl, inr, ◌⊎◌}
-use Rattle.std.specs.Prelude.{slice_get, slice_index, Some, sum_by}
+use Rattle.std.specs.Prelude.{slice_get, Some, sum_by}
 use Rattle.std.specs.List.Sorted.{IsStrictlyIncreasing}
-use Rattle.std.proofs.lemmas.Bool.{cases_lt, cases_order}
+use Rattle.std.proofs.lemmas.Bool.{cases_order}
 use Rattle.std.proofs.lemmas.Option.{slice_get_within, get_or_from_slice_get}
 use Rattle.std.proofs.lemmas.List.{take_all, get_or-map, length-map}
 use Rattle.std.proofs.lemmas.List.Kept.{AllPairs-from_increasing}
@@ -10,11 +10,9 @@ use Rattle.std.proofs.lemmas.List.Sums.{sum_by-take-le}
 use Rattle.fleet_model.specs.declared.program.ActionId.{ActionId}
 use Rattle.fleet_model.specs.declared.program.Action.{Action}
 use Rattle.fleet_model.specs.declared.program.Await.{Await}
-use Rattle.fleet_model.specs.Program.{Program, IsWellFormed, moves, actions_of, awaits_of, agent_awaits, total_moves, total_awaits}
+use Rattle.fleet_model.specs.Program.{Program, IsWellFormed, actions_of, awaits_of, agent_awaits, total_awaits}
 use Rattle.fleet_model.specs.Chain.{IsAction}
 use Rattle.fleet_model.proofs.Totals.{awaits_more, actions_more, total_awaits_fit}
-use Rattle.fleet_needs.specs.Places.{ArePlaces, action_place}
-use Rattle.fleet_needs.proofs.Placed.{before_next, rising_to}
 use Rattle.fleet_needs.specs.Implied.{first_await}
 
 -- in a list in strictly rising order of agent each await is of a lower agent than all later ones
@@ -101,28 +99,3 @@ module _ (p : Program) where
       | inr (inr more) ↦ (let s = before b a kb ka (inr (sym e, more)) in inr (omega (arith, s)))
     ]
   ]
-
--- ---- the places of an agent's awaits
-
-pub agent_more : (p : Program) (i : ℕ) (places old new : List ℕ) (total : ℕ) → ArePlaces p places → total ≡ total_awaits (take i p) → length old ≡ total_moves (take i p)
-    → ((k : ℕ) → k < length old → slice_index new k ≡ slice_index old k)
-    → ((n : ℕ) → n < moves p i → slice_index new (length old + n) ≡ total + own_awaits p i n)
-    → ((a : ActionId) → IsAction p a → a.agent < i → slice_index old (action_place places a) ≡ first_await p a)
-    → (a : ActionId) → IsAction p a → a.agent < i + 1 → slice_index new (action_place places a) ≡ first_await p a
-agent_more p i places old new total h sum long others here each a k l = elim (cases_lt a.agent i) [
-  | inl low ↦
-      let up : total_moves (take (a.agent + 1) p) ≤ total_moves (take i p) = rising_to p (a.agent + 1) i (omega arith) in
-      let within : action_place places a < length old = (let b = before_next p places h a k in omega (arith, b, up, long)) in
-      others (action_place places a) within ∙ each a k low
-  | inr high ↦
-      let e : a.agent ≡ i = omega arith in
-      let f : 1 ≤ a.number = k.first in
-      let m : a.number ≤ moves p a.agent = k.last in
-      let same : moves p a.agent ≡ moves p i = ap (moves p) e in
-      let first : slice_index places a.agent ≡ total_moves (take a.agent p) = h.each a.agent k.agent in
-      let moved : total_moves (take a.agent p) ≡ total_moves (take i p) = ap (λ (n : ℕ). total_moves (take n p)) e in
-      let at : action_place places a ≡ length old + (a.number - 1) = omega (arith, first, moved, long) in
-      let own : own_awaits p i (a.number - 1) ≡ own_awaits p a.agent (a.number - 1) = ap (λ (n : ℕ). own_awaits p n (a.number - 1)) (sym e) in
-      let awaits : total_awaits (take a.agent p) ≡ total_awaits (take i p) = ap (λ (n : ℕ). total_awaits (take n p)) e in
-      ap (slice_index new) at ∙ here (a.number - 1) (omega arith) ∙ (let whole : total + own_awaits p i (a.number - 1) ≡ first_await p a = omega (arith, own, awaits, sum) in whole)
-]

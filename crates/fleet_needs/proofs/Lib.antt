@@ -2,6 +2,7 @@ mod Lanes
 pub mod Free
 pub mod Joining
 pub mod Placed
+mod Firsts
 pub mod Counting
 pub mod Ordering
 pub mod NextBlock

@@ -1,10 +1,9 @@
 -- Awaits that others imply, and the places of their flags.
-use Rattle.std.specs.Prelude.{◌≡◌, ◌≢◌, ℕ, ◌+◌, ◌-◌, Bool, true, length, take, sum_by, slice_index, ◌↔◌}
+use Rattle.std.specs.Prelude.{◌≡◌, ◌≢◌, ℕ, ◌+◌, ◌-◌, ◌<◌, Bool, true, List, length, take, sum_by, slice_index, ◌↔◌}
 use Rattle.fleet_model.specs.declared.program.Await.{Await}
 use Rattle.fleet_model.specs.declared.program.ActionId.{ActionId}
-use Rattle.fleet_model.specs.Program.{Program, actions_of, total_moves, total_awaits}
-use Rattle.fleet_model.specs.Chain.{IsAction, DirectlyNeeds, Reaches, awaited}
-use Rattle.fleet_needs.specs.Places.{AwaitFirsts, ArePlacesOf, place_of_action}
+use Rattle.fleet_model.specs.Program.{Program, actions_of, total_awaits}
+use Rattle.fleet_model.specs.Chain.{DirectlyNeeds, Reaches, awaited}
 
 -- the awaited action begins a chain that ends with another action that a directly needs
 abbrev pub IsImplied : Program → ActionId → Await → Type 0
@@ -18,8 +17,7 @@ IsImpliedFlag p a w flag = (flag ≡ true) ↔ IsImplied p a w
 abbrev pub first_await : Program → ActionId → ℕ
 first_await p a = total_awaits (take a.agent p) + sum_by (λ s. length s.awaits) (take (a.number - 1) (actions_of p a.agent))
 
--- for each action, how many awaits stand before its own
-pub record AreAwaitPlaces (p : Program) (m : AwaitFirsts) : Type 0 where
-  pub places : ArePlacesOf p m.actions
-  pub all : length m.awaits ≡ total_moves p
-  pub each : (a : ActionId) → IsAction p a → slice_index m.awaits (place_of_action m.actions a) ≡ first_await p a
+-- for each agent, how many awaits those before it have together
+pub record AreAwaitPlaces (p : Program) (firsts : List ℕ) : Type 0 where
+  pub all : length firsts ≡ length p
+  pub each : (i : ℕ) → i < length p → slice_index firsts i ≡ total_awaits (take i p)

@@ -13,11 +13,6 @@ pub record ArePlaces (p : Program) (firsts : List ℕ) : Type 0 where
 abbrev pub action_place : List ℕ → ActionId → ℕ
 action_place firsts a = slice_index firsts a.agent + a.number - 1
 
--- for each agent how many actions stand before its own, and for each action, by its place, how many awaits
-pub record AwaitFirsts : Type 0 where
-  pub actions : List ℕ
-  pub awaits : List ℕ
-
 -- the places are those of the program's actions
 abbrev pub ArePlacesOf : Program → ActionPlaces → Type 0
 ArePlacesOf p places = ArePlaces p places

@@ -177,8 +177,10 @@ fn put_action<P: ProgramView>(
     'instructions: loop {
         let reading = program.read(action.agent, finished, k, at);
         match reading.instruction {
-            Instruction::Await(_) => {
-                put_unless_implied(program, implied, version, action, k, out)?;
+            Instruction::Await(one) => {
+                if !implied.is_implied(program, action, k) {
+                    put_await(out, version, one)?;
+                }
                 at = reading.after;
                 k += 1;
             }
@@ -188,27 +190,4 @@ fn put_action<P: ProgramView>(
             }
         }
     }
-}
-
-/// Adds await `k` of the action, unless others imply it.
-fn put_unless_implied<P: ProgramView>(
-    program: &P,
-    implied: &ImpliedAwaits,
-    version: Version,
-    action: ActionId,
-    k: u16,
-    out: &mut Vec<u8>,
-) -> Result<(), OutOfMemory>
-    requires thin { CanThin version (P.program program.now) implied.now }
-    requires action { IsAction (P.program program.now) action }
-    requires place { k < length (awaits_of (P.program program.now) action.agent action.number) }
-    ensures { OnOk result ((before : List ℕ)
-        → AddsAwaits version (P.program program.now) action k before out.old.items
-        → AddsAwaits version (P.program program.now) action (k + 1) before out.new.items) }
-{
-    let _agents = program.agents();
-    if let Some(one) = implied.await_unless_implied(program, action, k) {
-        put_await(out, version, one)?;
-    }
-    Ok(())
 }

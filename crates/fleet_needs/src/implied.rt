@@ -5,7 +5,7 @@ ghost use Rattle.fleet_model.specs.declared.program.Await.{Await};
 ghost use Rattle.fleet_model.specs.Program.{AreInRange, awaits_of, total_awaits};
 ghost use Rattle.fleet_model.specs.Machine.{IsFinish};
 ghost use Rattle.fleet_model.specs.Chain.{IsAction};
-ghost use Rattle.fleet_needs.specs.Implied.{IsImplied, AreAwaitPlaces, first_await};
+ghost use Rattle.fleet_needs.specs.Implied.{IsImpliedFlag, AreAwaitPlaces, first_await};
 ghost use Rattle.fleet_needs.specs.Joins.{HasRowOr};
 ghost use Rattle.fleet_needs.specs.Settled.{AreSettled};
 ghost use Rattle.fleet_needs.specs.Schedule.{IsSchedule};
@@ -23,7 +23,7 @@ use crate::join_pass::{JoinRow, JoinUse, use_joins};
 use crate::questions::is_any;
 use crate::schedule::{Columns, Schedule};
 use crate::settled::settle_all;
-use fleet_model::{ActionId, Await, OutOfMemory, ProgramView, total_awaits};
+use fleet_model::{ActionId, OutOfMemory, ProgramView, total_awaits};
 use std::alloc::Global;
 
 /// Which awaits of a program others imply.
@@ -60,28 +60,16 @@ impl ImpliedAwaits {
         self.flags[at] = awaited <= count;
     }
 
-    /// Await `k` of the action, unless others imply it. Takes no memory.
-    pub fn await_unless_implied<P: ProgramView>(
-        &self,
-        program: &P,
-        action: ActionId,
-        k: u16,
-    ) -> Option<Await>
+    /// Whether others imply await `k` of the action. Takes no memory.
+    pub fn is_implied<P: ProgramView>(&self, program: &P, action: ActionId, k: u16) -> bool
         requires implied { AreImplied (P.program program.now) self.now }
         requires action { IsAction (P.program program.now) action }
         requires place { k < length (awaits_of (P.program program.now) action.agent action.number) }
-        ensures some { (w : Await) → result ≡ Some w
-            → (slice_get (awaits_of (P.program program.now) action.agent action.number) k ≡ Some w)
-            × (IsImplied (P.program program.now) action w → ⊥) }
-        ensures none { (w : Await) → result ≡ None
+        ensures { (w : Await)
             → slice_get (awaits_of (P.program program.now) action.agent action.number) k ≡ Some w
-            → IsImplied (P.program program.now) action w }
+            → IsImpliedFlag (P.program program.now) action w result }
     {
-        let is_implied = self.is_set(program, action, k);
-        if is_implied {
-            return None;
-        }
-        Some(program.await_at(action.agent, action.number, k))
+        self.is_set(program, action, k)
     }
 }
 

@@ -1,9 +1,15 @@
-use Rattle.std.proofs.Common.{◌≡◌, ◌<◌, ◌+◌, ◌-◌, ℕ, length, subst, arith}
+use Rattle.std.proofs.Common.{◌≡◌, ◌<◌, ◌+◌, ◌-◌, ℕ, length, sym, subst, ◌∙◌, arith}
+use Rattle.std.proofs.lemmas.Bool.{false≢true}
 use Rattle.std.specs.Prelude.{slice_get, Some}
-use Rattle.std.proofs.lemmas.Option.{slice_get_within}
+use Rattle.std.proofs.lemmas.Option.{slice_get_within, get_or_from_slice_get}
 use Rattle.fleet_model.specs.Program.{awaits_of, step_of}
 use Rattle.fleet_model.proofs.Totals.{few_awaits_of}
-use Rattle.fleet_adg.proofs.ThinnedBytes.{adds_none, adds_step}
+use Rattle.fleet_code.specs.Spelling.{await}
+use Rattle.fleet_needs.specs.Implied.{IsImplied}
+use Rattle.fleet_adg.specs.Thinned.{AreUnimplied}
+use Rattle.fleet_adg.proofs.Thinning.{keep_one}
+use Rattle.fleet_adg.proofs.ThinnedBytes.{adds_none, adds_more, adds_same, adds_step}
+use Rattle.fleet_adg.proofs.thinner.put_action.Goals.{then-not-is_implied+in_ok-put_await-in-Await, else-not-is_implied}
 use Rattle.fleet_adg.proofs.thinner.put_action.Goals as goal
 
 pub instructions-init : goal.instructions-init
@@ -13,14 +19,28 @@ instructions-init g c = record {
   put = adds_none c.args.version (g.P.ProgramView.program c.args.program.now) c.args.action c.args.out.now.items;
 }
 
-pub put_unless_implied-requires-clause-place : goal.put_unless_implied-requires-clause-place
-put_unless_implied-requires-clause-place g c =
+pub is_implied-requires-clause-place : goal.is_implied-requires-clause-place
+is_implied-requires-clause-place g c =
     let p = g.P.ProgramView.program c.args.program.now in
     let a = c.args.action in
     let same : a.number - 1 + 1 ≡ a.number = omega (arith, c.requires.action.first) in
     let here = rw c.in-Await.is at c.read-reading.ensures.instruction in
-    let at = subst (λ (n : ℕ). slice_get (awaits_of p a.agent n) c.instructions.k ≡ Some c.in-Await.field-0) same here in
-    slice_get_within (awaits_of p a.agent a.number) c.instructions.k c.in-Await.field-0 at
+    let at = subst (λ (n : ℕ). slice_get (awaits_of p a.agent n) c.instructions.k ≡ Some c.in-Await.one) same here in
+    slice_get_within (awaits_of p a.agent a.number) c.instructions.k c.in-Await.one at
+
+pub put_await-requires : goal.put_await-requires
+put_await-requires g c =
+    let p = g.P.ProgramView.program c.args.program.now in
+    let a = c.args.action in
+    let k = c.instructions.k in
+    let w = c.in-Await.one in
+    let same : a.number - 1 + 1 ≡ a.number = omega (arith, c.requires.action.first) in
+    let here = rw c.in-Await.is at c.read-reading.ensures.instruction in
+    let at = subst (λ (n : ℕ). slice_get (awaits_of p a.agent n) k ≡ Some w) same here in
+    let awaits = awaits_of p a.agent a.number in
+    let met = c.requires.thin.in_range a.agent a.number w (k, slice_get_within awaits k w at, get_or_from_slice_get awaits k w w at) in
+    let few = c.requires.thin.few w.agent in
+    omega (arith, met.last, few)
 
 pub overflow_add-k : goal.overflow_add-k
 overflow_add-k g c =
@@ -28,21 +48,33 @@ overflow_add-k g c =
     let a = c.args.action in
     let few = few_awaits_of p a.agent (a.number - 1 + 1) c.requires.action.agent c.agents-agents.ensures.well_formed in
     let here = rw c.in-Await.is at c.read-reading.ensures.instruction in
-    let within = slice_get_within (awaits_of p a.agent (a.number - 1 + 1)) c.instructions.k c.in-Await.field-0 here in
+    let within = slice_get_within (awaits_of p a.agent (a.number - 1 + 1)) c.instructions.k c.in-Await.one here in
     omega (arith, few, within)
 
 pub instructions-preserved : goal.instructions-preserved
 instructions-preserved g c =
     let p = g.P.ProgramView.program c.args.program.now in
     let a = c.args.action in
+    let v = c.args.version in
+    let k = c.instructions.k in
+    let one = c.in-Await.one in
+    let formed = c.agents-agents.ensures.well_formed in
+    let before = c.args.out.now.items in
+    let out = c.instructions.out.items in
+    let put = c.instructions.invariant.put in
     let same : a.number - 1 + 1 ≡ a.number = omega (arith, c.requires.action.first) in
     let here = rw c.in-Await.is at c.read-reading.ensures.instruction in
-    let at = subst (λ (n : ℕ). slice_get (awaits_of p a.agent n) c.instructions.k ≡ Some c.in-Await.field-0) same here in
-    let within : c.instructions.k < length (awaits_of p a.agent a.number) = slice_get_within (awaits_of p a.agent a.number) c.instructions.k c.in-Await.field-0 at in
+    let at : slice_get (awaits_of p a.agent a.number) k ≡ Some one = subst (λ (n : ℕ). slice_get (awaits_of p a.agent n) k ≡ Some one) same here in
+    let within : k < length (awaits_of p a.agent a.number) = slice_get_within (awaits_of p a.agent a.number) k one at in
     record {
       within = omega (arith, within);
       at = rw c.in-Await.is at c.read-reading.ensures.after;
-      put = c.in_ok-put_unless_implied-in-Await.ensures c.args.out.now.items c.instructions.invariant.put;
+      put = elim c.if-not-is_implied.branch [
+        | then-not-is_implied+in_ok-put_await-in-Await w ↦
+            let stays : IsImplied p a one → ⊥ = λ i. false≢true (sym w.if-not-is_implied.true ∙ (c.is_implied.ensures one at).1 i) in
+            rw w.out-is (adds_more (await v) (AreUnimplied p a k) (AreUnimplied p a (k + 1)) one before out w.put_await.new.out.items put (λ ws made. keep_one p formed a k ws made one at stays) w.in_ok-put_await-in-Await.ensures)
+        | else-not-is_implied w ↦ rw w.out-is (adds_same v p formed a k before out put within (λ x there. (c.is_implied.ensures x there).0 w.if-not-is_implied.false))
+      ];
     }
 
 pub returns-in-Step-clause-put : goal.returns-in-Step-clause-put

@@ -1,12 +1,11 @@
 -- The bytes of a program whose implied awaits are gone, as they are put together.
-use Rattle.std.proofs.Common.{◌≡◌, ℕ, zero, suc, ◌+◌, ◌<◌, ◌≤◌, Bool, List, [], ◌∷◌, ◌++◌, length, map, refl, sym, ap, subst, ◌∙◌, arith, append_assoc, ◌↔◌}
-use Rattle.std.specs.Prelude.{Option, Some, slice_get, option_map}
+use Rattle.std.proofs.Common.{◌≡◌, ℕ, zero, suc, ◌+◌, ◌<◌, ◌≤◌, List, [], ◌∷◌, ◌++◌, length, map, refl, sym, ap, subst, ◌∙◌, arith, append_assoc, ◌↔◌}
+use Rattle.std.specs.Prelude.{Some, slice_get}
 use Rattle.std.specs.List.{flat_map}
 use Rattle.std.proofs.lemmas.List.{append-nil}
 use Rattle.std.proofs.lemmas.List.Concat.{flat_map-cons, flat_map-append}
-use Rattle.std.proofs.lemmas.Option.{slice_get-map, none-some}
+use Rattle.std.proofs.lemmas.Option.{slice_get-map}
 use Rattle.fleet_model.specs.declared.geometry.Cell.{Cell}
-use Rattle.fleet_model.specs.declared.geometry.Place.{Place}
 use Rattle.fleet_model.specs.declared.geometry.Step.{Step}
 use Rattle.fleet_model.specs.declared.task.Task.{Task}
 use Rattle.fleet_model.specs.declared.program.Await.{Await}
@@ -18,11 +17,10 @@ use Rattle.fleet_grid.specs.Ground.{Ground, is_passable}
 use Rattle.fleet_code.specs.declared.format.Version.{Version}
 use Rattle.fleet_code.specs.declared.format.Version.TheVariants.{One, Two}
 use Rattle.fleet_code.specs.Spelling.{cell, count, opcode, await, action, agent, spelling, CanSpell, SpellsIn, SpellsShortest}
-use Rattle.fleet_code.specs.Stays.{MovesAlways}
 use Rattle.fleet_code.proofs.Stays.{none_stays}
 use Rattle.fleet_needs.specs.Implied.{IsImplied}
 use Rattle.fleet_verify.specs.Parts.{IsAcceptedFor}
-use Rattle.fleet_verify.specs.Reduced.{DiffersInAwaits, IsThinned}
+use Rattle.fleet_verify.specs.Reduced.{IsThinned}
 use Rattle.fleet_verify.proofs.SameChains.{same_moves, thinned_reduced, thinned_again, reduced_chains, thinned_range, thinned_least, longest_over, accepted_over, run_over}
 use Rattle.fleet_adg.proofs.Short.{short_in_range, short_moves}
 use Rattle.fleet_adg.proofs.Thinning.{none_yet, drop_implied, action_more, agent_more, thinned_is, thinned_formed}

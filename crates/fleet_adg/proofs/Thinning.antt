@@ -1,6 +1,6 @@
 -- A program whose implied awaits are gone, made action by action.
 use Rattle.std.proofs.Common.{◌≡◌, ◌≢◌, ℕ, zero, suc, ◌+◌, ◌<◌, ◌≤◌, List, [], ◌∷◌, ◌++◌, length, get_or, map, take, refl, sym, ap, subst, ◌∙◌, arith, inl, inr, ◌⊎◌, add-one}
-use Rattle.std.specs.Prelude.{slice_get, Option, Some, None, Contains, All, option_map, IsTrue}
+use Rattle.std.specs.Prelude.{slice_get, Option, Some, None, Contains, All, option_map}
 use Rattle.std.specs.Option.{option_map_or}
 use Rattle.std.specs.List.Sorted.{IsStrictlyIncreasing}
 use Rattle.std.proofs.lemmas.Bool.{cases_lt}
@@ -8,13 +8,11 @@ use Rattle.std.proofs.lemmas.Option.{slice_get-map, slice_get-get_or, slice_get_
 use Rattle.std.proofs.lemmas.List.{take_all, map-append, length-map, ext_get_or, get_or-map, length_push, get_or_push, get_or_append_left, get_or_default}
 use Rattle.std.proofs.lemmas.List.Elements.{All-push, Contains-push, Contains-push_cases, Contains-append_left}
 use Rattle.fleet_model.specs.declared.program.Await.{Await}
-use Rattle.fleet_model.specs.declared.geometry.Step.{Step}
 use Rattle.fleet_model.specs.declared.geometry.Step.TheVariants.{Dwell}
-use Rattle.fleet_model.specs.Geometry.{is_move}
 use Rattle.fleet_model.specs.declared.program.Action.{Action}
 use Rattle.fleet_model.specs.declared.program.ActionId.{ActionId}
 use Rattle.fleet_model.specs.declared.program.AgentProgram.{AgentProgram}
-use Rattle.fleet_model.specs.Program.{Program, actions_of, moves, step_of, awaits_of, total_moves, AreAwaits, IsCell, IsWellFormed, NeverStays, AreShort, AreInRange}
+use Rattle.fleet_model.specs.Program.{Program, actions_of, moves, step_of, awaits_of, total_moves, AreAwaits, IsCell, IsWellFormed, AreShort, AreInRange}
 use Rattle.fleet_model.proofs.Totals.{moves_more}
 use Rattle.fleet_model.specs.declared.limits.TheConstants.{MAX_AWAIT, MAX_MOVES_V1}
 use Rattle.fleet_needs.specs.Implied.{IsImplied}

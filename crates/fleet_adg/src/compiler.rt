@@ -20,7 +20,7 @@ ghost use Rattle.fleet_adg.specs.ProgramBytes.{AreBytesOf, version_for};
 use crate::fault::CompileFault;
 use crate::program_bytes::{ProgramBytes, program_of};
 use crate::sweep::{actions_of, moves_of};
-use fleet_code::{ActionBytes, HEAD_LEN, Version, awaits_in, begin_program, programs_have_bytes};
+use fleet_code::{ActionBytes, HEAD_LEN, Version, begin_program, programs_have_bytes};
 use fleet_model::{Deps, MAX_AGENTS, MAX_MOVES, MAX_MOVES_IN_ALL, OutOfMemory, Program};
 use fleet_plan::{Checked, Plan};
 use std::alloc::Global;
@@ -119,14 +119,7 @@ pub fn compile_bytes(
     let Ok(bytes) = join(alloc, plan, version, &actions, dwell) else {
         return Err(CompileFault::OutOfMemory);
     };
-    let agents = plan.agents();
-    let awaits = awaits_in(version, bytes.len(), agents, moves);
-    Ok(ProgramBytes {
-        bytes,
-        agents,
-        moves,
-        awaits,
-    })
+    Ok(ProgramBytes::new(bytes, version, plan.agents(), moves))
 }
 
 /// The version that is shortest: the first, unless agents stay.

@@ -14,8 +14,8 @@ ghost use Rattle.fleet_adg.specs.Thinned.{FitsFirst, IsThinnedFor, CanThin, AreT
 use crate::program_bytes::{ProgramBytes, program_of};
 use crate::thin_fault::ThinFault;
 use fleet_code::{
-    Version, awaits_in, begin_agent, begin_program, encoded_len, never_stays, programs_have_bytes,
-    put_await, put_step,
+    Version, begin_agent, begin_program, encoded_len, never_stays, programs_have_bytes, put_await,
+    put_step,
 };
 use fleet_model::{
     ActionId, Instruction, MAX_MOVES_V1, OutOfMemory, Program, ProgramView, total_moves,
@@ -71,15 +71,8 @@ pub fn thin_bytes<P: ProgramView>(
     let Ok(bytes) = thinned_bytes(alloc, program, &implied, version) else {
         return Err(ThinFault::OutOfMemory);
     };
-    let agents = program.agents();
     let moves = total_moves(program);
-    let awaits = awaits_in(version, bytes.len(), agents, moves);
-    Ok(ProgramBytes {
-        bytes,
-        agents,
-        moves,
-        awaits,
-    })
+    Ok(ProgramBytes::new(bytes, version, program.agents(), moves))
 }
 
 /// The version that is shortest for a program whose awaits can be met: the first, if it has bytes for all actions.

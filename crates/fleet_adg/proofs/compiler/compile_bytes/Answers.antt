@@ -41,15 +41,11 @@ returns-clause-spelled c =
     let few = sym (c.if-not-has_few_actions.ensures ∙ ap (λ q. has_few_actions q dwell) read.value) in
     let rows = c.deref-2.ensures.value ∙ c.in-Ok.ensures in
     let is = c.in-Ok-join.ensures deps (rows ∙ ap (λ (q : Plan). all_bytes_by q deps v (steps q)) (sym read.value)) ∙ ap (λ (q : Plan). spelling v (compiled_staying q deps dwell)) read.value in
-    let agents = c.agents-agents.ensures.count ∙ ap length read.value ∙ sym (length-staying plan deps dwell) in
+    let agents = c.agents.ensures.count ∙ ap length read.value ∙ sym (length-staying plan deps dwell) in
     let moves = c.actions_in-moves.ensures ∙ rows_total plan deps dwell v c.deref.result.now (c.deref.ensures.value ∙ c.in-Ok.ensures) in
     let bytes = c.programs_have_bytes.ensures in
-    record {
-      spelled = shortest_bytes (is_passable c.args.checked.now.grid) c.args.checked.now.instance plan deps read.checked.free read.checked.limits bytes.first bytes.second dwell c.in-Ok-join.bytes.items few (is ∙ ap (λ (u : Version). spelling u p) c.version_for-version.ensures);
-      agents = agents;
-      moves = moves;
-      awaits = c.awaits_in-awaits.ensures p (sym agents) (sym moves) (sym (c.len.ensures ∙ c.in-Ok-join.bytes.ok.0 ∙ ap length is));
-    }
+    let spelled = shortest_bytes (is_passable c.args.checked.now.grid) c.args.checked.now.instance plan deps read.checked.free read.checked.limits bytes.first bytes.second dwell c.in-Ok-join.bytes.items few (is ∙ ap (λ (u : Version). spelling u p) c.version_for-version.ensures) in
+    c.new.ensures.of p (sym agents) (sym moves) is spelled
 
 pub returns-clause-accepted : goal.returns-clause-accepted
 returns-clause-accepted c =
@@ -66,7 +62,7 @@ returns-clause-first c =
     let rows = c.deref-2.ensures.value ∙ c.in-Ok.ensures in
     let is = c.in-Ok-join.ensures deps (rows ∙ ap (λ (q : Plan). all_bytes_by q deps v (steps q)) (sym read.value)) ∙ ap (λ (q : Plan). spelling v (compiled_staying q deps dwell)) read.value in
     let bytes = c.programs_have_bytes.ensures in
-    λ none. first_bytes (is_passable c.args.checked.now.grid) c.args.checked.now.instance plan deps read.checked.free read.checked.limits bytes.first bytes.second dwell none c.in-Ok-join.bytes.items few (is ∙ ap (λ (u : Version). spelling u (compiled_staying plan deps dwell)) c.version_for-version.ensures)
+    λ none. rw c.new.ensures.bytes (first_bytes (is_passable c.args.checked.now.grid) c.args.checked.now.instance plan deps read.checked.free read.checked.limits bytes.first bytes.second dwell none c.in-Ok-join.bytes.items few (is ∙ ap (λ (u : Version). spelling u (compiled_staying plan deps dwell)) c.version_for-version.ensures))
 
 pub returns-clause-equally : goal.returns-clause-equally
 returns-clause-equally c =

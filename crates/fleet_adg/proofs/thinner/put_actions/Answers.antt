@@ -1,5 +1,4 @@
-use Rattle.std.proofs.Common.{arith}
-use Rattle.fleet_adg.proofs.ThinnedBytes.{adds_none, adds_action}
+use Rattle.fleet_adg.proofs.ThinnedBytes.{adds_action}
 use Rattle.fleet_adg.proofs.thinner.put_actions.Goals as goal
 
 pub loop-finished-preserved : goal.loop-finished-preserved

@@ -1,4 +1,4 @@
-use Rattle.std.proofs.Common.{◌≡◌, [], length, sym, ap, subst, ◌∙◌, arith}
+use Rattle.std.proofs.Common.{◌≡◌, [], length, sym, ap, subst, ◌∙◌}
 use Rattle.fleet_model.specs.Program.{Program, total_moves}
 use Rattle.fleet_model.specs.Machine.{IsFinish}
 use Rattle.fleet_grid.specs.Ground.{is_passable}
@@ -23,16 +23,11 @@ returns g c =
     let h = made.1 in
     let is = made.2 in
     let laws = c.programs_have_bytes.ensures in
-    let agents : c.agents-agents.result ≡ length q = c.agents-agents.ensures.count ∙ sym h.long in
+    let agents : c.agents.result ≡ length q = c.agents.ensures.count ∙ sym h.long in
     let moves : c.total_moves-moves.result ≡ total_moves q = c.total_moves-moves.ensures ∙ sym (total_same p q h) in
-    let bytes = c.in-Ok-thinned_bytes.bytes in (
+    let spelled = thinned_shortest laws.first laws.second p q c.agents.ensures.well_formed known.accepted.right.in_range h c.shortest_version-version.result c.shortest_version-version.ensures.first c.in-Ok-thinned_bytes.bytes.items is in (
       q,
-      record {
-        spelled = thinned_shortest laws.first laws.second p q c.agents-agents.ensures.well_formed known.accepted.right.in_range h c.shortest_version-version.result c.shortest_version-version.ensures.first bytes.items is;
-        agents = agents;
-        moves = moves;
-        awaits = c.awaits_in-awaits.ensures q (sym agents) (sym moves) (sym (c.len.ensures ∙ bytes.ok.0 ∙ ap length is));
-      },
+      c.new.ensures.of q (sym agents) (sym moves) is spelled,
       subst (λ (x : Program). IsThinnedFor (is_passable c.args.accepted.now.grid) c.args.accepted.now.instance x c.args.accepted.now.chain q) (ap g.P.ProgramView.program c.program-program.ensures.program)
           (thinned_for c.args.accepted.now.grid c.args.accepted.now.instance p c.args.accepted.now.chain q known (thinned_is p q h)),
     )

@@ -1,4 +1,4 @@
-use Rattle.std.proofs.Common.{◌++◌, List, ℕ, length}
+use Rattle.std.proofs.Common.{◌++◌, length}
 use Rattle.std.specs.List.{flat_map}
 use Rattle.fleet_code.specs.Spelling.{magic, two_bytes, agent}
 use Rattle.fleet_adg.specs.Thinned.{Adds, AreThinnedAgents}

@@ -1,26 +1,28 @@
 //! Accepted programs without their implied awaits.
 
-ghost use Rattle.std.specs.Prelude.{◌≡◌, IfOk, IfErr};
+ghost use Rattle.std.specs.Prelude.{IfOk, IfErr};
+ghost use Rattle.fleet_model.specs.Program.{Program};
+ghost use Rattle.fleet_code.specs.Spelling.{SpellsShortest};
 ghost use Rattle.fleet_c.specs.Thin.{IsThinProgram, ThinsTexts};
 ghost use Rattle.fleet_c.specs.Verify.{IsAcceptStop, IsVerifyStop};
 
 use crate::fault::CallFault;
 use crate::problem::{Problem, read_problem};
 use crate::verify::accept;
-use fleet_adg::thin;
-use fleet_code::encode_shortest;
-use fleet_model::Program;
+use fleet_adg::{ThinFault, thin_bytes};
 use std::alloc::Global;
 
-/// The program that the bytes spell, without its implied awaits.
-fn thinned_program(alloc: Global, problem: &Problem, bytes: &[u8]) -> Result<Program, CallFault>
-    ensures thinned { IfOk result (IsThinProgram problem.now.grid problem.now.instance bytes.now) }
+/// The bytes of the program that the bytes spell, without its implied awaits.
+fn bytes_of(alloc: Global, problem: &Problem, bytes: &[u8]) -> Result<Vec<u8>, CallFault>
+    ensures thinned { IfOk result (λ thinned. (program : Program)
+        × IsThinProgram problem.now.grid problem.now.instance bytes.now program
+        × SpellsShortest thinned.items program) }
     ensures stop { IfErr result (IsAcceptStop problem.now.grid problem.now.instance bytes.now) }
 {
     let accepted = accept(alloc, problem, bytes)?;
-    match thin(alloc, &accepted) {
-        Ok(thinned) => Ok(thinned),
-        Err(_) => Err(CallFault::OutOfMemory),
+    match thin_bytes(alloc, &accepted) {
+        Ok(thinned) => Ok(thinned.bytes),
+        Err(ThinFault::OutOfMemory) => Err(CallFault::OutOfMemory),
     }
 }
 
@@ -38,9 +40,5 @@ pub fn thin_texts(
     ensures stop { IfErr result (IsVerifyStop map.now scen.now agents bytes.now) }
 {
     let problem = read_problem(alloc, map, scen, agents)?;
-    let thinned = thinned_program(alloc, &problem, bytes)?;
-    match encode_shortest(alloc, &thinned) {
-        Ok(bytes) => Ok(bytes),
-        Err(_) => Err(CallFault::OutOfMemory),
-    }
+    bytes_of(alloc, &problem, bytes)
 }

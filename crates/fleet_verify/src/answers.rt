@@ -1,6 +1,6 @@
 //! Questions for chains that were answered, so that they need not be asked again.
 
-ghost use Rattle.std.specs.Prelude.{◌≡◌, true, All, map};
+ghost use Rattle.std.specs.Prelude.{◌≡◌, ◌↔◌, IsTrue, All, map};
 ghost use Rattle.fleet_verify.specs.OpenPairs.{AreVisits, question_of};
 
 use crate::order::{OpenPair, leaving};
@@ -59,7 +59,8 @@ pub fn are_questions_of<P: ProgramView>(
     questions: &[Question],
 ) -> bool
     requires { All (AreVisits (P.program program.now)) pairs.now }
-    ensures { result ≡ true → questions.now ≡ map (question_of (P.program program.now)) pairs.now }
+    ensures { IsTrue result
+        ↔ (questions.now ≡ map (question_of (P.program program.now)) pairs.now) }
 {
     if questions.len() != pairs.len() {
         return false;
@@ -75,7 +76,7 @@ pub fn are_questions_of<P: ProgramView>(
 /// Whether this is the question of the pair.
 fn is_question_of<P: ProgramView>(program: &P, pair: OpenPair, question: Question) -> bool
     requires { AreVisits (P.program program.now) pair }
-    ensures { result ≡ true → question ≡ question_of (P.program program.now) pair }
+    ensures { IsTrue result ↔ (question ≡ question_of (P.program program.now) pair) }
 {
     let OpenPair { first, second, .. } = pair;
     let last = ActionId {

@@ -17,7 +17,7 @@ returns-then-are_questions_of g c =
     let pairs = c.args.pairs.now in
     let flags = c.deref-then-are_questions_of.result.now in
     let answers : AreAnswers p (map (question_of p) pairs) flags =
-    subst (λ (qs : List Question). AreAnswers p qs flags) (sym c.deref.ensures.value ∙ c.are_questions_of.ensures c.if-are_questions_of.true) (subst (λ (fs : List Bool). AreAnswers p c.args.known.now.questions.items fs) (sym c.deref-then-are_questions_of.ensures.value) c.requires.known) in
+    subst (λ (qs : List Question). AreAnswers p qs flags) (sym c.deref.ensures.value ∙ c.are_questions_of.ensures.0 c.if-are_questions_of.true) (subst (λ (fs : List Bool). AreAnswers p c.args.known.now.questions.items fs) (sym c.deref-then-are_questions_of.ensures.value) c.requires.known) in
     on_ok (λ found. (n : ℕ) → AnswersFirstBad (IsFlagged flags) pairs (length pairs) n (get nat_eq found n)) (λ found. (n : ℕ) → AnswersFirstBad (λ _ o. HasNoChain p o) pairs (length pairs) n (get nat_eq found n))
     (λ found h n. flags_tell p pairs flags answers n (get nat_eq found n) (h n)) c.first_flagged.result c.first_flagged.ensures
 

@@ -34,18 +34,7 @@ unreadable_before (Some files) (Some others) name kept h = λ bytes e. h bytes (
 pub read_fault_before : (old new : Option Store) (name : List ℕ) (fault : Fault) → AreUnchanged old new → IsReadFault new name fault → IsReadFault old name fault
 read_fault_before old new name f.Memory kept h = tt
 read_fault_before old new name (f.File n) kept h = (h.0, unreadable_before old new name kept h.1)
-read_fault_before old new name (f.Map x) kept h = absurd h
-read_fault_before old new name (f.Scen x) kept h = absurd h
-read_fault_before old new name (f.Text x) kept h = absurd h
-read_fault_before old new name (f.Check x) kept h = absurd h
-read_fault_before old new name (f.Search x) kept h = absurd h
-read_fault_before old new name (f.Hex x) kept h = absurd h
-read_fault_before old new name (f.Load x) kept h = absurd h
-read_fault_before old new name (f.Compile x) kept h = absurd h
-read_fault_before old new name (f.Verify x) kept h = absurd h
-read_fault_before old new name (f.Run x) kept h = absurd h
-read_fault_before old new name (f.Dispatch x) kept h = absurd h
-read_fault_before old new name (f.Times x) kept h = absurd h
+read_fault_before old new name _ kept h = absurd h
 
 pub unread_before : (old new : Option Store) (names : List (List ℕ)) (fault : Fault) → AreUnchanged old new → IsUnread new names fault → IsUnread old names fault
 unread_before old new [] fault kept h = absurd h

@@ -7,7 +7,7 @@ use Rattle.fleet_model.specs.declared.geometry.Cell.{Cell}
 use Rattle.fleet_model.specs.declared.task.Task.{Task}
 use Rattle.fleet_text.specs.Sink.{SinkState, Takes, StopsWithin}
 use Rattle.fleet_cli.specs.PrintCommands.{start_in, goal_in, task_line, task_lines}
-use Rattle.fleet_text.proofs.SinkLemmas.{takes_more, stops_within_more, stops_after}
+use Rattle.fleet_text.proofs.SinkLemmas.{stops_within_more, stops_after}
 use Rattle.fleet_model.specs.Program.{Program}
 use Rattle.fleet_grid.specs.Ground.{Ground}
 use Rattle.fleet_code.specs.Spelling.{Spells}
@@ -39,9 +39,6 @@ module _ (before mid after : SinkState) (tasks : List Task) (i : ℕ) (start goa
 
   lines_are : task_lines tasks i ++ task_line i start goal ≡ task_lines tasks (i + 1)
   lines_are = rw add-one (ap (λ (xs : List ℕ). task_lines tasks i ++ xs) line_is)
-
-  pub one_task_more : Takes mid after (task_line i start goal) → Takes before after (task_lines tasks (i + 1))
-  one_task_more h = subst (Takes before after) lines_are (takes_more before mid after (task_lines tasks i) (task_line i start goal) so_far h)
 
   pub stops_in_task : (n : ℕ) → i < n → StopsWithin mid after (task_line i start goal) → StopsWithin before after (task_lines tasks n)
   stops_in_task n below h =

@@ -1,5 +1,6 @@
 //! What users of the crates call and no command does: on the pair, on a train, and with a growth refused.
 
+use crate::due::due_bytes;
 use crate::fleets::{
     HELD_TEXT, HELD_TRACE, LATE_HEX, PAIR_BYTES, PAIR_HEX, PAIR_MAP, PAIR_SCEN, STAYING_HEX,
     TRAIN_MAP, train_scen,
@@ -7,11 +8,11 @@ use crate::fleets::{
 use fleet_adg::compile;
 use fleet_cli::{AutoFault, Files, MemFiles, auto_run};
 use fleet_code::{EncodeFault, encode, load, read_hex};
-use fleet_grid::read_map;
+use fleet_grid::{Grid, read_map};
 use fleet_model::{ActionId, Deps};
 use fleet_plan::{read_plan, write_plan};
 use fleet_run::{HoldList, RunFault, TraceOut, VecOut, rehearse, write_holds};
-use fleet_scen::read_scen;
+use fleet_scen::{Instance, read_scen};
 use fleet_search::plan;
 use fleet_verify::{Reach, verify};
 use std::alloc::Global;
@@ -86,36 +87,41 @@ fn file_answer(alloc: Global) -> Option<Vec<u8>> {
     files.read(alloc, "out").ok()
 }
 
-/// Of the program that is made for the map and the scenario: how many actions of each agent the second action of the
-/// last agent needs, and then how many of the last agent the second action of the first agent needs.
+/// How many actions of each agent the second action of the last agent needs, and then how many of the last agent the
+/// second action of agent 0 needs.
+fn reach_counts(alloc: Global, reach: &Reach, last: u16) -> Option<Vec<u8>> {
+    let mut counts = Vec::new(alloc);
+    for agent in 0..=last {
+        let to = ActionId {
+            agent: last,
+            number: 2,
+        };
+        let count = reach.greatest(to, agent);
+        counts.push(u8::try_from(count).unwrap_or(u8::MAX)).ok()?;
+    }
+    let to = ActionId {
+        agent: 0,
+        number: 2,
+    };
+    let count = reach.greatest(to, last);
+    counts.push(u8::try_from(count).unwrap_or(u8::MAX)).ok()?;
+    Some(counts)
+}
+
+/// How far the actions reach back of the program that is made for a map and an instance.
+fn reach_of(alloc: Global, grid: &Grid, instance: &Instance) -> Option<Reach> {
+    let checked = plan(alloc, grid, instance, 1024).ok()?;
+    let program = compile(alloc, &checked, Deps::Last).ok()?;
+    let accepted = verify(alloc, program, grid, instance).ok()?;
+    Reach::of(alloc, &accepted).ok()
+}
+
+/// .. of one that is made for the map and the scenario.
 fn reach_answer(alloc: Global, map: &[u8], scen: &[u8]) -> Option<Vec<u8>> {
     let grid = read_map(alloc, map).ok()?;
     let instance = read_scen(alloc, scen, &grid, None).ok()?;
-    let checked = plan(alloc, &grid, &instance, 1024).ok()?;
-    let program = compile(alloc, &checked, Deps::Last).ok()?;
-    let accepted = verify(alloc, program, &grid, &instance).ok()?;
-    let reach = Reach::of(alloc, &accepted).ok()?;
-    let (first, last) = (0, instance.agents().saturating_sub(1));
-    let mut counts = Vec::new(alloc);
-    for agent in 0..=last {
-        let count = reach.greatest(
-            ActionId {
-                agent: last,
-                number: 2,
-            },
-            agent,
-        );
-        counts.push(u8::try_from(count).unwrap_or(u8::MAX)).ok()?;
-    }
-    let count = reach.greatest(
-        ActionId {
-            agent: first,
-            number: 2,
-        },
-        last,
-    );
-    counts.push(u8::try_from(count).unwrap_or(u8::MAX)).ok()?;
-    Some(counts)
+    let reach = reach_of(alloc, &grid, &instance)?;
+    reach_counts(alloc, &reach, instance.agents().saturating_sub(1))
 }
 
 #[derive(Clone, Copy)]
@@ -166,7 +172,7 @@ const CALLS: [(Call, &[u8]); 9] = [
 fn calls_answer(rt: HostRuntime) -> Result<(), Fail> {
     for (call, due) in CALLS {
         let bytes = answer_of(rt.alloc(), call).ok_or("memory")?;
-        assert_eq!(rt; bytes.as_slice(), due);
+        due_bytes(&rt, &bytes, due);
     }
     Ok(())
 }
@@ -200,8 +206,8 @@ fn a_train_reaches_back(rt: HostRuntime) -> Result<(), Fail> {
     let Some((count, others)) = counts.split_last() else {
         return Err(Fail::from("no counts"));
     };
-    assert_eq!(rt; *count, 0);
-    assert_eq!(rt; others, [2; 128].as_slice());
+    assert!(rt; *count == 0);
+    due_bytes(&rt, others, &[2; 128]);
     Ok(())
 }
 
@@ -212,6 +218,6 @@ fn many_ticks_are_written(rt: HostRuntime) -> Result<(), Fail> {
     for _ in 0..100_000 {
         rows.push(vec![in alloc; 0, 9]?)?;
     }
-    assert_eq!(rt; write_holds(alloc, &rows)?.len(), 400_000);
+    assert!(rt; write_holds(alloc, &rows)?.len() == 400_000);
     Ok(())
 }

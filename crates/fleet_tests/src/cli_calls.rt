@@ -2,6 +2,7 @@
 
 ghost use Rattle.std.specs.Prelude.{◌<◌};
 
+use crate::due::{Ended, due_bytes, due_end};
 use crate::ends::{FailingFiles, Given};
 use crate::fleets::{
     HELD_TRACE, PAIR_BYTES, PAIR_BYTES_2, PAIR_HEX, PAIR_MAP, PAIR_PLAN, PAIR_SCEN, PAIR_TEXT,
@@ -17,6 +18,7 @@ use fleet_grid::MapFault;
 use fleet_run::{Report, VecOut};
 use fleet_search::PlanStop;
 use std::alloc::{AllocError, Global};
+use std::process::Abort;
 use std::test::Fail;
 
 /// The pair's files, and those of the square.
@@ -48,6 +50,10 @@ fn words_of(alloc: Global, line: &str) -> Result<Vec<String>, AllocError> {
 
 /// The status of a command, and what it writes to its output and of its refusal.
 type Done = (u8, VecOut, VecOut);
+
+fn ended(done: &Done) -> Ended<'_> {
+    (done.0, done.1.bytes(), done.2.bytes())
+}
 
 fn command_answer<F: Files>(alloc: Global, line: &str, files: &mut F) -> Result<Done, Fail> {
     let words = words_of(alloc, line)?;
@@ -98,19 +104,20 @@ const COMMANDS: [Row; 14] = [
     ("run map scen none", 3, b"", b"file none\n"),
 ];
 
+fn run_commands(rt: &impl Abort, alloc: Global, files: &mut MemFiles) -> Result<(), Fail> {
+    for (line, status, out, err) in COMMANDS {
+        let done = command_answer(alloc, line, files)?;
+        due_end(rt, line, ended(&done), (status, out, err));
+    }
+    Ok(())
+}
+
 #[test]
 fn commands_are_run(rt: HostRuntime) -> Result<(), Fail> {
-    let alloc = rt.alloc();
-    let mut files = some_files(alloc)?;
-    for (line, status, out, err) in COMMANDS {
-        let done = command_answer(alloc, line, &mut files)?;
-        assert_eq!(rt;
-            (done.0, done.1.bytes(), done.2.bytes()),
-            (status, out, err),
-            "{line}"
-        );
-    }
-    assert!(rt; files.get("out") == Some(PAIR_BYTES) && files.get("two") == Some(PAIR_BYTES_2));
+    let mut files = some_files(rt.alloc())?;
+    run_commands(&rt, rt.alloc(), &mut files)?;
+    due_bytes(&rt, files.get("out").unwrap_or(b"none"), PAIR_BYTES);
+    due_bytes(&rt, files.get("two").unwrap_or(b"none"), PAIR_BYTES_2);
     Ok(())
 }
 
@@ -217,38 +224,47 @@ fn requests_are_done(rt: HostRuntime) -> Result<(), Fail> {
     let mut files = some_files(rt.alloc())?;
     for k in 0..10 {
         let done = request_answer(rt.alloc(), k, &mut files);
-        let due = (0, WRITTEN[k], b"".as_slice());
-        assert_eq!(rt; (done.0, done.1.bytes(), done.2.bytes()), due, "{k}");
+        due_end(&rt, "request", ended(&done), (0, WRITTEN[k], b""));
     }
-    assert!(rt; files.get("out") == Some(PAIR_BYTES_2));
+    due_bytes(&rt, files.get("out").unwrap_or(b"none"), PAIR_BYTES_2);
     Ok(())
+}
+
+/// Whether the words of a line ask for the run of a program, are wrong, or ask for help.
+fn reading_of(alloc: Global, line: &str) -> Result<[bool; 3], Fail> {
+    let words = words_of(alloc, line)?;
+    let reading = match read_words(alloc, &words) {
+        Ok(
+            Request::Run(
+                RunRequest {
+                    subject: ProgramFor {
+                        tasks: Tasks {
+                            map: "a",
+                            scen: "b",
+                            agents: Some(7),
+                        },
+                        program: "c",
+                    },
+                    holds: Some("d"),
+                },
+            ),
+        ) => [true, false, false],
+        Err(WordStop::Usage(_)) => [false, true, false],
+        Err(WordStop::Help(_)) => [false, false, true],
+        _ => [false; 3],
+    };
+    Ok(reading)
 }
 
 #[test]
 fn words_are_read(rt: HostRuntime) -> Result<(), Fail> {
-    let alloc = rt.alloc();
-    let words = words_of(alloc, "run a b c --agents 7 --holds d")?;
-    let request = read_words(alloc, &words);
-    assert!(rt;
-        matches!(
-            request,
-            Ok(Request::Run(RunRequest {
-                subject: ProgramFor {
-                    tasks: Tasks {
-                        map: "a",
-                        scen: "b",
-                        agents: Some(7),
-                    },
-                    program: "c",
-                },
-                holds: Some("d"),
-            }))
-        )
-    );
-    let words = words_of(alloc, "run a b c --agents x")?;
-    assert!(rt; matches!(read_words(alloc, &words), Err(WordStop::Usage(_))));
-    let words = words_of(alloc, "run --help")?;
-    assert!(rt; matches!(read_words(alloc, &words), Err(WordStop::Help(_))));
+    for (line, due) in [
+        ("run a b c --agents 7 --holds d", [true, false, false]),
+        ("run a b c --agents x", [false, true, false]),
+        ("run --help", [false, false, true]),
+    ] {
+        assert!(rt; reading_of(rt.alloc(), line)? == due, "{line}");
+    }
     Ok(())
 }
 
@@ -263,7 +279,12 @@ fn hexadecimal_is_run(rt: HostRuntime) -> Result<(), Fail> {
         let mut out = VecOut::new(alloc);
         let mut err = VecOut::new(alloc);
         let done = run_hex(alloc, &mut Given { rest }, &mut out, &mut err);
-        assert_eq!(rt; (done, out.bytes(), err.bytes()), (status, text, line));
+        due_end(
+            &rt,
+            "hexadecimal",
+            (done, out.bytes(), err.bytes()),
+            (status, text, line),
+        );
     }
     Ok(())
 }
@@ -277,7 +298,12 @@ fn refusals_are_told(rt: HostRuntime) -> Result<(), Fail> {
     ] {
         let mut err = VecOut::new(rt.alloc());
         fault.tell(&mut err);
-        assert_eq!(rt; (fault.status(), err.bytes()), (status, line));
+        due_end(
+            &rt,
+            "refusal",
+            (fault.status(), b"", err.bytes()),
+            (status, b"", line),
+        );
     }
     Ok(())
 }
@@ -303,33 +329,54 @@ fn maps_lead_to_traces(rt: HostRuntime) -> Result<(), Fail> {
         chain: 3,
         held: 1,
     };
-    assert_eq!(rt; (ran?, out.bytes()), (due, HELD_TRACE));
+    assert!(rt; ran? == due);
+    due_bytes(&rt, out.bytes(), HELD_TRACE);
     let (ran, out) = auto_answer(rt.alloc(), SQUARE_MAP, SQUARE_SCEN, b"");
     assert!(rt; matches!(ran, Err(AutoFault::Plan(PlanStop::NoPath { agent: 3 }))));
-    assert_eq!(rt; out.bytes(), b"".as_slice());
+    due_bytes(&rt, out.bytes(), b"");
+    Ok(())
+}
+
+/// A file is what was last put or written there.
+fn read_and_write(rt: &impl Abort, alloc: Global, files: &mut MemFiles) -> Result<(), Fail> {
+    assert!(*rt; files.get("name").is_none());
+    assert!(*rt; matches!(files.read(alloc, "name").err(), Some(FileFault::Failed)));
+    files.put("name", b"old bytes")?;
+    files.write("name", b"bytes")?;
+    files.put("other", b"")?;
+    due_bytes(rt, files.get("name").unwrap_or(b"none"), b"bytes");
+    due_bytes(rt, &files.read(alloc, "name")?, b"bytes");
     Ok(())
 }
 
 #[test]
 fn files_are_read_and_written(rt: HostRuntime) -> Result<(), Fail> {
-    let alloc = rt.alloc();
-    let mut files = MemFiles::new(alloc);
-    assert!(rt; files.get("name").is_none());
-    assert!(rt; matches!(files.read(alloc, "name").err(), Some(FileFault::Failed)));
-    files.put("name", b"old bytes")?;
-    files.write("name", b"bytes")?;
-    files.put("other", b"")?;
-    assert!(rt; files.get("name") == Some(b"bytes".as_slice()));
-    assert_eq!(rt; files.read(alloc, "name")?.as_slice(), b"bytes".as_slice());
+    read_and_write(&rt, rt.alloc(), &mut MemFiles::new(rt.alloc()))
+}
+
+/// A file is cut to its whole lines, and grows behind them.
+fn cut_and_grow(rt: &impl Abort, alloc: Global, files: &mut MemFiles) -> Result<(), Fail> {
+    files.put("name", b"bytes")?;
     files.cut_to_lines(alloc, "name")?;
-    assert!(rt; files.get("name") == Some(b"".as_slice()));
+    due_bytes(rt, files.get("name").unwrap_or(b"none"), b"");
     files.put("log", b"0:1\n1:1\n0")?;
     files.cut_to_lines(alloc, "log")?;
     files.append("log", b"0:2\n")?;
     files.append("new", b"1:1\n")?;
-    assert!(rt; files.get("log") == Some(b"0:1\n1:1\n0:2\n".as_slice()));
-    assert!(rt; files.get("new") == Some(b"1:1\n".as_slice()));
-    // No folder of the disk is called so.
+    due_bytes(rt, files.get("log").unwrap_or(b"none"), b"0:1\n1:1\n0:2\n");
+    due_bytes(rt, files.get("new").unwrap_or(b"none"), b"1:1\n");
+    Ok(())
+}
+
+#[test]
+fn logs_are_cut_and_grow(rt: HostRuntime) -> Result<(), Fail> {
+    cut_and_grow(&rt, rt.alloc(), &mut MemFiles::new(rt.alloc()))
+}
+
+/// No folder of the disk is called so.
+#[test]
+fn the_disk_has_no_such_folder(rt: HostRuntime) {
+    let alloc = rt.alloc();
     let mut disk = Disk::new(&rt);
     assert!(rt;
         matches!(
@@ -349,29 +396,30 @@ fn files_are_read_and_written(rt: HostRuntime) -> Result<(), Fail> {
             Some(FileFault::Failed)
         )
     );
-    Ok(())
+}
+
+/// How a plan is compiled over files of which the call after so many fails, and whether OUT is not there then.
+fn failing_answer(alloc: Global, calls: u8) -> Result<(Done, bool), Fail> {
+    let mut files = FailingFiles {
+        files: some_files(alloc)?,
+        calls,
+    };
+    let done = command_answer(alloc, "compile map scen plan out", &mut files)?;
+    Ok((done, files.files.get("out").is_none()))
 }
 
 /// The line names the first file that fails, and OUT is not written when anything before it was refused.
 #[test]
 fn files_fail_at_each_call(rt: HostRuntime) -> Result<(), Fail> {
-    let alloc = rt.alloc();
     for (calls, line) in [
         (0, b"file map\n".as_slice()),
         (1, b"file scen\n"),
         (2, b"file plan\n"),
         (3, b"file out\n"),
     ] {
-        let mut files = FailingFiles {
-            files: some_files(alloc)?,
-            calls,
-        };
-        let done = command_answer(alloc, "compile map scen plan out", &mut files)?;
-        assert_eq!(rt;
-            (done.0, done.1.bytes(), done.2.bytes()),
-            (3, b"".as_slice(), line)
-        );
-        assert!(rt; files.files.get("out").is_none());
+        let (done, is_missing) = failing_answer(rt.alloc(), calls)?;
+        due_end(&rt, "compile", ended(&done), (3, b"", line));
+        assert!(rt; is_missing);
     }
     Ok(())
 }

@@ -1,6 +1,7 @@
 //! Program bytes and hexadecimal text: each change of the pair's bytes, and as many moves as version 1 has no bytes
 //! for.
 
+use crate::due::{due_bytes, due_numbers};
 use crate::fleets::{PAIR_BYTES, PAIR_BYTES_2, PAIR_HEX};
 use crate::model_calls::told_by;
 use fleet_code::{
@@ -14,7 +15,7 @@ use std::test::Fail;
 #[test]
 fn programs_are_read_and_written(rt: HostRuntime) -> Result<(), Fail> {
     let alloc = rt.alloc();
-    assert_eq!(rt; read_hex(alloc, PAIR_HEX)?.as_slice(), PAIR_BYTES);
+    due_bytes(&rt, &read_hex(alloc, PAIR_HEX)?, PAIR_BYTES);
     assert!(rt;
         matches!(
             read_hex(alloc, b"4G").err(),
@@ -24,10 +25,10 @@ fn programs_are_read_and_written(rt: HostRuntime) -> Result<(), Fail> {
     assert!(rt; matches!(read_hex(alloc, b"4D5").err(), Some(HexFault::Odd)));
     for bytes in [PAIR_BYTES, PAIR_BYTES_2] {
         let program = load(alloc, bytes)?;
-        assert_eq!(rt; encode(alloc, &program)?.as_slice(), PAIR_BYTES);
-        assert_eq!(rt; encode2(alloc, &program)?.as_slice(), PAIR_BYTES_2);
+        due_bytes(&rt, &encode(alloc, &program)?, PAIR_BYTES);
+        due_bytes(&rt, &encode2(alloc, &program)?, PAIR_BYTES_2);
         let viewed: CodeView<'_> = view(alloc, bytes)?;
-        assert_eq!(rt; viewed.agents(), 2);
+        assert!(rt; viewed.agents() == 2);
     }
     Ok(())
 }
@@ -76,9 +77,9 @@ fn answer_to(alloc: Global, bytes: &[u8]) -> Result<(u8, u64), Fail> {
 fn beginnings_of_programs_are_truncated(rt: HostRuntime) -> Result<(), Fail> {
     for len in 0..PAIR_BYTES.len() {
         let front = PAIR_BYTES.get(..len).ok_or("no front")?;
-        assert_eq!(rt; answer_to(rt.alloc(), front)?, (3, 0));
+        assert!(rt; answer_to(rt.alloc(), front)? == (3, 0), "{len}");
     }
-    assert_eq!(rt; answer_to(rt.alloc(), PAIR_BYTES)?, (0, 0));
+    assert!(rt; answer_to(rt.alloc(), PAIR_BYTES)? == (0, 0));
     Ok(())
 }
 
@@ -126,7 +127,8 @@ fn changed_programs_are_read_alike(rt: HostRuntime) -> Result<(), Fail> {
     for at in 0..PAIR_BYTES.len() {
         accepted = accepted.saturating_add(accepted_at(rt.alloc(), &mut bytes, at)?);
     }
-    assert_eq!(rt; (accepted, bytes.as_slice()), (5110, PAIR_BYTES));
+    due_numbers(&rt, &[accepted], &[5110]);
+    due_bytes(&rt, &bytes, PAIR_BYTES);
     Ok(())
 }
 
@@ -141,7 +143,7 @@ fn long_programs_have_version_2_alone(rt: HostRuntime) -> Result<(), Fail> {
     let program = load(alloc, &bytes)?;
     assert!(rt; matches!(encode(alloc, &program).err(), Some(EncodeFault::TooLong)));
     let again = encode2(alloc, &program)?;
-    assert_eq!(rt; again.len(), 65_554);
+    assert!(rt; again.len() == 65_554);
     assert!(rt; again.as_slice() == bytes.as_slice());
     Ok(())
 }

@@ -1,10 +1,15 @@
 //! Fleets that are worked out by hand: maps, scenarios, plans, programs in bytes and in hexadecimal, and traces.
 //! `tests/worked.txt` says what each is.
 
+ghost use Rattle.std.specs.Prelude.{◌≡◌, All, IfOk, length};
+
 use fleet_code::load;
 use fleet_grid::{Grid, read_map};
-use fleet_model::Program;
+use fleet_model::{Program, ProgramView};
+use fleet_plan::{Checked, check, read_plan};
+use fleet_run::{Fleet, StartRefusal};
 use fleet_scen::{Instance, read_scen};
+use fleet_verify::{Accepted, verify};
 use std::alloc::{AllocError, Global};
 use std::test::Fail;
 
@@ -139,4 +144,61 @@ pub fn problem(alloc: Global, map: &[u8], scen: &[u8]) -> Result<(Grid, Instance
 pub fn pair(alloc: Global) -> Result<(Grid, Instance, Program), Fail> {
     let (grid, instance) = problem(alloc, PAIR_MAP, PAIR_SCEN)?;
     Ok((grid, instance, load(alloc, PAIR_BYTES)?))
+}
+
+/// A plan that is read, and free of conflict.
+pub fn checked_of<'g>(
+    alloc: Global,
+    text: &[u8],
+    grid: &'g Grid,
+    instance: &'g Instance,
+) -> Result<Checked<'g>, Fail> {
+    match check(alloc, read_plan(alloc, text)?, grid, instance) {
+        Ok(checked) => Ok(checked),
+        Err(_) => Err(Fail::from("refused")),
+    }
+}
+
+/// A program that is accepted.
+pub fn accepted_of<'g, P: ProgramView + Drop>(
+    alloc: Global,
+    program: P,
+    grid: &'g Grid,
+    instance: &'g Instance,
+) -> Result<Accepted<'g, P>, Fail> {
+    match verify(alloc, program, grid, instance) {
+        Ok(accepted) => Ok(accepted),
+        Err(_) => Err(Fail::from("refused")),
+    }
+}
+
+/// .. and has two agents.
+pub fn accepted_pair<'g, P: ProgramView + Drop>(
+    alloc: Global,
+    program: P,
+    grid: &'g Grid,
+    instance: &'g Instance,
+) -> Result<Accepted<'g, P>, Fail>
+    ensures { IfOk result (λ a. length (P.program a.program) ≡ 2) }
+{
+    let accepted = accepted_of(alloc, program, grid, instance)?;
+    if accepted.program().agents() == 2 {
+        Ok(accepted)
+    } else {
+        Err(Fail::from("another fleet"))
+    }
+}
+
+/// A fleet that is started, unless memory runs out.
+pub fn started<P: ProgramView + Drop>(
+    alloc: Global,
+    accepted: Accepted<'_, P>,
+) -> Result<Fleet<'_, P>, Fail>
+    ensures accepted { IfOk result (λ f. f.accepted ≡ accepted.entry) }
+    ensures counts { IfOk result (λ f. All (λ s. s.count ≡ 0) f.configuration) }
+{
+    match Fleet::start(alloc, accepted) {
+        Ok(fleet) => Ok(fleet),
+        Err(StartRefusal { accepted: _ }) => Err(Fail::from("memory")),
+    }
 }

@@ -1,6 +1,7 @@
 //! What is left after a log, robots that break down or are dead, what actions cost, and maps and scenarios that are
 //! written.
 
+use crate::due::{due_bytes, due_numbers};
 use crate::fleets::{PAIR_BYTES, pair};
 use fleet_adg::tasks_of;
 use fleet_code::view;
@@ -28,10 +29,10 @@ fn maps_and_scenarios_are_written(rt: HostRuntime) -> Result<(), Fail> {
     let alloc = rt.alloc();
     let grid = read_map(alloc, GLYPHS)?;
     let text = write_map(alloc, &grid, &[Cell { x: 1, y: 0 }])?;
-    assert_eq!(rt; text.as_slice(), WITHOUT);
+    due_bytes(&rt, &text, WITHOUT);
     let (_, _, program) = pair(alloc)?;
     let tasks = tasks_of(alloc, &program)?;
-    assert_eq!(rt; write_scen(alloc, 4, 1, &tasks)?.as_slice(), TASKS);
+    due_bytes(&rt, &write_scen(alloc, 4, 1, &tasks)?, TASKS);
     Ok(())
 }
 
@@ -50,8 +51,8 @@ fn left_by(alloc: Global, log: &[u8]) -> Result<[(i32, u32); 2], Fail> {
 #[test]
 fn logs_lead_on(rt: HostRuntime) -> Result<(), Fail> {
     let alloc = rt.alloc();
-    assert_eq!(rt; left_by(alloc, b"")?, [(1, 0), (0, 0)]);
-    assert_eq!(rt; left_by(alloc, b"0:1\n0:2 1:1\n1:2")?, [(3, 2), (1, 1)]);
+    assert!(rt; left_by(alloc, b"")? == [(1, 0), (0, 0)]);
+    assert!(rt; left_by(alloc, b"0:1\n0:2 1:1\n1:2")? == [(3, 2), (1, 1)]);
     let program = view(alloc, PAIR_BYTES)?;
     let fault = standings_after(alloc, &program, b"0:1\n1:3\n").err();
     assert!(rt; matches!(fault, Some(DispatchFault::Log { line: 2 })));
@@ -62,14 +63,12 @@ fn logs_lead_on(rt: HostRuntime) -> Result<(), Fail> {
 fn robots_break_down_in_actions(rt: HostRuntime) -> Result<(), Fail> {
     let alloc = rt.alloc();
     let program = view(alloc, PAIR_BYTES)?;
-    assert_eq!(rt;
-        breaks_of(alloc, &program, b"-").ok().as_deref(),
-        Some([0, 0].as_slice())
-    );
-    assert_eq!(rt;
-        breaks_of(alloc, &program, b"0:1 1:2").ok().as_deref(),
-        Some([1, 2].as_slice())
-    );
+    for (line, due) in [(b"-".as_slice(), [0, 0]), (b"0:1 1:2", [1, 2])] {
+        let Ok(breaks) = breaks_of(alloc, &program, line) else {
+            return Err(Fail::from("refused"));
+        };
+        due_numbers(&rt, &breaks, &due);
+    }
     for line in [b"1:3".as_slice(), b"2:1", b"1:0", b"1:1 0:1", b"1"] {
         let fault = breaks_of(alloc, &program, line).err();
         assert!(rt; matches!(fault, Some(TimesFault::Broken)));
@@ -90,10 +89,9 @@ fn cost_by(alloc: Global, text: &[u8], agent: u16, number: u32) -> Result<u32, F
 fn actions_cost_what_lines_say(rt: HostRuntime) -> Result<(), Fail> {
     let alloc = rt.alloc();
     let text = b"1:2 7\n1 5\n0:1 3\n0:1 4";
-    assert_eq!(rt; cost_by(alloc, text, 0, 1)?, 4);
-    assert_eq!(rt; cost_by(alloc, text, 0, 2)?, 1);
-    assert_eq!(rt; cost_by(alloc, text, 1, 1)?, 5);
-    assert_eq!(rt; cost_by(alloc, text, 1, 2)?, 7);
+    for (agent, number, due) in [(0, 1, 4), (0, 2, 1), (1, 1, 5), (1, 2, 7)] {
+        due_numbers(&rt, &[cost_by(alloc, text, agent, number)?], &[due]);
+    }
     let program = view(alloc, PAIR_BYTES)?;
     let fault = costs_of(alloc, &program, b"0 1\n0:3 1").err();
     assert!(rt; matches!(fault, Some(TimesFault::Cost { line: 2 })));
@@ -105,7 +103,7 @@ fn dead_robots_stand_on_cells(rt: HostRuntime) -> Result<(), Fail> {
     let Some(dead) = dead_robot_of(2, 4, 1, b"1:2,0:3,0") else {
         return Err(Fail::from("refused"));
     };
-    assert_eq!(rt; (dead.agent, dead.first.x, dead.second.x), (1, 2, 3));
+    assert!(rt; (dead.agent, dead.first.x, dead.second.x) == (1, 2, 3));
     assert!(rt; dead_robot_of(2, 4, 1, b"2:2,0").is_none());
     assert!(rt; dead_robot_of(2, 4, 1, b"1:4,0").is_none());
     Ok(())

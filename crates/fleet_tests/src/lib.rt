@@ -1,11 +1,11 @@
 //! Tests of all crates, through their public functions, of what the built program cannot show (`tests/`). Without its
 //! tests the crate has nothing.
 //!
-//! In few functions without type parameters: `call_tests` what users of the crates call and no command does, on the
-//! pair, on a train of 128 agents, and when a growth is refused; `path_tests` earliest paths past reserved ones;
-//! `changed_tests` how many texts are read, and refused with each number, that differ in one byte from the pair's;
-//! `sentence_tests` the sentences of faults; `stream_tests` runs, dispatches and inputs whose ends fail, which
-//! `streams` has, and that fleets go on after that. `fleets` has their worked fleets.
+//! `call_tests` has what users of the crates call and no command does, on the pair, on a train of 128 agents, and when
+//! a growth is refused; `path_tests` earliest paths past reserved ones; `changed_tests` how many texts are read, and
+//! refused with each number, that differ in one byte from the pair's; `sentence_tests` the sentences of faults;
+//! `stream_tests` runs, dispatches and inputs whose ends fail, which `streams` has, and that fleets go on after that.
+//! `fleets` has their worked fleets, and has them accepted and started.
 //!
 //! The other modules call the library as users do: each name of `tests/names.txt`, which is what they are promised, is
 //! imported from the crate that the list names, and each call is made once at concrete types, with ample memory,
@@ -16,7 +16,7 @@
 //! other value, by both readers), `verify_calls` verifies, `kernel_calls` joins and compares rows, `run_calls` ticks,
 //! drives and rehearses (up to the most ticks of holds, and 1,024 agents of which one moves), `left_calls` goes on
 //! after a log and writes maps and scenarios, and `cli_calls` does whole commands over files in memory. `ends` has
-//! their reader, their writer and the files that fail at a call.
+//! their reader, their writer and the files that fail at a call, `due` what compares.
 #![tactic(auto)]
 
 #[cfg(test)]
@@ -27,6 +27,8 @@ mod changed_tests;
 mod cli_calls;
 #[cfg(test)]
 mod code_calls;
+#[cfg(test)]
+mod due;
 #[cfg(test)]
 mod ends;
 #[cfg(test)]

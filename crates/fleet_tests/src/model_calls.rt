@@ -2,6 +2,7 @@
 
 ghost use Rattle.std.specs.Prelude.{◌<◌, length};
 
+use crate::due::{due_bytes, due_numbers};
 use crate::fleets::{PAIR_BYTES, STAYING_BYTES};
 use fleet_code::{encode, load, view};
 use fleet_model::{
@@ -52,7 +53,7 @@ fn pair_by_hand(alloc: Global, count: u32) -> Result<Option<Program>, Fail> {
 fn programs_are_made_by_hand(rt: HostRuntime) -> Result<(), Fail> {
     let alloc = rt.alloc();
     let program = pair_by_hand(alloc, 0)?.ok_or("refused")?;
-    assert_eq!(rt; encode(alloc, &program)?.as_slice(), PAIR_BYTES);
+    due_bytes(&rt, &encode(alloc, &program)?, PAIR_BYTES);
     // An agent awaits no action of its own, and a program has agents.
     assert!(rt; pair_by_hand(alloc, 1)?.is_none() && !well_formed(&[]));
     Ok(())
@@ -150,8 +151,8 @@ fn views_are_read_from_front_to_back(rt: HostRuntime) -> Result<(), Fail> {
         (PAIR_BYTES, pair.as_slice()),
         (STAYING_BYTES, staying.as_slice()),
     ] {
-        assert_eq!(rt; read_by(alloc, &load(alloc, bytes)?)?.as_slice(), due);
-        assert_eq!(rt; read_by(alloc, &view(alloc, bytes)?)?.as_slice(), due);
+        due_numbers(&rt, &read_by(alloc, &load(alloc, bytes)?)?, due);
+        due_numbers(&rt, &read_by(alloc, &view(alloc, bytes)?)?, due);
     }
     Ok(())
 }
@@ -171,10 +172,15 @@ fn views_tell_of_programs(rt: HostRuntime) -> Result<(), Fail> {
     ] {
         let program = load(alloc, bytes)?;
         let view = view(alloc, bytes)?;
-        assert_eq!(rt; told_by(alloc, &program)?.as_slice(), due);
-        assert_eq!(rt; told_by(alloc, &view)?.as_slice(), due);
-        assert_eq!(rt; (total_moves(&program), total_awaits(&program)), (moves, 2));
-        assert_eq!(rt; (total_moves(&view), total_awaits(&view)), (moves, 2));
+        due_numbers(&rt, &told_by(alloc, &program)?, due);
+        due_numbers(&rt, &told_by(alloc, &view)?, due);
+        let totals = [
+            total_moves(&program),
+            total_awaits(&program),
+            total_moves(&view),
+            total_awaits(&view),
+        ];
+        due_numbers(&rt, &totals, &[moves, 2, moves, 2]);
     }
     Ok(())
 }

@@ -79,9 +79,9 @@ fn earliest_paths_are_found(rt: HostRuntime) -> Result<(), Fail> {
         (WALL, b"", east, east, 1024, Some(0)),
     ];
     for (map, reserved, start, goal, horizon, due) in rows {
-        assert_eq!(rt;
-            steps_of(rt.alloc(), map, reserved, (start, goal), horizon)?,
-            due
+        assert!(rt;
+            steps_of(rt.alloc(), map, reserved, (start, goal), horizon)? == due,
+            "{due:?}"
         );
     }
     Ok(())

@@ -1,19 +1,23 @@
 //! Fleets that are ticked and driven, rehearsals, and the sources and sinks of both.
 
 ghost use Rattle.std.specs.Prelude.{◌≡◌, All, IfOk, length};
-ghost use Rattle.std.specs.List.Sorted.{IsStrictlyIncreasing};
+ghost use Rattle.fleet_run.specs.Source.{HasNotFailed};
 
+use crate::due::due_bytes;
 use crate::ends::Counter;
-use crate::fleets::{HELD_TRACE, PAIR_BYTES, PAIR_TEXT, PAIR_TRACE, RING_BYTES, pair, problem};
+use crate::fleets::{
+    HELD_TRACE, PAIR_BYTES, PAIR_TEXT, PAIR_TRACE, RING_BYTES, accepted_of, accepted_pair, pair,
+    problem, started,
+};
 use fleet_adg::rest;
 use fleet_code::{encode, view};
 use fleet_model::{Place, ProgramView};
 use fleet_run::{
     End, Fleet, HoldList, HoldSource, HoldText, OutFault, Rehearsal, Report, RunFault, SourceFault,
-    StartRefusal, Tick, TraceOut, VecOut, WriteOut, drive, rehearse, write_holds,
+    Tick, TraceOut, VecOut, WriteOut, drive, rehearse, write_holds,
 };
-use fleet_verify::{Accepted, verify};
 use std::alloc::Global;
+use std::process::Abort;
 use std::test::Fail;
 
 /// A tick of the pair: who is held; how many agents it moves, and whether it holds a ready one; and after it the
@@ -103,40 +107,25 @@ fn stands<P: ProgramView>(
     fleet.finished() == (counts == [2, 2])
 }
 
-/// A fleet that is started, unless memory runs out.
-fn started<P: ProgramView + Drop>(
-    alloc: Global,
-    accepted: Accepted<'_, P>,
-) -> Result<Fleet<'_, P>, Fail>
-    ensures accepted { IfOk result (λ f. f.accepted ≡ accepted.entry) }
-    ensures counts { IfOk result (λ f. All (λ s. s.count ≡ 0) f.configuration) }
+/// The ticks of the table, one after another.
+fn tick_pair<P: ProgramView>(rt: &impl Abort, fleet: &mut Fleet<'_, P>)
+    requires { length (P.program fleet.old.accepted.program) ≡ 2 }
 {
-    match Fleet::start(alloc, accepted) {
-        Ok(fleet) => Ok(fleet),
-        Err(StartRefusal { accepted: _ }) => Err(Fail::from("memory")),
+    for (held, outcome, columns, counts, ready, (least, most)) in TICKS {
+        let Tick { moved, ready_held } = fleet.tick(&held);
+        assert!(*rt; (moved, ready_held) == outcome);
+        assert!(*rt; stands(fleet, columns, counts, ready));
+        assert!(*rt; least <= fleet.looked() && fleet.looked() <= most);
     }
 }
 
 #[test]
 fn fleets_are_ticked(rt: HostRuntime) -> Result<(), Fail> {
-    let alloc = rt.alloc();
-    let (grid, instance, program) = pair(alloc)?;
-    let Ok(accepted) = verify(alloc, program, &grid, &instance) else {
-        return Err(Fail::from("refused"));
-    };
-    if accepted.program().agents() != 2 {
-        return Err(Fail::from("another fleet"));
-    }
-    let Ok(mut fleet) = Fleet::start(alloc, accepted) else {
-        return Err(Fail::from("memory"));
-    };
-    for (held, outcome, columns, counts, ready, (least, most)) in TICKS {
-        let Tick { moved, ready_held } = fleet.tick(&held);
-        assert_eq!(rt; (moved, ready_held), outcome);
-        assert!(rt; stands(&fleet, columns, counts, ready));
-        assert!(rt; least <= fleet.looked() && fleet.looked() <= most);
-    }
-    assert_eq!(rt; fleet.into_accepted().chain(), 3);
+    let (grid, instance, program) = pair(rt.alloc())?;
+    let accepted = accepted_pair(rt.alloc(), program, &grid, &instance)?;
+    let mut fleet = started(rt.alloc(), accepted)?;
+    tick_pair(&rt, &mut fleet);
+    assert!(rt; fleet.into_accepted().chain() == 3);
     Ok(())
 }
 
@@ -145,74 +134,93 @@ fn fleets_are_ticked(rt: HostRuntime) -> Result<(), Fail> {
 const LEFT_BYTES: &[u8] = b"MPF1\0\x02\0\x02\0\0\0\x03\0\0\0\x01\x01\
 \0\0\0\0\0\x02\0\0\0\x02\x01\x10\0\0\0\x01\x01";
 
-#[test]
-fn what_is_left_is_a_program(rt: HostRuntime) -> Result<(), Fail> {
-    let alloc = rt.alloc();
-    let (grid, instance, program) = pair(alloc)?;
-    let Ok(accepted) = verify(alloc, program, &grid, &instance) else {
-        return Err(Fail::from("refused"));
-    };
-    if accepted.program().agents() != 2 {
-        return Err(Fail::from("another fleet"));
-    }
-    let mut fleet = started(alloc, accepted)?;
-    let whole = rest(alloc, fleet.accepted(), fleet.standings())?;
-    assert_eq!(rt; encode(alloc, &whole)?.as_slice(), PAIR_BYTES);
-    let _ = fleet.tick(&[false, false]);
+/// .. and when it is finished: both agents stand on their goals.
+const NOTHING_BYTES: &[u8] = b"MPF1\0\x02\0\x03\0\0\0\x03\0\0\0\0\
+\0\x02\0\0\0\x02\0\0\0\0";
+
+/// The bytes of what is left of a fleet's program.
+fn rest_bytes<P: ProgramView>(alloc: Global, fleet: &Fleet<'_, P>) -> Result<Vec<u8>, Fail> {
     let left = rest(alloc, fleet.accepted(), fleet.standings())?;
-    assert_eq!(rt; encode(alloc, &left)?.as_slice(), LEFT_BYTES);
+    Ok(encode(alloc, &left)?)
+}
+
+/// What is left of the pair at its start, after its first tick, and at its end.
+fn due_rests<P: ProgramView>(
+    rt: &impl Abort,
+    alloc: Global,
+    fleet: &mut Fleet<'_, P>,
+) -> Result<(), Fail>
+    requires { length (P.program fleet.old.accepted.program) ≡ 2 }
+{
+    due_bytes(rt, &rest_bytes(alloc, fleet)?, PAIR_BYTES);
+    let _ = fleet.tick(&[false, false]);
+    due_bytes(rt, &rest_bytes(alloc, fleet)?, LEFT_BYTES);
     let _ = fleet.tick(&[false, false]);
     let _ = fleet.tick(&[false, false]);
-    let nothing = rest(alloc, fleet.accepted(), fleet.standings())?;
-    assert_eq!(rt; (nothing.moves(0), nothing.moves(1)), (0, 0));
+    due_bytes(rt, &rest_bytes(alloc, fleet)?, NOTHING_BYTES);
     Ok(())
 }
 
+#[test]
+fn what_is_left_is_a_program(rt: HostRuntime) -> Result<(), Fail> {
+    let (grid, instance, program) = pair(rt.alloc())?;
+    let accepted = accepted_pair(rt.alloc(), program, &grid, &instance)?;
+    let mut fleet = started(rt.alloc(), accepted)?;
+    due_rests(&rt, rt.alloc(), &mut fleet)
+}
+
 /// A line that is no tick's stops a run, and the fleet may be ticked further.
+fn go_on<P: ProgramView>(rt: &impl Abort, alloc: Global, fleet: &mut Fleet<'_, P>)
+    requires agents { length (P.program fleet.old.accepted.program) ≡ 2 }
+    requires counts { All (λ s. s.count ≡ 0) fleet.old.configuration }
+{
+    let mut out = VecOut::new(alloc);
+    let fault = drive(fleet, &mut HoldText::new(b"-\n1 0\n", 2), &mut out).err();
+    assert!(*rt; matches!(fault, Some(RunFault::Hold { line: 2 })));
+    due_bytes(rt, out.bytes(), b"0: 1,0 0,0\n1: 2,0 0,0\n");
+    assert!(*rt; stands(fleet, [2, 0], [1, 0], [true, true]));
+    let _ = fleet.tick(&[false, false]);
+    let _ = fleet.tick(&[false, false]);
+    assert!(*rt; stands(fleet, [3, 2], [2, 2], [false, false]));
+}
+
 #[test]
 fn fleets_go_on_after_a_refusal(rt: HostRuntime) -> Result<(), Fail> {
-    let alloc = rt.alloc();
-    let (grid, instance, program) = pair(alloc)?;
-    let Ok(accepted) = verify(alloc, program, &grid, &instance) else {
-        return Err(Fail::from("refused"));
-    };
-    if accepted.program().agents() != 2 {
-        return Err(Fail::from("another fleet"));
-    }
-    let mut fleet = started(alloc, accepted)?;
-    let mut out = VecOut::new(alloc);
-    let fault = drive(&mut fleet, &mut HoldText::new(b"-\n1 0\n", 2), &mut out).err();
-    assert_eq!(rt; fault, Some(RunFault::Hold { line: 2 }));
-    assert_eq!(rt; out.bytes(), b"0: 1,0 0,0\n1: 2,0 0,0\n".as_slice());
-    assert!(rt; stands(&fleet, [2, 0], [1, 0], [true, true]));
-    let _ = fleet.tick(&[false, false]);
-    let _ = fleet.tick(&[false, false]);
-    assert!(rt; stands(&fleet, [3, 2], [2, 2], [false, false]));
+    let (grid, instance, program) = pair(rt.alloc())?;
+    let accepted = accepted_pair(rt.alloc(), program, &grid, &instance)?;
+    let mut fleet = started(rt.alloc(), accepted)?;
+    go_on(&rt, rt.alloc(), &mut fleet);
     Ok(())
 }
 
 /// A run into a writer that counts its bytes: its report or why it stopped, how many agents were looked at, how many
 /// actions agent 0 has finished, and how many bytes were written.
+type Counted = (Result<Report, RunFault>, u64, u32, u64);
+
+fn counted_drive<P: ProgramView>(fleet: &mut Fleet<'_, P>, holds: &[u8]) -> Result<Counted, Fail>
+    requires { All (λ s. s.count ≡ 0) fleet.old.configuration }
+{
+    let agents = fleet.accepted().program().agents();
+    if agents == 0 {
+        return Err(Fail::from("nobody"));
+    }
+    let mut counter = Counter { bytes: 0 };
+    let mut out = WriteOut::new(&mut counter);
+    let ran = drive(fleet, &mut HoldText::new(holds, agents), &mut out);
+    Ok((ran, fleet.looked(), fleet.count(0), counter.bytes))
+}
+
 fn counted_run(
     alloc: Global,
     map: &[u8],
     scen: &[u8],
     bytes: &[u8],
     holds: &[u8],
-) -> Result<(Result<Report, RunFault>, u64, u32, u64), Fail> {
+) -> Result<Counted, Fail> {
     let (grid, instance) = problem(alloc, map, scen)?;
-    let Ok(accepted) = verify(alloc, view(alloc, bytes)?, &grid, &instance) else {
-        return Err(Fail::from("refused"));
-    };
-    let agents = accepted.program().agents();
-    if agents == 0 {
-        return Err(Fail::from("nobody"));
-    }
+    let accepted = accepted_of(alloc, view(alloc, bytes)?, &grid, &instance)?;
     let mut fleet = started(alloc, accepted)?;
-    let mut counter = Counter { bytes: 0 };
-    let mut out = WriteOut::new(&mut counter);
-    let ran = drive(&mut fleet, &mut HoldText::new(holds, agents), &mut out);
-    Ok((ran, fleet.looked(), fleet.count(0), counter.bytes))
+    counted_drive(&mut fleet, holds)
 }
 
 /// One agent that goes one step east.
@@ -238,10 +246,10 @@ fn holds_have_a_limit(rt: HostRuntime) -> Result<(), Fail> {
         chain: 1,
         held: 4_194_304,
     };
-    assert_eq!(rt; (ran, count), (Ok(due), 1));
+    assert!(rt; ran == Ok(due) && count == 1);
     holds.extend_from_slice(b"0\n")?;
     let (ran, _, count, _) = counted_run(alloc, STEP_MAP, STEP_SCEN, STEP_BYTES, &holds)?;
-    assert_eq!(rt; (ran, count), (Err(RunFault::HoldLimit), 0));
+    assert!(rt; ran == Err(RunFault::HoldLimit) && count == 0);
     Ok(())
 }
 
@@ -294,36 +302,44 @@ fn standing_agents_are_not_looked_at(rt: HostRuntime) -> Result<(), Fail> {
         chain: 65_535,
         held: 0,
     };
-    assert_eq!(rt; (ran, looked), (Ok(due), 65_535));
+    assert!(rt; ran == Ok(due) && looked == 65_535);
     Ok(())
 }
 
-/// What was written of the pair's run under these rows of holds.
-fn list_answer(alloc: Global, rows: Vec<Vec<u16>>) -> Result<VecOut, Fail>
-    requires { All (λ row. IsStrictlyIncreasing row.items) rows.items }
+/// What a fleet's run writes under these holds.
+fn written<P: ProgramView, S: HoldSource>(
+    alloc: Global,
+    fleet: &mut Fleet<'_, P>,
+    source: &mut S,
+) -> Result<VecOut, Fail>
+    requires counts { All (λ s. s.count ≡ 0) fleet.old.configuration }
+    requires source { HasNotFailed (S.state source.old) }
+{
+    let mut out = VecOut::new(alloc);
+    drive(fleet, source, &mut out)?;
+    Ok(out)
+}
+
+/// .. of the pair.
+fn driven<S: HoldSource>(alloc: Global, source: &mut S) -> Result<VecOut, Fail>
+    requires { HasNotFailed (S.state source.old) }
 {
     let (grid, instance, program) = pair(alloc)?;
-    let Ok(accepted) = verify(alloc, program, &grid, &instance) else {
-        return Err(Fail::from("refused"));
-    };
+    let accepted = accepted_pair(alloc, program, &grid, &instance)?;
     let mut fleet = started(alloc, accepted)?;
-    let mut out = VecOut::new(alloc);
-    drive(&mut fleet, &mut HoldList::new(rows), &mut out)?;
-    Ok(out)
+    written(alloc, &mut fleet, source)
 }
 
 #[test]
 fn lists_hold_agents(rt: HostRuntime) -> Result<(), Fail> {
     let alloc = rt.alloc();
-    let held = list_answer(alloc, vec![in alloc; vec![in alloc; 0]?]?)?;
-    assert_eq!(rt; held.bytes(), HELD_TRACE);
-    let nobody = list_answer(alloc, Vec::new(alloc))?;
-    assert_eq!(rt; nobody.bytes(), PAIR_TRACE);
+    let rows = vec![in alloc; vec![in alloc; 0]?]?;
+    let held = driven(alloc, &mut HoldList::new(rows))?;
+    due_bytes(&rt, held.bytes(), HELD_TRACE);
+    let nobody = driven(alloc, &mut HoldList::new(Vec::new(alloc)))?;
+    due_bytes(&rt, nobody.bytes(), PAIR_TRACE);
     let holds = vec![in alloc; vec![in alloc; 0u16, 9]?, Vec::new(alloc)]?;
-    assert_eq!(rt;
-        write_holds(alloc, &holds)?.as_slice(),
-        b"0 9\n-\n".as_slice()
-    );
+    due_bytes(&rt, &write_holds(alloc, &holds)?, b"0 9\n-\n");
     Ok(())
 }
 
@@ -348,17 +364,12 @@ fn sources_give_ticks(rt: HostRuntime) -> Result<(), Fail> {
     let alloc = rt.alloc();
     let rows = vec![in alloc; vec![in alloc; 0, 9]?, Vec::new(alloc)]?;
     let (given, fault) = given_by(alloc, &mut HoldList::new(rows))?;
-    assert_eq!(rt;
-        given.as_slice(),
-        [[true, false, false], [false; 3]].as_slice()
+    assert!(rt;
+        given.as_slice() == [[true, false, false], [false; 3]].as_slice() && fault.is_none()
     );
-    assert_eq!(rt; fault, None);
     let (given, fault) = given_by(alloc, &mut HoldText::new(b"0 2\r\n-\n1 0\n-\n", 3))?;
-    assert_eq!(rt;
-        given.as_slice(),
-        [[true, false, true], [false; 3]].as_slice()
-    );
-    assert_eq!(rt; fault, Some(SourceFault::Text));
+    assert!(rt; given.as_slice() == [[true, false, true], [false; 3]].as_slice());
+    assert!(rt; matches!(fault, Some(SourceFault::Text)));
     Ok(())
 }
 
@@ -370,7 +381,7 @@ fn sinks_take_bytes(rt: HostRuntime) -> Result<(), Fail> {
     let mut out = WriteOut::new(&mut counter);
     let taken: Result<usize, OutFault> = out.put(b"bytes");
     assert!(rt; matches!(taken, Ok(5)) && !out.failed());
-    assert_eq!(rt; counter.bytes, 5);
+    assert!(rt; counter.bytes == 5);
     Ok(())
 }
 
@@ -393,7 +404,7 @@ fn rehearse_answer(
 fn programs_are_rehearsed(rt: HostRuntime) -> Result<(), Fail> {
     let alloc = rt.alloc();
     let (out, rehearsal, _) = rehearse_answer(alloc, PAIR_BYTES, b"")?;
-    assert_eq!(rt; out.bytes(), PAIR_TEXT);
+    due_bytes(&rt, out.bytes(), PAIR_TEXT);
     assert!(rt;
         matches!(
             rehearsal,
@@ -406,9 +417,10 @@ fn programs_are_rehearsed(rt: HostRuntime) -> Result<(), Fail> {
         )
     );
     let (out, rehearsal, _) = rehearse_answer(alloc, RING_BYTES, b"0 1\n")?;
-    assert_eq!(rt;
+    due_bytes(
+        &rt,
         out.bytes(),
-        b"0: 1,0 0,0\nagents 2\nticks 0\nheld 0\nstuck\n".as_slice()
+        b"0: 1,0 0,0\nagents 2\nticks 0\nheld 0\nstuck\n",
     );
     assert!(rt;
         matches!(
@@ -422,9 +434,7 @@ fn programs_are_rehearsed(rt: HostRuntime) -> Result<(), Fail> {
         )
     );
     let (out, _, fault) = rehearse_answer(alloc, PAIR_BYTES, b"x")?;
-    assert_eq!(rt;
-        (out.bytes(), fault),
-        (b"0: 1,0 0,0\n".as_slice(), Some(RunFault::Hold { line: 1 }))
-    );
+    due_bytes(&rt, out.bytes(), b"0: 1,0 0,0\n");
+    assert!(rt; matches!(fault, Some(RunFault::Hold { line: 1 })));
     Ok(())
 }

@@ -1,5 +1,6 @@
 //! The sentences of the faults that readers answer. Their lines are in `tests/texts.sh`.
 
+use crate::due::due_bytes;
 use fleet_code::{EncodeFault, HexFault, LoadFault};
 use fleet_grid::MapFault;
 use fleet_plan::TextFault;
@@ -80,9 +81,10 @@ fn program_sentences(alloc: Global) -> Result<String, AllocError> {
 
 #[test]
 fn faults_have_sentences(rt: HostRuntime) -> Result<(), Fail> {
-    assert_eq!(rt;
-        text_sentences(rt.alloc())?.as_str(),
-        "line 1 of the header is missing or has another form
+    due_bytes(
+        &rt,
+        text_sentences(rt.alloc())?.as_bytes(),
+        b"line 1 of the header is missing or has another form
 a side of the map is 0 or above 4096
 there are fewer rows than the header says
 row 0 is not as wide as the header says
@@ -101,11 +103,12 @@ there are fewer agents than were asked for
 line 1 is no list of cells
 line 2 has more than 65536 cells
 there are not 1 to 1024 agents
-"
+",
     );
-    assert_eq!(rt;
-        program_sentences(rt.alloc())?.as_str(),
-        "the bytes begin neither with MPF1 nor with MPF2
+    due_bytes(
+        &rt,
+        program_sentences(rt.alloc())?.as_bytes(),
+        b"the bytes begin neither with MPF1 nor with MPF2
 the bytes end within the program
 the number of agents is 0 or above 1024
 an agent has more than 1000000 actions, or the agents have more than 4194304 together
@@ -118,7 +121,7 @@ the byte at offset 4 is no hexadecimal digit
 the last digit has no partner
 an agent has more than 65535 actions, or the count of an await is above 65535
 an action of the program stays on its cell
-"
+",
     );
     Ok(())
 }

@@ -1,28 +1,27 @@
 //! Runs under sources that fail, outputs that fail after some bytes or refuse to hand on what they took, and inputs
 //! that fail after some bytes.
 
-ghost use Rattle.std.specs.Prelude.{◌≡◌, false};
+ghost use Rattle.std.specs.Prelude.{◌≡◌, All, false, length};
 ghost use Rattle.fleet_run.specs.Source.{HasNotFailed};
 ghost use Rattle.fleet_text.specs.Sink.{IsWorking};
 
-use crate::fleets::{PAIR_HEX, PAIR_MAP, PAIR_SCEN, PAIR_TEXT, PAIR_TRACE};
+use crate::due::due_bytes;
+use crate::fleets::{PAIR_BYTES, PAIR_TEXT, PAIR_TRACE, accepted_pair, pair, started};
 use crate::streams::{FailingSource, ShortReader, ShortWriter};
 use fleet_cli::{FileFault, read_whole};
-use fleet_code::{load, read_hex};
+use fleet_code::load;
 use fleet_dispatch::{
     DispatchFault, DispatchReport, NoLog, Outset, Pace, ReportForm, ReportLog, SinkLog,
     dispatch_logged,
 };
-use fleet_grid::{Grid, read_map};
-use fleet_model::{Place, Program, ProgramView};
+use fleet_model::{Place, ProgramView};
 use fleet_run::{
     Fleet, Flush, HoldSource, HoldText, RunFault, SourceFault, TraceOut, VecOut, WriteOut, drive,
     put_all, rehearse,
 };
-use fleet_scen::{Instance, read_scen};
-use fleet_verify::verify;
 use std::alloc::Global;
 use std::io::ErrorKind;
+use std::process::Abort;
 use std::test::Fail;
 
 /// The ways in which a stream fails: it takes nothing more, or answers an error.
@@ -31,13 +30,6 @@ const WAYS: [Option<ErrorKind>; 3] = [
     Some(ErrorKind::Interrupted),
     Some(ErrorKind::BrokenPipe),
 ];
-
-fn pair(alloc: Global) -> Result<(Grid, Instance, Program), Fail> {
-    let grid = read_map(alloc, PAIR_MAP)?;
-    let instance = read_scen(alloc, PAIR_SCEN, &grid, None)?;
-    let program = load(alloc, &read_hex(alloc, PAIR_HEX)?)?;
-    Ok((grid, instance, program))
-}
 
 /// A source that gives so many ticks and then fails so.
 fn some_ticks(ticks: u8, kind: SourceFault) -> FailingSource
@@ -58,31 +50,39 @@ const LINE: usize = 11;
 
 /// Why the pair's run stopped, if it did; in which columns the agents stood then, both in the row of the map; and
 /// whether three more ticks with nobody held bring them to their goals.
-fn drive_answer<S: HoldSource, O: TraceOut>(
-    alloc: Global,
+type Ran = (Option<RunFault>, [i32; 2], bool);
+
+fn run_of<P: ProgramView, S: HoldSource, O: TraceOut>(
+    fleet: &mut Fleet<'_, P>,
     source: &mut S,
     out: &mut O,
-) -> Result<(Option<RunFault>, [i32; 2], bool), Fail>
+) -> Ran
+    requires agents { length (P.program fleet.old.accepted.program) ≡ 2 }
+    requires counts { All (λ s. s.count ≡ 0) fleet.old.configuration }
     requires source { HasNotFailed (S.state source.old) }
     requires sink { IsWorking (O.state out.old) }
 {
-    let (grid, instance, program) = pair(alloc)?;
-    let Ok(accepted) = verify(alloc, program, &grid, &instance) else {
-        return Err(Fail::from("not accepted"));
-    };
-    if accepted.program().agents() != 2 {
-        return Err(Fail::from("another fleet"));
-    }
-    let Ok(mut fleet) = Fleet::start(alloc, accepted) else {
-        return Err(Fail::from("memory"));
-    };
-    let fault = drive(&mut fleet, source, out).err();
+    let fault = drive(fleet, source, out).err();
     let columns = [fleet.place(0).x, fleet.place(1).x];
     let _ = fleet.tick(&[false, false]);
     let _ = fleet.tick(&[false, false]);
     let _ = fleet.tick(&[false, false]);
     let is_there = fleet.place(0) == Place { x: 3, y: 0 } && fleet.place(1) == Place { x: 2, y: 0 };
-    Ok((fault, columns, is_there && fleet.finished()))
+    (fault, columns, is_there && fleet.finished())
+}
+
+fn drive_answer<S: HoldSource, O: TraceOut>(
+    alloc: Global,
+    source: &mut S,
+    out: &mut O,
+) -> Result<Ran, Fail>
+    requires source { HasNotFailed (S.state source.old) }
+    requires sink { IsWorking (O.state out.old) }
+{
+    let (grid, instance, program) = pair(alloc)?;
+    let accepted = accepted_pair(alloc, program, &grid, &instance)?;
+    let mut fleet = started(alloc, accepted)?;
+    Ok(run_of(&mut fleet, source, out))
 }
 
 /// What was written of the pair's rehearsal under a source that fails so after so many ticks, and why it stopped.
@@ -91,31 +91,59 @@ fn rehearse_answer(
     ticks: u8,
     kind: SourceFault,
 ) -> Result<(VecOut, Option<RunFault>), Fail> {
-    let program = load(alloc, &read_hex(alloc, PAIR_HEX)?)?;
+    let program = load(alloc, PAIR_BYTES)?;
     let mut out = VecOut::new(alloc);
     let fault = rehearse(alloc, &program, &mut some_ticks(ticks, kind), &mut out).err();
     Ok((out, fault))
 }
 
+/// The lines of the pair's times up to that after so many ticks.
+fn lines_to(ticks: u8) -> Result<&'static [u8], Fail> {
+    let lines = PAIR_TEXT.get(..(usize::from(ticks) + 1) * LINE);
+    Ok(lines.ok_or("lines")?)
+}
+
 /// After a refusal the lines before it are written, and the fleet has run the ticks before it and goes on.
+fn due_run(
+    rt: &impl Abort,
+    alloc: Global,
+    ticks: u8,
+    kind: SourceFault,
+    due: RunFault,
+) -> Result<(), Fail> {
+    let columns = COLUMNS.get(usize::from(ticks)).copied().ok_or("columns")?;
+    let mut out = VecOut::new(alloc);
+    let ran = drive_answer(alloc, &mut some_ticks(ticks, kind), &mut out)?;
+    assert!(*rt; ran == (Some(due), columns, true), "{ticks}");
+    due_bytes(rt, out.bytes(), lines_to(ticks)?);
+    Ok(())
+}
+
+/// So does a rehearsal.
+fn due_rehearsal(
+    rt: &impl Abort,
+    alloc: Global,
+    ticks: u8,
+    kind: SourceFault,
+    due: RunFault,
+) -> Result<(), Fail> {
+    let (out, fault) = rehearse_answer(alloc, ticks, kind)?;
+    assert!(*rt; fault == Some(due), "{ticks}");
+    due_bytes(rt, out.bytes(), lines_to(ticks)?);
+    Ok(())
+}
+
 #[test]
 fn sources_fail_after_some_ticks(rt: HostRuntime) -> Result<(), Fail> {
-    for (ticks, columns) in (0..3u8).zip(COLUMNS) {
-        let lines = PAIR_TEXT
-            .get(..(usize::from(ticks) + 1) * LINE)
-            .ok_or("lines")?;
-        let broken = RunFault::Source {
-            tick: u32::from(ticks) + 1,
-        };
-        let wrong = RunFault::Hold {
-            line: u64::from(ticks) + 1,
-        };
-        for (kind, due) in [(SourceFault::Broken, broken), (SourceFault::Text, wrong)] {
-            let mut out = VecOut::new(rt.alloc());
-            let ran = drive_answer(rt.alloc(), &mut some_ticks(ticks, kind), &mut out)?;
-            assert_eq!(rt; (ran, out.bytes()), ((Some(due), columns, true), lines));
-            let (out, fault) = rehearse_answer(rt.alloc(), ticks, kind)?;
-            assert_eq!(rt; (fault, out.bytes()), (Some(due), lines));
+    for ticks in 0..3u8 {
+        let tick = u32::from(ticks) + 1;
+        let line = u64::from(tick);
+        for (kind, due) in [
+            (SourceFault::Broken, RunFault::Source { tick }),
+            (SourceFault::Text, RunFault::Hold { line }),
+        ] {
+            due_run(&rt, rt.alloc(), ticks, kind, due)?;
+            due_rehearsal(&rt, rt.alloc(), ticks, kind, due)?;
         }
     }
     Ok(())
@@ -144,8 +172,8 @@ fn outputs_fail_after_some_bytes(rt: HostRuntime) -> Result<(), Fail> {
             } else {
                 None
             };
-            assert_eq!(rt; fault, due);
-            assert_eq!(rt; Some(output.bytes.as_slice()), PAIR_TEXT.get(..room));
+            assert!(rt; fault == due, "{room}");
+            due_bytes(&rt, &output.bytes, PAIR_TEXT.get(..room).unwrap_or(b"none"));
         }
     }
     Ok(())
@@ -165,8 +193,12 @@ fn runs_go_on_after_a_failed_output(rt: HostRuntime) -> Result<(), Fail> {
                 None
             };
             let columns = COLUMNS.get(room / LINE).copied().unwrap_or([3, 2]);
-            assert_eq!(rt; ran, (fault, columns, true), "{room}");
-            assert_eq!(rt; Some(output.bytes.as_slice()), PAIR_TRACE.get(..room));
+            assert!(rt; ran == (fault, columns, true), "{room}");
+            due_bytes(
+                &rt,
+                &output.bytes,
+                PAIR_TRACE.get(..room).unwrap_or(b"none"),
+            );
         }
     }
     Ok(())
@@ -179,7 +211,7 @@ fn flushes_reach_the_writer(rt: HostRuntime) -> Result<(), Fail> {
     let mut out = WriteOut::new(&mut output);
     assert!(rt; put_all(&mut out, b"by").is_ok() && out.flush().is_ok() && out.flush().is_ok());
     assert!(rt; put_all(&mut out, b"tes").is_ok() && out.flush().is_err());
-    assert_eq!(rt; output.bytes.as_slice(), b"bytes".as_slice());
+    due_bytes(&rt, &output.bytes, b"bytes");
     Ok(())
 }
 
@@ -193,9 +225,7 @@ fn logged_answer<L: ReportLog>(
     requires { IsWorking (L.state log.old) }
 {
     let (grid, instance, program) = pair(alloc)?;
-    let Ok(accepted) = verify(alloc, program, &grid, &instance) else {
-        return Err(Fail::from("not accepted"));
-    };
+    let accepted = accepted_pair(alloc, program, &grid, &instance)?;
     let mut out = WriteOut::new(output);
     let pace = Pace {
         form: ReportForm::Numbered,

@@ -2,9 +2,10 @@
 
 ghost use Rattle.fleet_model.specs.declared.geometry.Place.{Place};
 ghost use Rattle.fleet_verify.specs.Broken.{MeetUnordered, IsBrokenBy};
-ghost use Rattle.std.specs.Prelude.{◌==◌, if◌then◌else◌};
+ghost use Rattle.std.specs.Prelude.{◌≡◌, ◌==◌, if◌then◌else◌, length};
 
-use crate::fleets::{PAIR_MAP, PAIR_SCEN, RING_BYTES, pair, problem};
+use crate::due::{due_bytes, due_numbers};
+use crate::fleets::{PAIR_BYTES, PAIR_MAP, PAIR_SCEN, RING_BYTES, accepted_pair, pair, problem};
 use fleet_cli::Fault;
 use fleet_code::{encode, load, view};
 use fleet_model::{ActionId, Program, ProgramView, Visit};
@@ -14,34 +15,43 @@ use fleet_verify::{
     reached_counts, stopped_agents, verify,
 };
 use std::alloc::Global;
+use std::process::Abort;
 use std::test::Fail;
+
+/// How far the actions of the pair reach back.
+fn due_reach(rt: &impl Abort, reach: &Reach) {
+    for (agent, number, of, due) in [
+        (0, 1, 0, 1),
+        (0, 2, 1, 0),
+        (1, 1, 0, 1),
+        (1, 2, 0, 2),
+        (1, 2, 1, 2),
+    ] {
+        assert!(*rt;
+            reach.greatest(ActionId { agent, number }, of) == due,
+            "{agent}:{number}"
+        );
+    }
+}
+
+/// What is kept of the pair with its program.
+fn due_accepted<P: ProgramView>(
+    rt: &impl Abort,
+    alloc: Global,
+    accepted: &Accepted<'_, P>,
+) -> Result<(), Fail> {
+    assert!(*rt; accepted.chain() == 3 && accepted.program().agents() == 2);
+    assert!(*rt; accepted.grid().width() == 4 && accepted.instance().agents() == 2);
+    due_reach(rt, &Reach::of(alloc, accepted)?);
+    Ok(())
+}
 
 #[test]
 fn programs_are_accepted(rt: HostRuntime) -> Result<(), Fail> {
-    let alloc = rt.alloc();
-    let (grid, instance, program) = pair(alloc)?;
-    let bytes = encode(alloc, &program)?;
-    let Ok(accepted) = verify(alloc, view(alloc, &bytes)?, &grid, &instance) else {
-        return Err(Fail::from("refused"));
-    };
-    let accepted: Accepted<'_, _> = accepted;
-    assert_eq!(rt; (accepted.chain(), accepted.program().agents()), (3, 2));
-    assert_eq!(rt;
-        (accepted.grid().width(), accepted.instance().agents()),
-        (4, 2)
-    );
-    let reach = Reach::of(alloc, &accepted)?;
-    for (to, agent, due) in [
-        ((0, 1), 0, 1),
-        ((0, 2), 1, 0),
-        ((1, 1), 0, 1),
-        ((1, 2), 0, 2),
-        ((1, 2), 1, 2),
-    ] {
-        let (of, number) = to;
-        assert_eq!(rt; reach.greatest(ActionId { agent: of, number }, agent), due);
-    }
-    Ok(())
+    let (grid, instance) = problem(rt.alloc(), PAIR_MAP, PAIR_SCEN)?;
+    let program = view(rt.alloc(), PAIR_BYTES)?;
+    let accepted = accepted_pair(rt.alloc(), program, &grid, &instance)?;
+    due_accepted(&rt, rt.alloc(), &accepted)
 }
 
 /// The holds that bring two agents onto one cell, as text.
@@ -153,7 +163,7 @@ const REFUSALS: [Refusal; 7] = [
 #[test]
 fn programs_are_refused(rt: HostRuntime) -> Result<(), Fail> {
     for (map, scen, bytes, due) in REFUSALS {
-        assert_eq!(rt; refusal_of(rt.alloc(), map, scen, bytes)?.bytes(), due);
+        due_bytes(&rt, refusal_of(rt.alloc(), map, scen, bytes)?.bytes(), due);
     }
     Ok(())
 }
@@ -169,32 +179,68 @@ impl ActionCosts for SlowFirst {
     }
 }
 
-#[test]
-fn critical_paths_are_found(rt: HostRuntime) -> Result<(), Fail> {
-    let alloc = rt.alloc();
-    let (grid, instance, program) = pair(alloc)?;
-    let Ok(accepted) = verify(alloc, program, &grid, &instance) else {
-        return Err(Fail::from("refused"));
-    };
-    if accepted.program().agents() != 2 {
-        return Err(Fail::from("another fleet"));
+/// When the agents of the pair arrive, and which action ends last.
+fn due_ends<P: ProgramView>(rt: &impl Abort, times: &Times<'_, P, SlowFirst>)
+    requires { length (P.program times.now.program) ≡ 2 }
+{
+    assert!(*rt; (times.arrival(0), times.arrival(1), times.last_arrival()) == (10, 12, 12));
+    match times.latest() {
+        Some(last) => assert!(*rt; (last.agent, last.number, times.end(last)) == (1, 2, 12)),
+        None => panic!(*rt; "no actions"),
     }
-    let times = Times::of(alloc, &accepted, &SlowFirst)?;
-    assert_eq!(rt; times.arrivals(alloc)?.as_slice(), [10, 12].as_slice());
-    assert_eq!(rt;
-        (times.arrival(0), times.arrival(1), times.last_arrival()),
-        (10, 12, 12)
-    );
+}
+
+/// The same arrivals as a list.
+fn due_arrivals<P: ProgramView>(
+    rt: &impl Abort,
+    alloc: Global,
+    times: &Times<'_, P, SlowFirst>,
+) -> Result<(), Fail> {
+    let arrivals = times.arrivals(alloc)?;
+    assert!(*rt; arrivals.as_slice() == [10, 12].as_slice());
+    Ok(())
+}
+
+/// The actions of the critical path, each as its agent and its number.
+fn path_numbers<P: ProgramView>(
+    alloc: Global,
+    times: &Times<'_, P, SlowFirst>,
+) -> Result<Vec<(u16, u32)>, Fail> {
     let mut numbers = Vec::new(alloc);
     for action in &times.critical_path(alloc)? {
         numbers.push((action.agent, action.number))?;
     }
-    assert_eq!(rt; numbers.as_slice(), [(0, 1), (0, 2), (1, 2)].as_slice());
-    let Some(last) = times.latest() else {
-        return Err(Fail::from("no actions"));
-    };
-    assert_eq!(rt; (last.agent, last.number, times.end(last)), (1, 2, 12));
-    assert_eq!(rt; Times::of(alloc, &accepted, &OneEach)?.last_arrival(), 3);
+    Ok(numbers)
+}
+
+/// The times of the pair, if the actions of agent 0 are slow.
+fn due_times<P: ProgramView>(
+    rt: &impl Abort,
+    alloc: Global,
+    accepted: &Accepted<'_, P>,
+) -> Result<(), Fail>
+    requires { length (P.program accepted.now.program) ≡ 2 }
+{
+    let times = Times::of(alloc, accepted, &SlowFirst)?;
+    due_ends(rt, &times);
+    due_arrivals(rt, alloc, &times)?;
+    let path = path_numbers(alloc, &times)?;
+    assert!(*rt; path.as_slice() == [(0, 1), (0, 2), (1, 2)].as_slice());
+    Ok(())
+}
+
+/// When the last agent arrives, if each action costs one.
+fn last_arrival<P: ProgramView>(alloc: Global, accepted: &Accepted<'_, P>) -> Result<u64, Fail> {
+    let times = Times::of(alloc, accepted, &OneEach)?;
+    Ok(times.last_arrival())
+}
+
+#[test]
+fn critical_paths_are_found(rt: HostRuntime) -> Result<(), Fail> {
+    let (grid, instance, program) = pair(rt.alloc())?;
+    let accepted = accepted_pair(rt.alloc(), program, &grid, &instance)?;
+    due_times(&rt, rt.alloc(), &accepted)?;
+    assert!(rt; last_arrival(rt.alloc(), &accepted)? == 3);
     Ok(())
 }
 
@@ -206,17 +252,22 @@ const BREAKS: [([u32; 2], [u32; 2], u16); 4] = [
     ([0, 2], [2, 1], 1),
 ];
 
-#[test]
-fn broken_robots_stop_others(rt: HostRuntime) -> Result<(), Fail> {
-    let alloc = rt.alloc();
-    let (grid, instance, program) = pair(alloc)?;
-    let Ok(accepted) = verify(alloc, program, &grid, &instance) else {
-        return Err(Fail::from("refused"));
-    };
+fn due_breaks<P: ProgramView>(
+    rt: &impl Abort,
+    alloc: Global,
+    accepted: &Accepted<'_, P>,
+) -> Result<(), Fail> {
     for (breaks, due, stopped) in BREAKS {
-        let counts = reached_counts(alloc, &accepted, &breaks)?;
-        assert_eq!(rt; counts.as_slice(), due.as_slice());
-        assert_eq!(rt; stopped_agents(accepted.program(), &counts), stopped);
+        let counts = reached_counts(alloc, accepted, &breaks)?;
+        due_numbers(rt, &counts, &due);
+        assert!(*rt; stopped_agents(accepted.program(), &counts) == stopped);
     }
     Ok(())
+}
+
+#[test]
+fn broken_robots_stop_others(rt: HostRuntime) -> Result<(), Fail> {
+    let (grid, instance, program) = pair(rt.alloc())?;
+    let accepted = accepted_pair(rt.alloc(), program, &grid, &instance)?;
+    due_breaks(&rt, rt.alloc(), &accepted)
 }

@@ -4,3 +4,4 @@ mod MatchedValues
 mod EnteredCommand
 mod RequestLemmas
 mod Requested
+mod AloneCommand

@@ -1,5 +1,5 @@
 -- The commands, each with its arguments and with what it is asked for, and the command line that has them.
-use Rattle.std.specs.Prelude.{◌≡◌, Bool, true, false, List, [], ◌∷◌, codes, fold, map}
+use Rattle.std.specs.Prelude.{◌≡◌, ◌<◌, ℕ, get_or, length, Bool, true, false, List, [], ◌∷◌, codes, fold, map}
 use Rattle.std.specs.List.{find, list_all}
 use Rattle.std.specs.Option.{option_map_or}
 use Rattle.std.specs.Str.{bytes_eq}
@@ -9,6 +9,7 @@ pub use Rattle.fleet_args.specs.declared.arguments.OptionNames.{OptionNames}
 use Rattle.fleet_args.specs.Arguments.{command, rule_for}
 use Rattle.fleet_args.specs.Values.{Values, IsText, IsTextIfUsed, IsNumberIfUsed, IsNumber, IsCount, IsKind, IsBestIfUsed, IsFlag, has_value}
 use Rattle.fleet_args.specs.declared.arguments.Argument.{Argument}
+use Rattle.fleet_args.specs.declared.arguments.CommandText.{CommandText}
 use Rattle.fleet_args.specs.declared.arguments.Argument.TheVariants as a
 use Rattle.fleet_args.specs.declared.commands.ProgramFor.{ProgramFor}
 use Rattle.fleet_args.specs.declared.commands.Tasks.{Tasks}
@@ -46,6 +47,15 @@ commands =
     (codes "rest", a.Map ∷ a.Scen ∷ a.Program ∷ a.Reports ∷ a.ScenOut ∷ a.ProgramOut ∷ a.Agents ∷ a.Without ∷ a.MapOut ∷ a.OthersOut ∷ []) ∷
     []
 
+-- the command at this place
+abbrev pub command_at : ℕ → Text × List Argument
+command_at j = get_or commands j ([], [])
+
+-- the command of this name stands at place j
+pub record IsPlaceOf (name : Text) (texts : List CommandText) (j : ℕ) : Type 0 where
+  pub within : j < length texts
+  pub named : get_or (map (λ text. text.name.now) texts) j [] ≡ name
+
 -- the shape of a command
 abbrev pub shape_in : OptionNames → Text × List Argument → Shape
 shape_in names c = command c.0 (map (rule_for names) c.1)
@@ -53,6 +63,10 @@ shape_in names c = command c.0 (map (rule_for names) c.1)
 -- the whole command line
 abbrev pub fleet : OptionNames → App
 fleet names = with_shapes fleet_top (map (shape_in names) commands)
+
+-- the command line with the command at place j alone
+abbrev pub alone : OptionNames → ℕ → App
+alone names j = with_subcommand fleet_top (shape_in names (command_at j))
 
 -- this is the name of a command, and the arguments that it cannot do without have values
 abbrev pub has_values : Text → Values → Bool

@@ -1,9 +1,9 @@
 //! The command line, and the request that its words make.
 
-ghost use Rattle.std.specs.Prelude.{◌≡◌, map, string_bytes, true, IfOk, codes};
+ghost use Rattle.std.specs.Prelude.{◌≡◌, map, string_bytes, true, IfOk, IfSome, codes};
 ghost use Rattle.clap.specs.Words.{subcommand_rows_of, kind_of, app_of, new_app, with_subcommand};
-ghost use Rattle.fleet_args.specs.Commands.{AreNames, fleet, fleet_top, with_shapes};
-ghost use Rattle.fleet_args.specs.Request.{AsksBy, is_answered_by, IsStopOf, Reads, ReadsFleet};
+ghost use Rattle.fleet_args.specs.Commands.{AreNames, IsPlaceOf, fleet, fleet_top, with_shapes};
+ghost use Rattle.fleet_args.specs.Request.{Asks, AsksBy, is_answered_by, IsStopOf, Reads, ReadsFleet};
 ghost use Rattle.fleet_args.specs.Arguments.{shape_for};
 
 use crate::arguments::{CommandText, OptionNames, command_of};
@@ -49,8 +49,8 @@ fn stop_of(alloc: Global, error: &clap::Error) -> WordStop
     }
 }
 
-/// Reads the words by the definition of the command line with these names.
-fn read_by<'a>(
+/// Reads the words by the whole command line with these names.
+fn read_whole<'a>(
     alloc: Global,
     names: OptionNames<'a>,
     words: &'a [String],
@@ -64,6 +64,72 @@ fn read_by<'a>(
     match command.try_get_matches_from(words) {
         Ok(matches) => Ok(request_in(&matches)),
         Err(error) => Err(stop_of(alloc, &error)),
+    }
+}
+
+/// The place of the command of this name among these.
+fn place_of_command(texts: &[CommandText], name: &str) -> Option<usize>
+    ensures { IfSome result (IsPlaceOf name.now texts.now) }
+{
+    for j in 0..texts.len() {
+        if texts[j].name == name {
+            return Some(j);
+        }
+    }
+    None
+}
+
+/// The command line with this command alone.
+fn alone_command<'a>(
+    alloc: Global,
+    names: OptionNames<'a>,
+    text: &CommandText,
+) -> Result<Command<'a>, AllocError>
+    ensures { IfOk result (λ command. app_of command
+        ≡ with_subcommand fleet_top (shape_for names.entry text.now)) }
+{
+    with_command(alloc, without_commands(alloc)?, names, text)
+}
+
+/// Reads the words by the command alone with whose name they begin, if there is one and it takes them. The command line
+/// with all commands costs ten times as much to make.
+fn read_alone<'a>(
+    alloc: Global,
+    names: OptionNames<'a>,
+    words: &'a [String],
+) -> Result<Option<Request<'a>>, AllocError>
+    requires { AreNames names }
+    ensures { IfOk result (λ asked. IfSome asked
+        (Asks (fleet names.entry) (map string_bytes words.entry.now))) }
+{
+    let [first, ..] = words else {
+        return Ok(None);
+    };
+    let texts = COMMANDS.as_slice();
+    let Some(j) = place_of_command(texts, first) else {
+        return Ok(None);
+    };
+    let command = alone_command(alloc, names, &texts[j])?;
+    match command.try_get_matches_from(words) {
+        Ok(matches) => Ok(Some(request_in(&matches))),
+        Err(error) if error.kind() == ErrorKind::OutOfMemory => Err(AllocError),
+        Err(_) => Ok(None),
+    }
+}
+
+/// Reads the words by the definition of the command line with these names.
+fn read_by<'a>(
+    alloc: Global,
+    names: OptionNames<'a>,
+    words: &'a [String],
+) -> Result<Request<'a>, WordStop>
+    requires { AreNames names }
+    ensures { Reads (fleet names.entry) (map string_bytes words.entry.now) result }
+{
+    match read_alone(alloc, names, words) {
+        Ok(Some(request)) => Ok(request),
+        Ok(None) => read_whole(alloc, names, words),
+        Err(AllocError) => Err(WordStop::OutOfMemory),
     }
 }
 

@@ -4,7 +4,7 @@ use Rattle.fleet_args.specs.Commands.{fleet}
 use Rattle.fleet_args.specs.Request.{AsksBy, is_answered_by}
 use Rattle.fleet_args.proofs.RequestLemmas.{enters_same, faultless, stops_for_built}
 use Rattle.fleet_args.proofs.Requested.{is_answered}
-use Rattle.fleet_args.proofs.request.read_by.Goals as goal
+use Rattle.fleet_args.proofs.request.read_whole.Goals as goal
 
 pub request_in-requires : goal.request_in-requires
 request_in-requires c =

@@ -20,7 +20,7 @@ pub enum FileFault {
 pub const MAX_BYTES: usize = 268_435_456;
 
 /// How many bytes are asked for at a time.
-const CHUNK: usize = 16_384;
+const CHUNK: usize = 4_096;
 
 /// Why an input was not read to its end.
 #[derive(Clone, Copy)]

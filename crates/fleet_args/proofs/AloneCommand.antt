@@ -12,9 +12,18 @@ use Rattle.clap.specs.Walk.{Names, Walk, answers_to, finished, idle, nothing_hel
 use Rattle.clap.specs.Faults.{built_fault, check_fault, defaults_fault, entered_fault, level_fault, other_fault, settle_fault, turn_fault, walk_fault}
 use Rattle.fleet_args.specs.declared.arguments.OptionNames.{OptionNames}
 use Rattle.fleet_args.specs.Arguments.{shape_for}
-use Rattle.fleet_args.specs.Commands.{IsPlaceOf, alone, command_at, commands, fleet, fleet_top, shape_in}
+use Rattle.fleet_args.specs.Commands.{IsPlaceOf, commands, fleet, fleet_top, shape_in}
+use Rattle.fleet_args.specs.declared.arguments.Argument.{Argument}
 use Rattle.fleet_args.specs.declared.arguments.CommandText.{CommandText}
 use Rattle.std.proofs.lemmas.List.{get_or-map, length-map}
+
+-- the command at this place
+abbrev command_at : ℕ → Text × List Argument
+command_at j = get_or commands j ([], [])
+
+-- the command line with the command at place j alone
+abbrev alone : OptionNames → ℕ → App
+alone names j = with_subcommand fleet_top (shape_in names (command_at j))
 
 -- a walk that has stopped only gathers the words that are left
 stopped_walk : (c : List Rule) (names : Names) (w : Walk) (p : Text × List Text) → w.stopped ≡ Some p → (rest : List Text)
@@ -49,7 +58,7 @@ fault_by top word c rest =
     (check_fault top (finished top.rules nothing_held) true))))
 
 -- a command line whose first word names the command c
-pub record Meets (b : App) (word : Text) (c : Shape) : Type 0 where
+record Meets (b : App) (word : Text) (c : Shape) : Type 0 where
   pub met : subcommand_met (names_of b) idle word ≡ Some word
   pub found : find (λ x. answers_to word (label_of x)) b.subs ≡ Some c
 
@@ -81,7 +90,7 @@ module _ (b : App) (word : Text) (c : Shape) (meets : Meets b word c) (rest : Li
   fault_is : built_fault b nothing_held (word ∷ rest) ≡ fault_by b.top word c rest
   fault_is = rw (walk_fault_is, walk_is, below_is, meets.found) refl
 
-pub same_reading : (a b : App) (word : Text) (c : Shape) → a.top ≡ b.top → Meets a word c → Meets b word c → (rest : List Text)
+same_reading : (a b : App) (word : Text) (c : Shape) → a.top ≡ b.top → Meets a word c → Meets b word c → (rest : List Text)
     → (built_fault a nothing_held (word ∷ rest) ≡ built_fault b nothing_held (word ∷ rest))
     × (entered a (stop_after a.top.rules (names_of a) (word ∷ rest)) ≡ entered b (stop_after b.top.rules (names_of b) (word ∷ rest)))
 same_reading a b word c top ma mb rest = (
@@ -93,12 +102,12 @@ same_reading a b word c top ma mb rest = (
 abbrev built_at : OptionNames → ℕ → Shape
 built_at names j = built_leaf (inherited (built_above (on_top marked_built (fleet names))).top (shape_in names (command_at j)))
 
-pub record ReadsAlone (names : OptionNames) (j : ℕ) : Type 0 where
+record ReadsAlone (names : OptionNames) (j : ℕ) : Type 0 where
   pub top : (built (fleet names)).top ≡ (built (alone names j)).top
   pub meets : Meets (built (fleet names)) (command_at j).0 (built_at names j)
   pub meets_alone : Meets (built (alone names j)) (command_at j).0 (built_at names j)
 
-pub reads_alone : (names : OptionNames) (j : ℕ) → j < 14 → ReadsAlone names j
+reads_alone : (names : OptionNames) (j : ℕ) → j < 14 → ReadsAlone names j
 reads_alone names zero lt = record { top = refl; meets = record { met = refl; found = refl }; meets_alone = record { met = refl; found = refl } }
 reads_alone names (suc zero) lt = record { top = refl; meets = record { met = refl; found = refl }; meets_alone = record { met = refl; found = refl } }
 reads_alone names (suc (suc zero)) lt = record { top = refl; meets = record { met = refl; found = refl }; meets_alone = record { met = refl; found = refl } }
@@ -116,7 +125,7 @@ reads_alone names (suc (suc (suc (suc (suc (suc (suc (suc (suc (suc (suc (suc (s
 reads_alone names (suc (suc (suc (suc (suc (suc (suc (suc (suc (suc (suc (suc (suc (suc j)))))))))))))) lt = absurd (omega arith)
 
 -- a command line with one command alone is simple
-pub simple_alone : (names : OptionNames) (j : ℕ) → j < 14 → is_simple_and_free (alone names j) ≡ true
+simple_alone : (names : OptionNames) (j : ℕ) → j < 14 → is_simple_and_free (alone names j) ≡ true
 simple_alone names zero lt = refl
 simple_alone names (suc zero) lt = refl
 simple_alone names (suc (suc zero)) lt = refl
@@ -141,7 +150,7 @@ alone_same names j lt words rest is =
     rw is (same_reading (built (fleet names)) (built (alone names j)) (command_at j).0 (built_at names j) h.top h.meets h.meets_alone rest)
 
 -- so what it matches without a fault, the whole command line matches
-pub found_alone :
+found_alone :
     (names : OptionNames) (j : ℕ) → j < 14 → (words rest : List Text) → words ≡ (command_at j).0 ∷ rest → (app : App) (m : ArgMatches) → app ≡ alone names j
     → HasMatchesOf app words m → (is_simple_and_free app ≡ true → fault_of app words ≡ [])
     → (fault_of (fleet names) words ≡ []) × (subcommand_rows_of m ≡ subcommand_of (fleet names) words)
@@ -151,7 +160,7 @@ found_alone names j lt words rest is app m made has none =
     (same.0 ∙ faultless app (alone names j) words made free none, enters_same app (alone names j) words m made (both _ _ free).0 has ∙ sym same.1)
 
 -- the text at the place of a name among the texts of the commands
-pub text_is :
+text_is :
     (names : OptionNames) (texts : List CommandText) → map (shape_for names) texts ≡ map (shape_in names) commands → (name : Text) (j : ℕ) → IsPlaceOf name texts j → (d : CommandText)
     → (j < 14) × (shape_for names (get_or texts j d) ≡ shape_in names (command_at j)) × (name ≡ (command_at j).0)
 text_is names texts same name j place d =

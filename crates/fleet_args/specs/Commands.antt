@@ -47,11 +47,7 @@ commands =
     (codes "rest", a.Map ∷ a.Scen ∷ a.Program ∷ a.Reports ∷ a.ScenOut ∷ a.ProgramOut ∷ a.Agents ∷ a.Without ∷ a.MapOut ∷ a.OthersOut ∷ []) ∷
     []
 
--- the command at this place
-abbrev pub command_at : ℕ → Text × List Argument
-command_at j = get_or commands j ([], [])
-
--- the command of this name stands at place j
+-- among these texts, that of the command of this name stands at place j
 pub record IsPlaceOf (name : Text) (texts : List CommandText) (j : ℕ) : Type 0 where
   pub within : j < length texts
   pub named : get_or (map (λ text. text.name.now) texts) j [] ≡ name
@@ -63,10 +59,6 @@ shape_in names c = command c.0 (map (rule_for names) c.1)
 -- the whole command line
 abbrev pub fleet : OptionNames → App
 fleet names = with_shapes fleet_top (map (shape_in names) commands)
-
--- the command line with the command at place j alone
-abbrev pub alone : OptionNames → ℕ → App
-alone names j = with_subcommand fleet_top (shape_in names (command_at j))
 
 -- this is the name of a command, and the arguments that it cannot do without have values
 abbrev pub has_values : Text → Values → Bool

@@ -34,14 +34,6 @@ defaulted name parser default = record (option name) { parser = Some parser; def
 abbrev pub agents_rule : Rule
 agents_rule = record (option (codes "agents")) { parser = Some (parser.Signed (pos 0) (pos 65535)) }
 
--- `--horizon H`, where H is a number from 1 to 65535, and 1024 if the option is not used
-abbrev pub horizon_rule : Rule
-horizon_rule = defaulted (codes "horizon") (parser.Signed (pos 1) (pos 65535)) (codes "1024")
-
--- `--tries N`, where N is a number from 1 to 1,000,000, and 1 if the option is not used
-abbrev pub tries_rule : Rule
-tries_rule = defaulted (codes "tries") (parser.Signed (pos 1) (pos MAX_TRIES)) (codes "1")
-
 -- the names that options take: `all` and `last` are those of the kinds of awaits, and `chain` and `cost` those of what makes a plan the best
 pub record AreNames (names : OptionNames) : Type 0 where
   pub deps : map (λ name. name.now) names.deps.now ≡ codes "all" ∷ codes "last" ∷ []
@@ -54,14 +46,6 @@ best_rule names = record (option (codes "best")) { parser = Some (parser.Names n
 -- `--deps NAME`, where NAME is one of the names of the kinds of awaits, and `last` if the option is not used
 abbrev pub deps_rule : OptionNames → Rule
 deps_rule names = defaulted (codes "deps") (parser.Names names.deps) (codes "last")
-
--- `--dwell N`, where N is a number up to 1,000,000, and 0 if the option is not used
-abbrev pub dwell_rule : Rule
-dwell_rule = defaulted (codes "dwell") (parser.Signed (pos 0) (pos MAX_MOVES)) (codes "0")
-
--- `--ahead K`, where K is a number from 1 to 255, and 1 if the option is not used
-abbrev pub ahead_rule : Rule
-ahead_rule = defaulted (codes "ahead") (parser.Signed (pos 1) (pos 255)) (codes "1")
 
 -- `--NAME`, which is used or not
 abbrev pub flag : Text → Rule
@@ -100,7 +84,7 @@ rule_by names text = record (plain_rule text) {
   defaults = option_map_or (λ default. default.now ∷ []) text.default [];
 }
 
--- the rule of each argument
+-- the rule of each argument, with the range of its number and what it is if the option is not used
 abbrev pub rule_for : OptionNames → Argument → Rule
 rule_for names a.Map = word (codes "map")
 rule_for names a.Scen = word (codes "scen")
@@ -108,14 +92,14 @@ rule_for names a.Plan = word (codes "plan")
 rule_for names a.Out = word (codes "out")
 rule_for names a.Program = word (codes "program")
 rule_for names a.Agents = agents_rule
-rule_for names a.Horizon = horizon_rule
-rule_for names a.Tries = tries_rule
+rule_for names a.Horizon = defaulted (codes "horizon") (parser.Signed (pos 1) (pos 65535)) (codes "1024")
+rule_for names a.Tries = defaulted (codes "tries") (parser.Signed (pos 1) (pos MAX_TRIES)) (codes "1")
 rule_for names a.Best = best_rule names
 rule_for names a.Deps = deps_rule names
-rule_for names a.Dwell = dwell_rule
+rule_for names a.Dwell = defaulted (codes "dwell") (parser.Signed (pos 0) (pos MAX_MOVES)) (codes "0")
 rule_for names a.Holds = option (codes "holds")
 rule_for names a.Numbers = flag (codes "numbers")
-rule_for names a.Ahead = ahead_rule
+rule_for names a.Ahead = defaulted (codes "ahead") (parser.Signed (pos 1) (pos 255)) (codes "1")
 rule_for names a.Unnumbered = flag (codes "unnumbered")
 rule_for names a.Resume = option (codes "resume")
 rule_for names a.Costs = option (codes "costs")

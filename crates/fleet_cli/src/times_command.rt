@@ -3,6 +3,7 @@
 ghost use Rattle.std.specs.Prelude.{◌≤◌, IfOk, IfErr};
 ghost use Rattle.fleet_model.specs.declared.program.ActionId.{ActionId};
 ghost use Rattle.fleet_text.specs.Sink.{IsWorking};
+ghost use Rattle.fleet_verify.specs.Stretch.{path_actions};
 ghost use Rattle.fleet_cli.specs.TimesCommand.{IsTimetable, HasTimetable, HasReached, IsCostsRefusal, IsBreaksRefusal, TellsTimes, TellsReached, AnswersTimes};
 
 use crate::fault::Fault;
@@ -11,9 +12,11 @@ use crate::output::hand_on;
 use crate::steps::{accept, read_problem};
 use fleet_args::TimesRequest;
 use fleet_dispatch::{breaks_of, costs_of};
-use fleet_model::{ActionId, OutOfMemory, ProgramView, total_moves};
+use fleet_model::{OutOfMemory, ProgramView, total_moves};
 use fleet_run::{Flush, put_reached, put_times};
-use fleet_verify::{Accepted, ActionCosts, OneEach, Times, reached_counts, stopped_agents};
+use fleet_verify::{
+    Accepted, ActionCosts, OneEach, Stretch, Times, reached_counts, stopped_agents,
+};
 use std::alloc::Global;
 
 /// When the agents of a program arrive, when all have, and a chain of actions that takes so long.
@@ -21,7 +24,7 @@ use std::alloc::Global;
 struct Timetable {
     arrivals: Vec<u64>,
     last: u64,
-    path: Vec<ActionId>,
+    path: Vec<Stretch>,
 }
 
 /// The timetable of an accepted program, whose actions cost so much.
@@ -32,7 +35,7 @@ fn timetable_of<P: ProgramView, C: ActionCosts>(
 ) -> Result<Timetable, OutOfMemory>
     requires { (a : ActionId) → 1 ≤ C.cost costs.now a }
     ensures { IfOk result (λ t. IsTimetable (P.program accepted.now.program) (C.cost costs.now)
-        t.arrivals.items t.last t.path.items) }
+        t.arrivals.items t.last (path_actions t.path.items)) }
 {
     let times = Times::of(alloc, accepted, costs)?;
     let arrivals = times.arrivals(alloc)?;
@@ -53,7 +56,7 @@ fn timetable_by<'a, P: ProgramView>(
     text: &[u8],
 ) -> Result<Timetable, Fault<'a>>
     ensures made { IfOk result (λ t. HasTimetable (P.program accepted.now.program)
-        costs.entry text.now t.arrivals.items t.last t.path.items) }
+        costs.entry text.now t.arrivals.items t.last (path_actions t.path.items)) }
     ensures fault { IfErr result
         (IsCostsRefusal (P.program accepted.now.program) costs.entry text.now) }
 {

@@ -4,11 +4,11 @@ use Rattle.std.proofs.lemmas.Int.{ints}
 use Rattle.std.proofs.lemmas.Bool.{cases_lt}
 use Rattle.std.proofs.lemmas.List.{append-nil, take-append-drop, length-take}
 use Rattle.std.proofs.Math.Seq.{get_or-append_seam, set-append_seam}
-use Rattle.std.proofs.lemmas.Fmt.{decimal_step, decimal_digit}
 use Rattle.std.specs.Fmt.{decimal, signed_decimal}
-use Rattle.fleet_text.proofs.DigitLemmas.{length-decimal_more, length-decimal_last}
+use Rattle.fleet_text.proofs.DigitLemmas.{length-decimal_more, length-decimal_last, decimal_by_tens}
 use Rattle.fleet_model.specs.declared.geometry.Place.{Place}
 use Rattle.fleet_run.specs.Text.{place_text}
+use Rattle.fleet_text.specs.Words.{tens_text}
 use Rattle.std.specs.Prelude.{Bool, true, false}
 use Rattle.fleet_run.specs.Line.{AreClose, IsBeside, IsDigit, IsDigitOver, IsTextOf, IsWrittenOver, WritesOver}
 
@@ -46,27 +46,6 @@ more_digits_counted n a b ge small a0 a1 b0 b1 =
       ]
     ]
 
--- ---- the digits before the last
-
--- the digits of this many tens
-abbrev front : ℕ → List ℕ
-front zero = []
-front (suc k) = decimal (suc k)
-
-front_of : (k : ℕ) → 0 < k → front k ≡ decimal k
-front_of zero h = absurd (omega arith)
-front_of (suc k) h = refl
-
-front_and_last : (n : ℕ) → n < 2 ^ 64 → decimal n ≡ front (n / 10) ++ ((48 + n % 10) ∷ [])
-front_and_last n fits =
-    elim (cases_lt n 10) [
-      | inl lt ↦
-          let none : n / 10 ≡ 0 = omega arith in
-          let same : n % 10 ≡ n = omega arith in
-          rw (none, same) (decimal_digit n lt)
-      | inr ge ↦ decimal_step n ge fits ∙ ap (λ ds. ds ++ ((48 + n % 10) ∷ [])) (sym (front_of (n / 10) (omega arith)))
-    ]
-
 -- ---- the text of a place
 
 -- up to the last digit of the row, which these come before
@@ -75,7 +54,7 @@ to_row q F = 32 ∷ (signed_decimal q.x ++ (44 ∷ F))
 
 -- up to the last digit of the column, and behind it
 abbrev to_column : ℕ → List ℕ
-to_column m = 32 ∷ front (m / 10)
+to_column m = 32 ∷ tens_text (m / 10)
 
 abbrev past_column : (q : Place) → List ℕ
 past_column q = 44 ∷ signed_decimal q.y
@@ -90,15 +69,15 @@ by_row q F D d digits =
 
 by_column : (q : Place) (m : ℕ) (D : List ℕ) → q.x ≡ pos m → m < 2 ^ 64 → place_text q ++ D ≡ to_column m ++ ((48 + m % 10) ∷ (past_column q ++ D))
 by_column q m D is fits =
-    let digits : signed_decimal q.x ≡ front (m / 10) ++ ((48 + m % 10) ∷ []) = ap signed_decimal is ∙ front_and_last m fits in
+    let digits : signed_decimal q.x ≡ tens_text (m / 10) ++ ((48 + m % 10) ∷ []) = ap signed_decimal is ∙ decimal_by_tens m fits in
     ap (λ l. (32 ∷ (l ++ past_column q)) ++ D) digits
     ∙ ap (λ l. 32 ∷ l)
-    (append_assoc (front (m / 10) ++ ((48 + m % 10) ∷ [])) (past_column q) D
-    ∙ append_assoc (front (m / 10)) ((48 + m % 10) ∷ []) (past_column q ++ D))
+    (append_assoc (tens_text (m / 10) ++ ((48 + m % 10) ∷ [])) (past_column q) D
+    ∙ append_assoc (tens_text (m / 10)) ((48 + m % 10) ∷ []) (past_column q ++ D))
 
 -- the digits of a number
-digits_of : (z : ℤ) (n : ℕ) → z ≡ pos n → n < 2 ^ 64 → signed_decimal z ≡ front (n / 10) ++ ((48 + n % 10) ∷ [])
-digits_of z n is fits = ap signed_decimal is ∙ front_and_last n fits
+digits_of : (z : ℤ) (n : ℕ) → z ≡ pos n → n < 2 ^ 64 → signed_decimal z ≡ tens_text (n / 10) ++ ((48 + n % 10) ∷ [])
+digits_of z n is fits = ap signed_decimal is ∙ decimal_by_tens n fits
 
 -- how long a text is
 long_row : (r : Place) (F : List ℕ) (d : ℕ) → signed_decimal r.y ≡ F ++ (d ∷ []) → length (place_text r) ≡ length (to_row r F) + 1
@@ -143,26 +122,26 @@ module _ (other q : Place) (row : List ℕ) (at end : ℕ) (text : IsTextOf othe
 
   -- the row of the other place
   module _ (m : ℕ) (m_is : other.y ≡ pos m) (few : m < 2 ^ 32) where
-    row_digits : signed_decimal other.y ≡ front (m / 10) ++ ((48 + m % 10) ∷ [])
+    row_digits : signed_decimal other.y ≡ tens_text (m / 10) ++ ((48 + m % 10) ∷ [])
     row_digits = digits_of other.y m m_is (omega (arith, few))
 
-    row_at : end - 1 ≡ length (take at row) + length (to_row other (front (m / 10)))
-    row_at = omega (arith, long_before, text.fits, long_row other (front (m / 10)) (48 + m % 10) row_digits)
+    row_at : end - 1 ≡ length (take at row) + length (to_row other (tens_text (m / 10)))
+    row_at = omega (arith, long_before, text.fits, long_row other (tens_text (m / 10)) (48 + m % 10) row_digits)
 
-    in_row : row ≡ take at row ++ (to_row other (front (m / 10)) ++ ((48 + m % 10) ∷ drop end row))
-    in_row = row_is ∙ ap (λ l. take at row ++ l) (by_row other (front (m / 10)) (drop end row) (48 + m % 10) row_digits)
+    in_row : row ≡ take at row ++ (to_row other (tens_text (m / 10)) ++ ((48 + m % 10) ∷ drop end row))
+    in_row = row_is ∙ ap (λ l. take at row ++ l) (by_row other (tens_text (m / 10)) (drop end row) (48 + m % 10) row_digits)
 
     pub row_digit : slice_index row (end - 1) ≡ 48 + m % 10
-    row_digit = digit_read row (take at row) (to_row other (front (m / 10))) (drop end row) (48 + m % 10) in_row (end - 1) row_at
+    row_digit = digit_read row (take at row) (to_row other (tens_text (m / 10))) (drop end row) (48 + m % 10) in_row (end - 1) row_at
 
     pub row_patched : (n : ℕ) → q.y ≡ pos n → n < 2 ^ 32 → m / 10 ≡ n / 10 → other.x ≡ q.x → IsWrittenOver q at end row (set row (end - 1) (48 + n % 10))
     row_patched n n_is few_new tens same =
         let own = digits_of q.y n n_is (omega (arith, few_new)) in
-        let fronts : to_row other (front (m / 10)) ≡ to_row q (front (n / 10)) = ap (λ z. 32 ∷ (signed_decimal z ++ (44 ∷ front (m / 10)))) same ∙ ap (λ k. 32 ∷ (signed_decimal q.x ++ (44 ∷ front k))) tens in
+        let fronts : to_row other (tens_text (m / 10)) ≡ to_row q (tens_text (n / 10)) = ap (λ z. 32 ∷ (signed_decimal z ++ (44 ∷ tens_text (m / 10)))) same ∙ ap (λ k. 32 ∷ (signed_decimal q.x ++ (44 ∷ tens_text k))) tens in
         record {
-          fits = omega (arith, text.fits, long_row other (front (m / 10)) (48 + m % 10) row_digits, long_row q (front (n / 10)) (48 + n % 10) own, ap length fronts);
-          written = digit_written row (take at row) (to_row other (front (m / 10))) (drop end row) (48 + m % 10) in_row (end - 1) row_at (48 + n % 10)
-              ∙ (ap (λ l. take at row ++ (l ++ ((48 + n % 10) ∷ drop end row))) fronts ∙ ap (λ l. take at row ++ l) (sym (by_row q (front (n / 10)) (drop end row) (48 + n % 10) own)));
+          fits = omega (arith, text.fits, long_row other (tens_text (m / 10)) (48 + m % 10) row_digits, long_row q (tens_text (n / 10)) (48 + n % 10) own, ap length fronts);
+          written = digit_written row (take at row) (to_row other (tens_text (m / 10))) (drop end row) (48 + m % 10) in_row (end - 1) row_at (48 + n % 10)
+              ∙ (ap (λ l. take at row ++ (l ++ ((48 + n % 10) ∷ drop end row))) fronts ∙ ap (λ l. take at row ++ l) (sym (by_row q (tens_text (n / 10)) (drop end row) (48 + n % 10) own)));
         }
 
   -- the column of the other place, where its row has so many digits
@@ -191,7 +170,7 @@ module _ (other q : Place) (row : List ℕ) (at end : ℕ) (text : IsTextOf othe
 
       pub column_patched : (n : ℕ) → q.x ≡ pos n → n < 2 ^ 32 → m / 10 ≡ n / 10 → other.y ≡ q.y → IsWrittenOver q at end row (set row (end - 1 - 1 - digits) (48 + n % 10))
       column_patched n n_is few_new tens same =
-          let fronts : to_column m ≡ to_column n = ap (λ k. 32 ∷ front k) tens in
+          let fronts : to_column m ≡ to_column n = ap (λ k. 32 ∷ tens_text k) tens in
           let pasts : past_column other ≡ past_column q = ap (λ z. 44 ∷ signed_decimal z) same in
           record {
             fits = omega (arith, text.fits, long_column other m m_is fits, long_column q n n_is (omega (arith, few_new)), ap length fronts, ap length pasts);

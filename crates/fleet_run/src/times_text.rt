@@ -2,10 +2,10 @@
 
 ghost use Rattle.fleet_text.specs.Sink.{IsWorking, TakesAll};
 ghost use Rattle.fleet_run.specs.TimesText.{agent_lines, path_line, times_text, reached_text};
+ghost use Rattle.fleet_verify.specs.Stretch.{path_actions};
 
-use fleet_model::ActionId;
 use fleet_text::{OutFault, Row, TraceOut, Word, put_count, put_line, put_words};
-use fleet_verify::put_actions;
+use fleet_verify::{Stretch, put_stretches};
 
 /// Writes for each agent the line of its arrival.
 fn put_arrivals<O: TraceOut>(out: &mut O, arrivals: &[u64]) -> Result<(), OutFault>
@@ -31,13 +31,13 @@ fn put_counts<O: TraceOut>(out: &mut O, counts: &[u32]) -> Result<(), OutFault>
 }
 
 /// Writes the line of a path.
-fn put_path<O: TraceOut>(out: &mut O, path: &[ActionId]) -> Result<(), OutFault>
+fn put_path<O: TraceOut>(out: &mut O, path: &[Stretch]) -> Result<(), OutFault>
     requires { IsWorking (O.state out.old) }
-    ensures { TakesAll (O.state out.old) (O.state out.new) result (path_line path.now) }
+    ensures { TakesAll (O.state out.old) (O.state out.new) result (path_line (path_actions path.now)) }
 {
     let mut row = Row::new();
     put_words(&mut row, out, &[Word::Text("path")])?;
-    put_actions(&mut row, out, path)?;
+    put_stretches(&mut row, out, path)?;
     row.end_line(out)
 }
 
@@ -50,11 +50,11 @@ pub fn put_times<O: TraceOut>(
     arrivals: &[u64],
     moves: u32,
     last: u64,
-    path: &[ActionId],
+    path: &[Stretch],
 ) -> Result<(), OutFault>
     requires { IsWorking (O.state out.old) }
     ensures { TakesAll (O.state out.old) (O.state out.new) result
-        (times_text arrivals.now moves last path.now) }
+        (times_text arrivals.now moves last (path_actions path.now)) }
 {
     put_arrivals(out, arrivals)?;
     put_count(out, "agents", arrivals.len() as u64)?;

@@ -201,16 +201,16 @@ fn due_arrivals<P: ProgramView>(
     Ok(())
 }
 
-/// The actions of the critical path, each as its agent and its number.
-fn path_numbers<P: ProgramView>(
+/// The stretches of the critical path, each as its agent, its first number and how many actions it has.
+fn path_stretches<P: ProgramView>(
     alloc: Global,
     times: &Times<'_, P, SlowFirst>,
-) -> Result<Vec<(u16, u32)>, Fail> {
-    let mut numbers = Vec::new(alloc);
-    for action in &times.critical_path(alloc)? {
-        numbers.push((action.agent, action.number))?;
+) -> Result<Vec<(u16, u32, u16)>, Fail> {
+    let mut stretches = Vec::new(alloc);
+    for stretch in &times.critical_path(alloc)? {
+        stretches.push((stretch.agent, stretch.first, stretch.count))?;
     }
-    Ok(numbers)
+    Ok(stretches)
 }
 
 /// The times of the pair, if the actions of agent 0 are slow.
@@ -224,8 +224,8 @@ fn due_times<P: ProgramView>(
     let times = Times::of(alloc, accepted, &SlowFirst)?;
     due_ends(rt, &times);
     due_arrivals(rt, alloc, &times)?;
-    let path = path_numbers(alloc, &times)?;
-    assert!(*rt; path.as_slice() == [(0, 1), (0, 2), (1, 2)].as_slice());
+    let path = path_stretches(alloc, &times)?;
+    assert!(*rt; path.as_slice() == [(0, 1, 2), (1, 2, 1)].as_slice());
     Ok(())
 }
 

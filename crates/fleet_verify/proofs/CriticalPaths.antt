@@ -1,23 +1,26 @@
 -- Critical paths: when actions end by their costs, and that something may always be done.
-use Rattle.std.proofs.Common.{◌≡◌, ◌≢◌, ℕ, zero, suc, ◌+◌, ◌-◌, ◌<◌, ◌≤◌, Bool, true, false, List, [], ◌∷◌, ◌++◌, length, get_or, refl, ap, sym, subst, ◌∙◌, arith, inl, inr, ◌⊎◌, Option, Some, None, cond, map-id}
+use Rattle.std.proofs.Common.{◌≡◌, ◌≢◌, ℕ, zero, suc, ◌+◌, ◌-◌, ◌<◌, ◌≤◌, Bool, true, false, List, [], ◌∷◌, ◌++◌, length, get_or, refl, ap, sym, subst, ◌∙◌, arith, inl, inr, ◌⊎◌, Option, Some, None, cond, map, map-id}
 use Rattle.std.specs.Prelude.{sum_by, count_by, nat_lt, IsTrue, ◌↔◌, slice_get, reverse, IfSome, IfNone, Contains}
 use Rattle.std.proofs.lemmas.Bool.{cases_lt}
-use Rattle.std.proofs.lemmas.List.{reverse-append, reverse-reverse, get_or_past, length_push, get_or_push, get_or_append_left}
+use Rattle.std.proofs.lemmas.List.{reverse-append, get_or_past, length_push, get_or_push, get_or_append_left, append-nil}
 use Rattle.std.proofs.lemmas.Option.{same_Some, none-some, slice_get_past, slice_get-get_or, slice_get_within, get_or_from_slice_get}
 use Rattle.std.specs.Option.{option_map_or}
 use Rattle.fleet_model.specs.declared.program.AgentProgram.{AgentProgram}
 use Rattle.std.proofs.lemmas.List.Sums.{sum_by-append, sum_by-cons, sum_by_push}
-use Rattle.std.proofs.lemmas.List.FromFn.{map-range_with_len_more}
+use Rattle.std.proofs.lemmas.List.FromFn.{map-range_with_len_more, length-map-range_with_len}
 use Rattle.fleet_model.specs.declared.program.ActionId.{ActionId}
 use Rattle.fleet_model.specs.declared.program.Await.{Await}
 use Rattle.fleet_model.specs.Program.{Program, moves, awaits_of, AreInRange}
 use Rattle.fleet_model.specs.Chain.{IsAction, DirectlyNeeds, ChainFrom, Reaches, EndsChainOfCost, IsCriticalCost, IsNumbering, awaited}
 use Rattle.fleet_model.specs.Machine.{indices}
 use Rattle.fleet_model.specs.Schedule.{Schedule, IsSchedule, HasBegunBy, HasEndedBy, NeedsNoStalled}
-use Rattle.fleet_model.proofs.Chains.{chain_last, chain_join, own_reach, Reaches-trans, ends_alone, ends_dearer, need_action, Reaches-need, Reaches-refl}
+use Rattle.fleet_model.proofs.Chains.{chain_first, chain_last, chain_join, own_reach, Reaches-trans, ends_alone, ends_dearer, need_action, Reaches-need, Reaches-refl}
 use Rattle.fleet_needs.proofs.Costing.{but_last}
 use Rattle.fleet_verify.proofs.Timed.{ends_in_time, needs_unended, by_or_not}
-use Rattle.fleet_verify.specs.Times.{HaveArrivedAt, IsLatest, IsLater, IsAwaitedUntil, IsNeedUntil, LeadsBack, IsPathOfCost, IsCriticalPath, IsFreeTo, AreReached, StopsOthers, is_broken, broken_cost, last_action}
+use Rattle.fleet_verify.specs.Times.{HaveArrivedAt, IsLatest, IsLater, IsAwaitedUntil, IsNeedUntil, LeadsBack, IsWayTo, IsPathOfCost, IsCriticalPath, IsFreeTo, AreReached, StopsOthers, is_broken, broken_cost, last_action}
+use Rattle.fleet_verify.specs.Stretch.{first_of, stretch_actions, path_actions}
+use Rattle.fleet_verify.specs.declared.stretch.Stretch.{Stretch}
+use Rattle.std.specs.List.{range_with_len}
 use Rattle.fleet_verify.proofs.Members.{same_action}
 use Rattle.fleet_verify.proofs.Decide.{IsAction-dec, action-dec, some-dec, before_in, needs_before}
 
@@ -210,38 +213,92 @@ until_here p cost b t k m w at critical e = record {
 
 -- ---- the way back
 
--- the actions so far, from the last one, stand on a chain from this action, which ends then
-pub record IsWayBack (p : Program) (cost : ActionId → ℕ) (last : ActionId) (total : ℕ) (path : List ActionId) (action : ActionId) (end : ℕ) : Type 0 where
-  pub rest : List ActionId
-  pub chain : ChainFrom p action rest last
-  pub way : path ≡ reverse (action ∷ rest)
-  pub critical : IsCriticalCost p cost action end
-  pub sum : total ≡ end + sum_by cost rest
+-- one action
+pub way_begins : (p : Program) (cost : ActionId → ℕ) (b : ActionId) (m : ℕ) → IsAction p b → IsCriticalCost p cost b m → (path : List ActionId) → path ≡ b ∷ [] → IsWayTo p cost b m path b m
+way_begins p cost b m act critical path is =
+    let none : sum_by cost [] ≡ 0 = refl in
+    record { rest = []; path_is = is; chain = (act, refl); critical = critical; sum = omega (arith, none) }
 
-pub way_on : (p : Program) (cost : ActionId → ℕ) (last : ActionId) (total : ℕ) (path : List ActionId) (action : ActionId) (end : ℕ) → IsWayBack p cost last total path action end
-    → (before : ActionId) → LeadsBack p cost action before → (e : ℕ) → IsCriticalCost p cost before e → (path' : List ActionId) → path' ≡ path ++ before ∷ [] → IsWayBack p cost last total path' before e
-way_on p cost last total path action end h before l e critical path' is = record {
-  rest = action ∷ h.rest;
-  chain = (l.action, l.needs, h.chain);
-  way = is ∙ (ap (λ xs. xs ++ before ∷ []) h.way ∙ sym (reverse-append (before ∷ []) (action ∷ h.rest)));
-  critical = critical;
-  sum = omega (arith, h.sum, one_cost p cost action end (l.end + cost action) h.critical l.all, one_cost p cost before l.end e l.critical critical, sum_by-cons cost action h.rest);
+-- with actions before its first one
+pub way_join : (p : Program) (cost : ActionId → ℕ) (last : ActionId) (total : ℕ) (path : List ActionId) (first : ActionId) (end : ℕ) → IsWayTo p cost last total path first end
+    → (before : ActionId) → LeadsBack p cost first before → (e : ℕ) → IsCriticalCost p cost before e → (more : List ActionId) (start : ActionId) (s : ℕ) → IsWayTo p cost before e more start s
+    → (path' : List ActionId) → path' ≡ more ++ path → IsWayTo p cost last total path' start s
+way_join p cost last total path first end h before l e critical more start s k path' is = record {
+  rest = k.rest ++ first ∷ h.rest;
+  path_is = is ∙ (ap (λ xs. xs ++ path) k.path_is ∙ ap (λ xs. (start ∷ k.rest) ++ xs) h.path_is);
+  chain = chain_join p start k.rest before (first ∷ h.rest) last k.chain (need_joined p first before last h.rest l.action l.needs h.chain);
+  critical = k.critical;
+  sum = omega (
+    arith,
+    h.sum,
+    k.sum,
+    one_cost p cost first end (l.end + cost first) h.critical l.all,
+    one_cost p cost before l.end e l.critical critical,
+    sum_by-cons cost first h.rest,
+    sum_by-append cost k.rest (first ∷ h.rest),
+  );
 }
+  where
+    need_joined : (p : Program) (first before last : ActionId) (rest : List ActionId) → IsAction p before → DirectlyNeeds p first before → ChainFrom p first rest last → ChainFrom p before (first ∷ rest) last
+    need_joined p first before last rest act needs chain = (act, needs, chain)
 
--- it gets shorter
-pub way_falls : (p : Program) (cost : ActionId → ℕ) (action before : ActionId) (end e : ℕ) → IsCriticalCost p cost action end → LeadsBack p cost action before → IsCriticalCost p cost before e → 1 ≤ cost action → e < end
-way_falls p cost action before end e critical l here some = omega (arith, some, one_cost p cost action end (l.end + cost action) critical l.all, one_cost p cost before l.end e l.critical here)
+-- with one action before its first one
+pub way_longer : (p : Program) (cost : ActionId → ℕ) (last : ActionId) (total : ℕ) (path : List ActionId) (first : ActionId) (end : ℕ) → IsWayTo p cost last total path first end
+    → (before : ActionId) → LeadsBack p cost first before → (e : ℕ) → IsCriticalCost p cost before e → (path' : List ActionId) → path' ≡ before ∷ path → IsWayTo p cost last total path' before e
+way_longer p cost last total path first end h before l e critical path' is =
+    way_join p cost last total path first end h before l e critical (before ∷ []) before e (way_begins p cost before e l.action critical (before ∷ []) refl) path' is
 
-pub way_ends : (p : Program) (cost : ActionId → ℕ) (last : ActionId) (total : ℕ) (path : List ActionId) (action : ActionId) (end : ℕ) → IsWayBack p cost last total path action end
-    → IsCriticalCost p cost action (cost action) → IsLatest p cost last → IsCriticalCost p cost last total → (path' : List ActionId) → path' ≡ reverse path → IsCriticalPath p cost path'
-way_ends p cost last total path action end h alone latest critical path' is =
+-- it begins earlier
+pub way_falls : (p : Program) (cost : ActionId → ℕ) (first before : ActionId) (end e : ℕ) → IsCriticalCost p cost first end → LeadsBack p cost first before → IsCriticalCost p cost before e → 1 ≤ cost first
+    → (more : List ActionId) (start : ActionId) (s : ℕ) → IsWayTo p cost before e more start s → s < end
+way_falls p cost first before end e critical l here some more start s k =
+    omega (arith, some, k.sum, one_cost p cost first end (l.end + cost first) critical l.all, one_cost p cost before l.end e l.critical here)
+
+pub way_ends : (p : Program) (cost : ActionId → ℕ) (last : ActionId) (total : ℕ) (path : List ActionId) (first : ActionId) (end : ℕ) → IsWayTo p cost last total path first end
+    → IsCriticalCost p cost first (cost first) → IsLatest p cost last → IsCriticalCost p cost last total → IsCriticalPath p cost path
+way_ends p cost last total path first end h alone latest critical =
     let same : latest.end ≡ total = one_cost p cost last latest.end total latest.critical critical in
     record {
       total = total;
       arrival = subst (HaveArrivedAt p cost) same latest.arrival;
-      path_of_cost = subst (IsPathOfCost p cost total) (sym (is ∙ (ap reverse h.way ∙ reverse-reverse (action ∷ h.rest))))
-          (last, h.chain, omega (arith, h.sum, one_cost p cost action end (cost action) h.critical alone, sum_by-cons cost action h.rest));
+      path_of_cost = subst (IsPathOfCost p cost total) (sym h.path_is)
+          (last, h.chain, omega (arith, h.sum, one_cost p cost first end (cost first) h.critical alone, sum_by-cons cost first h.rest));
     }
+
+-- ---- stretches
+
+-- a stretch with the action before it
+pub stretch_longer : (s t : Stretch) → t.agent ≡ s.agent → t.first + 1 ≡ s.first → t.count ≡ s.count + 1 → stretch_actions t ≡ first_of t ∷ stretch_actions s
+stretch_longer s t agent first count =
+    let more : s.count + 1 ≡ suc s.count = omega arith in
+    ap (λ n. map (λ k. here t.agent k) (range_with_len t.first n)) (count ∙ more)
+    ∙ ap (λ xs. first_of t ∷ xs) (ap (λ a. map (λ k. here a k) (range_with_len (t.first + 1) s.count)) agent ∙ ap (λ n. map (λ k. here s.agent k) (range_with_len n s.count)) first)
+  where
+    here : ℕ → ℕ → ActionId
+    here a k = record { agent = a; number = k }
+
+-- .. has one action more
+pub longer_count : (s t : Stretch) (a : ActionId) → stretch_actions t ≡ a ∷ stretch_actions s → t.count ≡ s.count + 1
+longer_count s t a is =
+    omega (arith, ap length is, length-map-range_with_len (λ n. here t n) t.first t.count, length-map-range_with_len (λ n. here s n) s.first s.count)
+  where
+    here : Stretch → ℕ → ActionId
+    here r n = record { agent = r.agent; number = n }
+
+-- the actions of stretches that were found one before the other
+pub path_before : (path : List Stretch) (s : Stretch) (path' : List Stretch) → path' ≡ path ++ s ∷ [] → path_actions (reverse path') ≡ stretch_actions s ++ path_actions (reverse path)
+path_before path s path' is = ap (λ xs. path_actions (reverse xs)) is ∙ ap path_actions (reverse-append path (s ∷ []))
+
+-- the first stretch that is found is the last one of the path
+pub way_first : (p : Program) (cost : ActionId → ℕ) (last : ActionId) (total : ℕ) (s : Stretch) (first : ActionId) (end : ℕ) → IsWayTo p cost last total (stretch_actions s) first end
+    → (path path' : List Stretch) → path ≡ [] → path' ≡ path ++ s ∷ [] → IsWayTo p cost last total (path_actions (reverse path')) first end
+way_first p cost last total s first end h path path' none is =
+    subst (λ xs. IsWayTo p cost last total xs first end)
+    (sym (path_before path s path' is ∙ (ap (λ xs. stretch_actions s ++ path_actions (reverse xs)) none ∙ append-nil (stretch_actions s)))) h
+
+-- its first action is one of the program
+pub way_action : (p : Program) (cost : ActionId → ℕ) (last : ActionId) (total : ℕ) (path : List ActionId) (first : ActionId) (end : ℕ) → IsWayTo p cost last total path first end → IsAction p first
+way_action p cost last total path first end h = chain_first p first h.rest last h.chain
 
 -- the counts of free first actions are those that are reached
 pub reached_of : (p : Program) (breaks : List ℕ) → ((b : ActionId) → IsAction p b → (m : ℕ) × IsCriticalCost p (broken_cost breaks) b m) → (counts : List ℕ) → length counts ≡ length p

@@ -42,3 +42,4 @@ pub mod LastVisits
 pub mod Promised
 pub mod Remains
 pub mod CriticalPaths
+pub mod Stretches

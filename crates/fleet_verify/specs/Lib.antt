@@ -24,3 +24,4 @@ pub mod Squares
 pub mod Promises
 pub mod Rest
 pub mod Times
+pub mod Stretch

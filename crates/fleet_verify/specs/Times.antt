@@ -57,6 +57,13 @@ pub record IsAwaitedUntil (p : Program) (cost : ActionId → ℕ) (b : ActionId)
   pub awaits : Contains (awaits_of p b.agent b.number) (record { agent = a.agent; count = a.number })
   pub critical : IsCriticalCost p cost a t
 
+-- a is the action of the same agent right before b, and ends at this time
+pub record IsOwnUntil (p : Program) (cost : ActionId → ℕ) (b : ActionId) (t : ℕ) (a : ActionId) : Type 0 where
+  pub agent : b.agent ≡ a.agent
+  pub before : b.number ≡ a.number + 1
+  pub some : 1 ≤ a.number
+  pub critical : IsCriticalCost p cost a t
+
 -- the action directly needs a, which ends at this time
 pub record IsNeedUntil (p : Program) (cost : ActionId → ℕ) (b : ActionId) (t : ℕ) (a : ActionId) : Type 0 where
   pub needs : DirectlyNeeds p b a
@@ -69,6 +76,14 @@ pub record LeadsBack (p : Program) (cost : ActionId → ℕ) (b a : ActionId) : 
   pub end : ℕ
   pub critical : IsCriticalCost p cost a end
   pub all : IsCriticalCost p cost b (end + cost b)
+
+-- the path is a chain from its first action, which ends then, to this last one, which ends at the total
+pub record IsWayTo (p : Program) (cost : ActionId → ℕ) (last : ActionId) (total : ℕ) (path : List ActionId) (first : ActionId) (end : ℕ) : Type 0 where
+  pub rest : List ActionId
+  pub path_is : path ≡ first ∷ rest
+  pub chain : ChainFrom p first rest last
+  pub critical : IsCriticalCost p cost first end
+  pub sum : total ≡ end + sum_by cost rest
 
 -- a chain of this cost, or no action if the cost is nothing
 abbrev pub IsPathOfCost : Program → (ActionId → ℕ) → ℕ → List ActionId → Type 0

@@ -140,7 +140,7 @@ fn put_action<O: TraceOut>(
 }
 
 /// Adds a space and a word `i:n` for each action to the row.
-pub fn put_actions<O: TraceOut>(
+fn put_actions<O: TraceOut>(
     row: &mut Row,
     out: &mut O,
     actions: &[ActionId],

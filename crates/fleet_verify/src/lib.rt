@@ -51,6 +51,7 @@ mod ring;
 mod runs;
 mod schedules;
 mod stopped;
+mod stretch;
 mod times;
 mod unheld_run;
 mod verifier;
@@ -63,7 +64,7 @@ pub use exactness::{
     breaking_holds_end_in_a_conflict, listed_visits_are_chained, unordered_visits_are_found,
     unordered_visits_meet,
 };
-pub use fault::{VerifyFault, put_actions};
+pub use fault::VerifyFault;
 pub use fleet_needs::{ActionCosts, MAX_COST, join_rows, row_covers};
 pub use orders::{
     awaits_are_chains, orderly_listings_rise, rings_are_never_finished, sorted_listings_decide,
@@ -84,5 +85,6 @@ pub use schedules::{
     schedules_end_in_time, schedules_need_acceptance,
 };
 pub use stopped::{reached_counts, stopped_agents};
+pub use stretch::{Stretch, put_stretches};
 pub use times::{OneEach, Times};
 pub use verifier::{Accepted, Refused, verify};

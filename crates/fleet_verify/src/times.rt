@@ -1,12 +1,14 @@
 //! When the actions of an accepted program end at the soonest, if each takes a time of its own: the critical path
 //! method (Kelley and Walker 1959).
 
-ghost use Rattle.std.specs.Prelude.{◌≡◌, ℕ, ◌<◌, ◌≤◌, IfOk, IfSome, IfNone, length};
+ghost use Rattle.std.specs.Prelude.{◌≡◌, ℕ, ◌+◌, ◌<◌, ◌≤◌, ◌∷◌, IfOk, IfSome, IfNone, length};
 ghost use Rattle.fleet_model.specs.declared.program.ActionId.{ActionId};
 ghost use Rattle.fleet_model.specs.Program.{moves, AreInRange};
 ghost use Rattle.fleet_model.specs.Chain.{IsAction, IsCriticalCost};
-ghost use Rattle.fleet_verify.specs.Times.{ArrivesAt, EachArrivesAt, HaveArrivedAt, IsCriticalPath, IsLatest, IsLater, LeadsBack, IsAwaitedUntil, IsNeedUntil, IsFreeTo};
+ghost use Rattle.fleet_verify.specs.Times.{ArrivesAt, EachArrivesAt, HaveArrivedAt, IsCriticalPath, IsLatest, IsLater, LeadsBack, IsAwaitedUntil, IsOwnUntil, IsNeedUntil, IsFreeTo, IsWayTo};
+ghost use Rattle.fleet_verify.specs.Stretch.{first_of, stretch_actions, path_actions};
 
+use crate::stretch::Stretch;
 use crate::verifier::Accepted;
 use fleet_model::{ActionId, OutOfMemory, ProgramView};
 use fleet_needs::{ActionCosts, CriticalCosts};
@@ -178,26 +180,85 @@ impl<'a, P: ProgramView, C: ActionCosts> Times<'a, P, C> {
     /// A dearest chain of needs, from its first action to its last, which ends last of all: if any of these takes
     /// longer than it costs, the fleet arrives so much later. Empty if there are no actions. It fails only if memory is
     /// refused.
-    pub fn critical_path(&self, alloc: Global) -> Result<Vec<ActionId>, OutOfMemory>
+    pub fn critical_path(&self, alloc: Global) -> Result<Vec<Stretch>, OutOfMemory>
         requires { (a : ActionId) → 1 ≤ C.cost self.now.costs a }
         ensures { IfOk result (λ path. IsCriticalPath
-            (P.program self.now.program) (C.cost self.now.costs) path.items) }
+            (P.program self.now.program) (C.cost self.now.costs) (path_actions path.items)) }
     {
         self.known();
         let mut path = Vec::new(alloc);
         let Some(last) = self.latest() else {
             return Ok(path);
         };
-        path.push(last)?;
-        let mut action = last;
-        let mut end = self.end(action);
-        while let Some((before, time)) = self.before(action, end) {
-            path.push(before)?;
-            action = before;
-            end = time;
+        let total = self.end(last);
+        let mut way = self.stretch_to(last, total);
+        path.push(way.0)?;
+        while let Some((before, time)) = self.before(way.0.first_action(), way.1) {
+            way = self.stretch_to(before, time);
+            path.push(way.0)?;
         }
         path.reverse();
         Ok(path)
+    }
+
+    /// A stretch of a dearest chain that ends with this action, which ends then, and when its first action ends.
+    #[inline(never)]
+    fn stretch_to(&self, action: ActionId, end: u64) -> (Stretch, u64)
+        requires action { IsAction (P.program self.now.program) action }
+        requires end { IsCriticalCost (P.program self.now.program) (C.cost self.now.costs) action end }
+        ensures { IsWayTo (P.program self.now.program) (C.cost self.now.costs) action end
+            (stretch_actions result.0) (first_of result.0) result.1 }
+    {
+        let stretch = Stretch {
+            agent: action.agent,
+            count: 1,
+            first: action.number,
+        };
+        let mut way = (stretch, end);
+        while let Some(longer) = self.longer(way.0, way.1) {
+            way = longer;
+        }
+        way
+    }
+
+    /// The stretch and the action before it, and when that one ends, if the first one of the stretch, which ends then,
+    /// begins as it does.
+    #[inline(always)]
+    fn longer(&self, stretch: Stretch, end: u64) -> Option<(Stretch, u64)>
+        requires action { IsAction (P.program self.now.program) (first_of stretch) }
+        requires end { IsCriticalCost (P.program self.now.program) (C.cost self.now.costs)
+            (first_of stretch) end }
+        ensures longer { IfSome result (λ found. stretch_actions found.0
+            ≡ first_of found.0 ∷ stretch_actions stretch) }
+        ensures before { IfSome result (λ found. LeadsBack
+            (P.program self.now.program) (C.cost self.now.costs)
+            (first_of stretch) (first_of found.0)) }
+        ensures end { IfSome result (λ found. IsCriticalCost
+            (P.program self.now.program) (C.cost self.now.costs) (first_of found.0) found.1) }
+    {
+        if stretch.count == u16::MAX {
+            return None;
+        }
+        let first = stretch.first_action();
+        let time = self.begin(first, end);
+        let before = self.own_until(first, time)?;
+        let longer = Stretch {
+            agent: before.agent,
+            count: stretch.count + 1,
+            first: before.number,
+        };
+        Some((longer, time))
+    }
+
+    /// When an action begins that ends then.
+    #[inline(always)]
+    fn begin(&self, action: ActionId, end: u64) -> u64
+        requires action { IsAction (P.program self.now.program) action }
+        requires end { IsCriticalCost (P.program self.now.program) (C.cost self.now.costs) action end }
+        ensures { result + C.cost self.now.costs action ≡ end }
+    {
+        let own = u64::from(self.costs.cost(action));
+        end - own
     }
 
     /// The action right before this one, which ends then, on a dearest chain that ends with it, and when that one ends,
@@ -213,8 +274,7 @@ impl<'a, P: ProgramView, C: ActionCosts> Times<'a, P, C> {
             (C.cost self.now.costs) action (C.cost self.now.costs action)) }
     {
         self.known();
-        let own = u64::from(self.costs.cost(action));
-        let time = end - own;
+        let time = self.begin(action, end);
         match self.need_until(action, time) {
             Some(found) => Some((found, time)),
             None => None,
@@ -229,17 +289,30 @@ impl<'a, P: ProgramView, C: ActionCosts> Times<'a, P, C> {
         ensures none { IfNone result ((a : ActionId) → IsNeedUntil
             (P.program self.now.program) (C.cost self.now.costs) action time a → ⊥) }
     {
-        if action.number > 1 {
-            let before = ActionId {
-                agent: action.agent,
-                number: action.number - 1,
-            };
-            let end = self.end(before);
-            if end == time {
-                return Some(before);
-            }
+        match self.awaited_until(action, time) {
+            Some(found) => Some(found),
+            None => self.own_until(action, time),
         }
-        self.awaited_until(action, time)
+    }
+
+    /// The action of the same agent right before this one, if there is one and it ends at this time.
+    #[inline(always)]
+    fn own_until(&self, action: ActionId, time: u64) -> Option<ActionId>
+        requires { IsAction (P.program self.now.program) action }
+        ensures some { IfSome result
+            (IsOwnUntil (P.program self.now.program) (C.cost self.now.costs) action time) }
+        ensures none { IfNone result ((a : ActionId) → IsOwnUntil
+            (P.program self.now.program) (C.cost self.now.costs) action time a → ⊥) }
+    {
+        if action.number == 1 {
+            return None;
+        }
+        let before = ActionId {
+            agent: action.agent,
+            number: action.number - 1,
+        };
+        let end = self.end(before);
+        if end == time { Some(before) } else { None }
     }
 
     /// An action that this one awaits and that ends at this time, if there is one.

@@ -11,7 +11,7 @@ use fleet_code::{encode, load, view};
 use fleet_model::{ActionId, Program, ProgramView, Visit};
 use fleet_run::{TraceOut, VecOut, put_all, write_holds};
 use fleet_verify::{
-    Accepted, ActionCosts, OneEach, Reach, Refused, Times, VerifyFault, breaking_holds,
+    Accepted, ActionCosts, OneEach, Reach, Refused, Stretch, Times, VerifyFault, breaking_holds,
     reached_counts, stopped_agents, verify,
 };
 use std::alloc::Global;
@@ -208,7 +208,12 @@ fn path_stretches<P: ProgramView>(
 ) -> Result<Vec<(u16, u32, u16)>, Fail> {
     let mut stretches = Vec::new(alloc);
     for stretch in &times.critical_path(alloc)? {
-        stretches.push((stretch.agent, stretch.first, stretch.count))?;
+        let Stretch {
+            agent,
+            count,
+            first,
+        } = *stretch;
+        stretches.push((agent, first, count))?;
     }
     Ok(stretches)
 }

@@ -14,8 +14,8 @@ use Rattle.fleet_text.specs.Sink.{Receives, FailsAfter, SinkState, IsUnwritten, 
 use Rattle.fleet_text.specs.Words.{line_text}
 use Rattle.fleet_cli.specs.Output.{IsRefusalWritten, Finishes}
 use Rattle.fleet_cli.specs.Named.{given_names, IsUnread, AreTexts}
-use Rattle.fleet_cli.specs.declared.named.FileNames.{FileNames}
-use Rattle.fleet_cli.specs.declared.named.FileTexts.{FileTexts}
+use Rattle.fleet_cli.specs.declared.files.FileNames.{FileNames}
+use Rattle.fleet_cli.specs.declared.files.FileTexts.{FileTexts}
 use Rattle.fleet_cli.specs.RunCommands.{RunsHex, AnswersRehearse, AnswersRun, AnswersAuto}
 use Rattle.fleet_cli.specs.PrintCommands.{AnswersInstance, AnswersCheck, AnswersPlan, AnswersVerify, AnswersList}
 use Rattle.fleet_cli.specs.WriteCommands.{AnswersCompile, AnswersThin, AnswersMigrate}

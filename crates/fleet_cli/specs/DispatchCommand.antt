@@ -11,7 +11,7 @@ use Rattle.fleet_dispatch.specs.Replay.{DispatchesAfter}
 use Rattle.fleet_dispatch.specs.declared.run.DispatchReport.{DispatchReport}
 use Rattle.fleet_dispatch.specs.declared.fault.DispatchFault.{DispatchFault}
 use Rattle.fleet_args.specs.declared.commands.DispatchRequest.{DispatchRequest}
-use Rattle.fleet_cli.specs.declared.named.FileTexts.{FileTexts}
+use Rattle.fleet_cli.specs.declared.files.FileTexts.{FileTexts}
 use Rattle.fleet_cli.specs.Files.{Store, AreUnchanged}
 use Rattle.fleet_cli.specs.Journal.{ChangesOnlyLog, IsKept, IsLogFault}
 use Rattle.fleet_cli.specs.Steps.{AcceptsTexts, IsTextsRefusal}

@@ -6,8 +6,8 @@ use Rattle.fleet_cli.specs.declared.input.FileFault.{FileFault}
 use Rattle.fleet_cli.specs.declared.input.FileFault.TheVariants.{OutOfMemory, Failed}
 use Rattle.fleet_cli.specs.declared.fault.Fault.{Fault}
 use Rattle.fleet_cli.specs.declared.fault.Fault.TheVariants as f
-use Rattle.fleet_cli.specs.declared.named.FileNames.{FileNames}
-use Rattle.fleet_cli.specs.declared.named.FileTexts.{FileTexts}
+use Rattle.fleet_cli.specs.declared.files.FileNames.{FileNames}
+use Rattle.fleet_cli.specs.declared.files.FileTexts.{FileTexts}
 
 -- the store's refusal is reported as it is: want of memory as such, and a failed access by the file's name
 abbrev pub IsRefusedAs : (refuses : FileFault → Type 0) → List ℕ → Fault → Type 0

@@ -9,7 +9,7 @@ use Rattle.fleet_cli.specs.Steps.{AreTextsOf, ReadsProblem, ReadsProgram, IsProb
 use Rattle.fleet_text.specs.Sink.{FailsAfter, SinkState, IsUnwritten, IsDelivered}
 use Rattle.fleet_args.specs.declared.commands.Tasks.{Tasks}
 use Rattle.fleet_text.specs.Words.{pair_text, line_text, count_line}
-use Rattle.fleet_cli.specs.declared.named.FileTexts.{FileTexts}
+use Rattle.fleet_cli.specs.declared.files.FileTexts.{FileTexts}
 use Rattle.fleet_cli.specs.declared.fault.Fault.{Fault}
 use Rattle.fleet_cli.specs.declared.fault.Fault.TheVariants as f
 use Rattle.fleet_plan.specs.Plan.{Plan, steps, IsConflictFree}

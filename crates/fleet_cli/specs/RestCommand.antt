@@ -21,7 +21,7 @@ use Rattle.fleet_dispatch.specs.declared.times_fault.TimesFault.TheVariants.{Dea
 use Rattle.fleet_text.specs.Sink.{SinkState}
 use Rattle.fleet_args.specs.declared.commands.RestRequest.{RestRequest}
 use Rattle.fleet_cli.specs.Files.{Store}
-use Rattle.fleet_cli.specs.declared.named.FileTexts.{FileTexts}
+use Rattle.fleet_cli.specs.declared.files.FileTexts.{FileTexts}
 use Rattle.fleet_cli.specs.declared.rest_command.Rest.{Rest}
 use Rattle.fleet_cli.specs.Output.{AnswersOut}
 use Rattle.fleet_cli.specs.WriteCommands.{numbers_text}

@@ -11,7 +11,7 @@ use Rattle.fleet_run.specs.declared.run.RunFault.TheVariants.{Write}
 use Rattle.fleet_run.specs.declared.trace.Report.{Report}
 use Rattle.fleet_run.specs.Trace.{WritesTrace, Traces, StopsTrace, hold_source}
 use Rattle.fleet_args.specs.declared.commands.RunRequest.{RunRequest}
-use Rattle.fleet_cli.specs.declared.named.FileTexts.{FileTexts}
+use Rattle.fleet_cli.specs.declared.files.FileTexts.{FileTexts}
 use Rattle.fleet_cli.specs.Steps.{AcceptsTexts, AreTextsOf, ReadsProgram, IsTextsRefusal, IsProblemRefusal, IsPlannedFor, AreNumbersOf, IsMakingFault, IsLoadRefusal}
 use Rattle.fleet_cli.specs.declared.fault.Fault.{Fault}
 use Rattle.fleet_cli.specs.declared.fault.Fault.TheVariants as f

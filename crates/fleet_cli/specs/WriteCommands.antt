@@ -14,7 +14,7 @@ use Rattle.fleet_code.specs.Spelling.{SpellsShortest, SpellsIn, Spells}
 use Rattle.fleet_text.specs.Sink.{SinkState}
 use Rattle.fleet_cli.specs.Files.{Store}
 use Rattle.fleet_args.specs.declared.commands.CompileRequest.{CompileRequest}
-use Rattle.fleet_cli.specs.declared.named.FileTexts.{FileTexts}
+use Rattle.fleet_cli.specs.declared.files.FileTexts.{FileTexts}
 use Rattle.fleet_cli.specs.Output.{count_lines, AnswersOut}
 use Rattle.fleet_cli.specs.Steps.{AcceptsTexts, IsTextsRefusal, IsLoadRefusal}
 use Rattle.fleet_cli.specs.PrintCommands.{ArePlanTexts, IsPlanRefusal}

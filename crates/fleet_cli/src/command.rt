@@ -7,8 +7,7 @@ ghost use Rattle.fleet_cli.specs.Command.{names_alone, names_of, names_of_progra
 
 use crate::dispatch_command::do_dispatch;
 use crate::fault::{Fault, finish, refuse};
-use crate::files::Files;
-use crate::named::{FileNames, FileTexts, read_files};
+use crate::files::{FileNames, FileTexts, Files, read_files};
 use crate::print_commands::{do_check, do_instance, do_list, do_plan, do_verify};
 use crate::rest_command::do_rest;
 use crate::run_commands::{do_auto, do_rehearse, do_run, run_hex};

@@ -9,9 +9,8 @@ ghost use Rattle.fleet_cli.specs.Journal.{log_in, ChangesOnlyLog, IsKeptAfter};
 ghost use Rattle.fleet_cli.specs.DispatchCommand.{pace_of, AnswersDispatch};
 
 use crate::fault::Fault;
-use crate::files::Files;
+use crate::files::{FileTexts, Files};
 use crate::journal::{Journal, begin_log};
-use crate::named::FileTexts;
 use crate::steps::{accept, read_problem};
 use fleet_args::DispatchRequest;
 use fleet_dispatch::{

@@ -1,10 +1,10 @@
 //! The program `fleet`: from its words to its status; its commands, the files and streams that they read and write, and
 //! refusals with their lines and statuses.
 //!
-//! `files` is the store of files, with the disk (`mem_files`: one in memory), `journal` the log of a dispatch in one of
-//! them, and `input` reads an input whole. `fault`
-//! has every refusal of the program with its line and status, those of the fault within, and `finish`, by which every
-//! command ends; `named` reads all files that a command names, before any of them is judged.
+//! `files` is the store of files, with the disk (`mem_files`: one in memory), and reads all files that a command names,
+//! before any of them is judged; `journal` is the log of a dispatch in one of them, and `input` reads an input whole.
+//! `fault` has every refusal of the program with its line and status, those of the fault within, and `finish`, by which
+//! every command ends.
 //!
 //! `steps` has what commands are made of: from the texts of a map and of a scenario to an instance, from bytes to a
 //! program and to an accepted one, and from an instance to a plan, the first or the best of several, and to the bytes of
@@ -28,7 +28,6 @@ mod files;
 mod input;
 mod journal;
 mod mem_files;
-mod named;
 mod output;
 mod print_commands;
 mod rest_command;

@@ -5,8 +5,7 @@ ghost use Rattle.fleet_text.specs.Sink.{IsWorking, SinkState, TakesAll};
 ghost use Rattle.fleet_cli.specs.Output.{with_labels, count_lines, report, Prints, WritesFiles};
 
 use crate::fault::Fault;
-use crate::files::Files;
-use crate::named::write_file;
+use crate::files::{Files, write_file};
 use fleet_run::{Flush, OutFault, TraceOut};
 use fleet_text::{Word, put_count, put_line};
 

@@ -7,7 +7,7 @@ ghost use Rattle.fleet_model.specs.declared.geometry.Place.{Place};
 ghost use Rattle.fleet_verify.specs.Broken.{MeetUnordered, IsBrokenBy};
 
 use crate::fault::Fault;
-use crate::named::FileTexts;
+use crate::files::FileTexts;
 use crate::output::{hand_on, put_report};
 use crate::steps::{plan_by, read_problem, view_subject};
 use fleet_args::{CheckRequest, PlanRequest, ProgramFor, Tasks};

@@ -8,8 +8,7 @@ ghost use Rattle.fleet_cli.specs.RestCommand.{IsRestOf, IsRestFault, IsDead, IsD
 ghost use Rattle.fleet_cli.specs.WriteCommands.{numbers_text};
 
 use crate::fault::Fault;
-use crate::files::Files;
-use crate::named::{FileTexts, write_file};
+use crate::files::{FileTexts, Files, write_file};
 use crate::output::{hand_on, put_counts};
 use crate::steps::{accept, read_problem};
 use fleet_adg::{accepted_tasks_are_an_instance, rest, tasks_of};

@@ -7,8 +7,8 @@ ghost use Rattle.fleet_cli.specs.Output.{end_status};
 ghost use Rattle.fleet_cli.specs.RunCommands.{FlushesRun, Runs, AutoRuns, AnswersRun, TellsNumbers, AnswersAuto, RehearsesProgram, AnswersRehearse, ReadsInput, IsInputRefusal, AnswersHex, RunsHex};
 
 use crate::fault::{AutoFault, Fault, finish, in_step, step_fault};
+use crate::files::FileTexts;
 use crate::input::{FileFault, read_whole};
-use crate::named::FileTexts;
 use crate::output::{hand_on, put_counts};
 use crate::steps::{
     ONE_TRY, PlanNumbers, accept, accept_made, made_bytes, read_problem, view_program, view_subject,

@@ -13,7 +13,7 @@ ghost use Rattle.fleet_search.specs.Best.{IsBestInTries};
 ghost use Rattle.fleet_search.specs.Orders.{IsStuckInTries};
 
 use crate::fault::{AutoFault, Fault, in_step};
-use crate::named::FileTexts;
+use crate::files::FileTexts;
 use fleet_adg::{CompileFault, Deps, compile_bytes};
 use fleet_args::{Best, Tries};
 use fleet_code::{CodeView, LoadFault, each_spelling_has_one_program, view};

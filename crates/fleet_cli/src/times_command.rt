@@ -7,7 +7,7 @@ ghost use Rattle.fleet_verify.specs.Stretch.{path_actions};
 ghost use Rattle.fleet_cli.specs.TimesCommand.{IsTimetable, HasTimetable, HasReached, IsCostsRefusal, IsBreaksRefusal, TellsTimes, TellsReached, AnswersTimes};
 
 use crate::fault::Fault;
-use crate::named::FileTexts;
+use crate::files::FileTexts;
 use crate::output::hand_on;
 use crate::steps::{accept, read_problem};
 use fleet_args::TimesRequest;

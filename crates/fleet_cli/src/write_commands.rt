@@ -6,8 +6,7 @@ ghost use Rattle.fleet_cli.specs.WriteCommands.{CompilesBytes, IsCompileFault, A
 ghost use Rattle.fleet_cli.specs.Steps.{IsTextsRefusal, IsLoadRefusal};
 
 use crate::fault::Fault;
-use crate::files::Files;
-use crate::named::FileTexts;
+use crate::files::{FileTexts, Files};
 use crate::output::write_out;
 use crate::steps::{accept, read_problem};
 use fleet_adg::{ProgramBytes, ThinFault, compile_bytes, thin_bytes};

@@ -16,12 +16,11 @@ ghost use Rattle.fleet_needs.specs.Columns.{agents_in, column_of};
 ghost use Rattle.fleet_needs.specs.Counts.{counts_of};
 
 use crate::await_places::AwaitPlaces;
-use crate::blocks::Blocks;
 use crate::counts::Counts;
 use crate::finish_order::FinishOrder;
 use crate::join_pass::{JoinRow, JoinUse, use_joins};
 use crate::questions::is_any;
-use crate::schedule::{Columns, Schedule};
+use crate::schedule::{Blocks, Columns, Schedule};
 use crate::settled::settle_all;
 use fleet_model::{ActionId, OutOfMemory, ProgramView, total_awaits};
 use std::alloc::Global;
@@ -143,7 +142,7 @@ fn flag_all<P: ProgramView>(
     ensures { OnOk result (AreImplied (P.program program.now) implied.new) }
 {
     let mut blocks = Blocks::of(program, schedule, asked);
-    while let Some(columns) = blocks.next(alloc)? {
+    while let Some(columns) = blocks.next_block(alloc)? {
         use_joins(alloc, program, schedule, columns, implied)?;
     }
     Ok(())

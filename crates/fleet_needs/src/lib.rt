@@ -10,19 +10,18 @@
 //! by tick), and by it the tick that finishes each action, which rises along chains.
 //!
 //! A `schedule` says which rows are made, in which order, of which rows each is joined, and in which slot it is kept.
-//! It is made once, and serves all blocks of columns. `joins` goes through the order in which actions finish: an action
-//! that awaits something, or that a question ends with, has a row of its own, and the row of any other is that of its
-//! agent's action before. So is that of an action with one await, if that is known to be implied: it adds no chain. What
-//! is noted is the row that stands for the action before, those that the awaits take, and for each row the last one that
-//! is joined of it. Each row gets a slot, and none is used again before its row was taken for the last time.
+//! It is made once, and serves all blocks of columns: each agent that is asked for has a column in one block. `joins`
+//! goes through the order in which actions finish: an action that awaits something, or that a question ends with, has a
+//! row of its own, and the row of any other is that of its agent's action before. So is that of an action with one
+//! await, if that is known to be implied: it adds no chain. What is noted is the row that stands for the action before,
+//! those that the awaits take, and for each row the last one that is joined of it. Each row gets a slot, and none is
+//! used again before its row was taken for the last time.
 //!
 //! `join_pass` makes the rows in that order, in the columns of one block, and keeps their counts slot by slot. A row is
 //! made in two steps: first of the rows of all that its action needs, and then, for each await, with the awaited
 //! action's own number. A row in its slot has 0 in the column of its own agent, so after the first step the count of
 //! each awaited agent is that of all needs but this await. What is done with a row is a `JoinUse`, which is shown the row
 //! after either step; there are three, in `questions`, `gather` and `implied`.
-//!
-//! `blocks` goes through the agents that are asked for, each of whom has a column in one block.
 //!
 //! `questions` answers questions for chains: it looks a few steps back from the end of a chain first, and asks what this
 //! leaves open agent by agent, in blocks of columns.
@@ -45,7 +44,6 @@
 #![tactic(auto)]
 
 mod await_places;
-mod blocks;
 mod cost_walk;
 mod counts;
 mod critical;

@@ -13,11 +13,10 @@ ghost use Rattle.fleet_needs.specs.Answering.{IsAsked};
 ghost use Rattle.fleet_needs.specs.Counts.{counts_of};
 ghost use Rattle.fleet_needs.specs.Joins.{AreOwn};
 
-use crate::blocks::Blocks;
 use crate::counts::Counts;
 use crate::finish_order::FinishOrder;
 use crate::join_pass::{JoinRow, JoinUse, use_joins};
-use crate::schedule::{Columns, Schedule};
+use crate::schedule::{Blocks, Columns, Schedule};
 use fleet_model::{ActionId, OutOfMemory, ProgramView};
 use std::alloc::Global;
 
@@ -101,7 +100,7 @@ fn answer_all<P: ProgramView>(
 {
     let mut flags = flags;
     let mut blocks = Blocks::of(program, schedule, asked);
-    while let Some(columns) = blocks.next(alloc)? {
+    while let Some(columns) = blocks.next_block(alloc)? {
         flags = answer(alloc, program, schedule, columns, questions, flags)?;
     }
     Ok(flags)

@@ -1,7 +1,7 @@
 //! A schedule of rows, made once for all blocks of columns: which rows are made, in which order, of which rows each is
-//! joined, the slot in which it is kept, and the columns of a block.
+//! joined, the slot in which it is kept, and the columns of the blocks, one block after another.
 
-ghost use Rattle.std.specs.Prelude.{◌≡◌, ◌+◌, ◌<◌, ◌≤◌, ℕ, true, [], All, slice_get, Some, length, IfOk, slice_index, OnOk, IsTrue};
+ghost use Rattle.std.specs.Prelude.{◌≡◌, ◌+◌, ◌<◌, ◌≤◌, ℕ, true, [], All, slice_get, Some, length, IfOk, slice_index, OnOk, IsTrue, MatchOption};
 ghost use Rattle.fleet_model.specs.declared.limits.TheConstants.{MAX_AGENTS};
 ghost use Rattle.fleet_model.specs.Program.{AreInRange, moves, total_moves};
 ghost use Rattle.fleet_model.specs.Chain.{IsAction};
@@ -13,7 +13,7 @@ ghost use Rattle.fleet_needs.specs.Order.{IsOrder};
 ghost use Rattle.fleet_needs.specs.Places.{ArePlacesOf, place_of_action};
 ghost use Rattle.fleet_needs.specs.Schedule.{IsSchedule, HasRows, IsNext, joins_in};
 ghost use Rattle.fleet_needs.specs.Slots.{AreSlotted, IsTaken};
-ghost use Rattle.fleet_needs.specs.Columns.{AreColumns, agents_in, column_of};
+ghost use Rattle.fleet_needs.specs.Columns.{AreColumns, IsNextBlock, agents_in, column_of};
 
 use crate::await_places::ActionPlaces;
 use crate::finish_order::FinishOrder;
@@ -22,6 +22,7 @@ use crate::joins::{Course, Join, Joins, Need, joins_of};
 use crate::questions::Question;
 use fleet_model::{ActionId, MAX_AGENTS, OutOfMemory, ProgramView, total_moves};
 use std::alloc::Global;
+use std::marker::Model;
 
 /// There is room for so many counts of rows at once, of four bytes each: 3 MB.
 const COUNTS: u32 = 786_432;
@@ -339,5 +340,62 @@ impl Columns {
         ensures { result ≡ column_of self.now agent }
     {
         self.of_agent[usize::from(agent)]
+    }
+}
+
+/// The blocks that are left, each with as many columns as the schedule has room for.
+#[derive(Drop)]
+pub struct Blocks<'a> {
+    schedule: &'a Schedule,
+    /// For each agent whether it is asked for.
+    asked: &'a [bool],
+    agents: u16,
+    /// All asked agents below this one have had a column.
+    from: u16,
+}
+
+impl<'a> Model for Blocks<'a> {
+    ghost use Rattle.std.specs.Prelude.{◌≡◌, ◌≤◌, length};
+    ghost use Rattle.fleet_model.specs.declared.limits.TheConstants.{MAX_AGENTS};
+    ghost use Rattle.fleet_needs.specs.Columns.{BlocksLeft};
+
+    ghost Value = { BlocksLeft };
+
+    ghost view = { λ m. record { asked = m.asked.now; from = m.from } };
+
+    ghost invariant = { λ m. (m.agents ≡ length m.asked.now) × (m.agents ≤ MAX_AGENTS) };
+}
+
+impl<'a> Blocks<'a> {
+    /// All blocks for the flagged agents.
+    pub(crate) fn of<P: ProgramView>(
+        program: &P,
+        schedule: &'a Schedule,
+        asked: &'a [bool],
+    ) -> Blocks<'a>
+        requires { length asked.now ≡ length (P.program program.now) }
+        ensures asked { result.asked ≡ asked.now }
+        ensures from { result.from ≡ 0 }
+    {
+        Blocks {
+            schedule,
+            asked,
+            agents: program.agents(),
+            from: 0,
+        }
+    }
+
+    /// The columns of the next block, or `None` once each asked agent has had one.
+    pub(crate) fn next_block(&mut self, alloc: Global) -> Result<Option<Columns>, OutOfMemory>
+        ensures { IfOk result (λ next. MatchOption next (length self.old.asked ≤ self.old.from)
+            (IsNextBlock self.old self.new)) }
+    {
+        if self.from >= self.agents {
+            return Ok(None);
+        }
+        let most = self.schedule.columns_at_once();
+        let columns = Columns::choose(alloc, self.asked, self.from, most)?;
+        self.from = columns.end;
+        Ok(Some(columns))
     }
 }

@@ -14,7 +14,7 @@ use Rattle.fleet_needs.specs.Asked.{IsQuestion, IsSoonerAction, AreQuestions, Ar
 use Rattle.fleet_verify.specs.Ahead.{AreCountedUp, level_in}
 use Rattle.fleet_verify.specs.Chained.{AreKnown, IsChained, IsAsked, IsAskedOf, AreAsked, key_of}
 use Rattle.fleet_verify.specs.OpenPairs.{AreVisits, question_of}
-use Rattle.fleet_verify.specs.declared.answers.Answers.{Answers}
+use Rattle.fleet_verify.specs.declared.chained.Answers.{Answers}
 use Rattle.fleet_verify.specs.declared.chained.LevelQuestion.{LevelQuestion}
 use Rattle.fleet_verify.specs.declared.order.OpenPair.{OpenPair}
 use Rattle.fleet_verify.proofs.Decide.{Reaches-dec}

@@ -6,7 +6,7 @@ use Rattle.fleet_model.specs.Visit.{entering, leaving}
 use Rattle.fleet_needs.specs.Asked.{IsQuestion, AreAnswers}
 use Rattle.fleet_verify.specs.Ahead.{level_in}
 use Rattle.fleet_verify.specs.OpenPairs.{question_of}
-use Rattle.fleet_verify.specs.declared.answers.Answers.{Answers}
+use Rattle.fleet_verify.specs.declared.chained.Answers.{Answers}
 use Rattle.fleet_verify.specs.declared.chained.LevelQuestion.{LevelQuestion}
 use Rattle.fleet_verify.specs.declared.chained.TheConstants.{AGENTS}
 use Rattle.fleet_verify.specs.declared.order.OpenPair.{OpenPair}

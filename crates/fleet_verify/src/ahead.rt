@@ -16,8 +16,7 @@ ghost use Rattle.fleet_verify.specs.LastVisits.{kept_at};
 ghost use Rattle.fleet_verify.specs.Outlook.{IsOutlook};
 
 use crate::agents::ends_right;
-use crate::answers::Answers;
-use crate::chained::unless_chained;
+use crate::chained::{Answers, unless_chained};
 use crate::last_visits::LastVisits;
 use crate::level_row::{LevelRow, row_of};
 use crate::order::{OpenPair, PlacedVisit, begins_visit, is_left_by, open_unless_after};

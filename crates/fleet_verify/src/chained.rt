@@ -1,17 +1,17 @@
-//! Whether chains of needs order all open pairs of a program whose levels are known. It says yes, or what was answered.
+//! Whether chains of needs order all open pairs of a program whose levels are known: yes, or what was answered, so that
+//! it need not be asked again.
 
-ghost use Rattle.std.specs.Prelude.{◌≡◌, ◌<◌, ◌≤◌, ◌+◌, ◌-◌, ◌*◌, ℕ, true, false, [], All, Contains, IfOk, IfNone, IfSome, get_or, length, map};
+ghost use Rattle.std.specs.Prelude.{◌≡◌, ◌<◌, ◌≤◌, ◌+◌, ◌-◌, ◌*◌, ◌↔◌, ℕ, true, false, [], IsTrue, All, Contains, IfOk, IfNone, IfSome, get_or, length, map};
 ghost use Rattle.fleet_model.specs.Program.{AreInRange};
 ghost use Rattle.fleet_model.specs.Machine.{IsFinish};
 ghost use Rattle.fleet_verify.specs.Ahead.{AreCountedUp, level_in};
 ghost use Rattle.fleet_verify.specs.OpenPairs.{AreVisits, question_of};
 ghost use Rattle.fleet_verify.specs.Chained.{AreKnown, IsChained, IsAskedOf, AreAsked, IsAsked, key_of};
 
-use crate::answers::Answers;
 use crate::level_row::{LevelRow, row_of};
 use crate::order::{OpenPair, leaving};
 use fleet_model::{ActionId, OutOfMemory, ProgramView, Visit};
-use fleet_needs::Question;
+use fleet_needs::{Question, answer_questions};
 use std::alloc::Global;
 
 /// A question for a chain, with the level of its last action.
@@ -38,6 +38,50 @@ fn key(level: u32, agent: u16) -> u64
     ensures { result ≡ level * AGENTS + agent }
 {
     u64::from(level) * AGENTS + u64::from(agent)
+}
+
+/// Questions for chains, and a flag for each: whether no chain of needs begins with its first action and ends with its
+/// last.
+#[derive(Drop)]
+pub struct Answers {
+    pub questions: Vec<Question>,
+    pub flags: Vec<bool>,
+}
+
+impl Answers {
+    ghost use Rattle.std.specs.Prelude.{◌≡◌, [], IfOk};
+    ghost use Rattle.fleet_model.specs.Program.{AreInRange};
+    ghost use Rattle.fleet_model.specs.Machine.{IsFinish};
+    ghost use Rattle.fleet_needs.specs.Asked.{AreQuestions};
+    ghost use Rattle.fleet_verify.specs.Chained.{AreKnown};
+
+    /// Nothing was asked. Takes no memory.
+    pub fn none(alloc: Global) -> Answers
+        ensures questions { result.questions.items ≡ [] }
+        ensures flags { result.flags.items ≡ [] }
+    {
+        Answers {
+            questions: Vec::new(alloc),
+            flags: Vec::new(alloc),
+        }
+    }
+
+    /// The answers to these questions. The program finishes after so many ticks if nobody is held.
+    pub fn to<P: ProgramView>(
+        alloc: Global,
+        program: &P,
+        ticks: u32,
+        questions: Vec<Question>,
+    ) -> Result<Answers, OutOfMemory>
+        requires range { AreInRange (P.program program.now) }
+        requires finish { IsFinish (P.program program.now) [] ticks }
+        requires questions { AreQuestions (P.program program.now) questions.items }
+        ensures questions { IfOk result (λ a. a.questions.items ≡ questions.items) }
+        ensures known { IfOk result (AreKnown (P.program program.now)) }
+    {
+        let flags = answer_questions(alloc, program, ticks, &questions)?;
+        Ok(Answers { questions, flags })
+    }
 }
 
 /// Nothing if a chain orders each of the open pairs of a program that finishes after so many ticks if nobody is held.
@@ -253,4 +297,41 @@ fn questions_of(alloc: Global, asked: &Vec<LevelQuestion>) -> Result<Vec<Questio
         questions.push(one.question)?;
     }
     Ok(questions)
+}
+
+/// Whether these are the questions of the pairs, one by one.
+pub fn are_questions_of<P: ProgramView>(
+    program: &P,
+    pairs: &[OpenPair],
+    questions: &[Question],
+) -> bool
+    requires { All (AreVisits (P.program program.now)) pairs.now }
+    ensures { IsTrue result
+        ↔ (questions.now ≡ map (question_of (P.program program.now)) pairs.now) }
+{
+    if questions.len() != pairs.len() {
+        return false;
+    }
+    for k in 0..pairs.len() {
+        if !is_question_of(program, pairs[k], questions[k]) {
+            return false;
+        }
+    }
+    true
+}
+
+/// Whether this is the question of the pair.
+fn is_question_of<P: ProgramView>(program: &P, pair: OpenPair, question: Question) -> bool
+    requires { AreVisits (P.program program.now) pair }
+    ensures { IsTrue result ↔ (question ≡ question_of (P.program program.now) pair) }
+{
+    let OpenPair { first, second, .. } = pair;
+    let last = ActionId {
+        agent: second.agent,
+        number: second.position,
+    };
+    if question.last != last {
+        return false;
+    }
+    question.first == leaving(program, first)
 }

@@ -15,7 +15,7 @@
 //! another agent, which does not await that the first is left. A run that finishes has met each await, and `agents`
 //! looks whether all stand on their goals. Only if that run goes wrong are the paths judged one by one, in the order of
 //! the faults (`agents`, `path`); if they are right the run is stuck, and `ring` finds a ring of needs. If pairs are
-//! open `order` asks for chains, unless `answers` has kept that of the run ahead, and if some pair has none `order`
+//! open `order` asks for chains, unless `chained` has kept that of the run ahead, and if some pair has none `order`
 //! finds which is reported. `runs`, `orders`, `schedules`, `exactness`, `promises`, `counting`, `reduced` and `rest`
 //! are laws: their functions do nothing. What `verify` promises stands in the spec `Promises`. `reach` keeps, of an
 //! accepted program, where chains begin (`Reach`): the pieces of `fleet_needs`. `times` has when its actions end at the
@@ -30,7 +30,6 @@
 mod agents;
 mod ahead;
 mod ahead_laws;
-mod answers;
 mod breaking;
 mod chained;
 mod counting;

@@ -17,7 +17,7 @@ ghost use Rattle.fleet_needs.specs.Asked.{AreQuestions};
 ghost use Rattle.fleet_verify.specs.Chained.{AreKnown};
 ghost use Rattle.fleet_verify.specs.OpenPairs.{question_of, violation_of, AreVisits, HasNoChain, IsFlagged, AnswersFirstBad};
 
-use crate::answers::{Answers, are_questions_of};
+use crate::chained::{Answers, are_questions_of};
 use crate::fault::VerifyFault;
 use crate::path::cell_after;
 use crate::unheld_run::UnheldRun;

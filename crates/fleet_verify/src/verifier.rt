@@ -12,7 +12,7 @@ ghost use Rattle.fleet_verify.specs.Promises.{Promises, IsRefusedRightly};
 
 use crate::agents::{check_paths, check_starts, has_arrived};
 use crate::ahead::{Outlook, look_ahead};
-use crate::answers::Answers;
+use crate::chained::Answers;
 use crate::fault::VerifyFault;
 use crate::order::check_order;
 use crate::ring::find_ring;

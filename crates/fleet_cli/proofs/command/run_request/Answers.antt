@@ -1,6 +1,6 @@
 use Rattle.std.proofs.Common.{Err, inl, inr, refl, subst}
 use Rattle.fleet_cli.specs.Named.{given_names, IsUnread, AreTexts}
-use Rattle.fleet_cli.specs.declared.named.FileNames.{FileNames}
+use Rattle.fleet_cli.specs.declared.files.FileNames.{FileNames}
 use Rattle.fleet_cli.proofs.RunLemmas.{keeps_self}
 use Rattle.fleet_cli.proofs.command.run_request.Goals as goal
 

@@ -2,7 +2,7 @@ use Rattle.std.proofs.Common.{map, refl, arith}
 use Rattle.std.proofs.lemmas.List.{length-map, ext_get_or}
 use Rattle.fleet_needs.specs.declared.questions.Question.{Question}
 use Rattle.fleet_verify.specs.OpenPairs.{question_of}
-use Rattle.fleet_verify.proofs.answers.are_questions_of.Goals as goal
+use Rattle.fleet_verify.proofs.chained.are_questions_of.Goals as goal
 
 pub returns : goal.returns
 returns g c =

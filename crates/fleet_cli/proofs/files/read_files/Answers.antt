@@ -1,7 +1,7 @@
 use Rattle.std.proofs.lemmas.Result.{err_from_is_err_and}
 use Rattle.fleet_cli.specs.Named.{given_name}
 use Rattle.fleet_cli.proofs.FileLemmas.{kept_on, given_before, unread-first, unread-later, unread_before}
-use Rattle.fleet_cli.proofs.named.read_files.Goals as goal
+use Rattle.fleet_cli.proofs.files.read_files.Goals as goal
 
 pub returns-in_err-map-clause-fault : goal.returns-in_err-map-clause-fault
 returns-in_err-map-clause-fault g c =

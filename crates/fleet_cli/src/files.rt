@@ -9,6 +9,7 @@ use crate::input::{FileFault, MAX_BYTES, read_whole};
 use fleet_text::{WriteOut, put_all};
 use std::alloc::Global;
 use std::fs::{OpenFile, OpenOptions};
+use std::path::Path;
 use std::{fs, rt};
 
 /// A store of files, each with its bytes under its name.
@@ -104,7 +105,8 @@ impl<'r, R: rt::Files> Files for Disk<'r, R> {
         }
     }
 
-    /// Of what is no file, as a pipe or a terminal, nothing is cut off.
+    /// Of what is no file, as a pipe or a terminal, nothing is cut off. The folder of a file is on the disk when it is
+    /// answered, so that a log that was begun is found there after a power cut.
     fn cut_to_lines(&mut self, alloc: Global, name: &str) -> Result<(), FileFault> {
         let mut file = open_to_append(self.runtime, name)?;
         if !is_file(&file)? {
@@ -115,6 +117,7 @@ impl<'r, R: rt::Files> Files for Disk<'r, R> {
         if end < bytes.len() && file.set_len(end as u64).is_err() {
             return Err(FileFault::Failed);
         }
+        sync_folder(self.runtime, name);
         Ok(())
     }
 
@@ -138,6 +141,17 @@ fn open_to_append<R: rt::Files>(runtime: &R, name: &str) -> Result<R::File, File
     match options.open(runtime, name) {
         Ok(file) => Ok(file),
         Err(_) => Err(FileFault::Failed),
+    }
+}
+
+/// Has the folder of this path stored. A system that opens no folder, or stores none, is no failure of the file.
+fn sync_folder<R: rt::Files>(runtime: &R, name: &str) {
+    let folder = match Path::new(name).parent() {
+        Some(folder) if !folder.as_str().is_empty() => folder,
+        _ => Path::new("."),
+    };
+    if let Ok(folder) = fs::open(runtime, folder) {
+        let _ = folder.sync_all();
     }
 }
 

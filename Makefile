@@ -26,7 +26,7 @@ TO = $(DESTDIR)$(PREFIX)
 
 help:
 	@echo 'make look                  runs the program on examples within two minutes, with nothing proved'
-	@echo 'make demo                  builds the program (the first time 17 minutes on four processors) and shows it on examples'
+	@echo 'make demo                  builds the program (the first time 17 to 33 minutes on four processors) and shows it on examples'
 	@echo 'make lib                   builds libfleet for callers in C, C++, Rust and Python, and its header, in $(LIBRARY)'
 	@echo 'make install PREFIX=DIR    puts the program at DIR/bin/fleet ($(PREFIX) where none is given), and libfleet in DIR/lib'
 	@echo 'make test                  the gate: proofs, tests, edits that must fail, and then the examples'
@@ -50,7 +50,7 @@ test:
 # help. What the prover says goes to a file.
 $(BUILT): $(SOURCES)
 	@mkdir -p $(@D)
-	@echo 'Proving the crates and building fleet: the first time 17 minutes on four processors. The lines of the prover go to $(LOG).'
+	@echo 'Proving the crates and building fleet: the first time 17 to 33 minutes on four processors. The lines of the prover go to $(LOG).'
 	@($(if $(JOBS),$(PROVE) && )cd crates/fleet && rt run -- --help) > $(LOG) 2>&1 || { tail -n 20 $(LOG); exit 1; }
 	@touch $@
 

@@ -1,6 +1,10 @@
 -- Slots for rows, each of which is kept until it has been taken for the last time.
 use Rattle.std.specs.Prelude.{◌≡◌, ◌≢◌, ℕ, ◌+◌, ◌-◌, ◌<◌, ◌≤◌, ◌⊎◌, List, length, slice_index}
-use Rattle.fleet_needs.specs.declared.schedule.Slots.{Slots}
+
+-- for each row, from row 1 on, its slot, and for each slot the last row so far that was put into it
+pub record SlotsOfRows : Type 0 where
+  pub outs : List ℕ
+  pub owners : List ℕ
 
 -- no row after row r, among the first n, was put into its slot
 abbrev pub IsStill : List ℕ → ℕ → ℕ → Type 0
@@ -11,12 +15,12 @@ abbrev pub AreStill : List ℕ → List ℕ → Type 0
 AreStill lasts outs = (r n : ℕ) → 1 ≤ r → r ≤ n → n < length outs → n + 1 ≤ slice_index lasts r → IsStill outs r n
 
 -- so far they are, and so they will be if no slot is used again whose row is still to be taken
-pub record AreSlotted (lasts : List ℕ) (m : Slots) : Type 0 where
-  pub still : AreStill lasts m.outs.items
-  pub few : length m.owners.items ≤ 4294967295
-  pub within : (n : ℕ) → n < length m.outs.items → slice_index m.outs.items n < length m.owners.items
-  pub latest : (x n : ℕ) → x < length m.owners.items → slice_index m.owners.items x ≤ n → n < length m.outs.items → slice_index m.outs.items n ≢ x
-  pub live : (r : ℕ) → 1 ≤ r → r ≤ length m.outs.items → length m.outs.items + 1 ≤ slice_index lasts r → slice_index m.owners.items (slice_index m.outs.items (r - 1)) ≡ r
+pub record AreSlotted (lasts : List ℕ) (m : SlotsOfRows) : Type 0 where
+  pub still : AreStill lasts m.outs
+  pub few : length m.owners ≤ 4294967295
+  pub within : (n : ℕ) → n < length m.outs → slice_index m.outs n < length m.owners
+  pub latest : (x n : ℕ) → x < length m.owners → slice_index m.owners x ≤ n → n < length m.outs → slice_index m.outs n ≢ x
+  pub live : (r : ℕ) → 1 ≤ r → r ≤ length m.outs → length m.outs + 1 ≤ slice_index lasts r → slice_index m.owners (slice_index m.outs (r - 1)) ≡ r
 
 -- the slot is new, or its row is taken by none after this one
 pub record IsTaken (lasts : List ℕ) (row slot : ℕ) (old new : List ℕ) : Type 0 where

@@ -180,10 +180,18 @@ pub(crate) struct Slots {
     free: Vec<u32>,
 }
 
+impl Model for Slots {
+    ghost use Rattle.fleet_needs.specs.Slots.{SlotsOfRows};
+
+    ghost Value = { SlotsOfRows };
+
+    ghost view = { λ m. record { outs = m.outs.items; owners = m.owners.items } };
+}
+
 /// The slots of all rows.
 pub(crate) fn slots_of(alloc: Global, joins: &Joins) -> Result<Slots, OutOfMemory>
     ensures slotted { IfOk result (AreSlotted joins.now.lasts.items) }
-    ensures all { IfOk result (λ m. length m.outs.items ≡ length joins.now.joins.items) }
+    ensures all { IfOk result (λ m. length m.outs ≡ length joins.now.joins.items) }
 {
     let rows = joins.joins.len();
     let mut slots = Slots {
@@ -201,8 +209,8 @@ pub(crate) fn slots_of(alloc: Global, joins: &Joins) -> Result<Slots, OutOfMemor
 impl Slots {
     /// How many slots there are.
     pub(crate) fn count(&self) -> u32
-        requires { length self.now.owners.items ≤ u32.MAX }
-        ensures { result ≡ length self.now.owners.items }
+        requires { length self.now.owners ≤ u32.MAX }
+        ensures { result ≡ length self.now.owners }
     {
         self.owners.len() as u32
     }
@@ -210,8 +218,7 @@ impl Slots {
     /// Frees the slots of the rows that the join after n others takes for the last time, and of the row before if none
     /// takes it. This decides when memory is used again, and nothing else.
     fn free_taken(&mut self, joins: &Joins, n: usize) -> Result<(), OutOfMemory>
-        ensures outs { OnOk result (self.new.outs ≡ self.old.outs) }
-        ensures owners { OnOk result (self.new.owners ≡ self.old.owners) }
+        ensures { OnOk result (self.new ≡ self.old) }
     {
         let row = (n as u64).saturating_add(1);
         self.free_if(joins, n as u64, 0)?;
@@ -226,8 +233,7 @@ impl Slots {
 
     /// Frees the slot of a row, if this one is the last that is joined of it.
     fn free_if(&mut self, joins: &Joins, taken: u64, row: u64) -> Result<(), OutOfMemory>
-        ensures outs { OnOk result (self.new.outs ≡ self.old.outs) }
-        ensures owners { OnOk result (self.new.owners ≡ self.old.owners) }
+        ensures { OnOk result (self.new ≡ self.old) }
     {
         let is_last = match joins.lasts.get(taken as usize) {
             Some(&last) => u64::from(last) == row,
@@ -245,7 +251,7 @@ impl Slots {
     fn add_row(&mut self, lasts: &[u32]) -> Result<(), OutOfMemory>
         requires { AreSlotted lasts.now self.old }
         ensures slotted { OnOk result (AreSlotted lasts.now self.new) }
-        ensures more { OnOk result (length self.new.outs.items ≡ length self.old.outs.items + 1) }
+        ensures more { OnOk result (length self.new.outs ≡ length self.old.outs + 1) }
     {
         let row = self.outs.len() + 1;
         if row > u32::MAX as usize {
@@ -261,7 +267,7 @@ impl Slots {
     fn take_slot(&mut self, lasts: &[u32], row: u32) -> Result<u32, OutOfMemory>
         ensures outs { IfOk result (λ slot. self.new.outs ≡ self.old.outs) }
         ensures taken { IfOk result (λ slot. IsTaken lasts.now row slot
-            self.old.owners.items self.new.owners.items) }
+            self.old.owners self.new.owners) }
     {
         if let Some(slot) = self.free.pop() {
             if self.is_over(lasts, slot, row) {
@@ -278,9 +284,9 @@ impl Slots {
 
     /// Whether there is such a slot, and no row after this one takes what is in it.
     fn is_over(&self, lasts: &[u32], slot: u32, row: u32) -> bool
-        ensures within { IsTrue result → slot < length self.now.owners.items }
+        ensures within { IsTrue result → slot < length self.now.owners }
         ensures over { IsTrue result → slice_index lasts.now
-            (slice_index self.now.owners.items slot) ≤ row }
+            (slice_index self.now.owners slot) ≤ row }
     {
         if slot as usize >= self.owners.len() {
             return false;

@@ -5,5 +5,5 @@ use Rattle.fleet_needs.proofs.schedule.slots_of.Given as goal
 abbrev pub invariant-loop-n : goal.invariant-loop-n
 invariant-loop-n l = record {
   slotted : AreSlotted l.joins.lasts.items l.slots;
-  all : length l.slots.outs.items ≡ l.n;
+  all : length l.slots.outs ≡ l.n;
 }

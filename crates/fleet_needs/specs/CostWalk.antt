@@ -7,6 +7,7 @@ use Rattle.fleet_model.specs.Machine.{IsFinish}
 use Rattle.fleet_model.specs.Chain.{DirectlyNeeds, IsCriticalCost, awaited}
 use Rattle.fleet_needs.specs.Places.{ArePlacesOf}
 use Rattle.fleet_needs.specs.Order.{IsCounted}
+use Rattle.fleet_needs.specs.CostTable.{costs_of}
 use Rattle.fleet_needs.specs.Critical.{AreNotedCosts}
 use Rattle.fleet_needs.specs.declared.await_places.ActionPlaces.{ActionPlaces}
 use Rattle.fleet_needs.specs.declared.cost_walk.Stage.{Stage}
@@ -65,7 +66,7 @@ pub record Finishes (p : Program) (ticks : ℕ) : Type 0 where
 -- it is so with these agents
 pub record IsCostWalk (p : Program) (cost : ActionId → ℕ) (offset : (i finished k : ℕ) → ℕ) (w : CostWalk) : Type 0 where
   pub finishes : Finishes p w.ticks
-  pub walk : IsWalkBy p cost offset w.counts.items w.stages.items w.places w.costs.items
+  pub walk : IsWalkBy p cost offset w.counts.items w.stages.items w.places (costs_of w.costs)
 
 -- ---- how it goes on
 

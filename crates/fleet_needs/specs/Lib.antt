@@ -16,5 +16,6 @@ pub mod Joins
 pub mod Slots
 pub mod Schedule
 pub mod JoinPass
+pub mod CostTable
 pub mod Critical
 pub mod CostWalk

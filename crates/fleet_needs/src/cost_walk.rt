@@ -6,11 +6,13 @@ ghost use Rattle.fleet_model.specs.Program.{AreInRange, moves, total_moves};
 ghost use Rattle.fleet_model.specs.Machine.{IsFinish};
 ghost use Rattle.fleet_model.specs.Chain.{IsAction, awaited};
 ghost use Rattle.fleet_needs.specs.Places.{ArePlacesOf};
+ghost use Rattle.fleet_needs.specs.CostTable.{costs_of};
 ghost use Rattle.fleet_needs.specs.Critical.{value_at};
 ghost use Rattle.fleet_needs.specs.Order.{IsCounted, AreAllCounted};
 ghost use Rattle.fleet_needs.specs.CostWalk.{IsCostWalk, IsStage, IsReadyStage, HaveGrown, IsUnmet, IsOpen, IsGoal};
 
 use crate::await_places::ActionPlaces;
+use crate::cost_table::CostTable;
 use crate::critical::ActionCosts;
 use fleet_model::{
     ActionId, Await, Instruction, MAX_AGENTS, OutOfMemory, ProgramView, total_moves,
@@ -36,7 +38,7 @@ pub struct CostWalk {
     pub stages: Vec<Stage>,
     pub places: ActionPlaces,
     /// The costs, by the places of the actions.
-    pub costs: Vec<u64>,
+    pub costs: CostTable,
     /// So many ticks finish all actions if nobody is held.
     pub ticks: u32,
 }
@@ -67,7 +69,7 @@ fn begin<P: ProgramView>(alloc: Global, program: &P, ticks: u32) -> Result<CostW
     }
     let counts = vec![in alloc; 0; usize::from(agents)]?;
     let places = ActionPlaces::of(alloc, program)?;
-    let costs = vec![in alloc; 0; total_moves(program) as usize]?;
+    let costs = CostTable::zeros(alloc, total_moves(program) as usize)?;
     Ok(CostWalk {
         counts,
         stages,
@@ -89,11 +91,11 @@ fn is_open(walk: &CostWalk, goal: Await) -> bool
 fn cost_of<P: ProgramView>(program: &P, walk: &CostWalk, goal: Await) -> Option<u64>
     requires counts { length walk.now.counts.items ≡ length (P.program program.now) }
     requires places { ArePlacesOf (P.program program.now) walk.now.places }
-    requires costs { length walk.now.costs.items ≡ total_moves (P.program program.now) }
+    requires costs { length (costs_of walk.now.costs) ≡ total_moves (P.program program.now) }
     requires goal { IsAction (P.program program.now) (awaited goal) }
     ensures met { IfSome result (λ _. IsCounted walk.now.counts.items (awaited goal)) }
     ensures cost { IfSome result (λ m. m
-        ≡ value_at walk.now.places walk.now.costs.items (awaited goal)) }
+        ≡ value_at walk.now.places (costs_of walk.now.costs) (awaited goal)) }
     ensures none { IfNone result (IsOpen walk.now.counts.items goal) }
 {
     let _ = program.agents();
@@ -101,7 +103,7 @@ fn cost_of<P: ProgramView>(program: &P, walk: &CostWalk, goal: Await) -> Option<
         return None;
     }
     let place = walk.places.place(goal.agent, goal.count);
-    Some(walk.costs[place])
+    Some(walk.costs.get(place))
 }
 
 /// An action has an instruction for each await, of which there are fewer than agents, and one for its step.
@@ -157,12 +159,13 @@ fn next_stage<P: ProgramView, C: ActionCosts>(
 
 /// Finishes the agent's next action, which is ready, and notes its cost.
 fn finish<P: ProgramView, C: ActionCosts>(
+    alloc: Global,
     program: &P,
     costs: &C,
     walk: &mut CostWalk,
     agent: u16,
     ready: Stage,
-)
+) -> Result<(), OutOfMemory>
     requires walk { IsCostWalk (P.program program.now) (C.cost costs.now) (P.offset program.now)
         walk.old }
     requires agent { agent < length (P.program program.now) }
@@ -170,57 +173,60 @@ fn finish<P: ProgramView, C: ActionCosts>(
     requires ready { IsReadyStage (P.program program.now) (C.cost costs.now)
         (P.offset program.now) (IsCounted walk.old.counts.items) agent
         (slice_index walk.old.counts.items agent) ready }
-    ensures walk { IsCostWalk (P.program program.now) (C.cost costs.now) (P.offset program.now)
-        walk.new }
-    ensures finished { walk.new.counts.items ≡ set walk.old.counts.items agent
-        (slice_index walk.old.counts.items agent + 1) }
-    ensures ticks { walk.new.ticks ≡ walk.old.ticks }
+    ensures walk { OnOk result (IsCostWalk (P.program program.now) (C.cost costs.now)
+        (P.offset program.now) walk.new) }
+    ensures finished { OnOk result (walk.new.counts.items ≡ set walk.old.counts.items agent
+        (slice_index walk.old.counts.items agent + 1)) }
+    ensures ticks { OnOk result (walk.new.ticks ≡ walk.old.ticks) }
 {
     let _ = program.agents();
     let number = walk.counts[usize::from(agent)] + 1;
     let own = costs.cost(ActionId { agent, number });
     let greatest = ready.greatest + u64::from(own);
     let place = walk.places.place(agent, number);
-    walk.costs[place] = greatest;
+    walk.costs.make_room_for(alloc, greatest)?;
+    walk.costs.set(place, greatest);
     walk.counts[usize::from(agent)] = number;
     walk.stages[usize::from(agent)] = Stage {
         met: 0,
         at: ready.at,
         greatest,
     };
+    Ok(())
 }
 
 /// Lets an agent go on as far as its awaits allow, and answers the await that it then waits for, if it has an action left.
 fn run_agent<P: ProgramView, C: ActionCosts>(
+    alloc: Global,
     program: &P,
     costs: &C,
     walk: &mut CostWalk,
     agent: u16,
-) -> Option<Await>
+) -> Result<Option<Await>, OutOfMemory>
     requires walk { IsCostWalk (P.program program.now) (C.cost costs.now) (P.offset program.now)
         walk.old }
     requires agent { agent < length (P.program program.now) }
-    ensures walk { IsCostWalk (P.program program.now) (C.cost costs.now) (P.offset program.now)
-        walk.new }
-    ensures grown { HaveGrown walk.old.counts.items walk.new.counts.items }
-    ensures waits { IfSome result
-        (IsUnmet (P.program program.now) walk.new.counts.items agent) }
-    ensures finished { IfNone result (slice_index walk.new.counts.items agent
-        ≡ moves (P.program program.now) agent) }
-    ensures ticks { walk.new.ticks ≡ walk.old.ticks }
+    ensures walk { OnOk result (IsCostWalk (P.program program.now) (C.cost costs.now)
+        (P.offset program.now) walk.new) }
+    ensures grown { OnOk result (HaveGrown walk.old.counts.items walk.new.counts.items) }
+    ensures waits { IfOk result (λ waits. IfSome waits
+        (IsUnmet (P.program program.now) walk.new.counts.items agent)) }
+    ensures finished { IfOk result (λ waits. IfNone waits
+        (slice_index walk.new.counts.items agent ≡ moves (P.program program.now) agent)) }
+    ensures ticks { OnOk result (walk.new.ticks ≡ walk.old.ticks) }
 {
     let _ = program.agents();
     let moves = program.moves(agent);
     while walk.counts[usize::from(agent)] < moves {
         match next_stage(program, costs, walk, agent) {
-            Ok(ready) => finish(program, costs, walk, agent, ready),
+            Ok(ready) => finish(alloc, program, costs, walk, agent, ready)?,
             Err(block) => {
                 walk.stages[usize::from(agent)] = block.stage;
-                return Some(block.awaited);
+                return Ok(Some(block.awaited));
             }
         }
     }
-    None
+    Ok(None)
 }
 
 /// The last of the goals that is still open, or else the first goal of all. Those behind it go.
@@ -299,7 +305,7 @@ fn reach<P: ProgramView, C: ActionCosts>(
     let mut goals = Vec::new(alloc);
     let mut last = goal;
     while is_open(walk, goal) {
-        let waits = run_agent(program, costs, walk, last.agent);
+        let waits = run_agent(alloc, program, costs, walk, last.agent)?;
         last = next_goal(program, walk, &mut goals, goal, last, waits)?;
     }
     Ok(())

@@ -9,6 +9,7 @@ ghost use Rattle.fleet_model.specs.Chain.{IsAction};
 ghost use Rattle.fleet_needs.specs.Critical.{HasEntries, AreCriticalCosts, critical_cost};
 
 use crate::await_places::ActionPlaces;
+use crate::cost_table::CostTable;
 use crate::cost_walk::{CostWalk, walk_all};
 use fleet_model::{ActionId, OutOfMemory, ProgramView};
 use std::alloc::Global;
@@ -32,15 +33,16 @@ pub trait ActionCosts {
 #[derive(Drop)]
 pub struct CriticalCosts {
     places: ActionPlaces,
-    costs: Vec<u64>,
+    costs: CostTable,
 }
 
 impl Model for CriticalCosts {
     ghost use Rattle.fleet_needs.specs.Critical.{CostsByPlace};
+    ghost use Rattle.fleet_needs.specs.CostTable.{costs_of};
 
     ghost Value = { CostsByPlace };
 
-    ghost view = { λ m. record { places = m.places; costs = m.costs.items } };
+    ghost view = { λ m. record { places = m.places; costs = costs_of m.costs } };
 }
 
 impl CriticalCosts {
@@ -67,6 +69,6 @@ impl CriticalCosts {
         ensures { result ≡ critical_cost self.now action }
     {
         let _ = program.agents();
-        self.costs[self.places.place(action.agent, action.number)]
+        self.costs.get(self.places.place(action.agent, action.number))
     }
 }

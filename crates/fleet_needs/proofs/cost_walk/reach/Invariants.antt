@@ -4,8 +4,8 @@ use Rattle.fleet_needs.specs.CostWalk.{IsCostWalk, IsGoal, IsOpen, HaveGrown}
 use Rattle.fleet_needs.proofs.Walking.{to_go}
 use Rattle.fleet_needs.proofs.cost_walk.reach.Given as goal
 
-abbrev pub invariant-loop-goal : goal.invariant-loop-goal
-invariant-loop-goal g l = record {
+abbrev pub invariant-loop-alloc : goal.invariant-loop-alloc
+invariant-loop-alloc g l = record {
   walk : IsCostWalk (g.P.ProgramView.program l.program) (g.C.ActionCosts.cost l.costs) (g.P.ProgramView.offset l.program) l.walk;
   grown : HaveGrown l.fn.walk.counts.items l.walk.counts.items;
   ticks : l.walk.ticks ≡ l.fn.walk.ticks;
@@ -14,5 +14,5 @@ invariant-loop-goal g l = record {
   still : IsOpen l.walk.counts.items l.goal → IsOpen l.walk.counts.items l.last;
 }
 
-abbrev pub decreases-loop-goal : goal.decreases-loop-goal
-decreases-loop-goal g l = to_go (g.P.ProgramView.program l.program) l.walk.ticks l.walk.counts.items l.last.agent
+abbrev pub decreases-loop-alloc : goal.decreases-loop-alloc
+decreases-loop-alloc g l = to_go (g.P.ProgramView.program l.program) l.walk.ticks l.walk.counts.items l.last.agent

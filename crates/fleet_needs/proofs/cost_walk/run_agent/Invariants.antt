@@ -2,12 +2,12 @@ use Rattle.std.proofs.Common.{◌≡◌, ◌-◌, slice_index}
 use Rattle.fleet_needs.specs.CostWalk.{IsCostWalk, HaveGrown}
 use Rattle.fleet_needs.proofs.cost_walk.run_agent.Given as goal
 
-abbrev pub invariant-loop-walk : goal.invariant-loop-walk
-invariant-loop-walk g l = record {
+abbrev pub invariant-loop-alloc : goal.invariant-loop-alloc
+invariant-loop-alloc g l = record {
   walk : IsCostWalk (g.P.ProgramView.program l.program) (g.C.ActionCosts.cost l.costs) (g.P.ProgramView.offset l.program) l.walk;
   grown : HaveGrown l.fn.walk.counts.items l.walk.counts.items;
   ticks : l.walk.ticks ≡ l.fn.walk.ticks;
 }
 
-abbrev pub decreases-loop-walk : goal.decreases-loop-walk
-decreases-loop-walk g l = l.moves - slice_index l.walk.counts.items l.agent
+abbrev pub decreases-loop-alloc : goal.decreases-loop-alloc
+decreases-loop-alloc g l = l.moves - slice_index l.walk.counts.items l.agent

@@ -1,36 +1,56 @@
 -- Agents that go on as far as their awaits allow: that each step is right, and that they come to the end.
-use Rattle.std.proofs.Common.{◌≡◌, ◌≢◌, ℕ, zero, suc, ◌+◌, ◌-◌, ◌*◌, ◌<◌, ◌≤◌, List, [], ◌∷◌, length, max, set, slice_index, get_or, refl, sym, ap, subst, ◌∙◌, arith, inl, inr, ◌⊎◌, replicate}
+use Rattle.std.proofs.Common.{◌≡◌, ◌≢◌, ℕ, zero, suc, ◌+◌, ◌-◌, ◌*◌, ◌<◌, ◌≤◌, List, [], ◌∷◌, length, take, max, set, slice_index, get_or, refl, sym, ap, subst, ◌∙◌, arith, inl, inr, ◌⊎◌, replicate}
 use Rattle.std.specs.Prelude.{slice_get, Option, None, Some, IfSome, IfNone}
 use Rattle.std.proofs.Math.Nat.{max-eq_left, max-eq_right}
 use Rattle.std.proofs.lemmas.Bool.{cases_lt, cases_eq}
 use Rattle.std.proofs.lemmas.Nat.{mul-le}
-use Rattle.std.proofs.lemmas.List.{get_or-set_same, get_or-set_other, length-set, length-replicate, get_or-replicate}
+use Rattle.std.proofs.lemmas.List.{get_or-set_same, get_or-set_other, set-set, set-get_or, take_all, length-set, length-replicate, get_or-replicate}
+use Rattle.std.proofs.lemmas.List.Sums.{sum_by-take-le}
 use Rattle.std.proofs.lemmas.Option.{slice_get_within, get_or_from_slice_get, slice_get-get_or, same_Some}
 use Rattle.fleet_model.specs.declared.program.ActionId.{ActionId}
 use Rattle.fleet_model.specs.declared.program.Await.{Await}
-use Rattle.fleet_model.specs.Program.{Program, moves, awaits_of, total_moves, AreInRange}
+use Rattle.fleet_model.specs.Program.{Program, moves, actions_of, awaits_of, awaits_before, agent_awaits, total_moves, AreInRange}
 use Rattle.fleet_model.specs.Chain.{IsAction, DirectlyNeeds, IsCriticalCost, awaited}
+use Rattle.fleet_model.specs.declared.program.Action.{Action}
 use Rattle.fleet_model.proofs.Chains.{need_action}
+use Rattle.fleet_model.proofs.Totals.{actions_more, moves_more}
 use Rattle.fleet_needs.specs.Places.{ArePlacesOf}
 use Rattle.fleet_needs.specs.Order.{IsCounted}
 use Rattle.fleet_needs.specs.Critical.{IsNotedCost, value_at}
-use Rattle.fleet_needs.specs.CostWalk.{after, next_in, IsGreatestTo, IsStage, IsReadyStage, IsWalkBy, Finishes, HaveGrown, IsUnmet, IsGoal}
+use Rattle.fleet_needs.specs.CostWalk.{after, next_in, IsGreatestTo, IsStage, IsReadyStage, IsWalkBy, Finishes, HaveGrown, IsUnmet, IsGoal, cost_after, filled}
 use Rattle.fleet_needs.specs.declared.await_places.ActionPlaces.{ActionPlaces}
 use Rattle.fleet_needs.specs.declared.cost_walk.Stage.{Stage}
+use Rattle.fleet_needs.specs.declared.cost_walk.Standing.{Standing}
 use Rattle.fleet_needs.specs.declared.critical.TheConstants.{MAX_COST}
 use Rattle.fleet_needs.specs.declared.finish_order.TheConstants.{MAX_TICKS}
 use Rattle.fleet_needs.proofs.Free.{count, grows, needs_before, none_started, all_finished}
 use Rattle.fleet_needs.proofs.Costing.{noted_next}
-use Rattle.fleet_needs.proofs.Placed.{row_ends}
+use Rattle.fleet_needs.proofs.Placed.{row_ends, rising_to}
 use Rattle.fleet_needs.proofs.Ticking.{noted_more}
 
 -- ---- how far an agent has come
 
 -- an agent that has not begun
-pub record IsFirstStage (offset : (i finished k : ℕ) → ℕ) (i : ℕ) (s : Stage) : Type 0 where
+pub record IsFirstStage (p : Program) (offset : (i finished k : ℕ) → ℕ) (i : ℕ) (s : Stage) : Type 0 where
   pub met : s.met ≡ 0
   pub at : s.at ≡ offset i 0 0
+  pub left : s.left ≡ agent_awaits p i
   pub greatest : s.greatest ≡ 0
+
+-- before its first action it has awaited nothing
+none_before : (p : Program) (i : ℕ) → awaits_before p i 0 ≡ 0
+none_before p i = refl
+
+-- the actions of an agent stand among all
+pub places_within : (p : Program) (places : ActionPlaces) → ArePlacesOf p places → (i : ℕ) → i < length p → slice_index places i + moves p i ≤ total_moves p
+places_within p places are i agent =
+    let up = rising_to p (i + 1) (length p) (omega (arith, agent)) in
+    let all : total_moves (take (length p) p) ≡ total_moves p = ap total_moves (take_all (length p) p (omega arith)) in
+    omega (arith, are.each i agent, moves_more p i, up, all)
+
+-- the awaits of an action are among those of its agent
+pub awaits_within : (p : Program) (i n : ℕ) → awaits_before p i n + length (awaits_of p i (n + 1)) ≤ agent_awaits p i
+awaits_within p i n = omega (arith, actions_more p i n, sum_by-take-le (λ (s : Action). length s.awaits) (actions_of p i) (n + 1))
 
 module _ (p : Program) (cost : ActionId → ℕ) where
   -- of an agent's first action, before its awaits
@@ -81,20 +101,22 @@ module _ (p : Program) (cost : ActionId → ℕ) where
 
   module _ (offset : (i finished k : ℕ) → ℕ) where
     -- before its first action
-    pub first_stage : (These : ActionId → Type 0) (i : ℕ) (s : Stage) → IsFirstStage offset i s → IsStage p cost offset These i 0 s
+    pub first_stage : (These : ActionId → Type 0) (i : ℕ) (s : Stage) → IsFirstStage p offset i s → IsStage p cost offset These i 0 s
     first_stage These i s h = record {
       at = h.at ∙ ap (offset i 0) (sym h.met);
       within = omega (arith, h.met);
+      left = omega (arith, h.met, h.left, none_before p i);
       met = λ j w l at. absurd (omega (arith, l, h.met));
       greatest = subst (λ (k : ℕ). IsGreatestTo p cost (after i 0) k s.greatest) (sym h.met) (subst (IsGreatestTo p cost (after i 0) 0) (sym h.greatest) (greatest_none i));
     }
 
     -- past an await that is met
     pub stage_on : (These : ActionId → Type 0) (i n : ℕ) (s : Stage) → IsStage p cost offset These i n s → (w : Await) → slice_get (awaits_of p i (n + 1)) s.met ≡ Some w → These (awaited w)
-        → (v : ℕ) → IsCriticalCost p cost (awaited w) v → (t : Stage) → t.met ≡ s.met + 1 → t.at ≡ offset i n (s.met + 1) → t.greatest ≡ max s.greatest v → IsStage p cost offset These i n t
-    stage_on These i n s h w at done v is t met place greatest = record {
+        → (v : ℕ) → IsCriticalCost p cost (awaited w) v → (t : Stage) → t.met ≡ s.met + 1 → t.left + 1 ≡ s.left → t.at ≡ offset i n (s.met + 1) → t.greatest ≡ max s.greatest v → IsStage p cost offset These i n t
+    stage_on These i n s h w at done v is t met fewer place greatest = record {
       at = place ∙ ap (offset i n) (sym met);
       within = omega (arith, met, slice_get_within (awaits_of p i (n + 1)) s.met w at);
+      left = omega (arith, h.left, met, fewer);
       met = λ j u l there. elim (cases_lt j s.met) [
         | inl low ↦ h.met j u low there
         | inr high ↦
@@ -107,9 +129,10 @@ module _ (p : Program) (cost : ActionId → ℕ) where
 
     -- past all awaits
     pub stage_ready : (These : ActionId → Type 0) (i n : ℕ) (s : Stage) → IsStage p cost offset These i n s → s.met ≡ length (awaits_of p i (n + 1)) → ((b : ActionId) → i ≡ b.agent → n + 1 ≡ b.number + 1 → 1 ≤ b.number → These b)
-        → (t : Stage) → t.at ≡ offset i (n + 1) 0 → t.greatest ≡ s.greatest → IsReadyStage p cost offset These i n t
-    stage_ready These i n s h all before t place greatest = record {
+        → (t : Stage) → t.at ≡ offset i (n + 1) 0 → t.left ≡ s.left → t.greatest ≡ s.greatest → IsReadyStage p cost offset These i n t
+    stage_ready These i n s h all before t place same greatest = record {
       at = place;
+      left = omega (arith, h.left, same, all, actions_more p i n);
       met = λ b need. elim need [
         | inl own ↦ before b own.0 own.1 own.2
         | inr w ↦ h.met w.0 (record { agent = b.agent; count = b.number }) (omega (arith, all, w.1))
@@ -123,15 +146,17 @@ module _ (p : Program) (cost : ActionId → ℕ) where
     stage_wider These More wider i n m same s h = subst (λ (x : ℕ). IsStage p cost offset More i x s) (sym same) (record {
       at = h.at;
       within = h.within;
+      left = h.left;
       met = λ j w l at. wider (awaited w) (h.met j w l at);
       greatest = h.greatest;
     })
 
     -- once an action is finished
-    stage_next : (More : ActionId → Type 0) (i n m : ℕ) → IsCriticalCost p cost (after i n) m → (s : Stage) → s.met ≡ 0 → s.at ≡ offset i (n + 1) 0 → s.greatest ≡ m → IsStage p cost offset More i (n + 1) s
-    stage_next More i n m here s met place greatest = record {
+    stage_next : (More : ActionId → Type 0) (i n m : ℕ) → IsCriticalCost p cost (after i n) m → (s : Stage) → s.met ≡ 0 → awaits_before p i (n + 1) + s.left ≡ agent_awaits p i → s.at ≡ offset i (n + 1) 0 → s.greatest ≡ m → IsStage p cost offset More i (n + 1) s
+    stage_next More i n m here s met rest place greatest = record {
       at = place ∙ ap (offset i (n + 1)) (sym met);
       within = omega (arith, met);
+      left = omega (arith, met, rest);
       met = λ j w l at. absurd (omega (arith, l, met));
       greatest = subst (λ (k : ℕ). IsGreatestTo p cost (after i (n + 1)) k s.greatest) (sym met) (subst (IsGreatestTo p cost (after i (n + 1)) 0) (sym greatest) (greatest_own i n m here));
     }
@@ -172,9 +197,9 @@ module _ (p : Program) (cost : ActionId → ℕ) where
             ])
       ]
 
-      pub finished_on : (m : ℕ) → IsNotedCost p cost (after i n) m → (x : ℕ) → x + 1 ≡ slice_index places i + (n + 1) → (s : Stage) → s.met ≡ 0 → s.at ≡ offset i (n + 1) 0 → s.greatest ≡ m
+      pub finished_on : (m : ℕ) → IsNotedCost p cost (after i n) m → (x : ℕ) → x + 1 ≡ slice_index places i + (n + 1) → (s : Stage) → s.met ≡ 0 → awaits_before p i (n + 1) + s.left ≡ agent_awaits p i → s.at ≡ offset i (n + 1) 0 → s.greatest ≡ m
           → IsWalkBy p cost offset more (set stages i s) places (set costs x m)
-      finished_on m here x at s met place greatest = record {
+      finished_on m here x at s met rest place greatest = record {
         all_counts = length-set counts i (n + 1) ∙ h.all_counts;
         all_stages = length-set stages i s ∙ h.all_stages;
         are_places = h.are_places;
@@ -188,7 +213,7 @@ module _ (p : Program) (cost : ActionId → ℕ) where
               let same : t ≡ s = sym (get_or_from_slice_get (set stages i s) j t s there) ∙ ap (λ (k : ℕ). get_or (set stages i s) k s) e ∙ get_or-set_same stages i s s (omega (arith, agent, h.all_stages)) in
               subst (λ (k : ℕ). IsStage p cost offset (IsCounted more) k (slice_index more k) t) (sym e)
               (subst (λ (k : ℕ). IsStage p cost offset (IsCounted more) i k t) (sym own_count)
-              (subst (IsStage p cost offset (IsCounted more) i (n + 1)) (sym same) (stage_next (IsCounted more) i n m here.critical s met place greatest)))
+              (subst (IsStage p cost offset (IsCounted more) i (n + 1)) (sym same) (stage_next (IsCounted more) i n m here.critical s met rest place greatest)))
           | inr ne ↦
               let l : j < length (set stages i s) = slice_get_within (set stages i s) j t there in
               let was : slice_get stages j ≡ Some t =
@@ -239,15 +264,121 @@ module _ (p : Program) (cost : ActionId → ℕ) where
           omega (arith, few, times)
 
       -- the same, at the places where it is written
-      pub finished_at : (m : ℕ) → IsNotedCost p cost (after i n) m → (number x j k : ℕ) → number ≡ n + 1 → x + 1 ≡ slice_index places i + number → j ≡ i → k ≡ i → (s : Stage) → s.met ≡ 0 → s.at ≡ offset i (n + 1) 0 → s.greatest ≡ m
+      pub finished_at : (m : ℕ) → IsNotedCost p cost (after i n) m → (number x j k : ℕ) → number ≡ n + 1 → x + 1 ≡ slice_index places i + number → j ≡ i → k ≡ i → (s : Stage) → s.met ≡ 0 → awaits_before p i (n + 1) + s.left ≡ agent_awaits p i → s.at ≡ offset i (n + 1) 0 → s.greatest ≡ m
           → IsWalkBy p cost offset (set counts j number) (set stages k s) places (set costs x m)
-      finished_at m here number x j k same at e f s met place greatest =
+      finished_at m here number x j k same at e f s met rest place greatest =
           subst (λ (y : ℕ). IsWalkBy p cost offset (set counts y number) (set stages k s) places (set costs x m)) (sym e)
           (subst (λ (y : ℕ). IsWalkBy p cost offset (set counts i y) (set stages k s) places (set costs x m)) (sym same)
-          (subst (λ (y : ℕ). IsWalkBy p cost offset more (set stages y s) places (set costs x m)) (sym f) (finished_on m here x (omega (arith, at, same)) s met place greatest)))
+          (subst (λ (y : ℕ). IsWalkBy p cost offset more (set stages y s) places (set costs x m)) (sym f) (finished_on m here x (omega (arith, at, same)) s met rest place greatest)))
 
       pub stopped_at : (k : ℕ) → k ≡ i → (s : Stage) → IsStage p cost offset (IsCounted counts) i n s → IsWalkBy p cost offset counts (set stages k s) places costs
       stopped_at k f s stage = subst (λ (y : ℕ). IsWalkBy p cost offset counts (set stages y s) places costs) (sym f) (stopped_on s stage)
+
+-- ---- an agent that has no await left
+
+-- the costs of one action more
+module _ (cost : ActionId → ℕ) (begin i : ℕ) (from : Standing) (old table : List ℕ) (n greatest : ℕ) (begun : from.finished ≤ n) where
+  abbrev so_far : ℕ
+  so_far = n - from.finished
+
+  one_further : n + 1 - from.finished ≡ suc so_far
+  one_further = omega arith
+
+  here_again : from.finished + so_far ≡ n
+  here_again = omega arith
+
+  pub costs_more : greatest ≡ cost_after cost i from so_far → (v : ℕ) → v ≡ greatest + cost (after i n) → v ≡ cost_after cost i from (n + 1 - from.finished)
+  costs_more before v is =
+      subst (λ (j : ℕ). v ≡ cost_after cost i from j) (sym one_further)
+      (is ∙ ap (λ (g : ℕ). g + cost (after i n)) before ∙ ap (λ (j : ℕ). cost_after cost i from so_far + cost (after i j)) (sym here_again))
+
+  pub low_more : ((k : ℕ) → k < so_far → cost (after i (from.finished + k)) ≤ MAX_COST) → cost (after i n) ≤ MAX_COST → (k : ℕ) → k < n + 1 - from.finished → cost (after i (from.finished + k)) ≤ MAX_COST
+  low_more before here k l = elim (cases_lt k so_far) [
+    | inl s ↦ before k s
+    | inr s ↦ (let e : n ≡ from.finished + k = omega (arith, s, l) in subst (λ (j : ℕ). cost (after i j) ≤ MAX_COST) e here)
+  ]
+
+  pub filled_more : table ≡ filled cost begin i from old so_far → greatest ≡ cost_after cost i from so_far → (x v : ℕ) → x ≡ begin + n → v ≡ greatest + cost (after i n)
+      → set table x v ≡ filled cost begin i from old (n + 1 - from.finished)
+  filled_more is before x v at value =
+      let place : x ≡ begin + (from.finished + so_far) = omega (arith, at, here_again) in
+      let cost_is : v ≡ cost_after cost i from (suc so_far) = subst (λ (j : ℕ). v ≡ cost_after cost i from j) one_further (costs_more before v value) in
+      subst (λ (j : ℕ). set table x v ≡ filled cost begin i from old j) (sym one_further)
+      (ap (λ (t : List ℕ). set t x v) is ∙ ap (λ (y : ℕ). set (filled cost begin i from old so_far) y v) place ∙ ap (set (filled cost begin i from old so_far) (begin + (from.finished + so_far))) cost_is)
+
+module _ (p : Program) (cost : ActionId → ℕ) (offset : (i finished k : ℕ) → ℕ) (ticks : ℕ) (finishes : Finishes p ticks)
+    (counts : List ℕ) (stages : List Stage) (places : ActionPlaces) (costs : List ℕ) (h : IsWalkBy p cost offset counts stages places costs) (i : ℕ) (agent : i < length p)
+    (from : Standing) (count : from.finished ≡ slice_index counts i) (s : Stage) (there : slice_get stages i ≡ Some s) (met : s.met ≡ 0) (bare : s.left ≡ 0) (same : s.greatest ≡ from.greatest)
+    (begin : ℕ) (at : begin ≡ slice_index places i) where
+  -- how far it is k actions on
+  stage_after : ℕ → Stage
+  stage_after k = record { met = 0; left = 0; at = offset i (from.finished + k) 0; greatest = cost_after cost i from k }
+
+  abbrev RestOn : ℕ → Type 0
+  RestOn k = IsWalkBy p cost offset (set counts i (from.finished + k)) (set stages i (stage_after k)) places (filled cost begin i from costs k)
+
+  rest_begins : RestOn 0
+  unfolding stage_after
+  rest_begins =
+      let stage = h.each i s there in
+      let zero_more : from.finished + 0 ≡ slice_index counts i = omega (arith, count) in
+      let place : offset i (from.finished + 0) 0 ≡ s.at = ap (λ (n : ℕ). offset i n 0) zero_more ∙ ap (offset i (slice_index counts i)) (sym met) ∙ sym stage.at in
+      let s_is : stage_after 0 ≡ s = (λ t. record { met = sym met t; left = sym bare t; at = place t; greatest = sym same t }) in
+      let counts_are : set counts i (from.finished + 0) ≡ counts = ap (set counts i) zero_more ∙ set-get_or counts i 0 in
+      let stages_are : set stages i (stage_after 0) ≡ stages = ap (set stages i) (s_is ∙ sym (get_or_from_slice_get stages i s s there)) ∙ set-get_or stages i s in
+      subst (λ (cs : List ℕ). IsWalkBy p cost offset cs (set stages i (stage_after 0)) places costs) (sym counts_are)
+      (subst (λ (ss : List Stage). IsWalkBy p cost offset counts ss places costs) (sym stages_are) h)
+
+  abbrev IsLow : ℕ → Type 0
+  IsLow k = cost (after i (from.finished + k)) ≤ MAX_COST
+
+  rest_more : (k : ℕ) → from.finished + suc k ≤ moves p i → IsLow k → RestOn k → RestOn (suc k)
+  unfolding stage_after
+  rest_more k within low w =
+      let now = set counts i (from.finished + k) in
+      let then = set stages i (stage_after k) in
+      let table = filled cost begin i from costs k in
+      let n = slice_index now i in
+      let n_is : n ≡ from.finished + k = get_or-set_same counts i (from.finished + k) 0 (omega (arith, agent, h.all_counts)) in
+      let left : n < moves p i = omega (arith, n_is, within) in
+      let l : i < length then = omega (arith, agent, w.all_stages) in
+      let here : slice_get then i ≡ Some (stage_after k) =
+      slice_get-get_or then i (stage_after k) l ∙ ap Some (get_or-set_same stages i (stage_after k) (stage_after k) (omega (arith, agent, h.all_stages))) in
+      let stage = w.each i (stage_after k) here in
+      let none : 0 ≡ length (awaits_of p i (n + 1)) = omega (arith, stage.left, awaits_within p i n) in
+      let next : Stage = record { met = 0; left = 0; at = offset i (n + 1) 0; greatest = cost_after cost i from k } in
+      let ready = stage_ready p cost offset (IsCounted now) i n (stage_after k) stage none
+      (λ b same number first. let own : slice_index now i ≡ slice_index now b.agent = ap (slice_index now) same in omega (arith, number, own)) next refl refl refl in
+      let own = cost (after i n) in
+      let noted = costs_here p cost offset now then places table w i agent left ticks finishes next ready own refl (subst (λ (j : ℕ). cost (after i j) ≤ MAX_COST) (sym n_is) low) in
+      let up : from.finished + suc k ≡ n + 1 = omega (arith, n_is) in
+      let cost_is : cost_after cost i from k + own ≡ cost_after cost i from (suc k) = ap (λ (j : ℕ). cost_after cost i from k + cost (after i j)) n_is in
+      let made = finished_at p cost offset now then places table w i agent left (cost_after cost i from k + own) noted (from.finished + suc k) (begin + (from.finished + k)) i i up
+      (omega (arith, at)) refl refl (stage_after (suc k)) refl (omega (arith, stage.left, actions_more p i n, none)) (ap (λ (m : ℕ). offset i m 0) up) (sym cost_is) in
+      subst (λ (cs : List ℕ). IsWalkBy p cost offset cs (set stages i (stage_after (suc k))) places (filled cost begin i from costs (suc k))) (set-set counts i (from.finished + k) (from.finished + suc k))
+      (subst (λ (ss : List Stage). IsWalkBy p cost offset (set now i (from.finished + suc k)) ss places (filled cost begin i from costs (suc k))) (set-set stages i (stage_after k) (stage_after (suc k)))
+      (subst (λ (m : ℕ). IsWalkBy p cost offset (set now i (from.finished + suc k)) (set then i (stage_after (suc k))) places (set table (begin + (from.finished + k)) m)) cost_is made))
+
+  rest_on : (k : ℕ) → from.finished + k ≤ moves p i → ((j : ℕ) → j < k → IsLow j) → RestOn k
+  rest_on zero within low = rest_begins
+  rest_on (suc k) within low = rest_more k within (low k (omega arith)) (rest_on k (omega arith) (λ j l. low j (omega (arith, l))))
+
+  -- the same, at the places where it is written
+  pub rest_at : (finished j k : ℕ) → from.finished ≤ finished → finished ≤ moves p i → ((m : ℕ) → m < finished - from.finished → IsLow m) → j ≡ i → k ≡ i → (t : Stage) → t.met ≡ 0 → t.left ≡ 0 → t.at ≡ offset i finished 0
+      → t.greatest ≡ cost_after cost i from (finished - from.finished) → (table : List ℕ) → table ≡ filled cost begin i from costs (finished - from.finished)
+      → IsWalkBy p cost offset (set counts j finished) (set stages k t) places table
+  unfolding stage_after
+  rest_at finished j k more within low e f t t_met t_left t_at t_greatest table is =
+      let x = finished - from.finished in
+      let come : from.finished + x ≡ finished = omega (arith, more) in
+      let place : t.at ≡ offset i (from.finished + x) 0 = t_at ∙ ap (λ (n : ℕ). offset i n 0) (sym come) in
+      let t_is : t ≡ stage_after x = (λ u. record { met = t_met u; left = t_left u; at = place u; greatest = t_greatest u }) in
+      let made = rest_on x (omega (arith, come, within)) low in
+      subst (λ (y : ℕ). IsWalkBy p cost offset (set counts y finished) (set stages k t) places table) (sym e)
+      (subst (λ (y : ℕ). IsWalkBy p cost offset (set counts i finished) (set stages y t) places table) (sym f)
+      (subst (λ (u : Stage). IsWalkBy p cost offset (set counts i finished) (set stages i u) places table) (sym t_is)
+      (subst (λ (n : ℕ). IsWalkBy p cost offset (set counts i n) (set stages i (stage_after x)) places table) come
+      (subst (λ (cs : List ℕ). IsWalkBy p cost offset (set counts i (from.finished + x)) (set stages i (stage_after x)) places cs) (sym is) made))))
 
 -- ---- that agents come to the end
 
@@ -364,10 +495,10 @@ goes_on p ticks f old new long also grown within i j agent next = elim (cases_lt
 ]
 
 -- an agent whose goal is still open, and that went on as far as it could, waits for what is the next goal
-pub waits_for : (p : Program) (counts : List ℕ) (i : ℕ) (r : Option Await) (next : Await) → IfSome r (IsUnmet p counts i) → IfNone r (slice_index counts i ≡ moves p i) → slice_index counts i < moves p i
+pub waits_for : (p : Program) (counts : List ℕ) (i : ℕ) (until : ℕ) (r : Option Await) (next : Await) → IfSome r (IsUnmet p counts i) → IfNone r (until ≤ slice_index counts i) → slice_index counts i < until
     → IfSome r (λ w. next ≡ w) → (w : Await) × IsUnmet p counts i w × (w.agent ≡ next.agent)
-waits_for p counts i None next unmet finished l same = absurd (omega (arith, l, finished))
-waits_for p counts i (Some w) next unmet finished l same = (w, unmet, ap (λ (v : Await). v.agent) (sym same))
+waits_for p counts i until None next unmet reached l same = absurd (omega (arith, l, reached))
+waits_for p counts i until (Some w) next unmet reached l same = (w, unmet, ap (λ (v : Await). v.agent) (sym same))
 
 -- what an agent waits for is a goal
 pub unmet_goal : (p : Program) → AreInRange p → (counts : List ℕ) (i : ℕ) (w : Await) → IsUnmet p counts i w → IsGoal p w
@@ -375,7 +506,7 @@ unmet_goal p range counts i w unmet = let k = range i (slice_index counts i + 1)
 
 -- nothing is finished
 pub walk_begins : (p : Program) (cost : ActionId → ℕ) (offset : (i finished k : ℕ) → ℕ) (counts : List ℕ) (stages : List Stage) (places : ActionPlaces) (costs : List ℕ)
-    → counts ≡ replicate (length p) 0 → length stages ≡ length p → ((k : ℕ) (s : Stage) → slice_get stages k ≡ Some s → IsFirstStage offset k s) → ArePlacesOf p places → length costs ≡ total_moves p
+    → counts ≡ replicate (length p) 0 → length stages ≡ length p → ((k : ℕ) (s : Stage) → slice_get stages k ≡ Some s → IsFirstStage p offset k s) → ArePlacesOf p places → length costs ≡ total_moves p
     → IsWalkBy p cost offset counts stages places costs
 walk_begins p cost offset counts stages places costs zeros long first are all = record {
   all_counts = ap (λ (xs : List ℕ). length xs) zeros ∙ length-replicate (length p) 0;

@@ -1,8 +1,8 @@
 -- Actions finished in any order that respects needs, and the costs of their critical paths.
-use Rattle.std.specs.Prelude.{◌≡◌, ℕ, ◌+◌, ◌<◌, ◌≤◌, ◌⊎◌, List, [], length, slice_index, slice_get, Some, Contains}
+use Rattle.std.specs.Prelude.{◌≡◌, ℕ, zero, suc, ◌+◌, ◌<◌, ◌≤◌, ◌⊎◌, List, [], length, set, slice_index, slice_get, Some, Contains}
 use Rattle.fleet_model.specs.declared.program.ActionId.{ActionId}
 use Rattle.fleet_model.specs.declared.program.Await.{Await}
-use Rattle.fleet_model.specs.Program.{Program, moves, awaits_of, total_moves, AreInRange}
+use Rattle.fleet_model.specs.Program.{Program, moves, awaits_of, awaits_before, agent_awaits, total_moves, AreInRange}
 use Rattle.fleet_model.specs.Machine.{IsFinish}
 use Rattle.fleet_model.specs.Chain.{DirectlyNeeds, IsCriticalCost, awaited}
 use Rattle.fleet_needs.specs.Places.{ArePlacesOf}
@@ -11,6 +11,7 @@ use Rattle.fleet_needs.specs.CostTable.{costs_of}
 use Rattle.fleet_needs.specs.Critical.{AreNotedCosts}
 use Rattle.fleet_needs.specs.declared.await_places.ActionPlaces.{ActionPlaces}
 use Rattle.fleet_needs.specs.declared.cost_walk.Stage.{Stage}
+use Rattle.fleet_needs.specs.declared.cost_walk.Standing.{Standing}
 use Rattle.fleet_needs.specs.declared.cost_walk.CostWalk.{CostWalk}
 use Rattle.fleet_needs.specs.declared.finish_order.TheConstants.{MAX_TICKS}
 
@@ -35,6 +36,7 @@ pub record IsGreatestTo (p : Program) (cost : ActionId → ℕ) (a : ActionId) (
 pub record IsStage (p : Program) (cost : ActionId → ℕ) (offset : (i finished k : ℕ) → ℕ) (These : ActionId → Type 0) (i n : ℕ) (s : Stage) : Type 0 where
   pub at : s.at ≡ offset i n s.met
   pub within : s.met ≤ length (awaits_of p i (n + 1))
+  pub left : awaits_before p i n + s.met + s.left ≡ agent_awaits p i
   pub met : (j : ℕ) (w : Await) → j < s.met → slice_get (awaits_of p i (n + 1)) j ≡ Some w → These (awaited w)
   pub greatest : IsGreatestTo p cost (after i n) s.met s.greatest
 
@@ -42,6 +44,7 @@ pub record IsStage (p : Program) (cost : ActionId → ℕ) (offset : (i finished
 -- action after it stands there
 pub record IsReadyStage (p : Program) (cost : ActionId → ℕ) (offset : (i finished k : ℕ) → ℕ) (These : ActionId → Type 0) (i n : ℕ) (s : Stage) : Type 0 where
   pub at : s.at ≡ offset i (n + 1) 0
+  pub left : awaits_before p i (n + 1) + s.left ≡ agent_awaits p i
   pub met : (b : ActionId) → DirectlyNeeds p (after i n) b → These b
   pub greatest : IsGreatestTo p cost (after i n) (length (awaits_of p i (n + 1))) s.greatest
 
@@ -83,6 +86,20 @@ pub record IsUnmet (p : Program) (counts : List ℕ) (i : ℕ) (w : Await) : Typ
   pub left : slice_index counts i < moves p i
   pub await : Contains (awaits_of p i (slice_index counts i + 1)) w
   pub unfinished : IsOpen counts w
+
+-- ---- an agent that has no await left
+
+-- what the critical path of the agent's last action costs, so many actions on, if each adds its own cost
+abbrev pub cost_after : (ActionId → ℕ) → ℕ → Standing → ℕ → ℕ
+cost_after cost i from zero = from.greatest
+cost_after cost i from (suc k) = cost_after cost i from k + cost (after i (from.finished + k))
+
+-- the table with these costs of its next k actions, where its first action has that place
+abbrev pub filled : (ActionId → ℕ) → (begin i : ℕ) → Standing → List ℕ → ℕ → List ℕ
+filled cost begin i from table zero = table
+filled cost begin i from table (suc k) = set (filled cost begin i from table k) (begin + (from.finished + k)) (cost_after cost i from (suc k))
+
+-- ---- goals
 
 -- the agent has so many actions, or more
 pub record IsGoal (p : Program) (w : Await) : Type 0 where

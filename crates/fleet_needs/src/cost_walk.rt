@@ -1,6 +1,6 @@
 //! Agents that go on as far as their awaits allow, and the costs of the critical paths of what they have finished.
 
-ghost use Rattle.std.specs.Prelude.{◌≡◌, ◌+◌, ◌<◌, ◌≤◌, ◌↔◌, ℕ, [], set, All, IsTrue, IfOk, IfErr, IfSome, IfNone, OnOk, length, slice_index};
+ghost use Rattle.std.specs.Prelude.{◌≡◌, ◌+◌, ◌-◌, ◌^◌, ◌<◌, ◌≤◌, ◌↔◌, ℕ, [], set, All, IsTrue, IfOk, IfErr, IfSome, IfNone, OnOk, length, slice_index};
 ghost use Rattle.fleet_model.specs.declared.program.ActionId.{ActionId};
 ghost use Rattle.fleet_model.specs.Program.{AreInRange, moves, total_moves};
 ghost use Rattle.fleet_model.specs.Machine.{IsFinish};
@@ -8,14 +8,15 @@ ghost use Rattle.fleet_model.specs.Chain.{IsAction, awaited};
 ghost use Rattle.fleet_needs.specs.Places.{ArePlacesOf};
 ghost use Rattle.fleet_needs.specs.CostTable.{costs_of};
 ghost use Rattle.fleet_needs.specs.Critical.{value_at};
+ghost use Rattle.fleet_needs.specs.declared.critical.TheConstants.{MAX_COST};
 ghost use Rattle.fleet_needs.specs.Order.{IsCounted, AreAllCounted};
-ghost use Rattle.fleet_needs.specs.CostWalk.{IsCostWalk, IsStage, IsReadyStage, HaveGrown, IsUnmet, IsOpen, IsGoal};
+ghost use Rattle.fleet_needs.specs.CostWalk.{IsCostWalk, IsStage, IsReadyStage, HaveGrown, IsUnmet, IsOpen, IsGoal, after, cost_after, filled};
 
 use crate::await_places::ActionPlaces;
 use crate::cost_table::CostTable;
 use crate::critical::ActionCosts;
 use fleet_model::{
-    ActionId, Await, Instruction, MAX_AGENTS, OutOfMemory, ProgramView, total_moves,
+    ActionId, Await, Instruction, MAX_AGENTS, OutOfMemory, ProgramView, agent_awaits, total_moves,
 };
 use std::alloc::Global;
 
@@ -24,6 +25,8 @@ use std::alloc::Global;
 pub struct Stage {
     /// How many of its awaits are met, from the first on.
     pub met: u16,
+    /// How many awaits the agent has after these, with those of its later actions.
+    pub left: u32,
     /// Where the instruction after these stands.
     pub at: usize,
     /// The greatest cost of the critical paths of the actions that these name and of the action before, or 0.
@@ -61,8 +64,10 @@ fn begin<P: ProgramView>(alloc: Global, program: &P, ticks: u32) -> Result<CostW
     let mut stages = Vec::with_capacity(alloc, usize::from(agents))?;
     for i in 0..agents {
         let at = program.offset(i, 0, 0);
+        let left = agent_awaits(program, i);
         stages.push(Stage {
             met: 0,
+            left,
             at,
             greatest: 0,
         })?;
@@ -139,6 +144,7 @@ fn next_stage<P: ProgramView, C: ActionCosts>(
                 Some(cost) => {
                     stage = Stage {
                         met: k + 1,
+                        left: stage.left - 1,
                         at: reading.after,
                         greatest: stage.greatest.max(cost),
                     };
@@ -148,6 +154,7 @@ fn next_stage<P: ProgramView, C: ActionCosts>(
             Instruction::Step(_) => {
                 return Ok(Stage {
                     met: 0,
+                    left: stage.left,
                     at: reading.after,
                     greatest: stage.greatest,
                 });
@@ -189,39 +196,125 @@ fn finish<P: ProgramView, C: ActionCosts>(
     walk.counts[usize::from(agent)] = number;
     walk.stages[usize::from(agent)] = Stage {
         met: 0,
+        left: ready.left,
         at: ready.at,
         greatest,
     };
     Ok(())
 }
 
-/// Lets an agent go on as far as its awaits allow, and answers the await that it then waits for, if it has an action left.
+/// How many actions an agent has finished, and the cost of the critical path of the last one, or 0.
+#[derive(Clone, Copy)]
+pub struct Standing {
+    pub finished: u32,
+    pub greatest: u64,
+}
+
+/// Notes what the agent's next actions cost, up to the last one, each by so much more than the one before it, as long as
+/// that fits four bytes. They stand in the table from `begin` on, where the agent's first action has its place.
+fn fill<C: ActionCosts>(
+    costs: &C,
+    table: &mut [u32],
+    begin: usize,
+    agent: u16,
+    from: Standing,
+    last: u32,
+) -> Standing
+    requires room { begin + last ≤ length table.old }
+    requires left { from.finished ≤ last }
+    requires short { from.greatest < 2 ^ 32 }
+    ensures within { result.finished ≤ last }
+    ensures more { from.finished ≤ result.finished }
+    ensures table { table.new ≡ filled (C.cost costs.now) begin agent from table.old
+        (result.finished - from.finished) }
+    ensures greatest { result.greatest ≡ cost_after (C.cost costs.now) agent from
+        (result.finished - from.finished) }
+    ensures low { (k : ℕ) → k < result.finished - from.finished
+        → C.cost costs.now (after agent (from.finished + k)) ≤ MAX_COST }
+{
+    let mut come = from;
+    while come.finished < last {
+        let number = come.finished + 1;
+        let own = costs.cost(ActionId { agent, number });
+        let greatest = come.greatest + u64::from(own);
+        let is_long = greatest > u64::from(u32::MAX);
+        if is_long {
+            return come;
+        }
+        table[begin + come.finished as usize] = greatest as u32;
+        come = Standing {
+            finished: number,
+            greatest,
+        };
+    }
+    come
+}
+
+/// Lets an agent go on to its end if it has no await left, as long as the costs fit four bytes.
+fn run_rest<P: ProgramView, C: ActionCosts>(program: &P, costs: &C, walk: &mut CostWalk, agent: u16)
+    requires walk { IsCostWalk (P.program program.now) (C.cost costs.now) (P.offset program.now)
+        walk.old }
+    requires agent { agent < length (P.program program.now) }
+    ensures walk { IsCostWalk (P.program program.now) (C.cost costs.now) (P.offset program.now)
+        walk.new }
+    ensures grown { HaveGrown walk.old.counts.items walk.new.counts.items }
+    ensures ticks { walk.new.ticks ≡ walk.old.ticks }
+{
+    let stage = walk.stages[usize::from(agent)];
+    let has_awaits = stage.left > 0;
+    let is_within = stage.met > 0;
+    let is_long = stage.greatest > u64::from(u32::MAX);
+    if has_awaits || is_within || is_long {
+        return;
+    }
+    let from = Standing {
+        finished: walk.counts[usize::from(agent)],
+        greatest: stage.greatest,
+    };
+    let begin = walk.places.place(agent, 1);
+    let last = program.moves(agent);
+    let to = match &mut walk.costs {
+        CostTable::Narrow(table) => fill(costs, table, begin, agent, from, last),
+        CostTable::Wide(_) => return,
+    };
+    walk.counts[usize::from(agent)] = to.finished;
+    walk.stages[usize::from(agent)] = Stage {
+        met: 0,
+        left: 0,
+        at: program.offset(agent, to.finished, 0),
+        greatest: to.greatest,
+    };
+}
+
+/// Lets the agent of a goal go on as far as its awaits allow, until the goal is reached, and answers the await that it
+/// waits for if it does not come so far.
 fn run_agent<P: ProgramView, C: ActionCosts>(
     alloc: Global,
     program: &P,
     costs: &C,
     walk: &mut CostWalk,
-    agent: u16,
+    goal: Await,
 ) -> Result<Option<Await>, OutOfMemory>
     requires walk { IsCostWalk (P.program program.now) (C.cost costs.now) (P.offset program.now)
         walk.old }
-    requires agent { agent < length (P.program program.now) }
+    requires goal { IsGoal (P.program program.now) goal }
     ensures walk { OnOk result (IsCostWalk (P.program program.now) (C.cost costs.now)
         (P.offset program.now) walk.new) }
     ensures grown { OnOk result (HaveGrown walk.old.counts.items walk.new.counts.items) }
     ensures waits { IfOk result (λ waits. IfSome waits
-        (IsUnmet (P.program program.now) walk.new.counts.items agent)) }
-    ensures finished { IfOk result (λ waits. IfNone waits
-        (slice_index walk.new.counts.items agent ≡ moves (P.program program.now) agent)) }
+        (IsUnmet (P.program program.now) walk.new.counts.items goal.agent)) }
+    ensures reached { IfOk result (λ waits. IfNone waits
+        (goal.count ≤ slice_index walk.new.counts.items goal.agent)) }
     ensures ticks { OnOk result (walk.new.ticks ≡ walk.old.ticks) }
 {
-    let _ = program.agents();
-    let moves = program.moves(agent);
-    while walk.counts[usize::from(agent)] < moves {
-        match next_stage(program, costs, walk, agent) {
-            Ok(ready) => finish(alloc, program, costs, walk, agent, ready)?,
+    while walk.counts[usize::from(goal.agent)] < goal.count {
+        match next_stage(program, costs, walk, goal.agent) {
+            Ok(ready) => {
+                finish(alloc, program, costs, walk, goal.agent, ready)?;
+                run_rest(program, costs, walk, goal.agent);
+            }
             Err(block) => {
-                walk.stages[usize::from(agent)] = block.stage;
+                walk.stages[usize::from(goal.agent)] = block.stage;
                 return Ok(Some(block.awaited));
             }
         }
@@ -305,7 +398,7 @@ fn reach<P: ProgramView, C: ActionCosts>(
     let mut goals = Vec::new(alloc);
     let mut last = goal;
     while is_open(walk, goal) {
-        let waits = run_agent(alloc, program, costs, walk, last.agent)?;
+        let waits = run_agent(alloc, program, costs, walk, last)?;
         last = next_goal(program, walk, &mut goals, goal, last, waits)?;
     }
     Ok(())

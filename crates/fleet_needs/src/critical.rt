@@ -69,6 +69,7 @@ impl CriticalCosts {
         ensures { result ≡ critical_cost self.now action }
     {
         let _ = program.agents();
-        self.costs.get(self.places.place(action.agent, action.number))
+        self.costs
+            .get(self.places.place(action.agent, action.number))
     }
 }

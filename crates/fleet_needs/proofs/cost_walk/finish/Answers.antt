@@ -52,5 +52,5 @@ returns-clause-walk g c =
       finishes = c.requires.walk.finishes;
       walk = subst (IsWalkBy p cost offset _ _ places) (sym (c.set.ensures ∙ ap (λ (cs : List ℕ). set cs c.place-place.result (c.args.ready.greatest + c.from-2.result)) c.in_ok-make_room_for.ensures.same))
           (finished_at p cost offset counts stages places costs walk i c.requires.agent c.requires.left (c.args.ready.greatest + c.from-2.result) here (c.index.result.now + 1) c.place-place.result c.from-3.result c.from-4.result
-          (ap (λ (n : ℕ). n + 1) count) c.place-place.ensures c.from-3.ensures c.from-4.ensures (record { met = 0; at = c.args.ready.at; greatest = c.args.ready.greatest + c.from-2.result }) refl c.requires.ready.at refl);
+          (ap (λ (n : ℕ). n + 1) count) c.place-place.ensures c.from-3.ensures c.from-4.ensures (record { met = 0; left = c.args.ready.left; at = c.args.ready.at; greatest = c.args.ready.greatest + c.from-2.result }) refl c.requires.ready.left c.requires.ready.at refl);
     }

@@ -13,4 +13,4 @@ loop-alloc-smaller g c =
     let unfinished = before.still (c.is_open.ensures.0 c.loop-alloc-test.true) in
     subst (λ (t : ℕ). to_go p t new c.in_ok-last.last.agent < to_go p c.loop-alloc.walk.ticks old last.agent) (sym after.ticks)
     (goes_on p c.loop-alloc.walk.ticks before.walk.finishes old new before.walk.walk.all_counts after.walk.walk.all_counts after.grown after.walk.walk.within last.agent c.in_ok-last.last.agent before.last.agent
-    (λ same. waits_for p new last.agent c.in_ok-waits.waits c.in_ok-last.last after.waits after.finished (omega (arith, same, unfinished, before.last.within)) (c.in_ok-last.ensures.down (omega (arith, same, unfinished)))))
+    (λ same. waits_for p new last.agent last.count c.in_ok-waits.waits c.in_ok-last.last after.waits after.reached (omega (arith, same, unfinished)) (c.in_ok-last.ensures.down (omega (arith, same, unfinished)))))

@@ -9,5 +9,5 @@ returns-in-Err-clause-walk g c =
     record {
       finishes = inside.finishes;
       walk = stopped_at (g.P.ProgramView.program c.args.program.now) (g.C.ActionCosts.cost c.args.costs.now) (g.P.ProgramView.offset c.args.program.now) walk.counts.items walk.stages.items walk.places (costs_of walk.costs) inside.walk
-          c.args.agent c.requires.agent c.in-Err.ensures.unmet.left c.from-in-Err.result c.from-in-Err.ensures c.in-Err.block.stage c.in-Err.ensures.stage;
+          c.args.goal.agent c.requires.goal.agent c.in-Err.ensures.unmet.left c.from-in-Err.result c.from-in-Err.ensures c.in-Err.block.stage c.in-Err.ensures.stage;
     }

@@ -10,4 +10,4 @@ invariant-loop-alloc g l = record {
 }
 
 abbrev pub decreases-loop-alloc : goal.decreases-loop-alloc
-decreases-loop-alloc g l = l.moves - slice_index l.walk.counts.items l.agent
+decreases-loop-alloc g l = l.goal.count - slice_index l.walk.counts.items l.goal.agent

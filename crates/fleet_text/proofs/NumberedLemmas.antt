@@ -1,12 +1,12 @@
 -- Words whose numbers follow one another.
 use Rattle.std.proofs.Common.{◌≡◌, ℕ, zero, suc, ◌+◌, ◌-◌, ◌/◌, ◌%◌, ◌^◌, ◌<◌, ◌≤◌, List, ◌∷◌, [], ◌++◌, map, length, length-append, take, drop, refl, sym, ap, ◌∙◌, subst, arith, append_assoc, append-nil}
-use Rattle.std.specs.List.{range_with_len}
+use Rattle.std.specs.List.{range_with_len, flat_map}
 use Rattle.std.specs.Fmt.{decimal}
-use Rattle.std.proofs.lemmas.List.{map-append, length-drop, take-take, take-append-le, take_all}
+use Rattle.std.proofs.lemmas.List.{map-append, length-drop, take-take, take-append-le, take_all, flat_map_more}
 use Rattle.std.proofs.lemmas.List.FromFn.{map-range_with_len_more}
 use Rattle.fleet_text.specs.Sink.{SinkState, StopsWithin}
 use Rattle.fleet_text.specs.Row.{PassesOn}
-use Rattle.fleet_text.specs.Words.{next_words, next_front, numbered_text, numbered_words, tens_text}
+use Rattle.fleet_text.specs.Words.{next_words, next_front, numbered_text, numbered_words, tens_text, digit_words}
 use Rattle.fleet_text.proofs.DigitLemmas.{decimal_by_tens}
 use Rattle.fleet_text.proofs.SinkLemmas.{next_words-append, passes_more, stops_past, stops_before}
 
@@ -53,6 +53,28 @@ range_split a (suc m) n =
     let more : suc m + n ≡ suc (m + n) = omega arith in
     let same : a + 1 + m ≡ a + suc m = omega arith in
     ap (λ k. range_with_len a k) more ∙ ap (λ l. a ∷ l) (range_split (a + 1) m n ∙ ap (λ b. range_with_len (a + 1) m ++ range_with_len b n) same)
+
+-- ---- digits behind the same bytes
+
+-- one digit more
+pub digit_words_more : (front : List ℕ) (digit k : ℕ) → digit_words front digit (k + 1) ≡ digit_words front digit k ++ (front ++ (digit + k) ∷ [])
+digit_words_more front digit k =
+    ap (flat_map (λ d. front ++ d ∷ [])) (range_split digit k 1) ∙ sym (flat_map_more (λ d. front ++ d ∷ []) [] (range_with_len digit k) (digit + k))
+
+-- words whose numbers differ in the last digit alone are their front and these digits
+pub digits_are_words : (owner number count : ℕ) → number % 10 + count ≤ 10 → number + count < 2 ^ 64
+    → digit_words (next_front owner (number / 10)) (48 + number % 10) count ≡ next_words (numbered_words owner number count)
+digits_are_words owner number zero few fits = refl
+digits_are_words owner number (suc k) few fits =
+    let one : suc k ≡ k + 1 = omega arith in
+    let front = next_front owner (number / 10) in
+    let digit : 48 + number % 10 + k ≡ 48 + (number % 10 + k) = omega arith in
+    ap (digit_words front (48 + number % 10)) one
+    ∙ (digit_words_more front (48 + number % 10) k
+    ∙ (ap (λ d. digit_words front (48 + number % 10) k ++ (front ++ d ∷ [])) digit
+    ∙ (ap (λ l. l ++ (front ++ (48 + (number % 10 + k)) ∷ [])) (digits_are_words owner number k (omega (arith, few)) (omega (arith, fits)))
+    ∙ (sym (digit_more owner number k (omega (arith, few)) (omega (arith, fits)))
+    ∙ ap (λ n. next_words (numbered_words owner number n)) (sym one)))))
 
 pub numbered_split : (owner first m n : ℕ) → next_words (numbered_words owner first (m + n)) ≡ next_words (numbered_words owner first m) ++ next_words (numbered_words owner (first + m) n)
 numbered_split owner first m n =

@@ -60,11 +60,8 @@ fn append_ten(row: &mut Row, owner: u16, number: u64, count: u64)
 {
     let mut word = [0; 2 * TWO];
     let start = write_front(owner, number / 10, &mut word);
-    let digit = number % 10;
-    for k in 0..count {
-        row.append_front(&word[start..start + TWO], TWO - start);
-        row.append_byte(b'0' + (digit + k) as u8);
-    }
+    let digit = b'0' + (number % 10) as u8;
+    row.append_digits(&word[start..start + TWO], TWO - start, digit, count as u8);
 }
 
 /// Adds the same words, and has the sink take what is in the row if there is no room for ten.

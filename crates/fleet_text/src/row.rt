@@ -1,8 +1,9 @@
 //! A row of bytes in which a line is put together, so that a sink gets it in one piece, or in large ones.
 
-ghost use Rattle.std.specs.Prelude.{◌≡◌, ◌+◌, ◌≤◌, ◌∷◌, [], ◌++◌, length, take, drop, decimal, OnOk};
+ghost use Rattle.std.specs.Prelude.{◌≡◌, ◌+◌, ◌*◌, ◌<◌, ◌≤◌, ◌∷◌, [], ◌++◌, length, take, drop, decimal, OnOk};
 ghost use Rattle.fleet_text.specs.Sink.{IsWorking, TakesAll};
 ghost use Rattle.fleet_text.specs.Row.{Gathers};
+ghost use Rattle.fleet_text.specs.Words.{digit_words};
 
 use crate::numbers::{write_byte, write_number};
 use crate::sink::{OutFault, TraceOut, put_all};
@@ -27,6 +28,60 @@ fn write_two(first: u16, between: u8, second: u32, row: &mut [u8; 2 * TWO]) -> u
     let end = write_number(u64::from(second), row, TWO);
     let end = write_byte(between, row, end);
     write_number(u64::from(first), row, end)
+}
+
+/// Writes the first so many bytes of a piece at a place, and answers where they end. All `TWO` of them are copied, for
+/// which there is room: that takes no loop.
+#[inline(always)]
+fn copy_front(bytes: &mut [u8], at: usize, piece: &[u8], count: usize) -> usize
+    requires piece { length piece.now ≡ TWO }
+    requires count { count ≤ TWO }
+    requires room { at + TWO ≤ length bytes.old }
+    ensures end { result ≡ at + count }
+    ensures len { length bytes.new ≡ length bytes.old }
+    ensures written { take result bytes.new ≡ take at bytes.old ++ take count piece.now }
+{
+    bytes[at..at + TWO].copy_from_slice(piece);
+    at + count
+}
+
+/// Writes a byte at a place, and answers where it ends.
+#[inline(always)]
+fn copy_byte(bytes: &mut [u8], at: usize, byte: u8) -> usize
+    requires room { at < length bytes.old }
+    ensures end { result ≡ at + 1 }
+    ensures len { length bytes.new ≡ length bytes.old }
+    ensures written { take result bytes.new ≡ take at bytes.old ++ byte ∷ [] }
+{
+    bytes[at] = byte;
+    at + 1
+}
+
+/// Writes the first so many bytes of a piece and a digit behind them, for each of so many digits, from this one on, and
+/// answers where they end.
+#[inline(always)]
+fn copy_digits(
+    bytes: &mut [u8],
+    begin: usize,
+    piece: &[u8],
+    front: usize,
+    digit: u8,
+    count: u8,
+) -> usize
+    requires piece { length piece.now ≡ TWO }
+    requires front { front ≤ TWO }
+    requires digits { digit + count < 256 }
+    requires room { begin + NEXT_TWO * count ≤ length bytes.old }
+    ensures end { result ≤ begin + NEXT_TWO * count }
+    ensures written { take result bytes.new
+        ≡ take begin bytes.old ++ digit_words (take front piece.now) digit count }
+{
+    let mut at = begin;
+    for k in 0..count {
+        at = copy_front(bytes, at, piece, front);
+        at = copy_byte(bytes, at, digit + k);
+    }
+    at
 }
 
 /// The bytes of a line that are not yet handed on.
@@ -136,6 +191,19 @@ impl Row {
     {
         self.bytes[self.len..self.len + TWO].copy_from_slice(piece);
         self.len += count;
+    }
+
+    /// Adds so many of the first bytes of a piece and a digit behind them, for each of so many digits, from this one on.
+    /// There is room for as many whole pieces and digits.
+    #[inline(always)]
+    pub(crate) fn append_digits(&mut self, piece: &[u8], front: usize, digit: u8, count: u8)
+        requires piece { length piece.now ≡ TWO }
+        requires front { front ≤ TWO }
+        requires digits { digit + count < 256 }
+        requires room { length self.old + NEXT_TWO * count ≤ ROOM }
+        ensures { self.new ≡ self.old ++ digit_words (take front piece.now) digit count }
+    {
+        self.len = copy_digits(&mut self.bytes, self.len, piece, front, digit, count);
     }
 
     /// Adds two numbers with a byte between them, for which there is room.

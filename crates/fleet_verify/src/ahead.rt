@@ -579,16 +579,14 @@ fn run_agent<P: ProgramView>(
     let _agents = program.agents();
     let moves = program.moves(agent);
     let mut runner = runner_of(program, ahead, agent);
-    let mut was_bare = true;
     while runner.finished < moves {
         match needs_of(program, &ahead.rows, agent, runner) {
             Ok(needs) => {
                 runner = finish_next(program, grid, ahead, agent, runner, needs)?;
                 let is_bare = needs.latest.agent == agent;
-                if is_bare && was_bare {
+                if is_bare {
                     runner = run_bare(program, grid, ahead, agent, copy_of(runner))?;
                 }
-                was_bare = is_bare;
             }
             Err(awaited) => {
                 stop_at(ahead, agent, runner);

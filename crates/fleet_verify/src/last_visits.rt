@@ -20,11 +20,17 @@ const CELLS: usize = 64;
 /// How many squares lie side by side at most.
 const ACROSS: u32 = (MAX_COORDINATE + 1) / SIDE;
 
-/// Of how many squares, side by side and one below the other, each has a hint of its own.
+/// Of how many squares, side by side and one below the other, each has a hint of its own at most.
 const HINTS_ACROSS: u32 = 64;
 
-/// How many hints there are.
+/// How many hints there are where there are many squares.
 const HINTS: usize = (HINTS_ACROSS * HINTS_ACROSS) as usize;
+
+/// How many hints there are at first: so few are zeroed faster.
+const FEW_HINTS: usize = 512;
+
+/// From how many squares on there are many.
+const MANY_SQUARES: usize = 256;
 
 /// No square has this number.
 const NO_SQUARE: u32 = u32::MAX;
@@ -169,11 +175,14 @@ fn exchange(square: &mut [u32; CELLS], place: usize, number: u32) -> u32
     before
 }
 
-/// The place of the hint for this square.
-fn hint_place(number: u32) -> usize {
-    let row = number / ACROSS % HINTS_ACROSS;
+/// The place of the hint for this square among so many hints, a power of two. Among few, rows of squares that are eight
+/// apart share places, which are so far apart in them that those of a map 16 squares wide and 32 high differ.
+#[inline(always)]
+fn hint_place(number: u32, hints: usize) -> usize {
+    let row = number / ACROSS;
     let column = number % HINTS_ACROSS;
-    (row * HINTS_ACROSS + column) as usize
+    let place = (row * HINTS_ACROSS + column) ^ (row / 8 * 16);
+    place as usize & hints.wrapping_sub(1)
 }
 
 /// Whether the square with this number stands there.
@@ -198,12 +207,25 @@ fn find_square(
     ensures at { IfOk result (IsSquareAt squares.new number) }
     ensures same { OnOk result ((c : Cell) → last_in squares.new c ≡ last_in squares.old c) }
 {
-    if let Some(&hint) = hints.get(hint_place(number)) {
+    if let Some(&hint) = hints.get(hint_place(number, hints.len())) {
         let slot = hint as usize;
         if stands_at(squares, number, slot) {
             return Ok(slot);
         }
     }
+    find_anew(squares, hints, number)
+}
+
+/// The same, if no hint says it. One is noted.
+#[inline(never)]
+fn find_anew(
+    squares: &mut IndexMap<u32, [u32; CELLS]>,
+    hints: &mut Vec<u32>,
+    number: u32,
+) -> Result<usize, OutOfMemory>
+    ensures at { IfOk result (IsSquareAt squares.new number) }
+    ensures same { OnOk result ((c : Cell) → last_in squares.new c ≡ last_in squares.old c) }
+{
     let slot = look_up_square(squares, number)?;
     note_hint(hints, number, slot)?;
     Ok(slot)
@@ -211,13 +233,15 @@ fn find_square(
 
 /// Notes where the square with this number stands.
 fn note_hint(hints: &mut Vec<u32>, number: u32, slot: usize) -> Result<(), AllocError> {
-    if hints.is_empty() {
-        hints.resize(HINTS, 0)?;
+    let most = if slot < MANY_SQUARES { FEW_HINTS } else { HINTS };
+    if hints.len() < most {
+        hints.resize(most, 0)?;
     }
     let Ok(slot) = u32::try_from(slot) else {
         return Ok(());
     };
-    if let Some(hint) = hints.get_mut(hint_place(number)) {
+    let place = hint_place(number, hints.len());
+    if let Some(hint) = hints.get_mut(place) {
         *hint = slot;
     }
     Ok(())

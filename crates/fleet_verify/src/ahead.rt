@@ -1,6 +1,6 @@
 //! A verifier without ticks: each agent runs on as far as its awaits allow. It only says yes, or what was answered.
 
-ghost use Rattle.std.specs.Prelude.{◌≡◌, ◌≢◌, ◌<◌, ◌≤◌, ◌+◌, ◌-◌, ◌↔◌, get_or, set, ℕ, Some, true, IsTrue, length, max, IfOk, IfErr, IfNone, IfSome, OnOk, List, [], ◌∷◌, ◌++◌, Contains};
+ghost use Rattle.std.specs.Prelude.{◌≡◌, ◌≢◌, ◌<◌, ◌≤◌, ◌+◌, ◌-◌, ◌↔◌, get_or, set, ℕ, Some, None, true, IsTrue, length, max, IfOk, IfErr, IfNone, IfSome, OnOk, List, [], ◌∷◌, ◌++◌, Contains};
 ghost use Rattle.fleet_model.specs.declared.geometry.Cell.{Cell};
 ghost use Rattle.fleet_model.specs.declared.program.Visit.{Visit};
 ghost use Rattle.fleet_model.specs.Geometry.{place_of};
@@ -431,7 +431,9 @@ fn begin<P: ProgramView>(alloc: Global, program: &P, grid: &Grid) -> Result<Ahea
     ensures { IfOk result (IsAhead (is_passable grid.now) (P.program program.now)) }
 {
     let agents = program.agents();
-    let mut ahead = empty(alloc);
+    let visits = total_moves(program) + u32::from(agents);
+    let last = LastVisits::with_room(alloc, grid.width(), grid.height(), visits)?;
+    let mut ahead = empty(alloc, last);
     for agent in 0..agents {
         let cell = program.start(agent);
         if !grid.passable(cell) {
@@ -443,7 +445,8 @@ fn begin<P: ProgramView>(alloc: Global, program: &P, grid: &Grid) -> Result<Ahea
 }
 
 /// No agents.
-fn empty(alloc: Global) -> Ahead
+fn empty(alloc: Global, last: LastVisits) -> Ahead
+    requires { (c : Cell) → kept_at last c ≡ None }
     ensures rows { result.rows.items ≡ [] }
     ensures cells { result.cells.items ≡ [] }
     ensures added { (p : Program) → AreAddedBy p [] (kept_at result.last)
@@ -452,7 +455,7 @@ fn empty(alloc: Global) -> Ahead
     Ahead {
         rows: Vec::new(alloc),
         cells: Vec::new(alloc),
-        last: LastVisits::new(alloc),
+        last,
         pairs: Vec::new(alloc),
     }
 }

@@ -4,7 +4,7 @@ ghost use Rattle.std.specs.Prelude.{◌≡◌, ◌≢◌, ◌≤◌, ◌<◌, ge
 ghost use Rattle.fleet_model.specs.declared.geometry.Cell.{Cell};
 ghost use Rattle.fleet_model.specs.declared.limits.TheConstants.{MAX_AGENTS, MAX_MOVES};
 ghost use Rattle.fleet_model.specs.Program.{IsCell};
-ghost use Rattle.fleet_verify.specs.declared.last_visits.TheConstants.{CELLS, NO_SQUARE, NO_VISIT};
+ghost use Rattle.fleet_verify.specs.declared.last_visits.TheConstants.{CELLS, MOST_ROOM, NO_SQUARE, NO_VISIT};
 ghost use Rattle.fleet_verify.specs.Squares.{square_of, place_in_square, visit_kept, last_in, IsSquareAt, IsWritten};
 
 use fleet_model::{Cell, MAX_AGENTS, MAX_COORDINATE, OutOfMemory, Visit};
@@ -32,6 +32,9 @@ const FEW_HINTS: usize = 512;
 /// From how many squares on there are many.
 const MANY_SQUARES: usize = 256;
 
+/// For how many squares there is room at most before the first of them.
+const MOST_ROOM: u32 = 4_096;
+
 /// No square has this number.
 const NO_SQUARE: u32 = u32::MAX;
 
@@ -55,16 +58,21 @@ pub struct LastVisits {
 impl LastVisits {
     ghost use Rattle.fleet_verify.specs.LastVisits.{kept_at};
 
-    /// No visits.
-    pub fn new(alloc: Global) -> LastVisits
-        ensures { (c : Cell) → kept_at result c ≡ None }
+    /// No visits, and room for the squares that so many visits are likely to be in on a map of these sizes.
+    pub fn with_room(
+        alloc: Global,
+        width: u16,
+        height: u16,
+        visits: u32,
+    ) -> Result<LastVisits, OutOfMemory>
+        ensures { IfOk result (λ made. (c : Cell) → kept_at made c ≡ None) }
     {
-        LastVisits {
-            squares: IndexMap::new(alloc),
+        Ok(LastVisits {
+            squares: IndexMap::with_capacity(alloc, room_for(width, height, visits))?,
             recent: NO_SQUARE,
             slot: 0,
             hints: Vec::new(alloc),
-        }
+        })
     }
 
     /// Gives the memory back, all but that of one square before the rest ends, as `let_go` does.
@@ -94,6 +102,17 @@ impl LastVisits {
         }
         Ok(replace_in(&mut self.squares, self.slot, cell, visit))
     }
+}
+
+/// For how many squares there is room before the first of them: all of the map, unless so many visits are likely to be
+/// in fewer, but not many, since room grows later without a copy.
+fn room_for(width: u16, height: u16, visits: u32) -> usize
+    ensures { result ≤ MOST_ROOM }
+{
+    let across = u32::from(width).div_ceil(SIDE);
+    let down = u32::from(height).div_ceil(SIDE);
+    let squares = across.saturating_mul(down);
+    squares.min(visits / SIDE).min(MOST_ROOM) as usize
 }
 
 /// The number of the square that the cell is in.
@@ -233,7 +252,11 @@ fn find_anew(
 
 /// Notes where the square with this number stands.
 fn note_hint(hints: &mut Vec<u32>, number: u32, slot: usize) -> Result<(), AllocError> {
-    let most = if slot < MANY_SQUARES { FEW_HINTS } else { HINTS };
+    let most = if slot < MANY_SQUARES {
+        FEW_HINTS
+    } else {
+        HINTS
+    };
     if hints.len() < most {
         hints.resize(most, 0)?;
     }

@@ -6,12 +6,12 @@ use Rattle.fleet_model.specs.declared.geometry.Place.{Place}
 use Rattle.fleet_model.specs.Geometry.{is_move, place_of, stepped}
 use Rattle.fleet_grid.specs.Ground.{is_passable}
 use Rattle.fleet_verify.specs.declared.order.PlacedVisit.{PlacedVisit}
-use Rattle.fleet_verify.specs.Ahead.{IsArrival, count_in, climbed_in, stand}
+use Rattle.fleet_verify.specs.Ahead.{count_in, climbed_in, stand}
 use Rattle.fleet_verify.specs.LastVisits.{kept_at}
 use Rattle.fleet_verify.specs.Order.{IsVisitPlaced}
 use Rattle.fleet_verify.proofs.Begin.{begun_kept, begun_earlier}
-use Rattle.fleet_verify.proofs.NextLevel.{enters_by, visit_by, leads_on}
-use Rattle.fleet_verify.proofs.Climbing.{runner_count, runner_place, runner_ground, arrival_by}
+use Rattle.fleet_verify.proofs.NextLevel.{enters_by, visit_by}
+use Rattle.fleet_verify.proofs.Climbing.{runner_count, runner_ground, arrival_by}
 use Rattle.fleet_verify.proofs.Ordered.{grouped_on_more, entry_more, entry_none}
 use Rattle.fleet_verify.proofs.ahead.arrive.Goals as goal
 

@@ -15,8 +15,7 @@ use Rattle.fleet_needs.specs.Columns.{AreColumns}
 use Rattle.fleet_needs.specs.JoinPass.{IsMade}
 use Rattle.fleet_needs.specs.Joins.{AreOwn, IsRow}
 use Rattle.fleet_needs.specs.Schedule.{AreCounts, HasRows, IsSchedule}
-use Rattle.fleet_needs.specs.Answering.{AreAnsweredTo, IsNextAnswered, IsAsked, IsAnswering}
-use Rattle.fleet_needs.specs.declared.questions.Answering.{Answering}
+use Rattle.fleet_needs.specs.Answering.{AnswersSoFar, AreAnsweredTo, IsNextAnswered, IsAsked, IsAnswering}
 use Rattle.fleet_needs.specs.declared.schedule.Columns.{Columns}
 use Rattle.fleet_needs.specs.declared.joins.Join.{Join}
 use Rattle.fleet_needs.specs.declared.questions.Question.{Question}
@@ -197,7 +196,7 @@ asked_question p questions a n d asked each = subst (IsQuestion p) (sym (get_or_
 
 -- ---- before the first action
 
-pub answering_none : (p : Program) (b : Schedule) (columns : Columns) (s : Answering) → AreQuestions p s.questions.now → HasRows b s.questions.now → length s.flags.items ≡ length s.questions.now → s.next ≡ 0 → IsAnswering p b columns 0 s
+pub answering_none : (p : Program) (b : Schedule) (columns : Columns) (s : AnswersSoFar) → AreQuestions p s.questions → HasRows b s.questions → length s.flags ≡ length s.questions → s.next ≡ 0 → IsAnswering p b columns 0 s
 answering_none p b columns s asked rows long next = record {
   questions = asked;
   rows = rows;

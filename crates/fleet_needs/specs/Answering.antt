@@ -8,10 +8,15 @@ use Rattle.fleet_needs.specs.Block.{HasColumn, IsAnswer}
 use Rattle.fleet_needs.specs.Columns.{column_of}
 use Rattle.fleet_needs.specs.JoinPass.{IsMade}
 use Rattle.fleet_needs.specs.Schedule.{HasRows}
-use Rattle.fleet_needs.specs.declared.questions.Answering.{Answering}
 use Rattle.fleet_needs.specs.declared.schedule.Columns.{Columns}
 use Rattle.fleet_needs.specs.declared.questions.Question.{Question}
 use Rattle.fleet_needs.specs.declared.schedule.Schedule.{Schedule}
+
+-- the questions, a flag for each, and the place of the next one
+pub record AnswersSoFar : Type 0 where
+  pub questions : List Question
+  pub flags : List Bool
+  pub next : ℕ
 
 -- the questions before the next one are those for chains that end with finished actions, and are answered if their
 -- agents have a column
@@ -21,27 +26,27 @@ pub record AreAnsweredTo (p : Program) (columns : Columns) (questions : List Que
   pub answered : (k c : ℕ) (q : Question) → slice_get questions k ≡ Some q → k < next → HasColumn columns q.first.agent c → IsAnswer p q (get_or flags k false)
 
 -- the state of the answers once so many rows of the schedule were used
-pub record IsAnswering (p : Program) (s : Schedule) (columns : Columns) (n : ℕ) (m : Answering) : Type 0 where
-  pub questions : AreQuestions p m.questions.now
-  pub rows : HasRows s m.questions.now
-  pub flags : length m.flags.items ≡ length m.questions.now
-  pub answers : AreAnsweredTo p columns m.questions.now (IsMade s n) m.flags.items m.next
+pub record IsAnswering (p : Program) (s : Schedule) (columns : Columns) (n : ℕ) (m : AnswersSoFar) : Type 0 where
+  pub questions : AreQuestions p m.questions
+  pub rows : HasRows s m.questions
+  pub flags : length m.flags ≡ length m.questions
+  pub answers : AreAnsweredTo p columns m.questions (IsMade s n) m.flags m.next
 
 -- the questions are the same, and the flags of those whose agents have no column are as before
-pub record AreOthersLeft (p : Program) (columns : Columns) (old new : Answering) : Type 0 where
+pub record AreOthersLeft (p : Program) (columns : Columns) (old new : AnswersSoFar) : Type 0 where
   pub questions : new.questions ≡ old.questions
-  pub flags : (k : ℕ) (q : Question) → slice_get old.questions.now k ≡ Some q → column_of columns q.first.agent ≡ None
-      → get_or new.flags.items k false ≡ get_or old.flags.items k false
+  pub flags : (k : ℕ) (q : Question) → slice_get old.questions k ≡ Some q → column_of columns q.first.agent ≡ None
+      → get_or new.flags k false ≡ get_or old.flags k false
 
 -- the others are left as they were if nothing was answered
-pub others_same : (p : Program) (c : Columns) (s : Answering) → AreOthersLeft p c s s
+pub others_same : (p : Program) (c : Columns) (s : AnswersSoFar) → AreOthersLeft p c s s
 others_same p c s = record { questions = refl; flags = λ k q at none. refl }
 
 -- the others are left as they were if answers follow on others that leave them so
-pub others_joined : (p : Program) (c : Columns) (s t u : Answering) → AreOthersLeft p c s t → AreOthersLeft p c t u → AreOthersLeft p c s u
+pub others_joined : (p : Program) (c : Columns) (s t u : AnswersSoFar) → AreOthersLeft p c s t → AreOthersLeft p c t u → AreOthersLeft p c s u
 others_joined p c s t u h k = record {
   questions = k.questions ∙ h.questions;
-  flags = λ n q at none. k.flags n q (subst (λ (x : _). slice_get x.now n ≡ Some q) (sym h.questions) at) none ∙ h.flags n q at none;
+  flags = λ n q at none. k.flags n q (subst (λ (x : List Question). slice_get x n ≡ Some q) (sym h.questions) at) none ∙ h.flags n q at none;
 }
 
 -- ---- one action

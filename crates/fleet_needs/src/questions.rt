@@ -19,6 +19,7 @@ use crate::join_pass::{JoinRow, JoinUse, use_joins};
 use crate::schedule::{Blocks, Columns, Schedule};
 use fleet_model::{ActionId, OutOfMemory, ProgramView};
 use std::alloc::Global;
+use std::marker::Model;
 
 /// The question whether a chain of needs begins with the first action and ends with the last.
 #[derive(Clone, Copy)]
@@ -177,6 +178,18 @@ pub(crate) struct Answering<'a> {
     next: usize,
 }
 
+impl<'a> Model for Answering<'a> {
+    ghost use Rattle.fleet_needs.specs.Answering.{AnswersSoFar};
+
+    ghost Value = { AnswersSoFar };
+
+    ghost view = { λ m. record {
+      questions = m.questions.now;
+      flags = m.flags.items;
+      next = m.next;
+    } };
+}
+
 /// The flags of the questions. Those of questions whose first agent has a column now say whether no chain leads from
 /// the first action to the last.
 pub(crate) fn answer<P: ProgramView>(
@@ -238,16 +251,16 @@ impl<'a> Answering<'a> {
     )
         requires own { AreOwn (P.program program.now) }
         requires columns { AreColumnsOf (P.program program.now) columns.now }
-        requires questions { All (IsQuestion (P.program program.now)) self.old.questions.now }
-        requires flags { length self.old.flags.items ≡ length self.old.questions.now }
+        requires questions { All (IsQuestion (P.program program.now)) self.old.questions }
+        requires flags { length self.old.flags ≡ length self.old.questions }
         requires row { length (counts_of row.now) ≡ columns.now.width }
         requires of { AreCounts (P.program program.now) columns.now
             action.agent action.number (slice_index (counts_of row.now)) }
         ensures questions { self.new.questions ≡ self.old.questions }
-        ensures flags { length self.new.flags.items ≡ length self.old.flags.items }
+        ensures flags { length self.new.flags ≡ length self.old.flags }
         ensures asked { IsAsked
-            (P.program program.now) columns.now self.old.questions.now action
-            self.old.next self.old.flags.items self.new.flags.items self.new.next }
+            (P.program program.now) columns.now self.old.questions action
+            self.old.next self.old.flags self.new.flags self.new.next }
     {
         let next = self.next;
         if ends_with(self.questions, next, action) {

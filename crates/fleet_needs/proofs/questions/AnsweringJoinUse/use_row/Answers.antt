@@ -1,7 +1,8 @@
-use Rattle.std.proofs.Common.{◌+◌, length, sym, subst, ◌∙◌, ap}
+use Rattle.std.proofs.Common.{◌+◌, List, length, sym, subst, ◌∙◌, ap}
 use Rattle.fleet_needs.specs.Asked.{AreQuestions}
 use Rattle.fleet_model.specs.declared.program.ActionId.{ActionId}
 use Rattle.fleet_needs.specs.Answering.{AreAnsweredTo, IsAsked}
+use Rattle.fleet_needs.specs.declared.questions.Question.{Question}
 use Rattle.fleet_needs.specs.JoinPass.{IsMade}
 use Rattle.fleet_needs.specs.Schedule.{HasRows}
 use Rattle.fleet_needs.proofs.Answered.{answers_on, others_on, made_here, made_still, made_back, made_sooner}
@@ -22,12 +23,12 @@ returns-clause-used g c =
     let was = c.requires.seen in
     let e = sym c.answer_next.ensures.questions in
     record {
-      questions = subst (λ q. AreQuestions p q.now) e was.questions;
-      rows = subst (λ q. HasRows s q.now) e was.rows;
-      flags = c.answer_next.ensures.flags ∙ was.flags ∙ ap (λ q. length q.now) e;
-      answers = subst (λ q. AreAnsweredTo p columns q.now (IsMade s (row.n + 1)) new.flags.items new.next) e
-          (answers_on p columns old.questions.now was.questions (IsMade s row.n) (IsMade s (row.n + 1)) j.0.action (made_here p s is row.n j.0 j.1) (made_still p s is row.n j.0 j.1) (made_back p s is row.n j.0 j.1)
-          (made_sooner p s is row.n j.0 j.1 old.questions.now was.questions was.rows) old.next new.next old.flags.items new.flags.items was.answers (subst (λ (a : ActionId). IsAsked p columns old.questions.now a old.next old.flags.items new.flags.items new.next) of c.answer_next.ensures.asked));
+      questions = subst (λ (q : List Question). AreQuestions p q) e was.questions;
+      rows = subst (λ (q : List Question). HasRows s q) e was.rows;
+      flags = c.answer_next.ensures.flags ∙ was.flags ∙ ap (λ (q : List Question). length q) e;
+      answers = subst (λ (q : List Question). AreAnsweredTo p columns q (IsMade s (row.n + 1)) new.flags new.next) e
+          (answers_on p columns old.questions was.questions (IsMade s row.n) (IsMade s (row.n + 1)) j.0.action (made_here p s is row.n j.0 j.1) (made_still p s is row.n j.0 j.1) (made_back p s is row.n j.0 j.1)
+          (made_sooner p s is row.n j.0 j.1 old.questions was.questions was.rows) old.next new.next old.flags new.flags was.answers (subst (λ (a : ActionId). IsAsked p columns old.questions a old.next old.flags new.flags new.next) of c.answer_next.ensures.asked));
     }
 
 pub returns-clause-keeps : goal.returns-clause-keeps
@@ -37,5 +38,5 @@ returns-clause-keeps g c =
     let new = c.answer_next.new.self in
     record {
       questions = c.answer_next.ensures.questions;
-      flags = others_on p c.args.row.now.columns.now old.questions.now c.args.row.now.action old.next new.next old.flags.items new.flags.items c.answer_next.ensures.asked;
+      flags = others_on p c.args.row.now.columns.now old.questions c.args.row.now.action old.next new.next old.flags new.flags c.answer_next.ensures.asked;
     }

@@ -1,6 +1,9 @@
 -- Words that begin with the name of a command are read as the command line with this command alone reads them.
-use Rattle.std.proofs.Common.{◌≡◌, ◌<◌, ◌∙◌, ◌++◌, ℕ, zero, suc, List, [], ◌∷◌, Option, Some, get_or, map, true, false, refl, sym, ap, arith, append_assoc, append-nil, ◌≤◌, length, drop}
-use Rattle.std.specs.List.{fold, find}
+use Rattle.std.proofs.Common.{◌≡◌, ◌<◌, ◌∙◌, ◌++◌, ℕ, Bool, List, [], ◌∷◌, Option, Some, get_or, map, true, false, refl, sym, ap, arith, append_assoc, append-nil, ◌≤◌, length, drop}
+use Rattle.std.specs.List.{fold, find, position}
+use Rattle.std.specs.Str.{bytes_eq}
+use Rattle.std.proofs.lemmas.List.Quantifiers.{position-Some}
+use Rattle.std.proofs.lemmas.Slice.Eq.{bytes_eq-Decides}
 use Rattle.std.specs.Option.{option_map, option_map_or}
 use Rattle.clap.specs.Kinds.{Kinds, or_else}
 use Rattle.clap.specs.Words.{App, Shape, Rule, Text, HasMatchesOf, is_simple_and_free, fault_of, subcommand_of, subcommand_rows_of, with_subcommand}
@@ -12,7 +15,7 @@ use Rattle.clap.specs.Walk.{Names, Walk, answers_to, finished, idle, nothing_hel
 use Rattle.clap.specs.Faults.{built_fault, check_fault, defaults_fault, entered_fault, level_fault, other_fault, settle_fault, turn_fault, walk_fault}
 use Rattle.fleet_args.specs.declared.arguments.OptionNames.{OptionNames}
 use Rattle.fleet_args.specs.Arguments.{shape_for}
-use Rattle.fleet_args.specs.Commands.{IsPlaceOf, commands, fleet, fleet_top, shape_in}
+use Rattle.fleet_args.specs.Commands.{commands, fleet, fleet_top, shape_in}
 use Rattle.fleet_args.specs.declared.arguments.Argument.{Argument}
 use Rattle.fleet_args.specs.declared.arguments.CommandText.{CommandText}
 use Rattle.std.proofs.lemmas.List.{get_or-map, length-map}
@@ -21,9 +24,9 @@ use Rattle.std.proofs.lemmas.List.{get_or-map, length-map}
 abbrev command_at : ℕ → Text × List Argument
 command_at j = get_or commands j ([], [])
 
--- the command line with the command at place j alone
-abbrev alone : OptionNames → ℕ → App
-alone names j = with_subcommand fleet_top (shape_in names (command_at j))
+-- the command line with this command alone
+abbrev alone : OptionNames → Text × List Argument → App
+alone names c = with_subcommand fleet_top (shape_in names c)
 
 -- a walk that has stopped only gathers the words that are left
 stopped_walk : (c : List Rule) (names : Names) (w : Walk) (p : Text × List Text) → w.stopped ≡ Some p → (rest : List Text)
@@ -98,78 +101,66 @@ same_reading a b word c top ma mb rest = (
   entered_is a word c ma rest ∙ sym (entered_is b word c mb rest),
 )
 
--- the shape of the command at place j in a command line that is built
-abbrev built_at : OptionNames → ℕ → Shape
-built_at names j = built_leaf (inherited (built_above (on_top marked_built (fleet names))).top (shape_in names (command_at j)))
+-- the shape of a command in a command line that is built
+abbrev built_in : OptionNames → Text × List Argument → Shape
+built_in names c = built_leaf (inherited (built_above (on_top marked_built (fleet names))).top (shape_in names c))
 
-record ReadsAlone (names : OptionNames) (j : ℕ) : Type 0 where
-  pub top : (built (fleet names)).top ≡ (built (alone names j)).top
-  pub meets : Meets (built (fleet names)) (command_at j).0 (built_at names j)
-  pub meets_alone : Meets (built (alone names j)) (command_at j).0 (built_at names j)
+-- what a command line makes of a first word: its own shape, the name that the word is, and the command of that name
+abbrev met_by : App → Text → Shape × Option Text × Option Shape
+met_by b word = (b.top, subcommand_met (names_of b) idle word, find (λ x. answers_to word (label_of x)) b.subs)
 
-reads_alone : (names : OptionNames) (j : ℕ) → j < 14 → ReadsAlone names j
-reads_alone names zero lt = record { top = refl; meets = record { met = refl; found = refl }; meets_alone = record { met = refl; found = refl } }
-reads_alone names (suc zero) lt = record { top = refl; meets = record { met = refl; found = refl }; meets_alone = record { met = refl; found = refl } }
-reads_alone names (suc (suc zero)) lt = record { top = refl; meets = record { met = refl; found = refl }; meets_alone = record { met = refl; found = refl } }
-reads_alone names (suc (suc (suc zero))) lt = record { top = refl; meets = record { met = refl; found = refl }; meets_alone = record { met = refl; found = refl } }
-reads_alone names (suc (suc (suc (suc zero)))) lt = record { top = refl; meets = record { met = refl; found = refl }; meets_alone = record { met = refl; found = refl } }
-reads_alone names (suc (suc (suc (suc (suc zero))))) lt = record { top = refl; meets = record { met = refl; found = refl }; meets_alone = record { met = refl; found = refl } }
-reads_alone names (suc (suc (suc (suc (suc (suc zero)))))) lt = record { top = refl; meets = record { met = refl; found = refl }; meets_alone = record { met = refl; found = refl } }
-reads_alone names (suc (suc (suc (suc (suc (suc (suc zero))))))) lt = record { top = refl; meets = record { met = refl; found = refl }; meets_alone = record { met = refl; found = refl } }
-reads_alone names (suc (suc (suc (suc (suc (suc (suc (suc zero)))))))) lt = record { top = refl; meets = record { met = refl; found = refl }; meets_alone = record { met = refl; found = refl } }
-reads_alone names (suc (suc (suc (suc (suc (suc (suc (suc (suc zero))))))))) lt = record { top = refl; meets = record { met = refl; found = refl }; meets_alone = record { met = refl; found = refl } }
-reads_alone names (suc (suc (suc (suc (suc (suc (suc (suc (suc (suc zero)))))))))) lt = record { top = refl; meets = record { met = refl; found = refl }; meets_alone = record { met = refl; found = refl } }
-reads_alone names (suc (suc (suc (suc (suc (suc (suc (suc (suc (suc (suc zero))))))))))) lt = record { top = refl; meets = record { met = refl; found = refl }; meets_alone = record { met = refl; found = refl } }
-reads_alone names (suc (suc (suc (suc (suc (suc (suc (suc (suc (suc (suc (suc zero)))))))))))) lt = record { top = refl; meets = record { met = refl; found = refl }; meets_alone = record { met = refl; found = refl } }
-reads_alone names (suc (suc (suc (suc (suc (suc (suc (suc (suc (suc (suc (suc (suc zero))))))))))))) lt = record { top = refl; meets = record { met = refl; found = refl }; meets_alone = record { met = refl; found = refl } }
-reads_alone names (suc (suc (suc (suc (suc (suc (suc (suc (suc (suc (suc (suc (suc (suc j)))))))))))))) lt = absurd (omega arith)
+-- what the command line and the one with the command alone make of the command's name, and whether the latter is simple
+abbrev found : OptionNames → Text × List Argument → (Shape × Option Text × Option Shape) × (Shape × Option Text × Option Shape) × Bool
+found names c = (met_by (built (fleet names)) c.0, met_by (built (alone names c)) c.0, is_simple_and_free (alone names c))
 
--- a command line with one command alone is simple
-simple_alone : (names : OptionNames) (j : ℕ) → j < 14 → is_simple_and_free (alone names j) ≡ true
-simple_alone names zero lt = refl
-simple_alone names (suc zero) lt = refl
-simple_alone names (suc (suc zero)) lt = refl
-simple_alone names (suc (suc (suc zero))) lt = refl
-simple_alone names (suc (suc (suc (suc zero)))) lt = refl
-simple_alone names (suc (suc (suc (suc (suc zero))))) lt = refl
-simple_alone names (suc (suc (suc (suc (suc (suc zero)))))) lt = refl
-simple_alone names (suc (suc (suc (suc (suc (suc (suc zero))))))) lt = refl
-simple_alone names (suc (suc (suc (suc (suc (suc (suc (suc zero)))))))) lt = refl
-simple_alone names (suc (suc (suc (suc (suc (suc (suc (suc (suc zero))))))))) lt = refl
-simple_alone names (suc (suc (suc (suc (suc (suc (suc (suc (suc (suc zero)))))))))) lt = refl
-simple_alone names (suc (suc (suc (suc (suc (suc (suc (suc (suc (suc (suc zero))))))))))) lt = refl
-simple_alone names (suc (suc (suc (suc (suc (suc (suc (suc (suc (suc (suc (suc zero)))))))))))) lt = refl
-simple_alone names (suc (suc (suc (suc (suc (suc (suc (suc (suc (suc (suc (suc (suc zero))))))))))))) lt = refl
-simple_alone names (suc (suc (suc (suc (suc (suc (suc (suc (suc (suc (suc (suc (suc (suc j)))))))))))))) lt = absurd (omega arith)
+-- .. and what they should
+abbrev wanted : OptionNames → Text × List Argument → (Shape × Option Text × Option Shape) × (Shape × Option Text × Option Shape) × Bool
+wanted names c =
+    let met : Shape × Option Text × Option Shape = ((built (fleet names)).top, Some c.0, Some (built_in names c)) in
+    (met, met, true)
 
--- .. and finds the faults in words that begin with its name, and the command, that the whole command line finds
-alone_same : (names : OptionNames) (j : ℕ) → j < 14 → (words rest : List Text) → words ≡ (command_at j).0 ∷ rest
-    → (fault_of (fleet names) words ≡ fault_of (alone names j) words) × (subcommand_of (fleet names) words ≡ subcommand_of (alone names j) words)
-alone_same names j lt words rest is =
-    let h = reads_alone names j lt in
-    rw is (same_reading (built (fleet names)) (built (alone names j)) (command_at j).0 (built_at names j) h.top h.meets h.meets_alone rest)
+each_found : (names : OptionNames) → map (found names) commands ≡ map (wanted names) commands
+each_found names = refl
+
+found_at : (names : OptionNames) (j : ℕ) → j < length commands → found names (command_at j) ≡ wanted names (command_at j)
+found_at names j lt =
+    let none = wanted names ([], []) in
+    sym (get_or-map (found names) commands j ([], []) none lt) ∙ ap (λ l. get_or l j none) (each_found names) ∙ get_or-map (wanted names) commands j ([], []) none lt
+
+meets : (b : App) (word : Text) (top c : Shape) → met_by b word ≡ (top, Some word, Some c) → Meets b word c
+meets b word top c e = record { met = ap (λ m. m.1) e; found = ap (λ m. m.2) e }
+
+-- .. finds the faults in words that begin with its name, and the command, that the whole command line finds
+alone_same : (names : OptionNames) (c : Text × List Argument) → found names c ≡ wanted names c → (words rest : List Text) → words ≡ c.0 ∷ rest
+    → (fault_of (fleet names) words ≡ fault_of (alone names c) words) × (subcommand_of (fleet names) words ≡ subcommand_of (alone names c) words)
+alone_same names c e words rest is =
+    let top = (built (fleet names)).top in
+    rw is (same_reading (built (fleet names)) (built (alone names c)) c.0 (built_in names c) (sym (ap (λ f. f.1.0) e))
+    (meets _ _ top _ (ap (λ f. f.0) e)) (meets _ _ top _ (ap (λ f. f.1) e)) rest)
 
 -- so what it matches without a fault, the whole command line matches
 found_alone :
-    (names : OptionNames) (j : ℕ) → j < 14 → (words rest : List Text) → words ≡ (command_at j).0 ∷ rest → (app : App) (m : ArgMatches) → app ≡ alone names j
+    (names : OptionNames) (c : Text × List Argument) → found names c ≡ wanted names c → (words rest : List Text) → words ≡ c.0 ∷ rest → (app : App) (m : ArgMatches) → app ≡ alone names c
     → HasMatchesOf app words m → (is_simple_and_free app ≡ true → fault_of app words ≡ [])
     → (fault_of (fleet names) words ≡ []) × (subcommand_rows_of m ≡ subcommand_of (fleet names) words)
-found_alone names j lt words rest is app m made has none =
-    let same = alone_same names j lt words rest is in
-    let free = simple_alone names j lt in
-    (same.0 ∙ faultless app (alone names j) words made free none, enters_same app (alone names j) words m made (both _ _ free).0 has ∙ sym same.1)
+found_alone names c e words rest is app m made has none =
+    let same = alone_same names c e words rest is in
+    let free : is_simple_and_free (alone names c) ≡ true = ap (λ f. f.2) e in
+    (same.0 ∙ faultless app (alone names c) words made free none, enters_same app (alone names c) words m made (both _ _ free).0 has ∙ sym same.1)
 
 -- the text at the place of a name among the texts of the commands
 text_is :
-    (names : OptionNames) (texts : List CommandText) → map (shape_for names) texts ≡ map (shape_in names) commands → (name : Text) (j : ℕ) → IsPlaceOf name texts j → (d : CommandText)
-    → (j < 14) × (shape_for names (get_or texts j d) ≡ shape_in names (command_at j)) × (name ≡ (command_at j).0)
+    (names : OptionNames) (texts : List CommandText) → map (shape_for names) texts ≡ map (shape_in names) commands → (name : Text) (j : ℕ)
+    → position (λ text. bytes_eq text.name.now name) texts ≡ Some j → (d : CommandText)
+    → (j < length commands) × (shape_for names (get_or texts j d) ≡ shape_in names (command_at j)) × (name ≡ (command_at j).0)
 text_is names texts same name j place d =
-    let count : length texts ≡ 14 = sym (length-map texts (shape_for names)) ∙ ap length same in
-    let first = shape_in names (command_at 0) in
-    let lt : j < 14 = omega (arith, place.within, count) in
+    let at = position-Some (λ text. bytes_eq text.name.now name) texts j d place in
+    let count : length texts ≡ length commands = sym (length-map texts (shape_for names)) ∙ ap length same ∙ length-map commands (shape_in names) in
+    let first = shape_in names ([], []) in
+    let lt : j < length commands = omega (arith, at.0, count) in
     let shape : shape_for names (get_or texts j d) ≡ shape_in names (command_at j) =
-    sym (get_or-map (shape_for names) texts j d first place.within) ∙ ap (λ l. get_or l j first) same ∙ get_or-map (shape_in names) commands j ([], []) first lt in
-    (lt, shape, sym place.named ∙ get_or-map (λ text. text.name.now) texts j d [] place.within ∙ ap (λ s. s.name) shape)
+    sym (get_or-map (shape_for names) texts j d first at.0) ∙ ap (λ l. get_or l j first) same ∙ get_or-map (shape_in names) commands j ([], []) first lt in
+    (lt, shape, sym ((bytes_eq-Decides _ _).0 at.1) ∙ ap (λ s. s.name) shape)
 
 words_from : {X : Type 0} (f : X → Text) (ws : List X) (first : X) → 1 ≤ length ws → first ≡ get_or ws 0 first → map f ws ≡ f first ∷ map f (drop 1 ws)
 words_from f [] first some is = absurd (omega arith)
@@ -178,7 +169,7 @@ words_from f (x ∷ ws) first some is = ap (λ w. f w ∷ map f ws) (sym is)
 -- words whose first is the name of a text of a command are matched by the command alone as by the whole command line
 pub found_by_name :
     {X : Type 0} (f : X → Text) (ws : List X) (first : X) → 1 ≤ length ws → first ≡ get_or ws 0 first → (name : Text) → name ≡ f first
-    → (names : OptionNames) (texts : List CommandText) → map (shape_for names) texts ≡ map (shape_in names) commands → (j : ℕ) → IsPlaceOf name texts j → (d : CommandText)
+    → (names : OptionNames) (texts : List CommandText) → map (shape_for names) texts ≡ map (shape_in names) commands → (j : ℕ) → position (λ text. bytes_eq text.name.now name) texts ≡ Some j → (d : CommandText)
     → (app : App) (m : ArgMatches) → app ≡ with_subcommand fleet_top (shape_for names (get_or texts j d))
     → HasMatchesOf app (map f ws) m → (is_simple_and_free app ≡ true → fault_of app (map f ws) ≡ [])
     → (fault_of (fleet names) (map f ws) ≡ []) × (subcommand_rows_of m ≡ subcommand_of (fleet names) (map f ws))
@@ -186,4 +177,4 @@ found_by_name f ws first some is name named names texts same j place d app m mad
     let text = text_is names texts same name j place d in
     let rest = map f (drop 1 ws) in
     let words : map f ws ≡ (command_at j).0 ∷ rest = words_from f ws first some is ∙ ap (λ w. w ∷ rest) (sym named ∙ text.2) in
-    found_alone names j text.0 (map f ws) rest words app m (made ∙ ap (with_subcommand fleet_top) text.1) has none
+    found_alone names (command_at j) (found_at names j text.0) (map f ws) rest words app m (made ∙ ap (with_subcommand fleet_top) text.1) has none

@@ -1,5 +1,5 @@
 -- Words in which the command line finds no fault ask for a request.
-use Rattle.std.proofs.Common.{◌≡◌, ◌∙◌, ◌⊎◌, inl, inr, ◌||◌, ◌++◌, ◌<◌, ◌^◌, ℕ, suc, Bool, cond, true, false, List, [], ◌∷◌, map, Option, option_and_then, Some, None, codes, is_some, option_map, refl, sym, ap, subst, true≢false, arith, ltb-true}
+use Rattle.std.proofs.Common.{◌≡◌, ◌∙◌, ◌⊎◌, inl, inr, ◌||◌, ◌++◌, ◌<◌, ◌^◌, ℕ, suc, Bool, cond, true, false, List, [], ◌∷◌, map, Option, option_and_then, Some, None, codes, is_some, option_map, nat_lt, refl, sym, ap, subst, true≢false, arith, ltb-true}
 use Rattle.std.specs.Prelude.{pos, if◌then◌else◌}
 use Rattle.std.specs.Borrow.{Bor}
 use Rattle.std.specs.List.{filter, find, list_all, list_any}
@@ -21,13 +21,13 @@ use Rattle.clap.proofs.ValueTestLemmas.{accepts-Accepts}
 use Rattle.clap.proofs.WalkLemmas.{both}
 use Rattle.fleet_args.specs.declared.arguments.OptionNames.{OptionNames}
 use Rattle.fleet_args.specs.declared.arguments.Argument.{Argument}
-use Rattle.fleet_args.specs.declared.arguments.Argument.TheVariants as a
+use Rattle.fleet_args.specs.declared.arguments.Form.{Form}
+use Rattle.fleet_args.specs.declared.arguments.Form.TheVariants as form
 use Rattle.fleet_args.specs.declared.commands.Best.TheVariants as best_is
-use Rattle.fleet_model.specs.declared.limits.TheConstants.{MAX_MOVES, MAX_TRIES}
 use Rattle.fleet_model.specs.declared.deps.Deps.TheVariants as deps
-use Rattle.fleet_args.specs.Arguments.{AreNames, agents_rule, best_rule, defaulted, deps_rule, rule_for, word}
+use Rattle.fleet_args.specs.Arguments.{AreNames, described, rule_by, rule_for}
 use Rattle.fleet_args.specs.Commands.{commands, fleet, fleet_top, shape_in}
-use Rattle.fleet_args.specs.Values.{Values, values_of, best_by, deps_in, number_by, number_in, has_text, reads_number, has_kind, reads_best, has_value}
+use Rattle.fleet_args.specs.Values.{Values, values_of, best_by, deps_in, number_by, number_in, has_value, has_value_by, in_bits}
 use Rattle.fleet_args.specs.Request.{is_answered_by}
 use Rattle.fleet_args.proofs.RequestLemmas.{digits_from, is_small, is_small_number}
 use Rattle.fleet_args.proofs.MatchedRows.{Among}
@@ -59,14 +59,26 @@ number_value bits a rows low high is fits value =
     (number.0, ap (number_by bits) one ∙ ap (option_map Some) number.1)
 
 -- the number of an option that was used, or not
-number_option : (a : Rule) (rows : List Row) (low high : ℕ) → a.parser ≡ Some (parser.Signed (pos low) (pos high)) → high < 2 ^ 16
-    → (first_of a.id rows ≡ None) × (one_of a.id rows ≡ None) ⊎ HasValue a rows → (n : Option ℕ) × (number_by 16 (one_of a.id rows) ≡ Some n)
-number_option a rows low high is fits value = elim value [
-  | inl none ↦ (None, ap (number_by 16) none.1)
+number_option : (bits : ℕ) (a : Rule) (rows : List Row) (low high : ℕ) → a.parser ≡ Some (parser.Signed (pos low) (pos high)) → high < 2 ^ bits
+    → (first_of a.id rows ≡ None) × (one_of a.id rows ≡ None) ⊎ HasValue a rows → (n : Option ℕ) × (number_by bits (one_of a.id rows) ≡ Some n)
+number_option bits a rows low high is fits value = elim value [
+  | inl none ↦ (None, ap (number_by bits) none.1)
   | inr has ↦
-      let number = number_value 16 a rows low high is fits has in
+      let number = number_value bits a rows low high is fits has in
       (Some number.0, number.1)
 ]
+
+-- what holds of numbers of each size that fits
+by_bits : (most : ℕ) (test : ℕ → Bool) → ((bits : ℕ) → most < 2 ^ bits → test bits ≡ true) → in_bits most test ≡ true
+by_bits most test each = small (nat_lt most 65536) refl
+  where
+    large : (b : Bool) → nat_lt most 4294967296 ≡ b → cond b (test 32) true ≡ true
+    large true t = each 32 (ltb-true _ _ t)
+    large false t = refl
+
+    small : (b : Bool) → nat_lt most 65536 ≡ b → cond b (test 16) (cond (nat_lt most 4294967296) (test 32) true) ≡ true
+    small true t = each 16 (ltb-true _ _ t)
+    small false t = large (nat_lt most 4294967296) refl
 
 -- ---- names
 
@@ -117,46 +129,6 @@ leaf shape = built_leaf (inherited (with_leaf_noted (marked_built fleet_top.top)
 abbrev at : ℕ → Rule → Rule
 at place rule = with_index place (filled rule)
 
--- the shape has one argument of this name, at this place
-abbrev IsAt : Shape → ℕ → Text → Rule → Type 0
-IsAt shape place id rule = filter (λ x. bytes_eq x.id id) (leaf shape).rules ≡ at place rule ∷ []
-
--- the values of a command's arguments, in whose words it finds no fault
-module _ (shape : Shape) (negates : (leaf shape).subcommand_negates_reqs ≡ false) (words : List Text) (none : level_fault (leaf shape) [] nothing_held words false [] ≡ []) where
-  abbrev values : Values
-  values = values_of (rows_after (leaf shape).rules [] words)
-
-  text : (place : ℕ) (id : Text) → IsAt shape place id (word id) → has_text values id ≡ true
-  text place id alone = ap is_some (required_value (leaf shape) words none (at place (word id)) alone refl negates refl).first
-
-  agents : (place : ℕ) → IsAt shape place (codes "agents") agents_rule → reads_number values (codes "agents") ≡ true
-  agents place alone =
-      let rows = rows_after (leaf shape).rules [] words in
-      ap is_some (number_option (at place agents_rule) rows 0 65535 refl (omega arith) (optional_value (leaf shape) words none (at place agents_rule) alone refl)).1
-
-  -- a number of so many bits, by an option with a default
-  numbered : (bits place low high : ℕ) (id default : Text) → high < 2 ^ bits → IsAt shape place id (defaulted id (parser.Signed (pos low) (pos high)) default)
-      → is_some (option_and_then (λ n. n) (number_by bits (values.one id))) ≡ true
-  numbered bits place low high id default fits alone =
-      let rule = at place (defaulted id (parser.Signed (pos low) (pos high)) default) in
-      let value = number_value bits rule (rows_after (leaf shape).rules [] words) low high refl fits (default_value (leaf shape) words none rule alone refl refl) in
-      ap (λ number. is_some (option_and_then (λ n. n) number)) value.1
-
-  kind : (names : OptionNames) → AreNames names → (place : ℕ) → IsAt shape place (codes "deps") (deps_rule names) → has_kind values (codes "deps") ≡ true
-  kind names are place alone =
-      let value = default_value (leaf shape) words none (at place (deps_rule names)) alone refl refl in
-      let known = named_value names.deps (codes "all") (codes "last") deps.All deps.Last (at place (deps_rule names)) _ are.deps refl refl value in
-      ap is_some (ap (option_and_then deps_in) value.first ∙ known.1)
-
-  best : (names : OptionNames) → AreNames names → (place : ℕ) → IsAt shape place (codes "best") (best_rule names) → reads_best values (codes "best") ≡ true
-  best names are place alone =
-      elim (optional_value (leaf shape) words none (at place (best_rule names)) alone refl) [
-        | inl unused ↦ ap (λ text. is_some (best_by text)) unused.0
-        | inr value ↦
-            let known = named_value names.best (codes "chain") (codes "cost") best_is.Chain best_is.Cost (at place (best_rule names)) _ are.best refl refl value in
-            ap (λ text. is_some (best_by text)) value.first ∙ ap (λ known. is_some (option_map Some known)) known.1
-      ]
-
 -- the arguments, each alone, one after another from this place on
 abbrev placed : OptionNames → ℕ → List Argument → List (List Rule)
 placed names place [] = []
@@ -170,42 +142,48 @@ under_names names shape xs = map (λ x. filter (λ y. bytes_eq y.id (rule_for na
 abbrev AreAt : OptionNames → Shape → ℕ → List Argument → Type 0
 AreAt names shape place xs = under_names names shape xs ≡ placed names place xs
 
--- .. and all have values, if the words have no fault
+-- the values of the arguments of a command, in whose words it finds no fault
 module _ (names : OptionNames) (are : AreNames names) (shape : Shape) (negates : (leaf shape).subcommand_negates_reqs ≡ false) (words : List Text)
     (none : level_fault (leaf shape) [] nothing_held words false [] ≡ []) where
-  has : (x : Argument) (place : ℕ) → filter (λ y. bytes_eq y.id (rule_for names x).id) (leaf shape).rules ≡ at place (rule_for names x) ∷ [] → has_value (values shape negates words none) x ≡ true
-  has a.Map place alone = text shape negates words none place (codes "map") alone
-  has a.Scen place alone = text shape negates words none place (codes "scen") alone
-  has a.Plan place alone = text shape negates words none place (codes "plan") alone
-  has a.Out place alone = text shape negates words none place (codes "out") alone
-  has a.Program place alone = text shape negates words none place (codes "program") alone
-  has a.Agents place alone = agents shape negates words none place alone
-  has a.Horizon place alone = numbered shape negates words none 16 place 1 65535 (codes "horizon") (codes "1024") (omega arith) alone
-  has a.Tries place alone = numbered shape negates words none 32 place 1 MAX_TRIES (codes "tries") (codes "1") (omega arith) alone
-  has a.Best place alone = best shape negates words none names are place alone
-  has a.Deps place alone = kind shape negates words none names are place alone
-  has a.Dwell place alone = numbered shape negates words none 32 place 0 MAX_MOVES (codes "dwell") (codes "0") (omega arith) alone
-  has a.Holds place alone = refl
-  has a.Numbers place alone = refl
-  has a.Ahead place alone = numbered shape negates words none 16 place 1 255 (codes "ahead") (codes "1") (omega arith) alone
-  has a.Unnumbered place alone = refl
-  has a.Resume place alone = refl
-  has a.Costs place alone = refl
-  has a.Broken place alone = refl
-  has a.Reports place alone = text shape negates words none place (codes "reports") alone
-  has a.ScenOut place alone = text shape negates words none place (codes "scen_out") alone
-  has a.ProgramOut place alone = text shape negates words none place (codes "program_out") alone
-  has a.Without place alone = refl
-  has a.MapOut place alone = refl
-  has a.OthersOut place alone = refl
-  has a.Log place alone = refl
+  abbrev rows : List Row
+  rows = rows_after (leaf shape).rules [] words
 
-  have : (place : ℕ) (xs : List Argument) → AreAt names shape place xs → list_all (has_value (values shape negates words none)) xs ≡ true
+  -- an argument of this name and form, the one of its name, has what a command cannot do without
+  has : (id : Text) (f : Form) (default : Option Text) (place : ℕ) → filter (λ x. bytes_eq x.id id) (leaf shape).rules ≡ at place (rule_by names (id, f, default)) ∷ []
+      → has_value_by (values_of rows) id f default ≡ true
+  has id form.Word default place alone = ap is_some (required_value (leaf shape) words none (at place (rule_by names (id, form.Word, default))) alone refl negates refl).first
+  has id (form.Numbers least most) None place alone =
+      let rule = at place (rule_by names (id, form.Numbers least most, None)) in
+      let value = optional_value (leaf shape) words none rule alone refl in
+      by_bits most _ (λ bits fits. ap is_some (number_option bits rule rows least most refl fits value).1)
+  has id (form.Numbers least most) (Some default) place alone =
+      let rule = at place (rule_by names (id, form.Numbers least most, Some default)) in
+      let value = default_value (leaf shape) words none rule alone refl refl in
+      by_bits most _ (λ bits fits. ap (λ number. is_some (option_and_then (λ n. n) number)) (number_value bits rule rows least most refl fits value).1)
+  has id form.Deps None place alone = refl
+  has id form.Deps (Some default) place alone =
+      let rule = at place (rule_by names (id, form.Deps, Some default)) in
+      let value = default_value (leaf shape) words none rule alone refl refl in
+      let known = named_value names.deps (codes "all") (codes "last") deps.All deps.Last rule _ are.deps refl refl value in
+      ap is_some (ap (option_and_then deps_in) value.first ∙ known.1)
+  has id form.Best default place alone =
+      let rule = at place (rule_by names (id, form.Best, default)) in
+      elim (optional_value (leaf shape) words none rule alone refl) [
+        | inl unused ↦ ap (λ text. is_some (best_by text)) unused.0
+        | inr value ↦
+            let known = named_value names.best (codes "chain") (codes "cost") best_is.Chain best_is.Cost rule _ are.best refl refl value in
+            ap (λ text. is_some (best_by text)) value.first ∙ ap (λ known. is_some (option_map Some known)) known.1
+      ]
+  has id form.Text default place alone = refl
+  has id form.Flag default place alone = refl
+
+  -- .. and all have values
+  have : (place : ℕ) (xs : List Argument) → AreAt names shape place xs → list_all (has_value (values_of rows)) xs ≡ true
   have place [] h = refl
   have place (x ∷ xs) h =
       let here : filter (λ y. bytes_eq y.id (rule_for names x).id) (leaf shape).rules ≡ at place (rule_for names x) ∷ [] = cc in
       let rest : under_names names shape xs ≡ placed names (suc place) xs = cc in
-      rw (has x place here, have (suc place) xs rest) refl
+      rw (has (described x).0 (described x).1 (described x).2 place here, have (suc place) xs rest) refl
 
 -- the command is the one of its name, and its arguments stand in its shape
 abbrev IsListed : OptionNames → Text × List Argument → Type 0

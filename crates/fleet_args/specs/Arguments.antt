@@ -1,5 +1,5 @@
 -- The words and options of the commands, as what a parse reads of them.
-use Rattle.std.specs.Prelude.{◌≡◌, ℕ, true, false, List, [], ◌∷◌, Option, None, Some, codes, pos, map, if◌then◌else◌}
+use Rattle.std.specs.Prelude.{◌≡◌, ℕ, Bool, true, false, List, [], ◌∷◌, Option, None, Some, codes, pos, map, option_map, if◌then◌else◌}
 use Rattle.std.specs.Option.{option_map_or}
 use Rattle.clap.specs.Words.{App, Shape, Rule, Text, app_of, new_app, new_rule, shape_of, rule_of}
 use Rattle.clap.specs.declared.builder.Arg.{Arg}
@@ -15,102 +15,83 @@ use Rattle.fleet_args.specs.declared.arguments.Argument.{Argument}
 use Rattle.fleet_args.specs.declared.arguments.Argument.TheVariants as a
 use Rattle.fleet_args.specs.declared.arguments.ArgumentText.{ArgumentText}
 use Rattle.fleet_args.specs.declared.arguments.CommandText.{CommandText}
-use Rattle.fleet_args.specs.declared.arguments.Values.{Values}
-use Rattle.fleet_args.specs.declared.arguments.Values.TheVariants as values
-
--- a word that has to be there, at its place among such words
-abbrev pub word : Text → Rule
-word id = record (new_rule id) { required = true; value_names = 1 }
-
--- `--NAME VALUE`
-abbrev pub option : Text → Rule
-option name = record (new_rule name) { long = Some name; value_names = 1 }
-
--- `--NAME VALUE`, where this parser takes the value, which is a default if the option is not used
-abbrev pub defaulted : Text → ValueParser → Text → Rule
-defaulted name parser default = record (option name) { parser = Some parser; defaults = default ∷ [] }
-
--- `--agents K`, where K is a number up to 65535
-abbrev pub agents_rule : Rule
-agents_rule = record (option (codes "agents")) { parser = Some (parser.Signed (pos 0) (pos 65535)) }
+use Rattle.fleet_args.specs.declared.arguments.Form.{Form}
+use Rattle.fleet_args.specs.declared.arguments.Form.TheVariants as form
 
 -- the names that options take: `all` and `last` are those of the kinds of awaits, and `chain` and `cost` those of what makes a plan the best
 pub record AreNames (names : OptionNames) : Type 0 where
   pub deps : map (λ name. name.now) names.deps.now ≡ codes "all" ∷ codes "last" ∷ []
   pub best : map (λ name. name.now) names.best.now ≡ codes "chain" ∷ codes "cost" ∷ []
 
--- `--best NAME`, where NAME is one of the names of what makes a plan the best
-abbrev pub best_rule : OptionNames → Rule
-best_rule names = record (option (codes "best")) { parser = Some (parser.Names names.best) }
+-- each argument: its name, its form, and its default, which it has if it is not given
+abbrev pub described : Argument → Text × Form × Option Text
+described a.Map = (codes "map", form.Word, None)
+described a.Scen = (codes "scen", form.Word, None)
+described a.Plan = (codes "plan", form.Word, None)
+described a.Out = (codes "out", form.Word, None)
+described a.Program = (codes "program", form.Word, None)
+described a.Agents = (codes "agents", form.Numbers 0 65535, None)
+described a.Horizon = (codes "horizon", form.Numbers 1 65535, Some (codes "1024"))
+described a.Tries = (codes "tries", form.Numbers 1 MAX_TRIES, Some (codes "1"))
+described a.Best = (codes "best", form.Best, None)
+described a.Deps = (codes "deps", form.Deps, Some (codes "last"))
+described a.Dwell = (codes "dwell", form.Numbers 0 MAX_MOVES, Some (codes "0"))
+described a.Holds = (codes "holds", form.Text, None)
+described a.Numbers = (codes "numbers", form.Flag, None)
+described a.Ahead = (codes "ahead", form.Numbers 1 255, Some (codes "1"))
+described a.Unnumbered = (codes "unnumbered", form.Flag, None)
+described a.Resume = (codes "resume", form.Text, None)
+described a.Costs = (codes "costs", form.Text, None)
+described a.Broken = (codes "broken", form.Text, None)
+described a.Reports = (codes "reports", form.Word, None)
+described a.ScenOut = (codes "scen_out", form.Word, None)
+described a.ProgramOut = (codes "program_out", form.Word, None)
+described a.Without = (codes "without", form.Text, None)
+described a.MapOut = (codes "map-out", form.Text, None)
+described a.OthersOut = (codes "others-out", form.Text, None)
+described a.Log = (codes "log", form.Text, None)
 
--- `--deps NAME`, where NAME is one of the names of the kinds of awaits, and `last` if the option is not used
-abbrev pub deps_rule : OptionNames → Rule
-deps_rule names = defaulted (codes "deps") (parser.Names names.deps) (codes "last")
+-- what the text of an argument says of it
+abbrev pub told : ArgumentText → Text × Form × Option Text
+told text = (text.name.now, text.form, option_map (λ default. default.now) text.default)
 
--- `--NAME`, which is used or not
-abbrev pub flag : Text → Rule
-flag name = record (new_rule name) { long = Some name; action = Some SetTrue }
+-- a word, at its place among such words, has to be there; the others are options
+abbrev pub is_word : Form → Bool
+is_word form.Word = true
+is_word _ = false
 
--- what a flag does, and how many values another option has
-abbrev pub action_for : Values → Option ArgAction
-action_for values.Flag = Some SetTrue
+-- what a flag does, and how many values another argument has
+abbrev pub action_for : Form → Option ArgAction
+action_for form.Flag = Some SetTrue
 action_for _ = None
 
-abbrev pub value_names_for : Values → ℕ
-value_names_for values.Flag = 0
+abbrev pub value_names_for : Form → ℕ
+value_names_for form.Flag = 0
 value_names_for _ = 1
 
--- the rule of an argument that takes any text and has no default, or of a flag
-abbrev pub plain_rule : ArgumentText → Rule
-plain_rule text = record (new_rule text.name.now) {
-  required = text.is_word;
-  long = if text.is_word then None else Some text.name.now;
-  action = action_for text.values;
-  value_names = value_names_for text.values;
-}
-
 -- how the values of an argument are read
-abbrev pub parser_for : OptionNames → Values → Option ValueParser
-parser_for names values.Text = None
-parser_for names (values.Numbers least most) = Some (parser.Signed least most)
-parser_for names values.Deps = Some (parser.Names names.deps)
-parser_for names values.Best = Some (parser.Names names.best)
-parser_for names values.Flag = None
+abbrev pub parser_for : OptionNames → Form → Option ValueParser
+parser_for names (form.Numbers least most) = Some (parser.Signed (pos least) (pos most))
+parser_for names form.Deps = Some (parser.Names names.deps)
+parser_for names form.Best = Some (parser.Names names.best)
+parser_for names _ = None
+
+-- the rule of an argument of this name and form, if it takes any text and has no default: the word, or `--NAME`
+abbrev pub plain_rule : Text → Form → Rule
+plain_rule name f = record (new_rule name) {
+  required = is_word f;
+  long = if is_word f then None else Some name;
+  action = action_for f;
+  value_names = value_names_for f;
+}
 
 -- the rule that an argument's description gives
-abbrev pub rule_by : OptionNames → ArgumentText → Rule
-rule_by names text = record (plain_rule text) {
-  parser = parser_for names text.values;
-  defaults = option_map_or (λ default. default.now ∷ []) text.default [];
-}
+abbrev pub rule_by : OptionNames → Text × Form × Option Text → Rule
+rule_by names d = record (plain_rule d.0 d.1) { parser = parser_for names d.1; defaults = option_map_or (λ default. default ∷ []) d.2 [] }
 
--- the rule of each argument, with the range of its number and what it is if the option is not used
+-- the rule of each argument
 abbrev pub rule_for : OptionNames → Argument → Rule
-rule_for names a.Map = word (codes "map")
-rule_for names a.Scen = word (codes "scen")
-rule_for names a.Plan = word (codes "plan")
-rule_for names a.Out = word (codes "out")
-rule_for names a.Program = word (codes "program")
-rule_for names a.Agents = agents_rule
-rule_for names a.Horizon = defaulted (codes "horizon") (parser.Signed (pos 1) (pos 65535)) (codes "1024")
-rule_for names a.Tries = defaulted (codes "tries") (parser.Signed (pos 1) (pos MAX_TRIES)) (codes "1")
-rule_for names a.Best = best_rule names
-rule_for names a.Deps = deps_rule names
-rule_for names a.Dwell = defaulted (codes "dwell") (parser.Signed (pos 0) (pos MAX_MOVES)) (codes "0")
-rule_for names a.Holds = option (codes "holds")
-rule_for names a.Numbers = flag (codes "numbers")
-rule_for names a.Ahead = defaulted (codes "ahead") (parser.Signed (pos 1) (pos 255)) (codes "1")
-rule_for names a.Unnumbered = flag (codes "unnumbered")
-rule_for names a.Resume = option (codes "resume")
-rule_for names a.Costs = option (codes "costs")
-rule_for names a.Broken = option (codes "broken")
-rule_for names a.Reports = word (codes "reports")
-rule_for names a.ScenOut = word (codes "scen_out")
-rule_for names a.ProgramOut = word (codes "program_out")
-rule_for names a.Without = option (codes "without")
-rule_for names a.MapOut = option (codes "map-out")
-rule_for names a.OthersOut = option (codes "others-out")
-rule_for names a.Log = option (codes "log")
+rule_for names argument = rule_by names (described argument)
 
 -- a command without subcommands, by its name and its arguments
 abbrev pub command : Text → List Rule → Shape

@@ -1,5 +1,5 @@
 -- The commands, each with its arguments and with what it is asked for, and the command line that has them.
-use Rattle.std.specs.Prelude.{◌≡◌, ◌<◌, ℕ, get_or, length, Bool, true, false, List, [], ◌∷◌, codes, fold, map}
+use Rattle.std.specs.Prelude.{◌≡◌, Bool, true, false, List, [], ◌∷◌, codes, fold, map}
 use Rattle.std.specs.List.{find, list_all}
 use Rattle.std.specs.Option.{option_map_or}
 use Rattle.std.specs.Str.{bytes_eq}
@@ -7,9 +7,8 @@ use Rattle.clap.specs.Words.{App, Shape, Text, new_app, with_subcommand}
 pub use Rattle.fleet_args.specs.Arguments.{AreNames}
 pub use Rattle.fleet_args.specs.declared.arguments.OptionNames.{OptionNames}
 use Rattle.fleet_args.specs.Arguments.{command, rule_for}
-use Rattle.fleet_args.specs.Values.{Values, IsText, IsTextIfUsed, IsNumberIfUsed, IsNumber, IsCount, IsKind, IsBestIfUsed, IsFlag, has_value}
+use Rattle.fleet_args.specs.Values.{Values, IsText, IsTextIfUsed, IsNumberIfUsed, IsNumber, IsKind, IsBestIfUsed, IsFlag, has_value}
 use Rattle.fleet_args.specs.declared.arguments.Argument.{Argument}
-use Rattle.fleet_args.specs.declared.arguments.CommandText.{CommandText}
 use Rattle.fleet_args.specs.declared.arguments.Argument.TheVariants as a
 use Rattle.fleet_args.specs.declared.commands.ProgramFor.{ProgramFor}
 use Rattle.fleet_args.specs.declared.commands.Tasks.{Tasks}
@@ -47,11 +46,6 @@ commands =
     (codes "rest", a.Map ∷ a.Scen ∷ a.Program ∷ a.Reports ∷ a.ScenOut ∷ a.ProgramOut ∷ a.Agents ∷ a.Without ∷ a.MapOut ∷ a.OthersOut ∷ []) ∷
     []
 
--- among these texts, that of the command of this name stands at place j
-pub record IsPlaceOf (name : Text) (texts : List CommandText) (j : ℕ) : Type 0 where
-  pub within : j < length texts
-  pub named : get_or (map (λ text. text.name.now) texts) j [] ≡ name
-
 -- the shape of a command
 abbrev pub shape_in : OptionNames → Text × List Argument → Shape
 shape_in names c = command c.0 (map (rule_for names) c.1)
@@ -74,7 +68,7 @@ AsksProgram values p = AsksTasks values p.tasks × IsText values (codes "program
 
 -- how many orders are tried, and what makes a plan the best
 abbrev pub AsksTries : Values → Tries → Type 0
-AsksTries values tries = IsCount values (codes "tries") tries.count × IsBestIfUsed values (codes "best") tries.best
+AsksTries values tries = IsNumber 32 values (codes "tries") tries.count × IsBestIfUsed values (codes "best") tries.best
 
 -- the command of this name, with these values of its arguments, asks this
 abbrev pub AsksCommand : Text → Values → Request → Type 0
@@ -82,21 +76,21 @@ AsksCommand name values (r.Instance q) = (name ≡ codes "instance") × AsksTask
 AsksCommand name values (r.Check q) =
     (name ≡ codes "check") × AsksTasks values q.tasks × IsText values (codes "plan") q.plan × IsFlag values (codes "numbers") q.numbers
 AsksCommand name values (r.Plan q) =
-    (name ≡ codes "plan") × AsksTasks values q.tasks × IsNumber values (codes "horizon") q.horizon × AsksTries values q.tries
+    (name ≡ codes "plan") × AsksTasks values q.tasks × IsNumber 16 values (codes "horizon") q.horizon × AsksTries values q.tries
 AsksCommand name values (r.Compile q) =
     (name ≡ codes "compile") × AsksTasks values q.tasks × IsText values (codes "plan") q.plan × IsText values (codes "out") q.out
-    × IsKind values (codes "deps") q.deps × IsCount values (codes "dwell") q.dwell
+    × IsKind values (codes "deps") q.deps × IsNumber 32 values (codes "dwell") q.dwell
 AsksCommand name values (r.Verify q) = (name ≡ codes "verify") × AsksProgram values q
 AsksCommand name values (r.Run q) = (name ≡ codes "run") × AsksProgram values q.subject × IsTextIfUsed values (codes "holds") q.holds
 AsksCommand name values (r.Rehearse q) = (name ≡ codes "rehearse") × IsText values (codes "program") q.program × IsTextIfUsed values (codes "holds") q.holds
 AsksCommand name values (r.Auto q) =
-    (name ≡ codes "auto") × AsksTasks values q.tasks × IsNumber values (codes "horizon") q.horizon × AsksTries values q.tries
+    (name ≡ codes "auto") × AsksTasks values q.tasks × IsNumber 16 values (codes "horizon") q.horizon × AsksTries values q.tries
     × IsKind values (codes "deps") q.deps × IsTextIfUsed values (codes "holds") q.holds × IsFlag values (codes "numbers") q.numbers
 AsksCommand name values (r.Thin q) = (name ≡ codes "thin") × AsksProgram values q.subject × IsText values (codes "out") q.out
 AsksCommand name values (r.Migrate q) = (name ≡ codes "migrate") × IsText values (codes "program") q.program × IsText values (codes "out") q.out
 AsksCommand name values (r.List q) = (name ≡ codes "list") × IsText values (codes "program") q.program
 AsksCommand name values (r.Dispatch q) =
-    (name ≡ codes "dispatch") × AsksProgram values q.subject × IsNumber values (codes "ahead") q.ahead
+    (name ≡ codes "dispatch") × AsksProgram values q.subject × IsNumber 16 values (codes "ahead") q.ahead
     × IsFlag values (codes "unnumbered") q.unnumbered × IsTextIfUsed values (codes "resume") q.resume
     × IsTextIfUsed values (codes "log") q.log
 AsksCommand name values (r.Times q) =

@@ -9,7 +9,9 @@ use Rattle.clap.specs.ValueTests.{is_numeral}
 use Rattle.clap.specs.declared.parser.ArgMatches.{ArgMatches}
 use Rattle.clap.specs.declared.parser.matches.Found.{Found}
 use Rattle.fleet_args.specs.declared.arguments.Argument.{Argument}
-use Rattle.fleet_args.specs.declared.arguments.Argument.TheVariants as a
+use Rattle.fleet_args.specs.declared.arguments.Form.{Form}
+use Rattle.fleet_args.specs.declared.arguments.Form.TheVariants as form
+use Rattle.fleet_args.specs.Arguments.{described}
 use Rattle.fleet_args.specs.declared.commands.Best.{Best}
 use Rattle.fleet_args.specs.declared.commands.Best.TheVariants as best
 use Rattle.fleet_model.specs.declared.deps.Deps.{Deps}
@@ -68,13 +70,9 @@ IsTextIfUsed values id text = values.first id ≡ option_map (λ t. t.now) text
 abbrev pub IsNumberIfUsed : Values → Text → Option ℕ → Type 0
 IsNumberIfUsed values id number = number_by 16 (values.one id) ≡ Some number
 
--- a number of 16 bits that is there in any case
-abbrev pub IsNumber : Values → Text → ℕ → Type 0
-IsNumber values id number = number_by 16 (values.one id) ≡ Some (Some number)
-
--- a number of 32 bits that is there in any case
-abbrev pub IsCount : Values → Text → ℕ → Type 0
-IsCount values id number = number_by 32 (values.one id) ≡ Some (Some number)
+-- a number of so many bits that is there in any case
+abbrev pub IsNumber : ℕ → Values → Text → ℕ → Type 0
+IsNumber bits values id number = number_by bits (values.one id) ≡ Some (Some number)
 
 -- a kind of awaits that is there in any case
 abbrev pub IsKind : Values → Text → Deps → Type 0
@@ -94,17 +92,13 @@ IsFlag values id used = used ≡ option_map_or (λ t. bytes_eq t (codes "true"))
 abbrev pub has_text : Values → Text → Bool
 has_text values id = is_some (values.first id)
 
--- the option's text is a number of 16 bits, or it was not used
-abbrev pub reads_number : Values → Text → Bool
-reads_number values id = is_some (number_by 16 (values.one id))
+-- the option's text is a number of so many bits, or it was not used
+abbrev pub reads_number : ℕ → Values → Text → Bool
+reads_number bits values id = is_some (number_by bits (values.one id))
 
--- the argument has a number of 16 bits
-abbrev pub has_number : Values → Text → Bool
-has_number values id = is_some (option_and_then (λ n. n) (number_by 16 (values.one id)))
-
--- the argument has a number of 32 bits
-abbrev pub has_count : Values → Text → Bool
-has_count values id = is_some (option_and_then (λ n. n) (number_by 32 (values.one id)))
+-- the argument has a number of so many bits
+abbrev pub has_number : ℕ → Values → Text → Bool
+has_number bits values id = is_some (option_and_then (λ n. n) (number_by bits (values.one id)))
 
 -- the argument has the name of a kind of awaits
 abbrev pub has_kind : Values → Text → Bool
@@ -114,30 +108,20 @@ has_kind values id = is_some (option_and_then deps_in (values.first id))
 abbrev pub reads_best : Values → Text → Bool
 reads_best values id = is_some (best_by (values.first id))
 
--- the argument has a value, if a command cannot do without one; and one that it has can be read
+-- numbers up to this one have 16 bits, or else 32, and pass the test for so many
+abbrev pub in_bits : ℕ → (ℕ → Bool) → Bool
+in_bits most test = if nat_lt most 65536 then test 16 else (if nat_lt most 4294967296 then test 32 else true)
+
+-- an argument of this name and form, with a default or none, has a value, if a command cannot do without one; and one that it has can be read
+abbrev pub has_value_by : Values → Text → Form → Option Text → Bool
+has_value_by values id form.Word default = has_text values id
+has_value_by values id (form.Numbers least most) None = in_bits most (λ bits. reads_number bits values id)
+has_value_by values id (form.Numbers least most) (Some default) = in_bits most (λ bits. has_number bits values id)
+has_value_by values id form.Deps (Some default) = has_kind values id
+has_value_by values id form.Best default = reads_best values id
+has_value_by values id _ default = true
+
 abbrev pub has_value : Values → Argument → Bool
-has_value values a.Map = has_text values (codes "map")
-has_value values a.Scen = has_text values (codes "scen")
-has_value values a.Plan = has_text values (codes "plan")
-has_value values a.Out = has_text values (codes "out")
-has_value values a.Program = has_text values (codes "program")
-has_value values a.Agents = reads_number values (codes "agents")
-has_value values a.Horizon = has_number values (codes "horizon")
-has_value values a.Tries = has_count values (codes "tries")
-has_value values a.Best = reads_best values (codes "best")
-has_value values a.Deps = has_kind values (codes "deps")
-has_value values a.Dwell = has_count values (codes "dwell")
-has_value values a.Holds = true
-has_value values a.Numbers = true
-has_value values a.Ahead = has_number values (codes "ahead")
-has_value values a.Unnumbered = true
-has_value values a.Resume = true
-has_value values a.Costs = true
-has_value values a.Broken = true
-has_value values a.Reports = has_text values (codes "reports")
-has_value values a.ScenOut = has_text values (codes "scen_out")
-has_value values a.ProgramOut = has_text values (codes "program_out")
-has_value values a.Without = true
-has_value values a.MapOut = true
-has_value values a.OthersOut = true
-has_value values a.Log = true
+has_value values argument =
+    let d = described argument in
+    has_value_by values d.0 d.1 d.2

@@ -2,9 +2,9 @@
 
 ghost use Rattle.std.specs.Prelude.{◌≡◌, IfOk, None, fold, map, true};
 ghost use Rattle.clap.specs.Words.{app_of, with_rule, found_of, one_text};
-ghost use Rattle.fleet_args.specs.Arguments.{IsArg, IsLeafCommand, IsApp, IsLocal, plain_rule, parser_for, rule_by, rule_for, shape_for};
+ghost use Rattle.fleet_args.specs.Arguments.{IsArg, IsLeafCommand, IsApp, IsLocal, described, parser_for, plain_rule, rule_for, shape_for, told};
 ghost use Rattle.fleet_args.specs.declared.arguments.OptionNames.{OptionNames};
-ghost use Rattle.fleet_args.specs.Values.{IsBestIfUsed, IsCount, IsFlag, IsKind, IsNumber, IsNumberIfUsed, IsText, best_in, deps_in, has_count, has_kind, has_number, has_text, number_by, reads_best, reads_number, values_in};
+ghost use Rattle.fleet_args.specs.Values.{IsBestIfUsed, IsFlag, IsKind, IsNumber, IsNumberIfUsed, IsText, best_in, deps_in, has_kind, has_number, has_text, number_by, reads_best, reads_number, values_in};
 
 use crate::commands::Best;
 use clap::builder::ValueParser;
@@ -50,30 +50,31 @@ pub(crate) enum Argument {
     Log,
 }
 
-/// The values that an argument takes.
+/// How an argument stands among the words, and which values it takes.
 #[derive(Clone, Copy)]
-pub(crate) enum Values {
-    /// Any text.
+pub(crate) enum Form {
+    /// A word that the command needs, at its place among such words: any text.
+    Word,
+    /// An option with any text.
     Text,
-    /// The numbers from the first to the second.
-    Numbers(i64, i64),
-    /// The names of the kinds of awaits.
+    /// An option with a number from the first to the second.
+    Numbers(u32, u32),
+    /// An option with a name of the kinds of awaits.
     Deps,
-    /// The names of what makes a plan the best.
+    /// An option with a name of what makes a plan the best.
     Best,
-    /// None: the option is used or not.
+    /// An option that is used or not.
     Flag,
 }
 
-/// What an argument is: a word that the command needs, at its place among such words, or else an option `--NAME`, with
-/// one value or as a flag.
+/// What an argument is: its name, which is `--NAME` for an option; in help the name of its value, and a text; its form;
+/// and what it is if it is not given.
 #[derive(Clone, Copy)]
 struct ArgumentText {
     name: &'static str,
     value: &'static str,
     help: &'static str,
-    is_word: bool,
-    values: Values,
+    form: Form,
     default: Option<&'static str>,
 }
 
@@ -89,8 +90,7 @@ const MAP: ArgumentText = ArgumentText {
     name: "map",
     value: "MAP",
     help: "Map file (MovingAI), each side 1 to 4096",
-    is_word: true,
-    values: Values::Text,
+    form: Form::Word,
     default: None,
 };
 
@@ -98,8 +98,7 @@ const SCEN: ArgumentText = ArgumentText {
     name: "scen",
     value: "SCEN",
     help: "Scenario file (MovingAI), one line per agent",
-    is_word: true,
-    values: Values::Text,
+    form: Form::Word,
     default: None,
 };
 
@@ -107,8 +106,7 @@ const PLAN: ArgumentText = ArgumentText {
     name: "plan",
     value: "PLAN",
     help: "Plan text: a line per agent, its cells x,y at times 0, 1, 2 ..",
-    is_word: true,
-    values: Values::Text,
+    form: Form::Word,
     default: None,
 };
 
@@ -116,8 +114,7 @@ const OUT: ArgumentText = ArgumentText {
     name: "out",
     value: "OUT",
     help: "The file to which the program bytes are written",
-    is_word: true,
-    values: Values::Text,
+    form: Form::Word,
     default: None,
 };
 
@@ -125,8 +122,7 @@ const PROGRAM: ArgumentText = ArgumentText {
     name: "program",
     value: "PROGRAM",
     help: "Program file (bytes, not hexadecimal)",
-    is_word: true,
-    values: Values::Text,
+    form: Form::Word,
     default: None,
 };
 
@@ -134,8 +130,7 @@ const AGENTS: ArgumentText = ArgumentText {
     name: "agents",
     value: "K",
     help: "Take the first K agents of the scenario, 1 to 1024 [default: all]",
-    is_word: false,
-    values: Values::Numbers(0, u16::MAX as i64),
+    form: Form::Numbers(0, u16::MAX as u32),
     default: None,
 };
 
@@ -143,8 +138,7 @@ const HORIZON: ArgumentText = ArgumentText {
     name: "horizon",
     value: "H",
     help: "The latest time at which an agent may arrive, 1 to 65535; below its shortest way there is no path",
-    is_word: false,
-    values: Values::Numbers(1, u16::MAX as i64),
+    form: Form::Numbers(1, u16::MAX as u32),
     default: Some("1024"),
 };
 
@@ -152,8 +146,7 @@ const TRIES: ArgumentText = ArgumentText {
     name: "tries",
     value: "N",
     help: "How many orders of the agents are tried, 1 to 1000000: an agent that finds no path is planned first in the next one",
-    is_word: false,
-    values: Values::Numbers(1, MAX_TRIES as i64),
+    form: Form::Numbers(1, MAX_TRIES),
     default: Some("1"),
 };
 
@@ -161,8 +154,7 @@ const BEST: ArgumentText = ArgumentText {
     name: "best",
     value: "BEST",
     help: "Tries all N orders, and keeps the first plan with the shortest chain (chain) or the least sum of costs (cost)",
-    is_word: false,
-    values: Values::Best,
+    form: Form::Best,
     default: None,
 };
 
@@ -171,8 +163,7 @@ const DEPS: ArgumentText = ArgumentText {
     name: "deps",
     value: "DEPS",
     help: "What a move into a cell waits for: the last leaving by each other agent (all), or only the latest leaving (last)",
-    is_word: false,
-    values: Values::Deps,
+    form: Form::Deps,
     default: Some("last"),
 };
 
@@ -180,8 +171,7 @@ const DWELL: ArgumentText = ArgumentText {
     name: "dwell",
     value: "N",
     help: "How many actions each agent stays on its last cell after its moves, 0 to 1000000",
-    is_word: false,
-    values: Values::Numbers(0, MAX_MOVES as i64),
+    form: Form::Numbers(0, MAX_MOVES),
     default: Some("0"),
 };
 
@@ -189,8 +179,7 @@ const HOLDS: ArgumentText = ArgumentText {
     name: "holds",
     value: "FILE",
     help: "Holds text: a line per tick, - for nobody or the numbers of the held agents, rising [default: nobody is held]",
-    is_word: false,
-    values: Values::Text,
+    form: Form::Text,
     default: None,
 };
 
@@ -198,8 +187,7 @@ const NUMBERS: ArgumentText = ArgumentText {
     name: "numbers",
     value: "",
     help: "Prints more numbers of the plan at the end",
-    is_word: false,
-    values: Values::Flag,
+    form: Form::Flag,
     default: None,
 };
 
@@ -207,8 +195,7 @@ const AHEAD: ArgumentText = ArgumentText {
     name: "ahead",
     value: "K",
     help: "How many orders an agent may have at most that it has not reported, 1 to 255",
-    is_word: false,
-    values: Values::Numbers(1, u8::MAX as i64),
+    form: Form::Numbers(1, u8::MAX as u32),
     default: Some("1"),
 };
 
@@ -216,8 +203,7 @@ const UNNUMBERED: ArgumentText = ArgumentText {
     name: "unnumbered",
     value: "",
     help: "Orders and reports name agents alone: go AGENT FROM TO, and a report that comes twice counts twice",
-    is_word: false,
-    values: Values::Flag,
+    form: Form::Flag,
     default: None,
 };
 
@@ -225,8 +211,7 @@ const RESUME: ArgumentText = ArgumentText {
     name: "resume",
     value: "FILE",
     help: "Goes on after the reports in this file: takes them first, and then prints the orders that are open",
-    is_word: false,
-    values: Values::Text,
+    form: Form::Text,
     default: None,
 };
 
@@ -234,8 +219,7 @@ const COSTS: ArgumentText = ArgumentText {
     name: "costs",
     value: "FILE",
     help: "What actions cost: lines A X, each action of agent A, and A:N X, its action N [default: each action costs 1]",
-    is_word: false,
-    values: Values::Text,
+    form: Form::Text,
     default: None,
 };
 
@@ -243,8 +227,7 @@ const BROKEN: ArgumentText = ArgumentText {
     name: "broken",
     value: "ACTIONS",
     help: "The actions in which robots break down: words A:N, rising, one space between two [default: all robots go on]",
-    is_word: false,
-    values: Values::Text,
+    form: Form::Text,
     default: None,
 };
 
@@ -252,8 +235,7 @@ const REPORTS: ArgumentText = ArgumentText {
     name: "reports",
     value: "LOG",
     help: "The log of a dispatch: its reports, a line for each",
-    is_word: true,
-    values: Values::Text,
+    form: Form::Word,
     default: None,
 };
 
@@ -261,8 +243,7 @@ const SCEN_OUT: ArgumentText = ArgumentText {
     name: "scen_out",
     value: "SCEN_OUT",
     help: "The file to which the tasks that are left are written, as a scenario",
-    is_word: true,
-    values: Values::Text,
+    form: Form::Word,
     default: None,
 };
 
@@ -270,8 +251,7 @@ const PROGRAM_OUT: ArgumentText = ArgumentText {
     name: "program_out",
     value: "PROGRAM_OUT",
     help: "The file to which the program bytes that are left are written",
-    is_word: true,
-    values: Values::Text,
+    form: Form::Word,
     default: None,
 };
 
@@ -279,8 +259,7 @@ const WITHOUT: ArgumentText = ArgumentText {
     name: "without",
     value: "CELLS",
     help: "The agent of a dead robot, and the cells on which it stands: A:X,Y or A:X,Y:X,Y [default: no robot is dead]",
-    is_word: false,
-    values: Values::Text,
+    form: Form::Text,
     default: None,
 };
 
@@ -288,8 +267,7 @@ const MAP_OUT: ArgumentText = ArgumentText {
     name: "map-out",
     value: "FILE",
     help: "A file to which the map is written, in which the cells of the dead robot are blocked",
-    is_word: false,
-    values: Values::Text,
+    form: Form::Text,
     default: None,
 };
 
@@ -297,8 +275,7 @@ const OTHERS_OUT: ArgumentText = ArgumentText {
     name: "others-out",
     value: "FILE",
     help: "A file to which the tasks of all but the dead robot's agent are written, as a scenario",
-    is_word: false,
-    values: Values::Text,
+    form: Form::Text,
     default: None,
 };
 
@@ -306,14 +283,13 @@ const LOG: ArgumentText = ArgumentText {
     name: "log",
     value: "FILE",
     help: "Appends each report that is taken to this file, on the disk before anything follows from it",
-    is_word: false,
-    values: Values::Text,
+    form: Form::Text,
     default: None,
 };
 
 /// What this argument is.
 fn text_of(argument: Argument) -> ArgumentText
-    ensures { (names : OptionNames) → rule_by names result ≡ rule_for names argument }
+    ensures { told result ≡ described argument }
 {
     match argument {
         Argument::Map => MAP,
@@ -344,32 +320,29 @@ fn text_of(argument: Argument) -> ArgumentText
     }
 }
 
-/// How `clap` reads these values, with these names.
-fn parser_for<'a>(names: OptionNames<'a>, values: Values) -> Option<ValueParser<'a>>
-    ensures { result ≡ parser_for names.entry values }
+/// How `clap` reads the values of an argument of this form, with these names.
+fn parser_for<'a>(names: OptionNames<'a>, form: Form) -> Option<ValueParser<'a>>
+    ensures { result ≡ parser_for names.entry form }
 {
-    match values {
-        Values::Text => None,
-        Values::Numbers(least, most) => Some(ValueParser::Signed(least, most)),
-        Values::Deps => Some(ValueParser::Names(names.deps)),
-        Values::Best => Some(ValueParser::Names(names.best)),
-        Values::Flag => None,
+    match form {
+        Form::Numbers(least, most) => {
+            Some(ValueParser::Signed(i64::from(least), i64::from(most)))
+        }
+        Form::Deps => Some(ValueParser::Names(names.deps)),
+        Form::Best => Some(ValueParser::Names(names.best)),
+        Form::Word | Form::Text | Form::Flag => None,
     }
 }
 
 /// The argument as `clap` takes it, if it takes any text and has no default.
 fn plain_arg<'a>(alloc: Global, text: ArgumentText) -> Arg<'a>
-    ensures { IsArg (plain_rule text) result }
+    ensures { IsArg (plain_rule text.name.now text.form) result }
 {
     let named = Arg::new(alloc, text.name).help(text.help);
-    let arg = match text.values {
-        Values::Flag => named.action(ArgAction::SetTrue),
-        _ => named.value_name(text.value),
-    };
-    if text.is_word {
-        arg.required(true)
-    } else {
-        arg.long(text.name)
+    match text.form {
+        Form::Word => named.value_name(text.value).required(true),
+        Form::Flag => named.action(ArgAction::SetTrue).long(text.name),
+        _ => named.value_name(text.value).long(text.name),
     }
 }
 
@@ -389,7 +362,7 @@ fn arg_of<'a>(alloc: Global, names: OptionNames<'a>, argument: Argument) -> Arg<
     ensures { IsArg (rule_for names.entry argument) result }
 {
     let text = text_of(argument);
-    let arg = with_parser(plain_arg(alloc, text), parser_for(names, text.values));
+    let arg = with_parser(plain_arg(alloc, text), parser_for(names, text.form));
     match text.default {
         Some(default) => arg.default_value(default),
         None => arg,
@@ -482,7 +455,7 @@ pub(crate) fn text<'a>(matches: &ArgMatches<'a>, id: &str) -> &'a str
 
 /// The number of an option, if it was used.
 pub(crate) fn used_number(matches: &ArgMatches<'_>, id: &str) -> Option<u16>
-    requires { reads_number (values_in matches.now) id.now ≡ true }
+    requires { reads_number 16 (values_in matches.now) id.now ≡ true }
     ensures { IsNumberIfUsed (values_in matches.now) id.now result }
 {
     match number(matches, id) {
@@ -493,8 +466,8 @@ pub(crate) fn used_number(matches: &ArgMatches<'_>, id: &str) -> Option<u16>
 
 /// The number of an option that has one.
 pub(crate) fn given_number(matches: &ArgMatches<'_>, id: &str) -> u16
-    requires { has_number (values_in matches.now) id.now ≡ true }
-    ensures { IsNumber (values_in matches.now) id.now result }
+    requires { has_number 16 (values_in matches.now) id.now ≡ true }
+    ensures { IsNumber 16 (values_in matches.now) id.now result }
 {
     match number(matches, id) {
         Some(Some(number)) => number,
@@ -505,8 +478,8 @@ pub(crate) fn given_number(matches: &ArgMatches<'_>, id: &str) -> u16
 
 /// The same of a number of up to 32 bits.
 pub(crate) fn given_count(matches: &ArgMatches<'_>, id: &str) -> u32
-    requires { has_count (values_in matches.now) id.now ≡ true }
-    ensures { IsCount (values_in matches.now) id.now result }
+    requires { has_number 32 (values_in matches.now) id.now ≡ true }
+    ensures { IsNumber 32 (values_in matches.now) id.now result }
 {
     match count(matches, id) {
         Some(Some(count)) => count,

@@ -1,7 +1,7 @@
 //! The commands: what each is asked for, its words and options, and how they are read from the matches.
 
 ghost use Rattle.std.specs.Prelude.{◌≡◌, codes, true};
-ghost use Rattle.fleet_args.specs.Values.{has_count, has_text, reads_best, reads_number, values_in};
+ghost use Rattle.fleet_args.specs.Values.{has_number, has_text, reads_best, reads_number, values_in};
 ghost use Rattle.fleet_args.specs.Commands.{AsksCommand, AsksProgram, AsksTasks, AsksTries, has_values};
 
 use crate::arguments::{
@@ -315,7 +315,7 @@ pub(crate) static COMMANDS: [CommandText; 14] = [
 
 /// The tries that the matches of a command ask for.
 pub(crate) fn tries_in(matches: &ArgMatches<'_>) -> Tries
-    requires count { has_count (values_in matches.now) (codes "tries") ≡ true }
+    requires count { has_number 32 (values_in matches.now) (codes "tries") ≡ true }
     requires best { reads_best (values_in matches.now) (codes "best") ≡ true }
     ensures { AsksTries (values_in matches.now) result }
 {
@@ -329,7 +329,7 @@ pub(crate) fn tries_in(matches: &ArgMatches<'_>) -> Tries
 fn tasks_in<'a>(matches: &ArgMatches<'a>) -> Tasks<'a>
     requires map { has_text (values_in matches.now) (codes "map") ≡ true }
     requires scen { has_text (values_in matches.now) (codes "scen") ≡ true }
-    requires agents { reads_number (values_in matches.now) (codes "agents") ≡ true }
+    requires agents { reads_number 16 (values_in matches.now) (codes "agents") ≡ true }
     ensures { AsksTasks (values_in matches.now) result }
 {
     Tasks {
@@ -343,7 +343,7 @@ fn tasks_in<'a>(matches: &ArgMatches<'a>) -> Tasks<'a>
 fn program_in<'a>(matches: &ArgMatches<'a>) -> ProgramFor<'a>
     requires map { has_text (values_in matches.now) (codes "map") ≡ true }
     requires scen { has_text (values_in matches.now) (codes "scen") ≡ true }
-    requires agents { reads_number (values_in matches.now) (codes "agents") ≡ true }
+    requires agents { reads_number 16 (values_in matches.now) (codes "agents") ≡ true }
     requires program { has_text (values_in matches.now) (codes "program") ≡ true }
     ensures { AsksProgram (values_in matches.now) result }
 {

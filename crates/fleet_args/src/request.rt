@@ -1,8 +1,10 @@
 //! The command line, and the request that its words make.
 
 ghost use Rattle.std.specs.Prelude.{◌≡◌, map, string_bytes, true, IfOk, IfSome, codes};
+ghost use Rattle.std.specs.List.{position};
+ghost use Rattle.std.specs.Str.{bytes_eq};
 ghost use Rattle.clap.specs.Words.{subcommand_rows_of, kind_of, app_of, new_app, with_subcommand};
-ghost use Rattle.fleet_args.specs.Commands.{AreNames, IsPlaceOf, fleet, fleet_top, with_shapes};
+ghost use Rattle.fleet_args.specs.Commands.{AreNames, fleet, fleet_top, with_shapes};
 ghost use Rattle.fleet_args.specs.Request.{Asks, AsksBy, is_answered_by, IsStopOf, Reads, ReadsFleet};
 ghost use Rattle.fleet_args.specs.Arguments.{shape_for};
 
@@ -67,16 +69,11 @@ fn read_whole<'a>(
     }
 }
 
-/// The place of the command of this name among these.
+/// The place of the first command of this name among these.
 fn place_of_command(texts: &[CommandText], name: &str) -> Option<usize>
-    ensures { IfSome result (IsPlaceOf name.now texts.now) }
+    ensures { result ≡ position (λ text. bytes_eq text.name.now name.now) texts.now }
 {
-    for j in 0..texts.len() {
-        if texts[j].name == name {
-            return Some(j);
-        }
-    }
-    None
+    texts.iter().position(|text| text.name == name)
 }
 
 /// The command line with this command alone.

@@ -1,4 +1,4 @@
-use Rattle.std.proofs.Common.{◌∙◌, ap, map, string_bytes, subst}
+use Rattle.std.proofs.Common.{◌∙◌, ap, map, string_bytes, subst, sym}
 use Rattle.clap.specs.Words.{app_of}
 use Rattle.fleet_args.specs.Arguments.{shape_for}
 use Rattle.fleet_args.specs.Request.{AsksBy, is_answered_by}
@@ -10,7 +10,7 @@ pub request_in-requires : goal.request_in-requires
 request_in-requires c =
     let names = c.args.names in
     let found = found_by_name string_bytes c.args.words.now c.first-item.result c.in-len1-up.len_at_least c.first-item.is c.deref.result.now c.deref.ensures
-    names c.as_slice-texts.result.now (ap (map (shape_for names)) c.as_slice-texts.ensures) c.in-Some.j c.in-Some.ensures _
+    names c.as_slice-texts.result.now (ap (map (shape_for names)) c.as_slice-texts.ensures) c.in-Some.j (sym c.in-Some.ensures) _
     (app_of c.in_ok-command.command) c.in-Ok.matches c.in_ok-command.ensures c.in-Ok.ensures.matches c.in-Ok.ensures.kinds in
     ap is_answered_by found.1 ∙ is_answered names c.requires (map string_bytes c.args.words.now) found.0
 
@@ -18,6 +18,6 @@ pub returns-in-Ok : goal.returns-in-Ok
 returns-in-Ok c =
     let names = c.args.names in
     let found = found_by_name string_bytes c.args.words.now c.first-item.result c.in-len1-up.len_at_least c.first-item.is c.deref.result.now c.deref.ensures
-    names c.as_slice-texts.result.now (ap (map (shape_for names)) c.as_slice-texts.ensures) c.in-Some.j c.in-Some.ensures _
+    names c.as_slice-texts.result.now (ap (map (shape_for names)) c.as_slice-texts.ensures) c.in-Some.j (sym c.in-Some.ensures) _
     (app_of c.in_ok-command.command) c.in-Ok.matches c.in_ok-command.ensures c.in-Ok.ensures.matches c.in-Ok.ensures.kinds in
     (found.0, subst (λ x. AsksBy x c.request_in.result) found.1 c.request_in.ensures)

@@ -202,3 +202,16 @@ pub fn started<P: ProgramView + Drop>(
         Err(StartRefusal { accepted: _ }) => Err(Fail::from("memory")),
     }
 }
+
+/// A fleet of the pair's program, which is started.
+pub fn pair_fleet<'g, P: ProgramView + Drop>(
+    alloc: Global,
+    program: P,
+    grid: &'g Grid,
+    instance: &'g Instance,
+) -> Result<Fleet<'g, P>, Fail>
+    ensures agents { IfOk result (λ f. length (P.program f.accepted.program) ≡ 2) }
+    ensures counts { IfOk result (λ f. All (λ s. s.count ≡ 0) f.configuration) }
+{
+    started(alloc, accepted_pair(alloc, program, grid, instance)?)
+}

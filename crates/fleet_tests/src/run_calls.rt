@@ -1,22 +1,25 @@
 //! Fleets that are ticked and driven, rehearsals, and the sources and sinks of both.
 
 ghost use Rattle.std.specs.Prelude.{◌≡◌, All, IfOk, length};
+ghost use Rattle.std.specs.List.Sorted.{IsStrictlyIncreasing};
 ghost use Rattle.fleet_run.specs.Source.{HasNotFailed};
 
 use crate::due::due_bytes;
 use crate::ends::Counter;
 use crate::fleets::{
-    HELD_TRACE, PAIR_BYTES, PAIR_TEXT, PAIR_TRACE, RING_BYTES, accepted_of, accepted_pair, pair,
+    HELD_TRACE, PAIR_BYTES, PAIR_TEXT, PAIR_TRACE, RING_BYTES, accepted_of, pair, pair_fleet,
     problem, started,
 };
 use fleet_adg::rest;
 use fleet_code::{encode, view};
+use fleet_grid::Grid;
 use fleet_model::{Place, ProgramView};
 use fleet_run::{
     End, Fleet, HoldList, HoldSource, HoldText, OutFault, Rehearsal, Report, RunFault, SourceFault,
     Tick, TraceOut, VecOut, WriteOut, drive, rehearse, write_holds,
 };
-use std::alloc::Global;
+use fleet_scen::Instance;
+use std::alloc::{AllocError, Global};
 use std::process::Abort;
 use std::test::Fail;
 
@@ -107,23 +110,33 @@ fn stands<P: ProgramView>(
     fleet.finished() == (counts == [2, 2])
 }
 
+/// Whether the tick has its outcome, and the pair stands so after it.
+fn ticks<P: ProgramView>(fleet: &mut Fleet<'_, P>, tick: &PairTick) -> bool
+    requires { length (P.program fleet.old.accepted.program) ≡ 2 }
+    ensures { length (P.program fleet.new.accepted.program) ≡ 2 }
+{
+    let (held, outcome, columns, counts, ready, (least, most)) = *tick;
+    let Tick { moved, ready_held } = fleet.tick(&held);
+    let looked = fleet.looked();
+    (moved, ready_held) == outcome
+        && stands(fleet, columns, counts, ready)
+        && least <= looked
+        && looked <= most
+}
+
 /// The ticks of the table, one after another.
 fn tick_pair<P: ProgramView>(rt: &impl Abort, fleet: &mut Fleet<'_, P>)
     requires { length (P.program fleet.old.accepted.program) ≡ 2 }
 {
-    for (held, outcome, columns, counts, ready, (least, most)) in TICKS {
-        let Tick { moved, ready_held } = fleet.tick(&held);
-        assert!(*rt; (moved, ready_held) == outcome);
-        assert!(*rt; stands(fleet, columns, counts, ready));
-        assert!(*rt; least <= fleet.looked() && fleet.looked() <= most);
+    for tick in &TICKS {
+        assert!(*rt; ticks(fleet, tick));
     }
 }
 
 #[test]
 fn fleets_are_ticked(rt: HostRuntime) -> Result<(), Fail> {
     let (grid, instance, program) = pair(rt.alloc())?;
-    let accepted = accepted_pair(rt.alloc(), program, &grid, &instance)?;
-    let mut fleet = started(rt.alloc(), accepted)?;
+    let mut fleet = pair_fleet(rt.alloc(), program, &grid, &instance)?;
     tick_pair(&rt, &mut fleet);
     assert!(rt; fleet.into_accepted().chain() == 3);
     Ok(())
@@ -164,8 +177,7 @@ fn due_rests<P: ProgramView>(
 #[test]
 fn what_is_left_is_a_program(rt: HostRuntime) -> Result<(), Fail> {
     let (grid, instance, program) = pair(rt.alloc())?;
-    let accepted = accepted_pair(rt.alloc(), program, &grid, &instance)?;
-    let mut fleet = started(rt.alloc(), accepted)?;
+    let mut fleet = pair_fleet(rt.alloc(), program, &grid, &instance)?;
     due_rests(&rt, rt.alloc(), &mut fleet)
 }
 
@@ -187,8 +199,7 @@ fn go_on<P: ProgramView>(rt: &impl Abort, alloc: Global, fleet: &mut Fleet<'_, P
 #[test]
 fn fleets_go_on_after_a_refusal(rt: HostRuntime) -> Result<(), Fail> {
     let (grid, instance, program) = pair(rt.alloc())?;
-    let accepted = accepted_pair(rt.alloc(), program, &grid, &instance)?;
-    let mut fleet = started(rt.alloc(), accepted)?;
+    let mut fleet = pair_fleet(rt.alloc(), program, &grid, &instance)?;
     go_on(&rt, rt.alloc(), &mut fleet);
     Ok(())
 }
@@ -218,7 +229,17 @@ fn counted_run(
     holds: &[u8],
 ) -> Result<Counted, Fail> {
     let (grid, instance) = problem(alloc, map, scen)?;
-    let accepted = accepted_of(alloc, view(alloc, bytes)?, &grid, &instance)?;
+    counted_on(alloc, &grid, &instance, bytes, holds)
+}
+
+fn counted_on(
+    alloc: Global,
+    grid: &Grid,
+    instance: &Instance,
+    bytes: &[u8],
+    holds: &[u8],
+) -> Result<Counted, Fail> {
+    let accepted = accepted_of(alloc, view(alloc, bytes)?, grid, instance)?;
     let mut fleet = started(alloc, accepted)?;
     counted_drive(&mut fleet, holds)
 }
@@ -230,26 +251,35 @@ const STEP_SCEN: &[u8] = b"version 1\n0 m 2 1 0 0 1 0 1\n";
 
 const STEP_BYTES: &[u8] = b"MPF1\0\x01\0\0\0\0\0\x01\0\0\0\x01\x01";
 
-/// It is held in as many ticks as a run takes from its source, and in one more.
-#[test]
-fn holds_have_a_limit(rt: HostRuntime) -> Result<(), Fail> {
-    let alloc = rt.alloc();
+/// Agent 0 is held in 4,194,304 ticks.
+fn most_holds(alloc: Global) -> Result<Vec<u8>, AllocError> {
     let mut holds = b"0\n".to_vec(alloc)?;
     for _ in 0..22 {
         let copy = holds.to_vec(alloc)?;
         holds.extend_from_slice(&copy)?;
     }
-    let (ran, _, count, _) = counted_run(alloc, STEP_MAP, STEP_SCEN, STEP_BYTES, &holds)?;
+    Ok(holds)
+}
+
+/// Why the agent's run under these holds stopped, or its report, and how many actions it has finished.
+fn step_answer(alloc: Global, holds: &[u8]) -> Result<(Result<Report, RunFault>, u32), Fail> {
+    let (ran, _, count, _) = counted_run(alloc, STEP_MAP, STEP_SCEN, STEP_BYTES, holds)?;
+    Ok((ran, count))
+}
+
+/// It is held in as many ticks as a run takes from its source, and in one more.
+#[test]
+fn holds_have_a_limit(rt: HostRuntime) -> Result<(), Fail> {
+    let mut holds = most_holds(rt.alloc())?;
     let due = Report {
         agents: 1,
         ticks: 4_194_305,
         chain: 1,
         held: 4_194_304,
     };
-    assert!(rt; ran == Ok(due) && count == 1);
+    assert!(rt; step_answer(rt.alloc(), &holds)? == (Ok(due), 1));
     holds.extend_from_slice(b"0\n")?;
-    let (ran, _, count, _) = counted_run(alloc, STEP_MAP, STEP_SCEN, STEP_BYTES, &holds)?;
-    assert!(rt; ran == Err(RunFault::HoldLimit) && count == 0);
+    assert!(rt; step_answer(rt.alloc(), &holds)? == (Err(RunFault::HoldLimit), 0));
     Ok(())
 }
 
@@ -325,51 +355,62 @@ fn driven<S: HoldSource>(alloc: Global, source: &mut S) -> Result<VecOut, Fail>
     requires { HasNotFailed (S.state source.old) }
 {
     let (grid, instance, program) = pair(alloc)?;
-    let accepted = accepted_pair(alloc, program, &grid, &instance)?;
-    let mut fleet = started(alloc, accepted)?;
+    let mut fleet = pair_fleet(alloc, program, &grid, &instance)?;
     written(alloc, &mut fleet, source)
+}
+
+/// A list that holds agents 0 and 9 in its first tick, and nobody in its second.
+fn some_holds(alloc: Global) -> Result<Vec<Vec<u16>>, AllocError>
+    ensures { IfOk result (λ rows. All (λ row. IsStrictlyIncreasing row.items) rows.items) }
+{
+    Ok(vec![in alloc; vec![in alloc; 0, 9]?, Vec::new(alloc)]?)
+}
+
+/// This is due of the pair under these holds.
+fn due_driven(rt: &impl Abort, alloc: Global, rows: Vec<Vec<u16>>, due: &[u8]) -> Result<(), Fail>
+    requires { All (λ row. IsStrictlyIncreasing row.items) rows.items }
+{
+    let out = driven(alloc, &mut HoldList::new(rows))?;
+    due_bytes(rt, out.bytes(), due);
+    Ok(())
 }
 
 #[test]
 fn lists_hold_agents(rt: HostRuntime) -> Result<(), Fail> {
-    let alloc = rt.alloc();
-    let rows = vec![in alloc; vec![in alloc; 0]?]?;
-    let held = driven(alloc, &mut HoldList::new(rows))?;
-    due_bytes(&rt, held.bytes(), HELD_TRACE);
-    let nobody = driven(alloc, &mut HoldList::new(Vec::new(alloc)))?;
-    due_bytes(&rt, nobody.bytes(), PAIR_TRACE);
-    let holds = vec![in alloc; vec![in alloc; 0u16, 9]?, Vec::new(alloc)]?;
-    due_bytes(&rt, &write_holds(alloc, &holds)?, b"0 9\n-\n");
+    due_driven(&rt, rt.alloc(), some_holds(rt.alloc())?, HELD_TRACE)?;
+    due_driven(&rt, rt.alloc(), Vec::new(rt.alloc()), PAIR_TRACE)?;
+    let text = write_holds(rt.alloc(), &some_holds(rt.alloc())?)?;
+    due_bytes(&rt, &text, b"0 9\n-\n");
     Ok(())
 }
 
-/// The ticks that a source gives to three agents, up to nine, and how it has failed after them.
-fn given_by<S: HoldSource>(
-    alloc: Global,
-    source: &mut S,
-) -> Result<(Vec<[bool; 3]>, Option<SourceFault>), Fail> {
-    let mut given = Vec::new(alloc);
-    for _ in 0..9 {
-        let mut flags = [false; 3];
-        if source.failed().is_some() || source.next(&mut flags) != Ok(true) {
-            break;
-        }
-        given.push(flags)?;
+/// The next tick that a source gives to three agents, if it gives one.
+fn next_of<S: HoldSource>(source: &mut S) -> Option<[bool; 3]> {
+    let mut flags = [false; 3];
+    if source.failed().is_some() || source.next(&mut flags) != Ok(true) {
+        return None;
     }
-    Ok((given, source.failed()))
+    Some(flags)
+}
+
+/// Whether it gives these and no more, and has failed so after them.
+fn gives<S: HoldSource>(source: &mut S, due: &[[bool; 3]], fault: Option<SourceFault>) -> bool {
+    for tick in due {
+        if next_of(source) != Some(*tick) {
+            return false;
+        }
+    }
+    next_of(source).is_none() && source.failed() == fault
 }
 
 #[test]
 fn sources_give_ticks(rt: HostRuntime) -> Result<(), Fail> {
-    let alloc = rt.alloc();
-    let rows = vec![in alloc; vec![in alloc; 0, 9]?, Vec::new(alloc)]?;
-    let (given, fault) = given_by(alloc, &mut HoldList::new(rows))?;
-    assert!(rt;
-        given.as_slice() == [[true, false, false], [false; 3]].as_slice() && fault.is_none()
-    );
-    let (given, fault) = given_by(alloc, &mut HoldText::new(b"0 2\r\n-\n1 0\n-\n", 3))?;
-    assert!(rt; given.as_slice() == [[true, false, true], [false; 3]].as_slice());
-    assert!(rt; matches!(fault, Some(SourceFault::Text)));
+    let mut list = HoldList::new(some_holds(rt.alloc())?);
+    let due = [[true, false, false], [false; 3]];
+    assert!(rt; gives(&mut list, &due, None));
+    let mut text = HoldText::new(b"0 2\r\n-\n1 0\n-\n", 3);
+    let due = [[true, false, true], [false; 3]];
+    assert!(rt; gives(&mut text, &due, Some(SourceFault::Text)));
     Ok(())
 }
 

@@ -6,7 +6,7 @@ ghost use Rattle.fleet_run.specs.Source.{HasNotFailed};
 ghost use Rattle.fleet_text.specs.Sink.{IsWorking};
 
 use crate::due::due_bytes;
-use crate::fleets::{PAIR_BYTES, PAIR_TEXT, PAIR_TRACE, accepted_pair, pair, started};
+use crate::fleets::{PAIR_BYTES, PAIR_TEXT, PAIR_TRACE, accepted_pair, pair, pair_fleet};
 use crate::streams::{FailingSource, ShortReader, ShortWriter};
 use fleet_cli::{FileFault, read_whole};
 use fleet_code::load;
@@ -80,8 +80,7 @@ fn drive_answer<S: HoldSource, O: TraceOut>(
     requires sink { IsWorking (O.state out.old) }
 {
     let (grid, instance, program) = pair(alloc)?;
-    let accepted = accepted_pair(alloc, program, &grid, &instance)?;
-    let mut fleet = started(alloc, accepted)?;
+    let mut fleet = pair_fleet(alloc, program, &grid, &instance)?;
     Ok(run_of(&mut fleet, source, out))
 }
 
@@ -159,24 +158,51 @@ fn writer(alloc: Global, room: usize, flushes: usize, failing: Option<ErrorKind>
     }
 }
 
+/// What a rehearsal of the pair wrote to an output that fails so after so many bytes, and why it stopped, if it did.
+fn cut_rehearsal(
+    alloc: Global,
+    room: usize,
+    failing: Option<ErrorKind>,
+) -> Result<(ShortWriter, Option<RunFault>), Fail> {
+    let program = load(alloc, PAIR_BYTES)?;
+    let mut output = writer(alloc, room, 0, failing);
+    let mut out = WriteOut::new(&mut output);
+    let fault = rehearse(alloc, &program, &mut HoldText::new(b"", 2), &mut out).err();
+    Ok((output, fault))
+}
+
+/// Of a text so many bytes are taken, and it is a fault if that is not all.
+fn due_front(rt: &impl Abort, room: usize, text: &[u8], taken: &[u8], fault: Option<RunFault>) {
+    let due = if room < text.len() {
+        Some(RunFault::Write)
+    } else {
+        None
+    };
+    assert!(*rt; fault == due, "{room}");
+    due_bytes(rt, taken, text.get(..room).unwrap_or(b"none"));
+}
+
 #[test]
 fn outputs_fail_after_some_bytes(rt: HostRuntime) -> Result<(), Fail> {
-    let (_, _, program) = pair(rt.alloc())?;
     for failing in WAYS {
         for room in 0..=PAIR_TEXT.len() {
-            let mut output = writer(rt.alloc(), room, 0, failing);
-            let mut out = WriteOut::new(&mut output);
-            let fault = rehearse(rt.alloc(), &program, &mut HoldText::new(b"", 2), &mut out).err();
-            let due = if room < PAIR_TEXT.len() {
-                Some(RunFault::Write)
-            } else {
-                None
-            };
-            assert!(rt; fault == due, "{room}");
-            due_bytes(&rt, &output.bytes, PAIR_TEXT.get(..room).unwrap_or(b"none"));
+            let (output, fault) = cut_rehearsal(rt.alloc(), room, failing)?;
+            due_front(&rt, room, PAIR_TEXT, &output.bytes, fault);
         }
     }
     Ok(())
+}
+
+/// What a run of the pair wrote to such an output, and how it went on.
+fn cut_run(
+    alloc: Global,
+    room: usize,
+    failing: Option<ErrorKind>,
+) -> Result<(ShortWriter, Ran), Fail> {
+    let mut output = writer(alloc, room, 0, failing);
+    let mut out = WriteOut::new(&mut output);
+    let ran = drive_answer(alloc, &mut HoldText::new(b"", 2), &mut out)?;
+    Ok((output, ran))
 }
 
 /// A run whose output fails goes on from the last tick that was run.
@@ -184,21 +210,10 @@ fn outputs_fail_after_some_bytes(rt: HostRuntime) -> Result<(), Fail> {
 fn runs_go_on_after_a_failed_output(rt: HostRuntime) -> Result<(), Fail> {
     for failing in WAYS {
         for room in 0..=PAIR_TRACE.len() {
-            let mut output = writer(rt.alloc(), room, 0, failing);
-            let mut out = WriteOut::new(&mut output);
-            let ran = drive_answer(rt.alloc(), &mut HoldText::new(b"", 2), &mut out)?;
-            let fault = if room < PAIR_TRACE.len() {
-                Some(RunFault::Write)
-            } else {
-                None
-            };
-            let columns = COLUMNS.get(room / LINE).copied().unwrap_or([3, 2]);
-            assert!(rt; ran == (fault, columns, true), "{room}");
-            due_bytes(
-                &rt,
-                &output.bytes,
-                PAIR_TRACE.get(..room).unwrap_or(b"none"),
-            );
+            let (output, (fault, columns, is_there)) = cut_run(rt.alloc(), room, failing)?;
+            due_front(&rt, room, PAIR_TRACE, &output.bytes, fault);
+            let due = COLUMNS.get(room / LINE).copied().unwrap_or([3, 2]);
+            assert!(rt; columns == due && is_there, "{room}");
         }
     }
     Ok(())
@@ -331,37 +346,42 @@ fn logs_fail_after_some_bytes(rt: HostRuntime) -> Result<(), Fail> {
     Ok(())
 }
 
+/// Whether an input that fails so after these bytes is not read.
+fn is_unread(alloc: Global, rest: &[u8], failing: ErrorKind) -> bool {
+    let mut input = ShortReader {
+        rest,
+        failing: Some(failing),
+    };
+    matches!(read_whole(alloc, &mut input), Err(FileFault::Failed))
+}
+
+/// Whether a dispatch over such an input stops for that, or goes to its end once it has all reports.
+fn is_unheard(alloc: Global, rest: &[u8], failing: ErrorKind) -> Result<bool, Fail> {
+    let input = ShortReader {
+        rest,
+        failing: Some(failing),
+    };
+    let is_unheard = match dispatch_answer(alloc, input, &mut writer(alloc, 999, 4, None))? {
+        None => rest.len() == REPORTS.len(),
+        Some(DispatchFault::Input) => rest.len() < REPORTS.len(),
+        Some(_) => false,
+    };
+    Ok(is_unheard)
+}
+
 #[test]
 fn inputs_fail_after_some_bytes(rt: HostRuntime) -> Result<(), Fail> {
     for failing in [ErrorKind::Interrupted, ErrorKind::BrokenPipe] {
         for len in 0..=REPORTS.len() {
-            let rest = REPORTS.get(..len).unwrap_or(b"");
-            let mut input = ShortReader {
-                rest,
-                failing: Some(failing),
-            };
-            assert!(rt; matches!(read_whole(rt.alloc(), &mut input), Err(FileFault::Failed)));
-            let input = ShortReader {
-                rest,
-                failing: Some(failing),
-            };
-            let fault = dispatch_answer(rt.alloc(), input, &mut writer(rt.alloc(), 999, 4, None))?;
-            let is_heard = len == REPORTS.len();
-            assert!(rt;
-                if is_heard {
-                    fault.is_none()
-                } else {
-                    matches!(fault, Some(DispatchFault::Input))
-                }
-            );
+            let rest = REPORTS.get(..len).unwrap_or(b"none");
+            assert!(rt; is_unread(rt.alloc(), rest, failing), "{len}");
+            assert!(rt; is_unheard(rt.alloc(), rest, failing)?, "{len}");
         }
     }
     let mut input = ShortReader {
         rest: REPORTS,
         failing: None,
     };
-    assert!(rt;
-        matches!(read_whole(rt.alloc(), &mut input), Ok(bytes) if bytes.as_slice() == REPORTS)
-    );
+    due_bytes(&rt, &read_whole(rt.alloc(), &mut input)?, REPORTS);
     Ok(())
 }

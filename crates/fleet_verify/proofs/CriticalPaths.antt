@@ -7,7 +7,7 @@ use Rattle.std.proofs.lemmas.Option.{same_Some, none-some, slice_get_past, slice
 use Rattle.std.specs.Option.{option_map_or}
 use Rattle.fleet_model.specs.declared.program.AgentProgram.{AgentProgram}
 use Rattle.std.proofs.lemmas.List.Sums.{sum_by-append, sum_by-cons, sum_by_push}
-use Rattle.std.proofs.lemmas.List.FromFn.{map-range_with_len_more, length-map-range_with_len}
+use Rattle.std.proofs.lemmas.List.FromFn.{map-range_with_len_more}
 use Rattle.fleet_model.specs.declared.program.ActionId.{ActionId}
 use Rattle.fleet_model.specs.declared.program.Await.{Await}
 use Rattle.fleet_model.specs.Program.{Program, moves, awaits_of, AreInRange}
@@ -18,7 +18,7 @@ use Rattle.fleet_model.proofs.Chains.{chain_first, chain_last, chain_join, own_r
 use Rattle.fleet_needs.proofs.Costing.{but_last}
 use Rattle.fleet_verify.proofs.Timed.{ends_in_time, needs_unended, by_or_not}
 use Rattle.fleet_verify.specs.Times.{HaveArrivedAt, IsLatest, IsLater, IsAwaitedUntil, IsNeedUntil, LeadsBack, IsWayTo, IsPathOfCost, IsCriticalPath, IsFreeTo, AreReached, StopsOthers, is_broken, broken_cost, last_action}
-use Rattle.fleet_verify.specs.Stretch.{first_of, stretch_actions, path_actions}
+use Rattle.fleet_verify.specs.Stretch.{first_of, stretch_actions, stretch_between, path_actions}
 use Rattle.fleet_verify.specs.declared.stretch.Stretch.{Stretch}
 use Rattle.std.specs.List.{range_with_len}
 use Rattle.fleet_verify.proofs.Members.{same_action}
@@ -277,13 +277,11 @@ stretch_longer s t agent first count =
     here : ℕ → ℕ → ActionId
     here a k = record { agent = a; number = k }
 
--- .. has one action more
-pub longer_count : (s t : Stretch) (a : ActionId) → stretch_actions t ≡ a ∷ stretch_actions s → t.count ≡ s.count + 1
-longer_count s t a is =
-    omega (arith, ap length is, length-map-range_with_len (λ n. here t n) t.first t.count, length-map-range_with_len (λ n. here s n) s.first s.count)
-  where
-    here : Stretch → ℕ → ActionId
-    here r n = record { agent = r.agent; number = n }
+-- .. from an action to itself has that one alone
+pub stretch_alone : (a : ActionId) → stretch_actions (stretch_between a a) ≡ a ∷ []
+stretch_alone a =
+    let one : a.number - a.number + 1 ≡ 1 = omega arith in
+    ap (λ n. map (λ k. record { agent = a.agent; number = k }) (range_with_len a.number n)) one
 
 -- the actions of stretches that were found one before the other
 pub path_before : (path : List Stretch) (s : Stretch) (path' : List Stretch) → path' ≡ path ++ s ∷ [] → path_actions (reverse path') ≡ stretch_actions s ++ path_actions (reverse path)

@@ -6,7 +6,7 @@ ghost use Rattle.fleet_model.specs.declared.program.ActionId.{ActionId};
 ghost use Rattle.fleet_model.specs.Program.{moves, AreInRange};
 ghost use Rattle.fleet_model.specs.Chain.{IsAction, IsCriticalCost};
 ghost use Rattle.fleet_verify.specs.Times.{ArrivesAt, EachArrivesAt, HaveArrivedAt, IsCriticalPath, IsLatest, IsLater, LeadsBack, IsAwaitedUntil, IsOwnUntil, IsNeedUntil, IsFreeTo, IsWayTo};
-ghost use Rattle.fleet_verify.specs.Stretch.{first_of, stretch_actions, path_actions};
+ghost use Rattle.fleet_verify.specs.Stretch.{first_of, stretch_actions, stretch_between, path_actions};
 
 use crate::stretch::Stretch;
 use crate::verifier::Accepted;
@@ -14,6 +14,9 @@ use fleet_model::{ActionId, OutOfMemory, ProgramView};
 use fleet_needs::{ActionCosts, CriticalCosts};
 use std::alloc::Global;
 use std::marker::Model;
+
+/// How many actions a stretch has at most.
+const LONGEST: u32 = u16::MAX as u32;
 
 /// Each action costs one.
 pub struct OneEach;
@@ -209,45 +212,52 @@ impl<'a, P: ProgramView, C: ActionCosts> Times<'a, P, C> {
         ensures { IsWayTo (P.program self.now.program) (C.cost self.now.costs) action end
             (stretch_actions result.0) (first_of result.0) result.1 }
     {
+        let (first, time) = self.way_to(action, end);
         let stretch = Stretch {
-            agent: action.agent,
-            count: 1,
-            first: action.number,
+            agent: first.agent,
+            count: (action.number - first.number + 1) as u16,
+            first: first.number,
         };
-        let mut way = (stretch, end);
-        while let Some(longer) = self.longer(way.0, way.1) {
+        (stretch, time)
+    }
+
+    /// The first action of such a stretch, and when it ends.
+    #[inline(always)]
+    fn way_to(&self, action: ActionId, end: u64) -> (ActionId, u64)
+        requires action { IsAction (P.program self.now.program) action }
+        requires end { IsCriticalCost (P.program self.now.program) (C.cost self.now.costs) action end }
+        ensures first { result.0.number ≤ action.number }
+        ensures few { action.number < result.0.number + 65535 }
+        ensures way { IsWayTo (P.program self.now.program) (C.cost self.now.costs) action end
+            (stretch_actions (stretch_between result.0 action)) result.0 result.1 }
+    {
+        let least = action.number.saturating_sub(LONGEST - 1).max(1);
+        let mut way = (action, end);
+        while way.0.number > least {
+            let Some(longer) = self.longer(way.0, way.1) else {
+                return way;
+            };
             way = longer;
         }
         way
     }
 
-    /// The stretch and the action before it, and when that one ends, if the first one of the stretch, which ends then,
-    /// begins as it does.
+    /// The action of the same agent before this one, which ends then, and when that one ends, if this one begins as it
+    /// does.
     #[inline(always)]
-    fn longer(&self, stretch: Stretch, end: u64) -> Option<(Stretch, u64)>
-        requires action { IsAction (P.program self.now.program) (first_of stretch) }
-        requires end { IsCriticalCost (P.program self.now.program) (C.cost self.now.costs)
-            (first_of stretch) end }
-        ensures longer { IfSome result (λ found. stretch_actions found.0
-            ≡ first_of found.0 ∷ stretch_actions stretch) }
+    fn longer(&self, action: ActionId, end: u64) -> Option<(ActionId, u64)>
+        requires action { IsAction (P.program self.now.program) action }
+        requires end { IsCriticalCost (P.program self.now.program) (C.cost self.now.costs) action end }
+        ensures agent { IfSome result (λ found. found.0.agent ≡ action.agent) }
+        ensures number { IfSome result (λ found. found.0.number + 1 ≡ action.number) }
         ensures before { IfSome result (λ found. LeadsBack
-            (P.program self.now.program) (C.cost self.now.costs)
-            (first_of stretch) (first_of found.0)) }
+            (P.program self.now.program) (C.cost self.now.costs) action found.0) }
         ensures end { IfSome result (λ found. IsCriticalCost
-            (P.program self.now.program) (C.cost self.now.costs) (first_of found.0) found.1) }
+            (P.program self.now.program) (C.cost self.now.costs) found.0 found.1) }
     {
-        if stretch.count == u16::MAX {
-            return None;
-        }
-        let first = stretch.first_action();
-        let time = self.begin(first, end);
-        let before = self.own_until(first, time)?;
-        let longer = Stretch {
-            agent: before.agent,
-            count: stretch.count + 1,
-            first: before.number,
-        };
-        Some((longer, time))
+        let time = self.begin(action, end);
+        let before = self.own_until(action, time)?;
+        Some((before, time))
     }
 
     /// When an action begins that ends then.

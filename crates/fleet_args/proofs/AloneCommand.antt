@@ -1,20 +1,25 @@
 -- Words that begin with the name of a command are read as the command line with this command alone reads them.
-use Rattle.std.proofs.Common.{◌≡◌, ◌<◌, ◌∙◌, ◌++◌, ℕ, Bool, List, [], ◌∷◌, Option, Some, get_or, map, true, false, refl, sym, ap, arith, append_assoc, append-nil, ◌≤◌, length, drop}
-use Rattle.std.specs.List.{fold, find, position}
+use Rattle.std.proofs.Common.{◌≡◌, ◌≢◌, ◌⊎◌, inl, inr, ◌<◌, ◌∙◌, ◌++◌, ℕ, Bool, List, [], ◌∷◌, Option, Some, None, cond, get_or, map, true, false, refl, sym, ap, subst, arith, ltb-false, append_assoc, append-nil, ◌≤◌, length, drop}
+use Rattle.std.specs.List.{fold, find, list_any, position, position_or_len}
 use Rattle.std.specs.Str.{bytes_eq}
 use Rattle.std.proofs.lemmas.List.Quantifiers.{position-Some}
 use Rattle.std.proofs.lemmas.Slice.Eq.{bytes_eq-Decides}
 use Rattle.std.specs.Option.{option_map, option_map_or}
 use Rattle.clap.specs.Kinds.{Kinds, or_else}
-use Rattle.clap.specs.Words.{App, Shape, Rule, Text, HasMatchesOf, is_simple_and_free, fault_of, subcommand_of, subcommand_rows_of, with_subcommand}
+use Rattle.clap.specs.Words.{App, Shape, Rule, Text, HasMatchesOf, IsAmong, is_simple_and_free, fault_of, subcommand_of, subcommand_rows_of, with_subcommand}
 use Rattle.clap.specs.declared.parser.ArgMatches.{ArgMatches}
-use Rattle.clap.proofs.WalkLemmas.{both}
+use Rattle.clap.specs.declared.error.kind.ErrorKind.{ErrorKind}
+use Rattle.clap.specs.declared.error.kind.ErrorKind.TheVariants as kind
+use Rattle.clap.proofs.WalkLemmas.{both, list_any-map}
+use Rattle.std.proofs.lemmas.List.Folds.{list_any_none}
+use Rattle.std.proofs.lemmas.List.Sums.{fails_before_first}
 use Rattle.fleet_args.proofs.RequestLemmas.{enters_same, faultless}
 use Rattle.clap.specs.Simple.{built, built_above, built_leaf, entered, inherited, label_of, marked_built, names_of, on_top, rows_at}
 use Rattle.clap.specs.Walk.{Names, Walk, answers_to, finished, idle, nothing_held, settled, stop_after, subcommand_met, walk, walk_from, walked}
 use Rattle.clap.specs.Faults.{built_fault, check_fault, defaults_fault, entered_fault, level_fault, other_fault, settle_fault, turn_fault, walk_fault}
 use Rattle.fleet_args.specs.declared.arguments.OptionNames.{OptionNames}
 use Rattle.fleet_args.specs.Arguments.{shape_for}
+use Rattle.fleet_args.specs.Request.{begin_with_command}
 use Rattle.fleet_args.specs.Commands.{commands, fleet, fleet_top, shape_in}
 use Rattle.fleet_args.specs.declared.arguments.Argument.{Argument}
 use Rattle.fleet_args.specs.declared.arguments.CommandText.{CommandText}
@@ -166,15 +171,53 @@ words_from : {X : Type 0} (f : X → Text) (ws : List X) (first : X) → 1 ≤ l
 words_from f [] first some is = absurd (omega arith)
 words_from f (x ∷ ws) first some is = ap (λ w. f w ∷ map f ws) (sym is)
 
--- words whose first is the name of a text of a command are matched by the command alone as by the whole command line
-pub found_by_name :
-    {X : Type 0} (f : X → Text) (ws : List X) (first : X) → 1 ≤ length ws → first ≡ get_or ws 0 first → (name : Text) → name ≡ f first
-    → (names : OptionNames) (texts : List CommandText) → map (shape_for names) texts ≡ map (shape_in names) commands → (j : ℕ) → position (λ text. bytes_eq text.name.now name) texts ≡ Some j → (d : CommandText)
-    → (app : App) (m : ArgMatches) → app ≡ with_subcommand fleet_top (shape_for names (get_or texts j d))
-    → HasMatchesOf app (map f ws) m → (is_simple_and_free app ≡ true → fault_of app (map f ws) ≡ [])
-    → (fault_of (fleet names) (map f ws) ≡ []) × (subcommand_rows_of m ≡ subcommand_of (fleet names) (map f ws))
-found_by_name f ws first some is name named names texts same j place d app m made has none =
-    let text = text_is names texts same name j place d in
-    let rest = map f (drop 1 ws) in
-    let words : map f ws ≡ (command_at j).0 ∷ rest = words_from f ws first some is ∙ ap (λ w. w ∷ rest) (sym named ∙ text.2) in
-    found_alone names (command_at j) (found_at names j text.0) (map f ws) rest words app m (made ∙ ap (with_subcommand fleet_top) text.1) has none
+unplaced : (b : Bool) (n : ℕ) → None ≡ cond b (Some n) None → b ≡ false
+unplaced true n e = cc
+unplaced false n e = refl
+
+-- what is at no place is not there
+absent : {X : Type 0} (p : X → Bool) (xs : List X) → None ≡ position p xs → list_any p xs ≡ false
+absent p xs none =
+    let beyond : length xs ≤ position_or_len p xs = ltb-false _ _ (unplaced _ _ none) in
+    list_any_none p xs (λ k d lt. fails_before_first p xs k d (omega (arith, lt, beyond)))
+
+-- words whose first is this, and the commands as texts
+module _ {X : Type 0} (f : X → Text) (ws : List X) (first : X) (some : 1 ≤ length ws) (is : first ≡ get_or ws 0 first) (name : Text) (named : name ≡ f first)
+    (names : OptionNames) (texts : List CommandText) (same : map (shape_for names) texts ≡ map (shape_in names) commands) where
+  words : map f ws ≡ name ∷ map f (drop 1 ws)
+  words = words_from f ws first some is ∙ ap (λ w. w ∷ map f (drop 1 ws)) (sym named)
+
+  -- they begin with the name of no command if none of the texts has it
+  pub none_named : None ≡ position (λ text. bytes_eq text.name.now name) texts → begin_with_command (map f ws) ≡ false
+  none_named none =
+      let p : Shape → Bool = λ s. bytes_eq s.name name in
+      ap begin_with_command words ∙ list_any-map p (shape_in names) commands ∙ ap (list_any p) (sym same) ∙ sym (list_any-map p (shape_for names) texts)
+      ∙ absent (λ (text : CommandText). bytes_eq text.name.now name) texts none
+
+  module _ (j : ℕ) (place : position (λ text. bytes_eq text.name.now name) texts ≡ Some j) (d : CommandText) (app : App)
+      (made : app ≡ with_subcommand fleet_top (shape_for names (get_or texts j d))) where
+    text : (j < length commands) × (shape_for names (get_or texts j d) ≡ shape_in names (command_at j)) × (name ≡ (command_at j).0)
+    text = text_is names texts same name j place d
+
+    alone_is : app ≡ alone names (command_at j)
+    alone_is = made ∙ ap (with_subcommand fleet_top) text.1
+
+    begin : map f ws ≡ (command_at j).0 ∷ map f (drop 1 ws)
+    begin = words ∙ ap (λ w. w ∷ map f (drop 1 ws)) text.2
+
+    -- words whose first is the name of a text of a command are matched by the command alone as by the whole command line
+    pub found_by_name : (m : ArgMatches) → HasMatchesOf app (map f ws) m → (is_simple_and_free app ≡ true → fault_of app (map f ws) ≡ [])
+        → (fault_of (fleet names) (map f ws) ≡ []) × (subcommand_rows_of m ≡ subcommand_of (fleet names) (map f ws))
+    found_by_name m has none = found_alone names (command_at j) (found_at names j text.0) (map f ws) (map f (drop 1 ws)) begin app m alone_is has none
+
+    -- .. and refused
+    pub refused_by_name : (k : ErrorKind) → k ≢ kind.OutOfMemory → (is_simple_and_free app ≡ true → (k ≡ kind.OutOfMemory) ⊎ IsAmong k (fault_of app (map f ws)))
+        → fault_of (fleet names) (map f ws) ≢ []
+    refused_by_name k other kinds = λ none.
+        let e = found_at names j text.0 in
+        let free : is_simple_and_free (alone names (command_at j)) ≡ true = ap (λ g. g.2) e in
+        let all : fault_of app (map f ws) ≡ [] = ap (λ x. fault_of x (map f ws)) alone_is ∙ sym (alone_same names (command_at j) e (map f ws) (map f (drop 1 ws)) begin).0 ∙ none in
+        elim (kinds (ap is_simple_and_free alone_is ∙ free)) [
+          | inl memory ↦ other memory
+          | inr among ↦ subst (IsAmong k) all among
+        ]

@@ -1,5 +1,5 @@
 -- Words in which the command line finds no fault ask for a request.
-use Rattle.std.proofs.Common.{◌≡◌, ◌∙◌, ◌⊎◌, inl, inr, ◌||◌, ◌++◌, ◌<◌, ◌^◌, ℕ, suc, Bool, cond, true, false, List, [], ◌∷◌, map, Option, option_and_then, Some, None, codes, is_some, option_map, nat_lt, refl, sym, ap, subst, true≢false, arith, ltb-true}
+use Rattle.std.proofs.Common.{◌≡◌, ◌∙◌, ◌⊎◌, inl, inr, ◌||◌, ◌++◌, ◌<◌, ◌^◌, ℕ, suc, Bool, cond, true, false, List, [], ◌∷◌, map, Option, option_and_then, Some, None, codes, is_some, option_map, nat_lt, refl, sym, ap, subst, true≢false, ltb-true}
 use Rattle.std.specs.Prelude.{pos, if◌then◌else◌}
 use Rattle.std.specs.Borrow.{Bor}
 use Rattle.std.specs.List.{filter, find, list_all, list_any}
@@ -27,7 +27,7 @@ use Rattle.fleet_args.specs.declared.commands.Best.TheVariants as best_is
 use Rattle.fleet_model.specs.declared.deps.Deps.TheVariants as deps
 use Rattle.fleet_args.specs.Arguments.{AreNames, described, rule_by, rule_for}
 use Rattle.fleet_args.specs.Commands.{commands, fleet, fleet_top, shape_in}
-use Rattle.fleet_args.specs.Values.{Values, values_of, best_by, deps_in, number_by, number_in, has_value, has_value_by, in_bits}
+use Rattle.fleet_args.specs.Values.{values_of, best_by, deps_in, number_by, number_in, has_value, has_value_by, in_bits}
 use Rattle.fleet_args.specs.Request.{is_answered_by}
 use Rattle.fleet_args.proofs.RequestLemmas.{digits_from, is_small, is_small_number}
 use Rattle.fleet_args.proofs.MatchedRows.{Among}

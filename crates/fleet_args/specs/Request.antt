@@ -1,10 +1,11 @@
 -- The request that the words make, by the matches that `clap` defines for them.
-use Rattle.std.specs.Prelude.{◌≡◌, ◌≢◌, Bool, true, false, not, List, [], Option, Some, None, Result, MatchResult, ⊤}
+use Rattle.std.specs.Prelude.{◌≡◌, ◌≢◌, Bool, true, false, not, List, [], ◌∷◌, Option, Some, None, Result, MatchResult, ⊤}
 use Rattle.std.specs.List.{list_any}
+use Rattle.std.specs.Str.{bytes_eq}
 use Rattle.clap.specs.Words.{App, Row, Text, subcommand_of, takes, fault_of}
 use Rattle.clap.specs.declared.error.ErrorKind.{ErrorKind}
 use Rattle.clap.specs.declared.error.ErrorKind.TheVariants as kind
-use Rattle.fleet_args.specs.Commands.{OptionNames, AreNames, AsksCommand, fleet, has_values}
+use Rattle.fleet_args.specs.Commands.{OptionNames, AreNames, AsksCommand, commands, fleet, has_values}
 use Rattle.fleet_args.specs.Values.{values_of}
 use Rattle.fleet_args.specs.declared.commands.Request.{Request}
 use Rattle.fleet_args.specs.declared.request.WordStop.{WordStop}
@@ -45,6 +46,16 @@ StopsFor app words (stop.Help text) = Refuses is_help app words
 -- the command line finds no fault in the words, and the command that they enter asks this
 abbrev pub Asks : App → List Text → Request → Type 0
 Asks app words request = (fault_of app words ≡ []) × AsksBy (subcommand_of app words) request
+
+-- the words begin with the name of a command
+abbrev pub begin_with_command : List Text → Bool
+begin_with_command [] = false
+begin_with_command (word ∷ words) = list_any (λ c. bytes_eq c.0 word) commands
+
+-- the request that the words ask; or none, if they do not begin with the name of a command, or the command line finds a fault in them
+abbrev pub AsksAlone : OptionNames → List Text → Option Request → Type 0
+AsksAlone names words (Some request) = Asks (fleet names) words request
+AsksAlone names words None = begin_with_command words ≡ true → fault_of (fleet names) words ≢ []
 
 -- the answer is the request that the words ask, or a stop for words that are not taken
 abbrev pub Reads : App → List Text → Result Request WordStop → Type 0

@@ -1,11 +1,11 @@
 //! The command line, and the request that its words make.
 
-ghost use Rattle.std.specs.Prelude.{◌≡◌, map, string_bytes, true, IfOk, IfSome, codes};
+ghost use Rattle.std.specs.Prelude.{◌≡◌, map, string_bytes, true, IfOk, codes};
 ghost use Rattle.std.specs.List.{position};
 ghost use Rattle.std.specs.Str.{bytes_eq};
 ghost use Rattle.clap.specs.Words.{subcommand_rows_of, kind_of, app_of, new_app, with_subcommand};
 ghost use Rattle.fleet_args.specs.Commands.{AreNames, fleet, fleet_top, with_shapes};
-ghost use Rattle.fleet_args.specs.Request.{Asks, AsksBy, is_answered_by, IsStopOf, Reads, ReadsFleet};
+ghost use Rattle.fleet_args.specs.Request.{AsksAlone, AsksBy, is_answered_by, IsStopOf, Reads, ReadsFleet};
 ghost use Rattle.fleet_args.specs.Arguments.{shape_for};
 
 use crate::arguments::{CommandText, OptionNames, command_of};
@@ -96,8 +96,7 @@ fn read_alone<'a>(
     words: &'a [String],
 ) -> Result<Option<Request<'a>>, AllocError>
     requires { AreNames names }
-    ensures { IfOk result (λ asked. IfSome asked
-        (Asks (fleet names.entry) (map string_bytes words.entry.now))) }
+    ensures { IfOk result (AsksAlone names.entry (map string_bytes words.entry.now)) }
 {
     let [first, ..] = words else {
         return Ok(None);
@@ -111,22 +110,6 @@ fn read_alone<'a>(
         Ok(matches) => Ok(Some(request_in(&matches))),
         Err(error) if error.kind() == ErrorKind::OutOfMemory => Err(AllocError),
         Err(_) => Ok(None),
-    }
-}
-
-/// Reads the words by the definition of the command line with these names.
-fn read_by<'a>(
-    alloc: Global,
-    names: OptionNames<'a>,
-    words: &'a [String],
-) -> Result<Request<'a>, WordStop>
-    requires { AreNames names }
-    ensures { Reads (fleet names.entry) (map string_bytes words.entry.now) result }
-{
-    match read_alone(alloc, names, words) {
-        Ok(Some(request)) => Ok(request),
-        Ok(None) => read_whole(alloc, names, words),
-        Err(AllocError) => Err(WordStop::OutOfMemory),
     }
 }
 
@@ -145,7 +128,11 @@ pub fn read_words<'a>(alloc: Global, words: &'a [String]) -> Result<Request<'a>,
         deps: DEPS.as_slice(),
         best: BEST.as_slice(),
     };
-    read_by(alloc, names, words)
+    match read_alone(alloc, names, words) {
+        Ok(Some(request)) => Ok(request),
+        Ok(None) => read_whole(alloc, names, words),
+        Err(AllocError) => Err(WordStop::OutOfMemory),
+    }
 }
 
 /// The command line with its texts for help, and no more.

@@ -12,18 +12,33 @@ pub struct Queue {
     agents: u16,
     /// Those that may go on, the next one last.
     work: Vec<u16>,
-    /// For each agent the first of those that wait for it; `NOBODY` if there are none.
-    first: Vec<u16>,
-    /// For each agent the one after it among those that wait for the same one.
-    next: Vec<u16>,
-    /// For each agent the count that it waits for.
-    count: Vec<u32>,
-    /// For each agent the least count that is waited for.
-    least: Vec<u32>,
+    /// For each agent who waits for it, and for what it waits.
+    turns: Vec<Turn>,
+}
+
+/// Who waits for an agent, and for what it waits.
+#[derive(Clone, Copy)]
+struct Turn {
+    /// The first of those that wait for it; `NOBODY` if there are none.
+    first: u16,
+    /// The one after it among those that wait for the same one.
+    next: u16,
+    /// The count that it waits for.
+    count: u32,
+    /// The least count that is waited for.
+    least: u32,
 }
 
 /// No agent.
 const NOBODY: u16 = u16::MAX;
+
+/// Of an agent for which nobody waits.
+const FREE: Turn = Turn {
+    first: NOBODY,
+    next: NOBODY,
+    count: 0,
+    least: u32::MAX,
+};
 
 impl Model for Queue {
     ghost use Rattle.std.specs.Prelude.{ℕ, ◌≡◌, length};
@@ -32,8 +47,7 @@ impl Model for Queue {
 
     ghost view = { λ q. q.agents };
 
-    ghost invariant = { λ q. (length q.first.items ≡ q.agents) × (length q.next.items ≡ q.agents)
-        × (length q.count.items ≡ q.agents) × (length q.least.items ≡ q.agents) };
+    ghost invariant = { λ q. length q.turns.items ≡ q.agents };
 }
 
 impl Queue {
@@ -45,17 +59,11 @@ impl Queue {
         for agent in 0..agents {
             work.push(agents - 1 - agent)?;
         }
-        let first = vec![in alloc; NOBODY; usize::from(agents)]?;
-        let next = vec![in alloc; NOBODY; usize::from(agents)]?;
-        let count = vec![in alloc; 0; usize::from(agents)]?;
-        let least = vec![in alloc; u32::MAX; usize::from(agents)]?;
+        let turns = vec![in alloc; FREE; usize::from(agents)]?;
         Ok(Queue {
             agents,
             work,
-            first,
-            next,
-            count,
-            least,
+            turns,
         })
     }
 
@@ -78,13 +86,15 @@ impl Queue {
         requires other { awaited.agent < self.old }
         ensures { self.new ≡ self.old }
     {
-        let other = usize::from(awaited.agent);
-        self.next[usize::from(agent)] = self.first[other];
-        self.count[usize::from(agent)] = awaited.count;
-        self.first[other] = agent;
-        if awaited.count < self.least[other] {
-            self.least[other] = awaited.count;
+        let other = &mut self.turns[usize::from(awaited.agent)];
+        let next = other.first;
+        other.first = agent;
+        if awaited.count < other.least {
+            other.least = awaited.count;
         }
+        let own = &mut self.turns[usize::from(agent)];
+        own.next = next;
+        own.count = awaited.count;
     }
 
     /// An agent has finished so many actions: of those that wait for it, each that waits for no more may go on.
@@ -92,17 +102,18 @@ impl Queue {
         requires { agent < self.old }
         ensures { self.new ≡ self.old }
     {
-        if count < self.least[usize::from(agent)] {
+        let turn = &mut self.turns[usize::from(agent)];
+        if count < turn.least {
             return Ok(());
         }
-        let mut waiting = self.first[usize::from(agent)];
-        self.first[usize::from(agent)] = NOBODY;
-        self.least[usize::from(agent)] = u32::MAX;
+        let mut waiting = turn.first;
+        turn.first = NOBODY;
+        turn.least = u32::MAX;
         for _ in 0..self.agents {
             if waiting >= self.agents {
                 return Ok(());
             }
-            let next = self.next[usize::from(waiting)];
+            let next = self.turns[usize::from(waiting)].next;
             self.wake_if_reached(waiting, agent, count)?;
             waiting = next;
         }
@@ -115,7 +126,7 @@ impl Queue {
         requires agent { agent < self.old }
         ensures { self.new ≡ self.old }
     {
-        let awaited = self.count[usize::from(waiting)];
+        let awaited = self.turns[usize::from(waiting)].count;
         if count < awaited {
             self.wait(
                 waiting,

@@ -22,18 +22,21 @@ use std::process::Abort;
 use std::test::Fail;
 
 /// The pair's files, and those of the square.
+const FILES: [(&str, &[u8]); 8] = [
+    ("map", PAIR_MAP),
+    ("scen", PAIR_SCEN),
+    ("plan", PAIR_PLAN),
+    ("program", PAIR_BYTES),
+    ("holds", b"0\n"),
+    ("wrong", b"-\n1 0\n"),
+    ("square.map", SQUARE_MAP),
+    ("square.scen", SQUARE_SCEN),
+];
+
 fn some_files(alloc: Global) -> Result<MemFiles, Fail> {
     let mut files = MemFiles::new(alloc);
-    for (name, bytes) in [
-        ("map", PAIR_MAP),
-        ("scen", PAIR_SCEN),
-        ("plan", PAIR_PLAN),
-        ("program", PAIR_BYTES),
-        ("holds", b"0\n"),
-        ("wrong", b"-\n1 0\n"),
-        ("square.map", SQUARE_MAP),
-        ("square.scen", SQUARE_SCEN),
-    ] {
+    for file in &FILES {
+        let (name, bytes) = *file;
         files.put(name, bytes)?;
     }
     Ok(files)
@@ -104,10 +107,17 @@ const COMMANDS: [Row; 14] = [
     ("run map scen none", 3, b"", b"file none\n"),
 ];
 
+/// The row's command ends as is due.
+fn due_row(rt: &impl Abort, alloc: Global, row: &Row, files: &mut impl Files) -> Result<(), Fail> {
+    let (line, status, out, err) = *row;
+    let done = command_answer(alloc, line, files)?;
+    due_end(rt, line, ended(&done), (status, out, err));
+    Ok(())
+}
+
 fn run_commands(rt: &impl Abort, alloc: Global, files: &mut MemFiles) -> Result<(), Fail> {
-    for (line, status, out, err) in COMMANDS {
-        let done = command_answer(alloc, line, files)?;
-        due_end(rt, line, ended(&done), (status, out, err));
+    for row in &COMMANDS {
+        due_row(rt, alloc, row, files)?;
     }
     Ok(())
 }
@@ -140,118 +150,128 @@ const COMPILED_PAIR: ProgramFor<'static> = ProgramFor {
     program: "out",
 };
 
-/// A request of ten commands on the pair's files.
-const REQUESTS: [Request<'static>; 10] = [
-    Request::Instance(PAIR),
-    Request::Check(CheckRequest {
-        tasks: Tasks {
-            agents: Some(2),
-            ..PAIR
-        },
-        plan: "plan",
-        numbers: true,
-    }),
-    Request::Plan(PlanRequest {
-        tasks: PAIR,
-        horizon: 2,
-        tries: Tries {
-            count: 2,
-            best: Some(Best::Cost),
-        },
-    }),
-    Request::Compile(CompileRequest {
-        tasks: PAIR,
-        plan: "plan",
-        out: "out",
-        deps: Deps::All,
-        dwell: 0,
-    }),
-    Request::Verify(COMPILED_PAIR),
-    Request::Run(RunRequest {
-        subject: COMPILED_PAIR,
-        holds: Some("holds"),
-    }),
-    Request::Rehearse(RehearseRequest {
-        program: "out",
-        holds: None,
-    }),
-    Request::Auto(AutoRequest {
-        tasks: PAIR,
-        horizon: 1024,
-        tries: ONE_TRY,
-        deps: Deps::Last,
-        holds: None,
-        numbers: false,
-    }),
-    Request::Thin(ThinRequest {
-        subject: COMPILED_PAIR,
-        out: "out",
-    }),
-    Request::Migrate(MigrateRequest {
-        program: "out",
-        out: "out",
-    }),
+/// A request, and what it writes.
+type Asked = (Request<'static>, &'static [u8]);
+
+/// A request of ten commands on the pair's files, and what each writes.
+const REQUESTS: [Asked; 10] = [
+    (Request::Instance(PAIR), INSTANCE),
+    (
+        Request::Check(CheckRequest {
+            tasks: Tasks {
+                agents: Some(2),
+                ..PAIR
+            },
+            plan: "plan",
+            numbers: true,
+        }),
+        b"conflict-free\nagents 2\nsteps 2\ncost 4\nbound 4\nmoves 4\nwaits 0\n",
+    ),
+    (
+        Request::Plan(PlanRequest {
+            tasks: PAIR,
+            horizon: 2,
+            tries: Tries {
+                count: 2,
+                best: Some(Best::Cost),
+            },
+        }),
+        PAIR_PLAN,
+    ),
+    (
+        Request::Compile(CompileRequest {
+            tasks: PAIR,
+            plan: "plan",
+            out: "out",
+            deps: Deps::All,
+            dwell: 0,
+        }),
+        COMPILED,
+    ),
+    (Request::Verify(COMPILED_PAIR), ACCEPTED),
+    (
+        Request::Run(RunRequest {
+            subject: COMPILED_PAIR,
+            holds: Some("holds"),
+        }),
+        HELD_TRACE,
+    ),
+    (
+        Request::Rehearse(RehearseRequest {
+            program: "out",
+            holds: None,
+        }),
+        PAIR_TEXT,
+    ),
+    (
+        Request::Auto(AutoRequest {
+            tasks: PAIR,
+            horizon: 1024,
+            tries: ONE_TRY,
+            deps: Deps::Last,
+            holds: None,
+            numbers: false,
+        }),
+        PAIR_TRACE,
+    ),
+    (
+        Request::Thin(ThinRequest {
+            subject: COMPILED_PAIR,
+            out: "out",
+        }),
+        b"awaits 2\nawaits 2\n",
+    ),
+    (
+        Request::Migrate(MigrateRequest {
+            program: "out",
+            out: "out",
+        }),
+        b"bytes 48\n",
+    ),
 ];
 
-/// What each writes.
-const WRITTEN: [&[u8]; 10] = [
-    INSTANCE,
-    b"conflict-free\nagents 2\nsteps 2\ncost 4\nbound 4\nmoves 4\nwaits 0\n",
-    PAIR_PLAN,
-    COMPILED,
-    ACCEPTED,
-    HELD_TRACE,
-    PAIR_TEXT,
-    PAIR_TRACE,
-    b"awaits 2\nawaits 2\n",
-    b"bytes 48\n",
-];
-
-/// The status of a request of the table, and what it writes to its output and of its refusal.
-fn request_answer(alloc: Global, k: usize, files: &mut MemFiles) -> Done
-    requires { k < 10 }
-{
-    let request = REQUESTS[k];
+/// The row's request writes what is due, and nothing is refused.
+fn due_request(rt: &impl Abort, alloc: Global, row: &Asked, files: &mut impl Files) {
     let mut out = VecOut::new(alloc);
     let mut err = VecOut::new(alloc);
     let mut input = Given { rest: b"" };
-    let status = run_request(alloc, &request, &mut input, files, &mut out, &mut err);
-    (status, out, err)
+    let status = run_request(alloc, &row.0, &mut input, files, &mut out, &mut err);
+    due_end(
+        rt,
+        "request",
+        (status, out.bytes(), err.bytes()),
+        (0, row.1, b""),
+    );
 }
 
 #[test]
 fn requests_are_done(rt: HostRuntime) -> Result<(), Fail> {
     let mut files = some_files(rt.alloc())?;
-    for k in 0..10 {
-        let done = request_answer(rt.alloc(), k, &mut files);
-        due_end(&rt, "request", ended(&done), (0, WRITTEN[k], b""));
+    for row in &REQUESTS {
+        due_request(&rt, rt.alloc(), row, &mut files);
     }
     due_bytes(&rt, files.get("out").unwrap_or(b"none"), PAIR_BYTES_2);
     Ok(())
+}
+
+/// Whether the run of a program is asked for.
+fn is_run(request: &Request<'_>) -> bool {
+    let Request::Run(RunRequest { subject, holds }) = *request else {
+        return false;
+    };
+    let ProgramFor { tasks, program } = subject;
+    let Tasks { map, scen, agents } = tasks;
+    (map, scen, program) == ("a", "b", "c") && agents == Some(7) && holds == Some("d")
 }
 
 /// Whether the words of a line ask for the run of a program, are wrong, or ask for help.
 fn reading_of(alloc: Global, line: &str) -> Result<[bool; 3], Fail> {
     let words = words_of(alloc, line)?;
     let reading = match read_words(alloc, &words) {
-        Ok(
-            Request::Run(
-                RunRequest {
-                    subject: ProgramFor {
-                        tasks: Tasks {
-                            map: "a",
-                            scen: "b",
-                            agents: Some(7),
-                        },
-                        program: "c",
-                    },
-                    holds: Some("d"),
-                },
-            ),
-        ) => [true, false, false],
+        Ok(request) => [is_run(&request), false, false],
         Err(WordStop::Usage(_)) => [false, true, false],
         Err(WordStop::Help(_)) => [false, false, true],
-        _ => [false; 3],
+        Err(_) => [false; 3],
     };
     Ok(reading)
 }
@@ -289,23 +309,24 @@ fn hexadecimal_is_run(rt: HostRuntime) -> Result<(), Fail> {
     Ok(())
 }
 
+/// This status and this line are due of the refusal.
+fn due_refusal(rt: &impl Abort, alloc: Global, fault: &Fault<'_>, status: u8, line: &[u8]) {
+    let mut err = VecOut::new(alloc);
+    fault.tell(&mut err);
+    due_end(
+        rt,
+        "refusal",
+        (fault.status(), b"", err.bytes()),
+        (status, b"", line),
+    );
+}
+
 #[test]
-fn refusals_are_told(rt: HostRuntime) -> Result<(), Fail> {
-    for (fault, status, line) in [
-        (Fault::Map(MapFault::Size), 1, b"map 3 Size\n".as_slice()),
-        (Fault::Memory, 3, b"memory\n"),
-        (Fault::File("name"), 3, b"file name\n"),
-    ] {
-        let mut err = VecOut::new(rt.alloc());
-        fault.tell(&mut err);
-        due_end(
-            &rt,
-            "refusal",
-            (fault.status(), b"", err.bytes()),
-            (status, b"", line),
-        );
-    }
-    Ok(())
+fn refusals_are_told(rt: HostRuntime) {
+    let alloc = rt.alloc();
+    due_refusal(&rt, alloc, &Fault::Map(MapFault::Size), 1, b"map 3 Size\n");
+    due_refusal(&rt, alloc, &Fault::Memory, 3, b"memory\n");
+    due_refusal(&rt, alloc, &Fault::File("name"), 3, b"file name\n");
 }
 
 /// The report of a whole way from a map to a trace, and the trace; or why there is none.
@@ -337,13 +358,22 @@ fn maps_lead_to_traces(rt: HostRuntime) -> Result<(), Fail> {
     Ok(())
 }
 
-/// A file is what was last put or written there.
-fn read_and_write(rt: &impl Abort, alloc: Global, files: &mut MemFiles) -> Result<(), Fail> {
-    assert!(*rt; files.get("name").is_none());
-    assert!(*rt; matches!(files.read(alloc, "name").err(), Some(FileFault::Failed)));
+/// Whether there is no file of this name.
+fn is_missing(alloc: Global, files: &mut MemFiles, name: &str) -> bool {
+    has_failed(files.read(alloc, name)) && files.get(name).is_none()
+}
+
+fn put_and_write(files: &mut MemFiles) -> Result<(), Fail> {
     files.put("name", b"old bytes")?;
     files.write("name", b"bytes")?;
     files.put("other", b"")?;
+    Ok(())
+}
+
+/// A file is what was last put or written there.
+fn read_and_write(rt: &impl Abort, alloc: Global, files: &mut MemFiles) -> Result<(), Fail> {
+    assert!(*rt; is_missing(alloc, files, "name"));
+    put_and_write(files)?;
     due_bytes(rt, files.get("name").unwrap_or(b"none"), b"bytes");
     due_bytes(rt, &files.read(alloc, "name")?, b"bytes");
     Ok(())
@@ -373,29 +403,19 @@ fn logs_are_cut_and_grow(rt: HostRuntime) -> Result<(), Fail> {
     cut_and_grow(&rt, rt.alloc(), &mut MemFiles::new(rt.alloc()))
 }
 
+/// Whether a call on files failed.
+fn has_failed<T: Drop>(done: Result<T, FileFault>) -> bool {
+    matches!(done, Err(FileFault::Failed))
+}
+
 /// No folder of the disk is called so.
 #[test]
 fn the_disk_has_no_such_folder(rt: HostRuntime) {
-    let alloc = rt.alloc();
+    let name = "no/such/folder";
     let mut disk = Disk::new(&rt);
-    assert!(rt;
-        matches!(
-            disk.read(alloc, "no/such/folder").err(),
-            Some(FileFault::Failed)
-        )
-    );
-    assert!(rt;
-        matches!(
-            disk.write("no/such/folder", b"").err(),
-            Some(FileFault::Failed)
-        )
-    );
-    assert!(rt;
-        matches!(
-            disk.append("no/such/folder", b"").err(),
-            Some(FileFault::Failed)
-        )
-    );
+    assert!(rt; has_failed(disk.read(rt.alloc(), name)));
+    assert!(rt; has_failed(disk.write(name, b"")));
+    assert!(rt; has_failed(disk.append(name, b"")));
 }
 
 /// How a plan is compiled over files of which the call after so many fails, and whether OUT is not there then.
@@ -409,17 +429,17 @@ fn failing_answer(alloc: Global, calls: u8) -> Result<(Done, bool), Fail> {
 }
 
 /// The line names the first file that fails, and OUT is not written when anything before it was refused.
+fn due_failing(rt: &impl Abort, alloc: Global, calls: u8, line: &[u8]) -> Result<(), Fail> {
+    let (done, is_missing) = failing_answer(alloc, calls)?;
+    due_end(rt, "compile", ended(&done), (3, b"", line));
+    assert!(*rt; is_missing);
+    Ok(())
+}
+
 #[test]
 fn files_fail_at_each_call(rt: HostRuntime) -> Result<(), Fail> {
-    for (calls, line) in [
-        (0, b"file map\n".as_slice()),
-        (1, b"file scen\n"),
-        (2, b"file plan\n"),
-        (3, b"file out\n"),
-    ] {
-        let (done, is_missing) = failing_answer(rt.alloc(), calls)?;
-        due_end(&rt, "compile", ended(&done), (3, b"", line));
-        assert!(rt; is_missing);
-    }
-    Ok(())
+    due_failing(&rt, rt.alloc(), 0, b"file map\n")?;
+    due_failing(&rt, rt.alloc(), 1, b"file scen\n")?;
+    due_failing(&rt, rt.alloc(), 2, b"file plan\n")?;
+    due_failing(&rt, rt.alloc(), 3, b"file out\n")
 }

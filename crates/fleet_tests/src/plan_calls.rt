@@ -1,6 +1,6 @@
 //! Paths that are reserved and found, plans that are made, and the programs that are compiled from them.
 
-use crate::due::due_bytes;
+use crate::due::{due_bytes, due_numbers};
 use crate::fleets::{
     ALL_BYTES, LAST_BYTES, PAIR_BYTES, PAIR_MAP, PAIR_PLAN, PAIR_SCEN, ROW_MAP, ROW_PLAN, ROW_SCEN,
     SQUARE_MAP, SQUARE_SCEN, STAYING_BYTES, accepted_of, checked_of, problem,
@@ -11,13 +11,14 @@ use fleet_adg::{
 };
 use fleet_code::{EncodeFault, encode, encode2, load, view};
 use fleet_grid::{Grid, read_map};
-use fleet_model::{Cell, OutOfMemory, Program};
+use fleet_model::{Cell, OutOfMemory, Program, ProgramView};
 use fleet_plan::{Checked, Path, write_plan};
 use fleet_scen::Instance;
 use fleet_search::{
     PlanStop, Reservations, SearchFault, SumOfCosts, best_in_orders, bound, earliest,
     first_in_orders, plan,
 };
+use fleet_verify::Accepted;
 use std::alloc::Global;
 use std::process::Abort;
 use std::test::Fail;
@@ -78,45 +79,63 @@ fn due_none(
     Ok(())
 }
 
+fn due_reserved(rt: &impl Abort, alloc: Global, grid: &Grid) -> Result<(), Fail> {
+    let mut reserved = Reservations::new(alloc);
+    due_path(rt, alloc, grid, &reserved)?;
+    reserve_through(alloc, &mut reserved)?;
+    due_none(rt, alloc, grid, &reserved)
+}
+
 #[test]
 fn paths_are_reserved_and_found(rt: HostRuntime) -> Result<(), Fail> {
-    let alloc = rt.alloc();
-    let grid = read_map(alloc, SHORT_MAP)?;
-    let mut reserved = Reservations::new(alloc);
-    due_path(&rt, alloc, &grid, &reserved)?;
-    reserve_through(alloc, &mut reserved)?;
-    due_none(&rt, alloc, &grid, &reserved)
+    let grid = read_map(rt.alloc(), SHORT_MAP)?;
+    due_reserved(&rt, rt.alloc(), &grid)
 }
 
 /// The plan of a problem as text, or the agent without a path.
 fn plan_answer(
     alloc: Global,
-    map: &[u8],
-    scen: &[u8],
+    grid: &Grid,
+    instance: &Instance,
     horizon: u16,
 ) -> Result<Result<Vec<u8>, u16>, Fail> {
-    let (grid, instance) = problem(alloc, map, scen)?;
-    match plan(alloc, &grid, &instance, horizon) {
+    match plan(alloc, grid, instance, horizon) {
         Ok(checked) => Ok(Ok(write_plan(alloc, checked.plan())?)),
         Err(PlanStop::NoPath { agent }) => Ok(Err(agent)),
         Err(PlanStop::OutOfMemory) => Err(Fail::from("memory")),
     }
 }
 
+/// A map, a scenario, the horizon, and the plan that is due or the agent without a path.
+type Planned = (
+    &'static [u8],
+    &'static [u8],
+    u16,
+    Result<&'static [u8], u16>,
+);
+
+const PLANS: [Planned; 5] = [
+    (PAIR_MAP, PAIR_SCEN, 1024, Ok(PAIR_PLAN)),
+    (ROW_MAP, ROW_SCEN, 2, Ok(ROW_PLAN)),
+    (PAIR_MAP, PAIR_SCEN, 1, Err(0)),
+    (SHORT_MAP, SHORT_SCEN, 65535, Err(1)),
+    (SQUARE_MAP, SQUARE_SCEN, 1024, Err(3)),
+];
+
+fn due_plan(rt: &impl Abort, alloc: Global, row: &Planned) -> Result<(), Fail> {
+    let (map, scen, horizon, due) = *row;
+    let (grid, instance) = problem(alloc, map, scen)?;
+    match (plan_answer(alloc, &grid, &instance, horizon)?, due) {
+        (Ok(text), Ok(due)) => due_bytes(rt, &text, due),
+        (answer, due) => assert!(*rt; answer.err() == due.err(), "horizon {horizon}"),
+    }
+    Ok(())
+}
+
 #[test]
 fn plans_are_made(rt: HostRuntime) -> Result<(), Fail> {
-    for (map, scen, horizon, due) in [
-        (PAIR_MAP, PAIR_SCEN, 1024, Ok(PAIR_PLAN)),
-        (ROW_MAP, ROW_SCEN, 2, Ok(ROW_PLAN)),
-        (PAIR_MAP, PAIR_SCEN, 1, Err(0)),
-        (SHORT_MAP, SHORT_SCEN, 65535, Err(1)),
-        (SQUARE_MAP, SQUARE_SCEN, 1024, Err(3)),
-    ] {
-        let answer = plan_answer(rt.alloc(), map, scen, horizon)?;
-        match (answer, due) {
-            (Ok(text), Ok(due)) => due_bytes(&rt, &text, due),
-            (answer, due) => assert!(rt; answer.err() == due.err(), "horizon {horizon}"),
-        }
+    for row in &PLANS {
+        due_plan(&rt, rt.alloc(), row)?;
     }
     Ok(())
 }
@@ -161,24 +180,27 @@ fn first_numbers(
     Ok((first.tried, first.checked.plan().sum_of_costs()))
 }
 
+/// In how many orders it is tried, and the numbers that are due of the best.
+const BEST: [(u32, [u32; 6]); 3] = [
+    (1, [17, 17, 17, 14, 3, 12]),
+    (2, [15, 15, 15, 14, 1, 12]),
+    (3, [15, 15, 15, 14, 1, 12]),
+];
+
+fn due_best(rt: &impl Abort, alloc: Global, grid: &Grid, instance: &Instance) -> Result<(), Fail> {
+    for row in &BEST {
+        let (tries, due) = *row;
+        due_numbers(rt, &best_numbers(alloc, grid, instance, tries)?, &due);
+        let first = first_numbers(alloc, grid, instance, tries)?;
+        assert!(*rt; first == (1, 17), "{tries}");
+    }
+    Ok(())
+}
+
 #[test]
 fn plans_have_numbers_and_the_best_is_kept(rt: HostRuntime) -> Result<(), Fail> {
     let (grid, instance) = problem(rt.alloc(), BAYS_MAP, BAYS_SCEN)?;
-    for (tries, due) in [
-        (1, [17, 17, 17, 14, 3, 12]),
-        (2, [15, 15, 15, 14, 1, 12]),
-        (3, [15, 15, 15, 14, 1, 12]),
-    ] {
-        assert!(rt;
-            best_numbers(rt.alloc(), &grid, &instance, tries)? == due,
-            "{tries}"
-        );
-        assert!(rt;
-            first_numbers(rt.alloc(), &grid, &instance, tries)? == (1, 17),
-            "{tries}"
-        );
-    }
-    Ok(())
+    due_best(&rt, rt.alloc(), &grid, &instance)
 }
 
 /// The program of a plan with so many stays at the end of each agent's actions.
@@ -204,29 +226,30 @@ fn bytes_of(alloc: Global, program: &Program) -> Result<Vec<u8>, Fail> {
     }
 }
 
-/// The bytes of the program of a plan.
-fn compile_answer(
+/// A map and a scenario, and the text of a plan or the bytes of a program for them.
+type Problem = (&'static [u8], &'static [u8], &'static [u8]);
+
+/// The bytes of the program of a plan, and the same at once, with the program's numbers.
+fn program_bytes(
     alloc: Global,
-    (map, scen, text): (&[u8], &[u8], &[u8]),
+    checked: &Checked<'_>,
     deps: Deps,
     dwell: u32,
-) -> Result<Vec<u8>, Fail> {
-    let (grid, instance) = problem(alloc, map, scen)?;
-    let checked = checked_of(alloc, text, &grid, &instance)?;
-    let program = program_of(alloc, &checked, deps, dwell)?;
-    bytes_of(alloc, &program)
+) -> Result<(Vec<u8>, ProgramBytes), Fail> {
+    let program = program_of(alloc, checked, deps, dwell)?;
+    let bytes = bytes_of(alloc, &program)?;
+    Ok((bytes, compile_bytes(alloc, checked, deps, dwell)?))
 }
 
-/// The same at once, with the program's numbers.
-fn compiled_bytes(
+fn compile_answer(
     alloc: Global,
-    (map, scen, text): (&[u8], &[u8], &[u8]),
+    (map, scen, text): Problem,
     deps: Deps,
     dwell: u32,
-) -> Result<ProgramBytes, Fail> {
+) -> Result<(Vec<u8>, ProgramBytes), Fail> {
     let (grid, instance) = problem(alloc, map, scen)?;
     let checked = checked_of(alloc, text, &grid, &instance)?;
-    Ok(compile_bytes(alloc, &checked, deps, dwell)?)
+    program_bytes(alloc, &checked, deps, dwell)
 }
 
 /// Whether the program of the pair's plan with so many stays is too long.
@@ -237,64 +260,106 @@ fn is_too_long(alloc: Global, dwell: u32) -> Result<bool, Fail> {
     Ok(matches!(fault, Some(CompileFault::TooLong)))
 }
 
+const PAIR: Problem = (PAIR_MAP, PAIR_SCEN, PAIR_PLAN);
+
+const ROW: Problem = (ROW_MAP, ROW_SCEN, ROW_PLAN);
+
+/// How many agents, moves and awaits a program has.
+type Numbers = (u16, u32, u64);
+
+/// A plan, which awaits and how many stays its program is to have, and the bytes and the numbers that are due.
+type Compiled = (Problem, Deps, u32, &'static [u8], Numbers);
+
+const PROGRAMS: [Compiled; 5] = [
+    (PAIR, Deps::All, 0, PAIR_BYTES, (2, 4, 2)),
+    (PAIR, Deps::Last, 0, PAIR_BYTES, (2, 4, 2)),
+    (PAIR, Deps::Last, 2, STAYING_BYTES, (2, 8, 2)),
+    (ROW, Deps::All, 0, ALL_BYTES, (3, 6, 5)),
+    (ROW, Deps::Last, 0, LAST_BYTES, (3, 6, 4)),
+];
+
+/// These bytes and numbers are due.
+fn due_made(rt: &impl Abort, made: &ProgramBytes, due: &[u8], numbers: Numbers) {
+    due_bytes(rt, &made.bytes, due);
+    assert!(*rt; (made.agents, made.moves, made.awaits) == numbers);
+}
+
+fn due_program(rt: &impl Abort, alloc: Global, row: &Compiled) -> Result<(), Fail> {
+    let (problem, deps, dwell, due, numbers) = *row;
+    let (bytes, made) = compile_answer(alloc, problem, deps, dwell)?;
+    due_bytes(rt, &bytes, due);
+    due_made(rt, &made, due, numbers);
+    Ok(())
+}
+
 #[test]
 fn plans_are_compiled(rt: HostRuntime) -> Result<(), Fail> {
-    let pair = (PAIR_MAP, PAIR_SCEN, PAIR_PLAN);
-    let row = (ROW_MAP, ROW_SCEN, ROW_PLAN);
-    for (problem, deps, dwell, due, numbers) in [
-        (pair, Deps::All, 0, PAIR_BYTES, (2, 4, 2)),
-        (pair, Deps::Last, 0, PAIR_BYTES, (2, 4, 2)),
-        (pair, Deps::Last, 2, STAYING_BYTES, (2, 8, 2)),
-        (row, Deps::All, 0, ALL_BYTES, (3, 6, 5)),
-        (row, Deps::Last, 0, LAST_BYTES, (3, 6, 4)),
-    ] {
-        due_bytes(&rt, &compile_answer(rt.alloc(), problem, deps, dwell)?, due);
-        let made = compiled_bytes(rt.alloc(), problem, deps, dwell)?;
-        due_bytes(&rt, &made.bytes, due);
-        assert!(rt; (made.agents, made.moves, made.awaits) == numbers);
+    for row in &PROGRAMS {
+        due_program(&rt, rt.alloc(), row)?;
     }
     assert!(rt; is_too_long(rt.alloc(), 999_999)?);
     Ok(())
 }
 
-/// The bytes of the row's program without the awaits that others imply.
-fn thin_answer(alloc: Global) -> Result<Vec<u8>, Fail> {
-    let (grid, instance) = problem(alloc, ROW_MAP, ROW_SCEN)?;
-    let accepted = accepted_of(alloc, load(alloc, ALL_BYTES)?, &grid, &instance)?;
-    match thin(alloc, &accepted) {
+/// The bytes of a program without the awaits that others imply.
+fn thinned<P: ProgramView>(alloc: Global, accepted: &Accepted<'_, P>) -> Result<Vec<u8>, Fail> {
+    match thin(alloc, accepted) {
         Ok(program) => Ok(encode(alloc, &program)?),
         Err(ThinFault::OutOfMemory) => Err(Fail::from("memory")),
     }
 }
 
+/// .. of the row's.
+fn thinned_row(alloc: Global, grid: &Grid, instance: &Instance) -> Result<Vec<u8>, Fail> {
+    let accepted = accepted_of(alloc, load(alloc, ALL_BYTES)?, grid, instance)?;
+    thinned(alloc, &accepted)
+}
+
+fn thin_answer(alloc: Global) -> Result<Vec<u8>, Fail> {
+    let (grid, instance) = problem(alloc, ROW_MAP, ROW_SCEN)?;
+    thinned_row(alloc, &grid, &instance)
+}
+
 /// The same at once, of a program in place, with the numbers of what is left.
 fn thinned_bytes(
     alloc: Global,
-    (map, scen, bytes): (&[u8], &[u8], &[u8]),
+    grid: &Grid,
+    instance: &Instance,
+    bytes: &[u8],
 ) -> Result<ProgramBytes, Fail> {
-    let (grid, instance) = problem(alloc, map, scen)?;
-    let accepted = accepted_of(alloc, view(alloc, bytes)?, &grid, &instance)?;
+    let accepted = accepted_of(alloc, view(alloc, bytes)?, grid, instance)?;
     match thin_bytes(alloc, &accepted) {
-        Ok(thinned) => Ok(thinned),
+        Ok(made) => Ok(made),
         Err(ThinFault::OutOfMemory) => Err(Fail::from("memory")),
     }
+}
+
+/// A program, and the bytes and the numbers that are due.
+type Thinned = (Problem, &'static [u8], Numbers);
+
+const THINNED: [Thinned; 2] = [
+    ((ROW_MAP, ROW_SCEN, ALL_BYTES), LAST_BYTES, (3, 6, 4)),
+    (
+        (PAIR_MAP, PAIR_SCEN, STAYING_BYTES),
+        STAYING_BYTES,
+        (2, 8, 2),
+    ),
+];
+
+fn due_thinned(rt: &impl Abort, alloc: Global, row: &Thinned) -> Result<(), Fail> {
+    let ((map, scen, bytes), due, numbers) = *row;
+    let (grid, instance) = problem(alloc, map, scen)?;
+    let made = thinned_bytes(alloc, &grid, &instance, bytes)?;
+    due_made(rt, &made, due, numbers);
+    Ok(())
 }
 
 /// Version 2 is left only where version 1 has no byte for a stay.
 #[test]
 fn programs_are_thinned(rt: HostRuntime) -> Result<(), Fail> {
     due_bytes(&rt, &thin_answer(rt.alloc())?, LAST_BYTES);
-    for (problem, due, numbers) in [
-        ((ROW_MAP, ROW_SCEN, ALL_BYTES), LAST_BYTES, (3, 6, 4)),
-        (
-            (PAIR_MAP, PAIR_SCEN, STAYING_BYTES),
-            STAYING_BYTES,
-            (2, 8, 2),
-        ),
-    ] {
-        let made = thinned_bytes(rt.alloc(), problem)?;
-        due_bytes(&rt, &made.bytes, due);
-        assert!(rt; (made.agents, made.moves, made.awaits) == numbers);
+    for row in &THINNED {
+        due_thinned(&rt, rt.alloc(), row)?;
     }
     Ok(())
 }

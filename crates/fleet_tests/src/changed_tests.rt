@@ -1,6 +1,7 @@
 //! Texts and program bytes that differ in one byte from those of the pair: how many are read, and how many are refused
 //! with each number. The counts were made by plain readers in another language, written from the formats alone.
 
+use crate::due::due_numbers;
 use crate::fleets::{PAIR_HEX, PAIR_MAP, PAIR_PLAN, PAIR_SCEN};
 use fleet_code::{HexFault, LoadFault, read_hex, view};
 use fleet_grid::{MapFault, read_map};
@@ -8,6 +9,7 @@ use fleet_plan::{TextFault, read_plan};
 use fleet_run::{HoldSource, HoldText};
 use fleet_scen::{ScenFault, read_scen};
 use std::alloc::{AllocError, Global};
+use std::process::Abort;
 use std::test::Fail;
 
 #[derive(Clone, Copy)]
@@ -143,31 +145,47 @@ fn counts_of(alloc: Global, reader: Reader, text: &[u8]) -> Result<[u32; 12], Al
 /// Holds of agent 0, of nobody, and of agents 0 and 1.
 const SOME_HOLDS: &[u8] = b"0\n-\n0 1\n";
 
+/// A text, its reader, and the counts that are due.
+type Changed<'a> = (Reader, &'a [u8], [u32; 12]);
+
+fn due_counts(rt: &impl Abort, alloc: Global, row: &Changed<'_>) -> Result<(), Fail> {
+    let (reader, text, due) = *row;
+    due_numbers(rt, &counts_of(alloc, reader, text)?, &due);
+    Ok(())
+}
+
+const TEXTS: [Changed<'static>; 5] = [
+    (
+        Reader::Map,
+        PAIR_MAP,
+        [1544, 0, 6878, 2, 8, 267, 991, 0, 0, 0, 0, 0],
+    ),
+    (
+        Reader::Scen,
+        PAIR_SCEN,
+        [9874, 0, 2549, 4451, 2916, 36, 60, 2, 2, 0, 0, 0],
+    ),
+    (
+        Reader::Plan,
+        PAIR_PLAN,
+        [131, 0, 5989, 0, 0, 0, 0, 0, 0, 0, 0, 0],
+    ),
+    (
+        Reader::Holds,
+        SOME_HOLDS,
+        [0, 500, 0, 500, 0, 1008, 31, 0, 1, 0, 0, 0],
+    ),
+    (
+        Reader::Hex,
+        PAIR_HEX,
+        [1758, 0, 24380, 892, 0, 0, 0, 0, 0, 0, 0, 0],
+    ),
+];
+
 #[test]
 fn texts_are_changed_in_a_byte(rt: HostRuntime) -> Result<(), Fail> {
-    for (reader, text, due) in [
-        (
-            Reader::Map,
-            PAIR_MAP,
-            [1544, 0, 6878, 2, 8, 267, 991, 0, 0, 0, 0, 0],
-        ),
-        (
-            Reader::Scen,
-            PAIR_SCEN,
-            [9874, 0, 2549, 4451, 2916, 36, 60, 2, 2, 0, 0, 0],
-        ),
-        (
-            Reader::Plan,
-            PAIR_PLAN,
-            [131, 0, 5989, 0, 0, 0, 0, 0, 0, 0, 0, 0],
-        ),
-        (
-            Reader::Holds,
-            SOME_HOLDS,
-            [0, 500, 0, 500, 0, 1008, 31, 0, 1, 0, 0, 0],
-        ),
-    ] {
-        assert!(rt; counts_of(rt.alloc(), reader, text)? == due, "{text:?}");
+    for row in &TEXTS {
+        due_counts(&rt, rt.alloc(), row)?;
     }
     Ok(())
 }
@@ -175,19 +193,6 @@ fn texts_are_changed_in_a_byte(rt: HostRuntime) -> Result<(), Fail> {
 #[test]
 fn programs_are_changed_in_a_byte(rt: HostRuntime) -> Result<(), Fail> {
     let bytes = read_hex(rt.alloc(), PAIR_HEX)?;
-    for (reader, text, due) in [
-        (
-            Reader::Program,
-            bytes.as_slice(),
-            [5110, 0, 1019, 770, 253, 0, 1506, 1522, 0, 2, 18, 0],
-        ),
-        (
-            Reader::Hex,
-            PAIR_HEX,
-            [1758, 0, 24380, 892, 0, 0, 0, 0, 0, 0, 0, 0],
-        ),
-    ] {
-        assert!(rt; counts_of(rt.alloc(), reader, text)? == due, "{text:?}");
-    }
-    Ok(())
+    let due = [5110, 0, 1019, 770, 253, 0, 1506, 1522, 0, 2, 18, 0];
+    due_counts(&rt, rt.alloc(), &(Reader::Program, bytes.as_slice(), due))
 }

@@ -181,7 +181,7 @@ EOF
         bytes 0000 0001 0001 0001 00000001 10 0000 000186A0 01; } > ring"
     length=$(awk 'BEGIN { for (k = 1; k <= 100000; k++) n += length(" 0:" k); print n + length("verify 7 Cyclic 1:1\n") }')
     check 'a long refusal is written in few pieces' 1 "$length\nfew\n" '' \
-        "$ring; WRITES=writes LD_PRELOAD=$STREAMS fleet verify ring.map ring.scen ring 2> told; status=\$?; wc -c < told | tr -d ' '; [ \$(cat writes) -le 400 ] && echo few; exit \$status"
+        "$ring; WRITES=writes LD_PRELOAD=$STREAMS fleet verify ring.map ring.scen ring 2> told; status=\$?; wc -c < told | tr -d ' '; [ \$(cat writes) -le 200 ] && echo few; exit \$status"
 else
     skip 'streams that fail after some bytes: there is no compiler of C'
 fi

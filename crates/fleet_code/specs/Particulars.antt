@@ -7,5 +7,5 @@ use Rattle.fleet_code.specs.declared.fault.Particulars.TheVariants.{Memory, Name
 -- the words of the line that is made of these
 abbrev pub particular_words : Particulars → List (List ℕ)
 particular_words Memory = memory_words
-particular_words (Named number name sentence) = named (codes "load") number name.now
-particular_words (At number name at before after) = named_at (codes "load") number name.now (codes "at") at
+particular_words (Named number name) = named (codes "load") number name.now
+particular_words (At number name at) = named_at (codes "load") number name.now (codes "at") at

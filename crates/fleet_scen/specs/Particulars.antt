@@ -7,6 +7,6 @@ use Rattle.fleet_scen.specs.declared.fault.Particulars.TheVariants.{Memory, Name
 -- the words of the line that is made of these
 abbrev pub particular_words : Particulars → List (List ℕ)
 particular_words Memory = memory_words
-particular_words (Named number name sentence) = named (codes "scen") number name.now
-particular_words (At number name line before after) = named_at (codes "scen") number name.now (codes "line") line
+particular_words (Named number name) = named (codes "scen") number name.now
+particular_words (At number name line) = named_at (codes "scen") number name.now (codes "line") line
 particular_words (Field line field) = named_by (codes "scen") 4 (codes "Number") (codes "line") line (codes "field") field

@@ -6,32 +6,42 @@ ghost use Rattle.fleet_scen.specs.Particulars.{particular_words};
 
 use fleet_text::{OutFault, Refusal, TraceOut, put_memory, put_named, put_named_at, put_named_by};
 use std::alloc::AllocFailed;
-use std::fmt;
 use thiserror::Error;
 
 /// The first fault of a scenario text, from the front. Lines and fields count from 1, and empty lines count too.
 #[derive(Clone, Copy, Debug, Error)]
 pub enum ScenFault {
+    #[error("out of memory")]
     OutOfMemory,
     /// The first line that has a word is no version line, or no line has one.
+    #[error("the first line that is not empty is no version line")]
     Version,
     /// A line has fewer or more than nine words.
+    #[error("line {line} has not nine fields")]
     Fields { line: u64 },
     /// A field is no number up to 65,535.
+    #[error("field {field} of line {line} is no number up to 65535")]
     Number { line: u64, field: u8 },
     /// A line is for a map of other sizes.
+    #[error("line {line} is for a map of other sizes")]
     OtherMap { line: u64 },
     /// The start or the goal of a line is not passable.
+    #[error("the start or the goal of line {line} is not passable")]
     Blocked { line: u64 },
     /// The start of a line is that of an earlier agent.
+    #[error("the start of line {line} is that of an earlier agent")]
     SharedStart { line: u64 },
     /// The goal of a line is that of an earlier agent.
+    #[error("the goal of line {line} is that of an earlier agent")]
     SharedGoal { line: u64 },
     /// No agent was asked for, or there is none.
+    #[error("there are no agents")]
     NoAgents,
     /// More than 1,024 agents were asked for, or there are more.
+    #[error("there are more than 1024 agents")]
     TooMany,
     /// There are fewer agents than were asked for.
+    #[error("there are fewer agents than were asked for")]
     Fewer,
 }
 
@@ -46,13 +56,13 @@ impl<T: Drop> From<AllocFailed<T>> for ScenFault {
     }
 }
 
-/// What is said of a fault of a scenario: the number and the name for its line, the sentence of the error, and the line
-/// and the field in which it is, if it is in one: the line between the two parts of the sentence.
+/// What the line of a fault of a scenario says: its number and its name, and the line and the field in which it is, if
+/// it is in one.
 #[derive(Clone, Copy)]
 enum Particulars {
     Memory,
-    Named(u64, &'static str, &'static str),
-    At(u64, &'static str, u64, &'static str, &'static str),
+    Named(u64, &'static str),
+    At(u64, &'static str, u64),
     Field(u64, u8),
 }
 
@@ -61,67 +71,16 @@ fn particulars_of(fault: ScenFault) -> Particulars
 {
     match fault {
         ScenFault::OutOfMemory => Particulars::Memory,
-        ScenFault::Version => Particulars::Named(
-            2,
-            "Version",
-            "the first line that is not empty is no version line",
-        ),
-        ScenFault::Fields { line } => Particulars::At(
-            3,
-            "Fields",
-            line,
-            "line ",
-            " has not nine fields",
-        ),
+        ScenFault::Version => Particulars::Named(2, "Version"),
+        ScenFault::Fields { line } => Particulars::At(3, "Fields", line),
         ScenFault::Number { line, field } => Particulars::Field(line, field),
-        ScenFault::OtherMap { line } => Particulars::At(
-            5,
-            "OtherMap",
-            line,
-            "line ",
-            " is for a map of other sizes",
-        ),
-        ScenFault::Blocked { line } => Particulars::At(
-            6,
-            "Blocked",
-            line,
-            "the start or the goal of line ",
-            " is not passable",
-        ),
-        ScenFault::SharedStart { line } => Particulars::At(
-            7,
-            "SharedStart",
-            line,
-            "the start of line ",
-            " is that of an earlier agent",
-        ),
-        ScenFault::SharedGoal { line } => Particulars::At(
-            8,
-            "SharedGoal",
-            line,
-            "the goal of line ",
-            " is that of an earlier agent",
-        ),
-        ScenFault::NoAgents => Particulars::Named(9, "NoAgents", "there are no agents"),
-        ScenFault::TooMany => Particulars::Named(10, "TooMany", "there are more than 1024 agents"),
-        ScenFault::Fewer => Particulars::Named(
-            11,
-            "Fewer",
-            "there are fewer agents than were asked for",
-        ),
-    }
-}
-
-impl fmt::Display for ScenFault {
-    fn fmt<W: fmt::Write>(&self, f: &mut fmt::Formatter<W>) -> fmt::Result {
-        match particulars_of(*self) {
-            Particulars::Memory => f.write_str("out of memory"),
-            Particulars::Named(_, _, sentence) => f.write_str(sentence),
-            Particulars::At(_, _, line, before, after) => write!(f, "{before}{line}{after}"),
-            Particulars::Field(line, field) => {
-                write!(f, "field {field} of line {line} is no number up to 65535")
-            }
-        }
+        ScenFault::OtherMap { line } => Particulars::At(5, "OtherMap", line),
+        ScenFault::Blocked { line } => Particulars::At(6, "Blocked", line),
+        ScenFault::SharedStart { line } => Particulars::At(7, "SharedStart", line),
+        ScenFault::SharedGoal { line } => Particulars::At(8, "SharedGoal", line),
+        ScenFault::NoAgents => Particulars::Named(9, "NoAgents"),
+        ScenFault::TooMany => Particulars::Named(10, "TooMany"),
+        ScenFault::Fewer => Particulars::Named(11, "Fewer"),
     }
 }
 
@@ -135,8 +94,8 @@ impl Refusal for ScenFault {
     fn put<O: TraceOut>(&self, out: &mut O) -> Result<(), OutFault> {
         match particulars_of(*self) {
             Particulars::Memory => put_memory(out),
-            Particulars::Named(number, name, _) => put_named(out, "scen", number, name),
-            Particulars::At(number, name, line, _, _) => {
+            Particulars::Named(number, name) => put_named(out, "scen", number, name),
+            Particulars::At(number, name, line) => {
                 put_named_at(out, "scen", number, name, "line", line)
             }
             Particulars::Field(line, field) => {

@@ -9,8 +9,8 @@ use crate::numbers::{write_byte, write_number};
 use crate::sink::{OutFault, TraceOut, put_all};
 use std::marker::Model;
 
-/// How many bytes a row has room for. So few are zeroed faster than more: beyond them `memset` goes byte by byte.
-const ROOM: usize = 2_048;
+/// How many bytes a row has room for.
+const ROOM: usize = 4_096;
 
 /// How many bytes the longest number of 16 bits and the longest of 32 have, with a byte between them.
 pub(crate) const TWO: usize = 5 + 1 + 10;

@@ -3,13 +3,16 @@
 #include <stdio.h>
 #include <stdlib.h>
 
-/* A whole file, of at most so many bytes. */
+/* A whole file, of less than so many bytes. Where there is none such, the program ends. */
 static size_t read_file(const char *name, uint8_t *at, size_t room)
 {
     FILE *file = fopen(name, "rb");
     size_t length = file ? fread(at, 1, room, file) : 0;
-    if (file)
-        fclose(file);
+    if (!file || ferror(file) || length == room) {
+        fprintf(stderr, "%s cannot be read\n", name);
+        exit(3);
+    }
+    fclose(file);
     return length;
 }
 
@@ -23,7 +26,8 @@ static int refused(const char *call, const struct fleet_fault *fault)
 int main(int count, char **names)
 {
     static uint8_t map[1 << 20], scen[1 << 20];
-    struct fleet_fault fault;
+    /* What is told if a malloc of this program fails: a call that answers leaves it so. */
+    struct fleet_fault fault = {FLEET_MEMORY, 1, 0, {0}};
     struct fleet_accepted accepted;
     if (count != 3)
         return 2;

@@ -126,6 +126,8 @@ def ways(program):
 
 
 def main():
+    if len(sys.argv) not in (4, 5):
+        sys.exit(__doc__)
     paths = ways(sys.argv[3])
     seed = int(sys.argv[4]) if len(sys.argv) > 4 else 1
     net, pace = Transport(seed), random.Random(seed)

@@ -101,7 +101,7 @@ uint32_t fleet_check(const uint8_t *map, size_t map_length,
 /* Which leavings of a cell the action that enters it awaits. */
 enum fleet_deps {
     FLEET_DEPS_LAST = 0, /* that of the latest earlier visit alone */
-    FLEET_DEPS_ALL = 1   /* the last one of each other agent that left the cell before */
+    FLEET_DEPS_ALL = 1   /* the last one of each other agent that left the cell before; so does any other number */
 };
 
 /*
@@ -123,7 +123,9 @@ uint32_t fleet_verify(const uint8_t *map, size_t map_length,
                       const uint8_t *program, size_t program_length,
                       struct fleet_accepted *accepted, struct fleet_fault *fault);
 
-/* Thins a program, if it is accepted: `out` gets the bytes of it without the awaits that others imply. It runs equally. */
+/*
+ * Thins a program, if it is accepted: `out` gets the bytes of it without the awaits that others imply. It runs equally.
+ */
 uint32_t fleet_thin(const uint8_t *map, size_t map_length,
                     const uint8_t *scen, size_t scen_length, uint16_t agents,
                     const uint8_t *program, size_t program_length,
@@ -131,7 +133,7 @@ uint32_t fleet_thin(const uint8_t *map, size_t map_length,
 
 /*
  * Plans agent by agent, each on an earliest path past those before it that arrives within `horizon` steps, in up to
- * `tries` orders of the agents: `out` gets the text of the first plan that is found.
+ * `tries` orders of the agents, or in one where that is 0: `out` gets the text of the first plan that is found.
  */
 uint32_t fleet_plan(const uint8_t *map, size_t map_length,
                     const uint8_t *scen, size_t scen_length, uint16_t agents,

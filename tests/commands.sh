@@ -19,11 +19,10 @@ for command in '' $commands; do
             options = options " [" option (value ~ /^</ ? " " (values == "" ? value : values) : "") "]" }
         END { sub(/ \[OPTIONS\]/, "", words); line = words options; gsub(/[<>]/, "", line); print "### `fleet " command line "`" }' > "$work/want.out"
     grep "^### \`fleet $command " "$root/docs/COMMANDS.md" > "$work/out"
-    : > "$work/err"
-    : > "$work/want.err"
-    status=0
-    judge "docs/COMMANDS.md's heading of $command has its words and options" "fleet $command --help" 0
+    alike "docs/COMMANDS.md's heading of $command has its words and options" "fleet $command --help"
 done
+
+check 'fleet.pc has the version of the program' 0 '' '' "fleet --version | sed 's/^fleet //' > a && sed -n 's/^Version: //p' '$root/include/fleet.pc.in' | cmp - a"
 
 # Wrong usage.
 hint="\nFor more information, try '--help'.\n"

@@ -4,12 +4,11 @@
 enter conflicts
 
 # tasked ROW..: writes the map of these rows, and the scenario of the file plan.
-cat > "$work/bin/tasked" <<'EOF'
+script tasked <<'EOF'
 #!/bin/sh
 printf '%s\n' 'type octile' "height $#" "width ${#1}" map "$@" > map
 awk -v width="${#1}" -v height="$#" 'BEGIN { print "version 1" } { gsub(/,/, " "); print 0, "m", width, height, $1, $2, $(NF - 1), $NF, 0 }' plan > scen
 EOF
-chmod +x "$work/bin/tasked"
 while IFS='|' read -r rows plan due; do
     command="printf '$plan\\n' > plan && tasked $rows && fleet check map scen plan > got; status=\$?; sed 1q got; exit \$status"
     if [ "$due" ]; then

@@ -18,7 +18,8 @@ esac
 [ -f "$fleet" ] || { echo "examples: $fleet is no program" >&2; exit 2; }
 work=$(mktemp -d) || exit 2
 trap 'chmod -R u+rwx "$work"; rm -rf "$work"' EXIT
-trap 'exit 2' INT TERM HUP
+beside=
+trap 'kill $beside 2> /dev/null; exit 2' INT TERM HUP
 mkdir "$work/bin" "$work/room"
 cp "$fleet" "$work/bin/fleet" && chmod 755 "$work/bin/fleet" || exit 2
 PATH=$work/bin:$PATH
@@ -26,15 +27,25 @@ LC_ALL=C
 export PATH LC_ALL
 passed=0 failed=0 skipped=0
 room=$work/room
+cc=${CC:-cc}
+
+# Whether there is such a command.
+has() {
+    command -v "$1" > /dev/null 2>&1
+}
+
+# script NAME: a script that command lines call, from standard input.
+script() {
+    cat > "$work/bin/$1" && chmod +x "$work/bin/$1"
+}
 
 # bytes HEX..: the bytes that the digits spell.
-cat > "$work/bin/bytes" <<'EOF'
+script bytes <<'EOF'
 #!/bin/sh
 printf "$(echo "$*" | awk '
     function digit(at) { return index("0123456789ABCDEF", substr($0, at, 1)) - 1 }
     { gsub(/ /, ""); for (i = 1; i < length($0); i += 2) printf "\\%03o", 16 * digit(i) + digit(i + 1) }')"
 EOF
-chmod +x "$work/bin/bytes"
 
 # A new folder in which commands run, with a copy of the examples and of the tools.
 enter() {
@@ -67,6 +78,16 @@ judge() {
     differs err
 }
 
+# alike NAME COMMAND [none]: judges what stands in out and was not printed by one command line. Unless `none` is due,
+# something is.
+alike() {
+    [ -s "$work/want.out" ] || [ "$3" = none ] || echo something > "$work/want.out"
+    : > "$work/err"
+    : > "$work/want.err"
+    status=0
+    judge "$1" "$2" 0
+}
+
 # Shows where an output is not what is due.
 differs() {
     cmp -s "$work/$1" "$work/want.$1" || diff "$work/want.$1" "$work/$1" | sed "s/^/    $1: /" | cut -c 1-200 | head -n 8
@@ -91,7 +112,7 @@ document() {
     enter "$1"
     [ -z "$3" ] || cp "$3"/* "$room/"
     mkdir "$work/$1"
-    awk -v to="$work/$1" -f "$root/tests/fenced.awk" "$root/$2"
+    awk -v to="$work/$1" -f "$root/tests/fenced.awk" "$root/$2" || failed=$((failed + 1))
     for cmd in "$work/$1"/*.cmd; do
         [ -f "$cmd" ] || continue
         it=${cmd%.cmd}
@@ -111,13 +132,14 @@ mkdir "$work/beside" "$work/beside/room" && cp -R "$work/bin" "$work/beside/" ||
     . "$root/tests/memory.sh"
     echo "$passed $failed $skipped" > "$work/counts"
 ) &
+beside=$!
 
 for section in documents names commands transcripts texts conflicts warehouse plans tools files limits streams library lent; do
     . "$root/tests/$section.sh"
 done
 
 wait
-{ read -r more_passed more_failed more_skipped < "$work/beside/counts"; } 2> /dev/null || more_failed=1
+{ read -r more_passed more_failed more_skipped < "$work/beside/counts"; } 2> /dev/null || { more_failed=1; echo 'FAILED memory: it came to no end'; }
 passed=$((passed + more_passed)) failed=$((failed + more_failed)) skipped=$((skipped + more_skipped))
 
 [ "$skipped" = 0 ] || echo "examples: $skipped skipped"

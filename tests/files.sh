@@ -30,12 +30,11 @@ else
 fi
 
 # in_full COMMAND..: with a small file system at the folder full.
-cat > "$work/bin/in_full" <<'EOF'
+script in_full <<'EOF'
 #!/bin/sh
 mkdir -p full
 exec unshare -rm sh -c 'mount -t tmpfs -o size=16k none full && exec "$@"' sh "$@"
 EOF
-chmod +x "$work/bin/in_full"
 
 # OUT.
 numbers='agents 3\nmoves 6\nawaits 4\nbytes 62\n'
@@ -88,7 +87,7 @@ check 'no file of a reader is changed' 0 '' '' "diff -r examples '$root/examples
 
 # A process that is killed while it writes OUT, at times drawn by lot, leaves what stood there or a front of the bytes.
 # The next one writes all of them.
-cat > "$work/bin/kill_writers" <<'EOF'
+script kill_writers <<'EOF'
 #!/bin/sh
 W='examples/warehouse.map examples/warehouse.scen'
 fleet plan $W > plan && fleet compile $W plan whole --deps all > said || exit
@@ -99,5 +98,4 @@ for after in $(awk 'BEGIN { s = 271; for (k = 0; k < 40; k++) { s = s * 16807 % 
 done
 fleet compile $W plan out --deps all | cmp - said && cmp out whole
 EOF
-chmod +x "$work/bin/kill_writers"
 check 'OUT of a process that is killed' 0 '' '' kill_writers

@@ -3,7 +3,7 @@
 # and functions that do what is near by and right, of which it has to say nothing. `rt try` compiles and proves nothing.
 # Part of tests/examples.sh.
 
-if command -v rt > "$work/out"; then
+if has rt; then
     mkdir "$work/lent"
     (cd "$root" && tar -cf - --exclude=out crates.txt HANDLES crates) | (cd "$work/lent" && tar -xf -)
     echo 'fleet_lent: fleet_run fleet_verify fleet_code fleet_scen fleet_grid fleet_model' >> "$work/lent/crates.txt"

@@ -6,18 +6,14 @@ enter library
 M=examples/corridor.map S=examples/corridor.scen P=examples/corridor.plan B=examples/corridor.program
 cp "$root"/tests/library/* "$room/"
 
-has() {
-    command -v "$1" > /dev/null 2>&1
-}
-
 # A program in C with the archive. $2: more words for the compiler.
 of_c() {
-    cc -Wall -Wextra -Werror -O1 -I"$library" -I. -o "$1" "$2.c" $3 "$library/libfleet.a"
+    $cc -Wall -Wextra -Werror -O1 -I"$library" -I. -o "$1" "$2.c" $3 "$library/libfleet.a"
 }
 
 if [ ! -f "$library/libfleet.a" ]; then
     skip 'libfleet: no folder of make lib was given'
-elif ! has cc; then
+elif ! has "${cc%% *}"; then
     skip 'libfleet: there is no C compiler'
 else
     export library

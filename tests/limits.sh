@@ -6,11 +6,10 @@ pair='0: 1,0 0,0\n1: 2,0 0,0\n2: 3,0 1,0\n3: 3,0 2,0\nagents 2\nticks 3\nheld 0\
 M=examples/pair.map S=examples/pair.scen B=examples/pair.program
 
 # blanks N: N spaces.
-cat > "$work/bin/blanks" <<'EOF'
+script blanks <<'EOF'
 #!/bin/sh
 head -c "$1" /dev/zero | tr '\0' ' '
 EOF
-chmod +x "$work/bin/blanks"
 
 check 'hexadecimal as long as may be' 0 "$pair" '' "{ blanks \$(($most - \$(wc -c < examples/pair.hex))); cat examples/pair.hex; } | fleet"
 check 'hexadecimal one byte too long' 3 '' 'file -\n' "{ blanks \$(($most + 1 - \$(wc -c < examples/pair.hex))); cat examples/pair.hex; } | fleet"
@@ -55,11 +54,10 @@ far='BEGIN { m = "0103"; while (length(m) < 2000000) m = m m; printf "4D504632 0
 check '1,000,000 moves of one agent' 0 'agents 1\nticks 1000000\nheld 0\nfinished\n' '' "awk '$far' | fleet | tail -n 4"
 check '1,000,001 moves of one agent' 1 '' 'load 5 Total\n' "echo '4D504632 0001 0000 0000 0000 0000 000F4241' | fleet"
 # The same in bytes, and 4,194,304 moves of five agents.
-cat > "$work/bin/east_and_back" <<'EOF'
+script east_and_back <<'EOF'
 #!/bin/sh
 yes "$(printf '\1\3')" | tr -d '\n' | head -c "$1"
 EOF
-chmod +x "$work/bin/east_and_back"
 there="printf 'type t\nheight 1\nwidth 2\nmap\n..\n' > two.map && printf 'version 1\n0 m 2 1 0 0 0 0 0\n' > two.scen"
 check '1,000,000 moves in version 2 are accepted' 0 'accepted\nagents 1\nmoves 1000000\nawaits 0\nchain 1000000\n' '' \
     "$there && { printf 'MPF2\0\1\0\0\0\0\0\0\0\0\0\17\102\100'; east_and_back 1000000; } > way && fleet verify two.map two.scen way"
@@ -84,18 +82,17 @@ check 'a path of 65,537 cells' 1 '' 'text 3 Length line 1\n' "awk 'BEGIN { for (
 check 'a plan of 1,024 agents' 1 '' 'check 2 Agents\n' "yes 65535,65535 | head -n 1024 | fleet check $M $S /dev/stdin"
 check 'a plan of 1,025 agents' 1 '' 'text 4 AgentCount\n' "yes 65535,65535 | head -n 1025 | fleet check $M $S /dev/stdin"
 # shuttles N: 64 agents that go to and fro 65,535 times, and one that does so N times.
-cat > "$work/bin/shuttles" <<'EOF'
+script shuttles <<'EOF'
 #!/bin/sh
 awk 'BEGIN { print "type t\nheight 65\nwidth 2\nmap"; for (y = 0; y < 65; y++) print ".." }' > shuttles.map
 awk -v n="$1" 'BEGIN { print "version 1"; for (y = 0; y < 65; y++) print "0 m 2 65 0", y, y < 64 ? 1 : n % 2, y, 0 }' > shuttles.scen
 awk -v n="$1" 'BEGIN { for (y = 0; y < 65; y++) { m = y < 64 ? 65535 : n; for (t = 0; t < m; t++) printf "%d,%d ", t % 2, y; print m % 2 "," y } }' > shuttles.plan
 EOF
-chmod +x "$work/bin/shuttles"
 check '4,194,304 moves are compiled' 0 'agents 65\nmoves 4194304\nawaits 0\nbytes 4194960\n' '' 'shuttles 64 && fleet compile shuttles.map shuttles.scen shuttles.plan moves'
 check '.. and one more is too many' 1 '' 'compile 2 TooLong\n' 'shuttles 65 && fleet compile shuttles.map shuttles.scen shuttles.plan moves'
 # relay FREE: 1,024 agents that go one step east each, the last one to where the first has begun. Each but the first and
 # agent FREE awaits the one before it.
-cat > "$work/bin/relay" <<'EOF'
+script relay <<'EOF'
 #!/bin/sh
 awk 'BEGIN { r = "."; while (length(r) < 2048) r = r r; print "type t\nheight 2\nwidth 2049\nmap\n" r ".\n" r "." }' > relay.map
 ends='function ends(k) { y = k > 0 && k < 1023; x = k == 0 ? 1 : k == 1023 ? 0 : 2 * k }'
@@ -104,7 +101,6 @@ printf "$(awk -v free="$1" "$ends"' function two(n) { return sprintf("\\%03o\\%0
     BEGIN { printf "MPF1" two(1024); for (k = 0; k < 1024; k++) { ends(k)
         printf "%s", two(x) two(y) two(x + 1) two(y) two(1) (k > 0 && k != free ? "\\020" two(k - 1) two(1) : "") "\\001" } }')" > relay.program
 EOF
-chmod +x "$work/bin/relay"
 check 'an order by a chain through 1,024 agents' 0 'accepted\nagents 1024\nmoves 1024\nawaits 1023\nchain 1024\n' '' 'relay 0 && fleet verify relay.map relay.scen relay.program'
 check 'no order where two long chains do not meet' 1 '' 'verify 8 Unordered cell 1,0 first 0:0 second 1023:1\n' 'relay 512 && fleet verify relay.map relay.scen relay.program > holds'
 rm -rf "$room"

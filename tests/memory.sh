@@ -6,7 +6,7 @@ on='examples/pair.map examples/pair.scen'
 many='examples/warehouse.map examples/warehouse.scen'
 
 # due COMMAND..: runs a command, and keeps what is due of it.
-cat > "$work/bin/due" <<'EOF'
+script due <<'EOF'
 echo kept > out
 "$@" > due.got 2> due.told < "$input"
 echo $? > due.status
@@ -14,9 +14,9 @@ cp out due.out
 EOF
 
 # judged COMMAND..: runs it under $limits, and says what it did if that is neither what is due nor want of memory. `was`
-# then says which: 126 and 127 are the statuses of a program that could not be started, and those above 128 of one that a
-# signal ended.
-cat > "$work/bin/judged" <<'EOF'
+# then says which: 126 and 127 are the statuses of a program that could not be started, and those above 128 of one that
+# a signal ended.
+script judged <<'EOF'
 echo kept > out
 $limits "$@" > got 2> told < "$input"
 status=$?
@@ -32,10 +32,10 @@ fi
 EOF
 
 # growths COMMAND..: with each growth refused in turn. Prints wrong answers, and `each` if memory lacked each time, or
-# all but once: the buffer of the output can be done without. A dispatch, and `rest`, which goes through its reports, copy
-# the counts of the agents four times, and can do without the room that is asked for at once for each copy: so many growths
-# $spare has.
-cat > "$work/bin/growths" <<'EOF'
+# all but once: the buffer of the output can be done without. A dispatch, and `rest`, which goes through its reports,
+# copy the counts of the agents four times, and can do without the room that is asked for at once for each copy: so many
+# growths $spare has.
+script growths <<'EOF'
 #!/bin/sh
 . due
 n=1 lacking=0
@@ -52,7 +52,7 @@ if [ "$lacking" -ge 10 ] && [ "$((all - lacking))" -le "$((1 + ${spare:-0}))" ];
 EOF
 
 # within SPACE COMMAND..: in an address space of so many KB.
-cat > "$work/bin/within" <<'EOF'
+script within <<'EOF'
 #!/bin/sh
 program=$(command -v "$2")
 ulimit -c 0
@@ -62,9 +62,9 @@ exec "$program" "$@"
 EOF
 
 # spaces STEP COMMAND..: in address spaces that grow by STEP KB, from one in which the system cannot start the program
-# to one in which the answer is what is due. Prints wrong answers, and which kinds of answers came after one another. Until
-# the loader has said once that it cannot start the program, a signal is the system's, which cannot even map it.
-cat > "$work/bin/spaces" <<'EOF'
+# to one in which the answer is what is due. Prints wrong answers, and which kinds of answers came after one another.
+# Until the loader has said once that it cannot start the program, a signal is the system's, which cannot even map it.
+script spaces <<'EOF'
 #!/bin/sh
 step=$1
 shift
@@ -83,7 +83,7 @@ echo $order
 EOF
 
 # shallow COMMAND..: with a stack of 88 KB, and no environment on it.
-cat > "$work/bin/shallow" <<'EOF'
+script shallow <<'EOF'
 #!/bin/sh
 program=$(command -v "$1")
 ulimit -c 0
@@ -93,7 +93,7 @@ exec env -i "$program" "$@"
 EOF
 
 # stack COMMAND..: which kind of answer there is with so small a stack.
-cat > "$work/bin/stack" <<'EOF'
+script stack <<'EOF'
 #!/bin/sh
 . due
 limits=shallow
@@ -101,9 +101,9 @@ limits=shallow
 echo $was
 EOF
 
-# listed MAP SCEN PLAN PROGRAM: the words of each command of commands.list but `dispatch`, which reads reports, with these
-# files.
-cat > "$work/bin/listed" <<'EOF'
+# listed MAP SCEN PLAN PROGRAM: the words of each command of commands.list but `dispatch`, which reads reports, with
+# these files.
+script listed <<'EOF'
 #!/bin/sh
 grep -v -e '^#' -e '|dispatch ' "$LIST" | sed "s/.*|//; s/ --holds .*//; s/OUT OUT/tasks out/; s/OUT/out/
     s#examples/corridor.map#$1#; s#examples/corridor.scen#$2#; s#examples/corridor.plan#$3#; s#examples/corridor.program#$4#
@@ -111,14 +111,13 @@ grep -v -e '^#' -e '|dispatch ' "$LIST" | sed "s/.*|//; s/ --holds .*//; s/OUT O
 EOF
 
 # extra COMMAND..: how many more growths the command asks for than `instance` on the same files.
-cat > "$work/bin/extra" <<'EOF'
+script extra <<'EOF'
 #!/bin/sh
 GROWTHS=count LD_PRELOAD=$REFUSER "$@" > got 2>&1 < "$input"
 all=$(cat count)
 GROWTHS=count LD_PRELOAD=$REFUSER fleet instance "$3" "$4" > got 2>&1 < "$input"
 echo $((all - $(cat count)))
 EOF
-chmod +x "$work/bin/extra" "$work/bin/listed" "$work/bin/growths" "$work/bin/spaces" "$work/bin/within" "$work/bin/shallow" "$work/bin/stack"
 input=/dev/null
 REFUSER=$work/bin/refuse.so
 LIST=$root/tests/commands.list
@@ -130,7 +129,8 @@ check 'agents that find paths in the second order' 0 '' '' "printf 'type t\\nhei
 check 'agents of which the last finds no path' 0 '' '' "printf 'type t\\nheight 2\\nwidth 2\\nmap\\n..\\n..\\n' > square.map && printf 'version 1\\n0 m 2 2 0 0 1 0 1\\n0 m 2 2 1 0 1 1 1\\n0 m 2 2 1 1 0 1 1\\n0 m 2 2 0 1 0 0 1\\n' > square.scen"
 check 'a program in version 2' 0 'bytes 48\n' '' 'fleet migrate examples/pair.program pair2'
 check 'costs, and a log' 0 '' '' "printf '0 2\n1:2 3\n' > costs && printf '0:1\n' > log"
-if ${CC:-cc} -shared -fPIC -o "$REFUSER" "$root/tests/refuse.c" -ldl 2> /dev/null; then
+if has "${cc%% *}"; then
+    $cc -shared -fPIC -o "$REFUSER" "$root/tests/refuse.c" -ldl || failed=$((failed + 1))
     while read -r words; do
         case $words in rest*) spare=4 ;; *) spare=0 ;; esac
         check "each growth refused: $words" 0 'each\n' '' "spare=$spare growths fleet $words"
@@ -165,8 +165,8 @@ EOF
     check 'each growth refused: dispatch' 0 'each\n' '' "printf '%s\n' 0:1 '0:2 1:1' 1:2 > reports && input=reports spare=4 growths fleet dispatch $on examples/pair.program"
     check '.. which keeps a log' 0 'each\n' '' "input=reports spare=4 growths fleet dispatch $on examples/pair.program --log out"
     check '.. which stops at a report' 0 'each\n' '' "printf '%s\n' 0:1 1:1 1:3 > reports && input=reports spare=4 growths fleet dispatch $on examples/pair.program"
-    # The verifier says yes to most programs from a run ahead, for which it makes no machine, and goes through all others
-    # again. No contract says which.
+    # The verifier says yes to most programs from a run ahead, for which it makes no machine, and goes through all
+    # others again. No contract says which.
     check 'a program that is accepted ahead' 0 'few\n' '' "test \$(extra fleet verify $on examples/pair.program) -le 30 && echo few"
     check 'a program that is gone through again' 0 'many\n' '' "test \$(extra fleet verify $on unordered) -gt 60 && echo many"
 else

@@ -26,12 +26,8 @@ used='
 
 sort "$root/tests/names.txt" > "$room/listed"
 grep -v "::.*::" "$room/listed" > "$work/want.out"
-: > "$work/want.err"
-: > "$work/err"
-status=0
-
 cat "$surface"/*.rt | awk "$used" | sort -u | comm -12 - "$work/want.out" > "$work/out"
-judge 'fleet_tests imports each name of tests/names.txt' 'crates/fleet_tests/src against tests/names.txt' 0
+alike 'fleet_tests imports each name of tests/names.txt' 'crates/fleet_tests/src against tests/names.txt'
 
 # What a crate hands out stands in its root, as a line of `pub use` or as an item.
 sed 's/::.*//' "$work/want.out" | sort -u | while read -r crate; do
@@ -39,7 +35,7 @@ sed 's/::.*//' "$work/want.out" | sort -u | while read -r crate; do
     { awk '/^ *use /, /;/ { next } { print }' "$lib" | awk "$used" | sed 's/.*:://'
         sed -n 's/^pub \(fn\|struct\|enum\|trait\) \([A-Za-z0-9_]*\).*/\2/p' "$lib"; } | sed "s/^/$crate::/"
 done | sort -u | comm -12 - "$work/want.out" > "$work/out"
-judge 'each name of tests/names.txt is handed out by its crate' 'crates/*/src/lib.rt against tests/names.txt' 0
+alike 'each name of tests/names.txt is handed out by its crate' 'crates/*/src/lib.rt against tests/names.txt'
 
 # A call is made by its type or on a value.
 grep "::.*::" "$room/listed" > "$work/want.out"
@@ -47,4 +43,4 @@ while read -r line; do
     name=${line#*::}
     grep -qE "(^|[^A-Za-z_])$name\(|\.${name##*::}\(" "$surface"/*.rt && echo "$line"
 done < "$work/want.out" > "$work/out"
-judge 'fleet_tests makes each call of tests/names.txt' 'crates/fleet_tests/src against tests/names.txt' 0
+alike 'fleet_tests makes each call of tests/names.txt' 'crates/fleet_tests/src against tests/names.txt'

@@ -1,8 +1,8 @@
 #!/bin/sh
-# Tries changes that mean nothing, each on a copy: operands that are turned round, a `let` that is moved, an `if` that is
-# turned, a helper that is split off. Each stands in tests/neutral/CRATE, in the form of an edit that has to fail, below
-# the path of the function that it changes (`check: MODULE::FUNCTION`). The prover has to take them, all but a few. With
-# LOGS=FOLDER what it says of each crate is kept there.
+# Tries changes that mean nothing, each on a copy: operands that are turned round, a `let` that is moved, an `if` that
+# is turned, a helper that is split off. Each stands in tests/neutral/CRATE, in the form of an edit that has to fail,
+# below the path of the function that it changes (`check: MODULE::FUNCTION`). The prover has to take them, all but a
+# few. With LOGS=FOLDER what it says of each crate is kept there.
 #     tests/neutral.sh [CRATE..]
 # `make neutral` calls it, outside the gate. What was proved on this machine is not proved again.
 

@@ -1,5 +1,7 @@
-# Changes a plan, and counts its numbers: awk -v seed=N -v to=FOLDER -f numbers.awk MAP SCEN PLAN writes FOLDER/changed, the plan in which all
-# agents wait together now and then and each stands on its goal for a while more, and FOLDER/want, what `check --numbers` is to print of it.
+# Changes a plan, and counts its numbers:
+#     awk -v seed=N -v to=FOLDER -f numbers.awk MAP SCEN PLAN
+# writes FOLDER/changed, the plan in which all agents wait together now and then and each stands on its goal for a while
+# more, and FOLDER/want, what `check --numbers` is to print of it.
 function random() {
     seed = (seed * 16807) % 2147483647
     return seed / 2147483647

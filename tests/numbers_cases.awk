@@ -1,4 +1,6 @@
-# A small map and agents on it, at random: awk -v seed=N -v to=FOLDER -f numbers_cases.awk writes FOLDER/map and FOLDER/scen.
+# A small map and agents on it, at random:
+#     awk -v seed=N -v to=FOLDER -f numbers_cases.awk
+# writes FOLDER/map and FOLDER/scen.
 function random() {
     seed = (seed * 16807) % 2147483647
     return seed / 2147483647

@@ -2,13 +2,10 @@
 // REFUSE fails, counted from 1, and the file named by GROWTHS, if any, gets how many were asked for. A block that is
 // made smaller is no growth.
 #define _GNU_SOURCE
+#include "counts.h"
 #include "library/blocks.h"
 #include <dlfcn.h>
 #include <errno.h>
-#include <fcntl.h>
-#include <stdio.h>
-#include <stdlib.h>
-#include <unistd.h>
 
 static long growths;
 
@@ -41,12 +38,5 @@ void *realloc(void *old, size_t size)
 
 __attribute__((destructor)) static void tell(void)
 {
-    const char *name = getenv("GROWTHS");
-    char line[32];
-    if (!name)
-        return;
-    int file = open(name, O_WRONLY | O_CREAT | O_TRUNC, 0644);
-    int length = snprintf(line, sizeof line, "%ld\n", growths);
-    if (file >= 0 && write(file, line, length) == length)
-        close(file);
+    tell_count("GROWTHS", growths);
 }

@@ -3,12 +3,9 @@
 // program opens take TAKES bytes and give GIVES, all together. Then each answers the error whose number is in WAY, or,
 // if that is 0, takes or gives nothing. The file named by WRITES, if any, gets how often standard error was written to.
 #define _GNU_SOURCE
+#include "counts.h"
 #include <dlfcn.h>
 #include <errno.h>
-#include <fcntl.h>
-#include <stdio.h>
-#include <stdlib.h>
-#include <unistd.h>
 
 // How many bytes standard output took and standard input gave, how many the other files took and gave, and how often
 // standard error was written to.
@@ -72,12 +69,5 @@ ssize_t read(int file, void *bytes, size_t count)
 
 __attribute__((destructor)) static void tell(void)
 {
-    const char *name = getenv("WRITES");
-    char line[32];
-    if (!name)
-        return;
-    int file = open(name, O_WRONLY | O_CREAT | O_TRUNC, 0644);
-    int length = snprintf(line, sizeof line, "%ld\n", told);
-    if (file >= 0 && write(file, line, length) == length)
-        close(file);
+    tell_count("WRITES", told);
 }

@@ -1,5 +1,5 @@
-# Standard streams: closed, full, a folder, and read by somebody who goes away; and streams and files that fail after some
-# bytes.
+# Standard streams: closed, full, a folder, and read by somebody who goes away; and streams and files that fail after
+# some bytes.
 
 enter streams
 M=examples/corridor.map S=examples/corridor.scen P=examples/corridor.plan B=examples/corridor.program
@@ -93,7 +93,7 @@ export STREAMS
 # output_cut WAY LINE COMMAND..: standard output takes 0 bytes, or one more each time, and then fails in this way.
 # Prints `each` and then after how many bytes it was not so that the program said the line, with status 3, and that the
 # front of what it prints was taken.
-cat > "$work/bin/output_cut" <<'EOF'
+script output_cut <<'EOF'
 #!/bin/sh
 WAY=$1 line=$2
 export WAY
@@ -110,7 +110,7 @@ EOF
 
 # input_cut WAY COMMAND..: the same of standard input. Prints how many bytes it has, and after how many the program did
 # not say that it cannot be read, with status 3.
-cat > "$work/bin/input_cut" <<'EOF'
+script input_cut <<'EOF'
 #!/bin/sh
 WAY=$1
 export WAY
@@ -126,7 +126,7 @@ EOF
 # files_cut WAY VARIABLE COMMAND..: the files that the program opens give (GIVES) or take (TAKES) 0 bytes, or one more
 # each time until it is done, at most 1,000 times, and then fail in this way. Prints each status and line, and how often
 # they came in a row.
-cat > "$work/bin/files_cut" <<'EOF'
+script files_cut <<'EOF'
 #!/bin/sh
 WAY=$1 variable=$2 bytes=0 status=3
 export WAY
@@ -138,9 +138,9 @@ while [ "$status" -ne 0 ] && [ "$bytes" -lt 1000 ]; do
     bytes=$((bytes + 1))
 done | uniq -c | sed 's/^ *//'
 EOF
-chmod +x "$work/bin/output_cut" "$work/bin/input_cut" "$work/bin/files_cut"
 check 'a report without an end is heard up to a length' 1 'go 0:1 1,0 2,0\n' 'dispatch 2 Form line 1\n' "head -c 20000 /dev/zero | tr '\\0' 0 | fleet dispatch $pair"
-if ${CC:-cc} -shared -fPIC -o "$STREAMS" "$root/tests/streams.c" -ldl 2> /dev/null; then
+if has "${cc%% *}"; then
+    $cc -shared -fPIC -o "$STREAMS" "$root/tests/streams.c" -ldl || failed=$((failed + 1))
     printf '%s\n' 0:1 '0:2 1:1' 1:2 > "$room/lines"
     # 32 is a broken pipe; in the way 0 nothing is taken, and no error answered.
     while IFS='|' read -r way line input words; do

@@ -6,13 +6,12 @@ cp "$work"/worked/pair.* "$room/"
 
 # Maps, and of those that are read the columns, rows and passable cells, and then the rows, in which `.` is passable and
 # `@` is not. An agent stands on each cell that has to be passable, and they are as many as are passable.
-cat > "$work/bin/standing" <<'EOF'
+script standing <<'EOF'
 #!/bin/sh
 echo "$*" | awk '{ print "version 1"
     for (y = 0; y < NF; y++) for (x = 0; x < length($1); x++)
         if (substr($(y + 1), x + 1, 1) == ".") print 0, "m", length($1), NF, x, y, x, y, 0 }'
 EOF
-chmod +x "$work/bin/standing"
 while IFS='|' read -r text due; do
     case $due in
         map*) check "map: $text" 1 '' "$due\n" "printf '$text' > map && fleet instance map pair.scen" ;;
@@ -160,7 +159,7 @@ EOF
 
 # fronts FILE COMMAND..: runs a command on each front of the file, from none to all of its bytes. Prints how many agents
 # it counts, or its refusal, and how often that came in a row.
-cat > "$work/bin/fronts" <<'EOF'
+script fronts <<'EOF'
 #!/bin/sh
 file=$1 len=0 all=$(wc -c < "$1")
 shift
@@ -170,7 +169,6 @@ while [ "$len" -le "$all" ]; do
     len=$((len + 1))
 done | uniq -c | sed 's/^ *//'
 EOF
-chmod +x "$work/bin/fronts"
 check 'each front of a map' 0 '6 map 2 Header line 1\n14 map 2 Header line 2\n8 map 2 Header line 3\n4 map 2 Header line 4\n2 map 4 RowCount\n3 map 5 RowLength row 0\n2 agents 2\n' '' \
     'fronts pair.map fleet instance front pair.scen'
 check 'each front of a scenario' 0 '9 scen 2 Version\n2 scen 9 NoAgents\n23 scen 3 Fields line 2\n11 agents 1\n23 scen 3 Fields line 3\n11 agents 2\n' '' \

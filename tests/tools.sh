@@ -36,14 +36,14 @@ check 'a study of no option' 2 '' 'study: --dwel is no option\n' 'sh tools/study
 check 'a study of a plan that does not plan' 2 '' 'study: --tries 3 is of no use with a plan\n' 'sh tools/study.sh examples/pair.map examples/pair.scen --tries 3 --plan examples/pair.plan'
 
 # Times and rests of random programs, beside a plain count.
-if python3 --version > "$work/out" 2>&1; then
+if has python3; then
     check 'times and rests' 0 'rests: 40 cases compared\n' '' "python3 '$root/tests/rests.py' '$fleet' 40"
 else
     skip 'times and rests: no python3'
 fi
 
 # The gateway: simulated vehicles, and messages that come twice, late, in another order or not at all.
-if python3 --version > "$work/out" 2>&1; then
+if has python3; then
     for seed in 1 2 3; do
         check "vehicles behind a gateway arrive, seed $seed" 0 'arrived\nagents 3\nmoves 6\nreports 6\n' '' \
             "python3 examples/vda5050.py examples/corridor.map examples/corridor.scen examples/corridor.program $seed"

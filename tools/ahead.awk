@@ -1,8 +1,9 @@
 # How long a fleet takes that is led by orders and reports whose messages take time, some orders ahead:
 #     fleet list PROGRAM | awk [-v ahead=K] [-v lag=L] [-v start=S] [-v seed=N] -f tools/ahead.awk
-# An agent is told its next actions, up to K (1) that it has not reported, in turn, each as soon as what it awaits is reported. An order
-# and a report take L ticks (2) each. A move takes an agent 10 ticks, or up to half as many again, as the agent is, and S ticks (5) more if
-# it begins it from a stand: its order was not there yet when the move before ended. Prints how many ticks the fleet takes.
+# An agent is told its next actions, up to K (1) that it has not reported, in turn, each as soon as what it awaits is
+# reported. An order and a report take L ticks (2) each. A move takes an agent 10 ticks, or up to half as many again, as
+# the agent is, and S ticks (5) more if it begins it from a stand: its order was not there yet when the move before
+# ended. Prints how many ticks the fleet takes.
 
 BEGIN {
     if (ahead == "") ahead = 1

@@ -1,5 +1,6 @@
-# What a reader has to believe of a word: the definitions of these names with all that they cite, as they stand in specs/, and how many
-# lines they have. tools/believed.sh gives the files in their order, and the names as FILE.NAME.
+# What a reader has to believe of a word: the definitions of these names with all that they cite, as they stand in
+# specs/, and how many lines they have. tools/believed.sh gives the files in their order, and the names as FILE.NAME.
+# Status 1 if one of them is no definition.
 #     awk -v names="Run.IsSafe .." -f tools/believed.awk crates/NAME/specs/FILE.antt ..
 
 FNR == 1 {
@@ -41,12 +42,19 @@ FNR == 1 {
     text[open] = said
     said = ""
     order[++count] = open
+    is_defined[file "." name] = 1
     if (index(" " names " ", " " file "." name " ")) wanted[open] = 1
 }
 
 open != "" { text[open] = text[open] $0 "\n" }
 
 END {
+    n = split(names, one, " ")
+    for (i = 1; i <= n; i++)
+        if (!(one[i] in is_defined)) {
+            print "believed: " one[i] " is no definition" > "/dev/stderr"
+            exit 1
+        }
     do {
         found = 0
         for (i = 1; i <= count; i++)

@@ -1,6 +1,7 @@
-# The definitions of the crates, in plain words: the comment above each definition of a file of specs/, beside its name. A definition
-# without a comment stands with the one above it, and one whose comment goes on from the one above brings that too. tools/definitions.sh
-# gives the files in their order, and the file that says which definitions are wanted, a line `CRATE.FILE NAME` for each (tools/reached.awk).
+# The definitions of the crates, in plain words: the comment above each definition of a file of specs/, beside its name.
+# A definition without a comment stands with the one above it, and one whose comment goes on from the one above brings
+# that too. tools/definitions.sh gives the files in their order, and the file that says which definitions are wanted, a
+# line `CRATE.FILE NAME` for each (tools/reached.awk).
 #     awk -v reached=FILE -f tools/definitions.awk crates/NAME/specs/FILE.antt ..
 
 BEGIN {

@@ -1,13 +1,14 @@
 #!/bin/sh
-# Writes docs/DEFINITIONS.md to standard output: its front, tools/definitions.md, and then the comment on each definition of the crates
-# that tools/reached.awk finds, in the order of crates.txt and of each crate's specs/Lib.antt. `make definitions` keeps it, and
-# `make examples` looks whether it is current.
+# Writes docs/DEFINITIONS.md to standard output: its front, tools/definitions.md, and then the comment on each
+# definition of the crates that tools/reached.awk finds, in the order of tools/specs.sh. `make definitions` keeps it,
+# and `make examples` looks whether it is current.
 
 cd "$(dirname "$0")/.." || exit 2
 LC_ALL=C
 export LC_ALL
 work=$(mktemp -d) || exit 2
 trap 'rm -rf "$work"' EXIT
+trap 'exit 2' INT TERM HUP
 sed -n 's/^\([a-z_]*\)[ :].*/\1/p' crates.txt > "$work/crates"
 while read -r crate; do
     for root in lib main; do
@@ -15,9 +16,7 @@ while read -r crate; do
     done
     find "crates/$crate/src" -name '*.rt' ! -path "crates/$crate/src/lib.rt" ! -path "crates/$crate/src/main.rt" | sort
 done < "$work/crates" > "$work/sources"
-while read -r crate; do
-    [ ! -f "crates/$crate/specs/Lib.antt" ] || sed -n "s|^pub mod \(.*\)|crates/$crate/specs/\1.antt|p" "crates/$crate/specs/Lib.antt"
-done < "$work/crates" > "$work/specs"
+sh tools/specs.sh > "$work/specs"
 cat "$work/sources" "$work/specs" | xargs awk -f tools/reached.awk tests/names.txt docs/PROVED.md > "$work/reached"
 cat tools/definitions.md
 xargs awk -v reached="$work/reached" -f tools/definitions.awk < "$work/specs"

@@ -1,5 +1,6 @@
-# A program as a graph for Graphviz: a box for each action with the place where it ends, a black arrow from each to the next of its agent,
-# and a red one from each awaited action.     fleet list PROGRAM | awk -f tools/dot.awk | dot -Tsvg > program.svg
+# A program as a graph for Graphviz: a box for each action with the place where it ends, a black arrow from each to the
+# next of its agent, and a red one from each awaited action.
+#     fleet list PROGRAM | awk -f tools/dot.awk | dot -Tsvg > program.svg
 BEGIN {
     print "digraph program {"
     print "  rankdir=LR"

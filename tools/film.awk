@@ -1,7 +1,8 @@
 # Draws a run as a film, an SVG that moves by itself:
 #     awk -f tools/run.awk -f tools/film.awk MAP TRACE [HOLDS] > FILM
-# Blocked cells are grey. Each agent is a disc, with a ring on its goal; it is red and larger while it is held, and orange while it waits for
-# another. Below are the legend, the tick that is going on, and a bar that is the time. -v rate=N: N ticks a second (8).
+# Blocked cells are grey. Each agent is a disc, with a ring on its goal; it is red and larger while it is held, and
+# orange while it waits for another. Below are the legend, the tick that is going on, and a bar that is the time.
+# -v rate=N: N ticks a second (8).
 
 # Hues from yellow-green to magenta: red and orange say something else.
 function colour(i) { return "hsl(" 70 + int((i * 137.5) % 251) ",70%,42%)" }

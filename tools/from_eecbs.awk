@@ -1,6 +1,6 @@
 # Plan text from paths of EECBS, CBSH2-RTC, PBS or MAPF-LNS2: awk -f from_eecbs.awk PATHS > PLAN
-# Their lines are `Agent I: (row,column)->(row,column)->..`; other lines are passed over. Status 1 if an agent is missing or has no cell, or a
-# cell is wrong.
+# Their lines are `Agent I: (row,column)->(row,column)->..`; other lines are passed over. Status 1 if an agent is
+# missing or has no cell, or a cell is wrong.
 /^Agent [0-9]+:/ {
     agent = $2 + 0
     sub(/^Agent [0-9]+:[ \t]*/, "")

@@ -1,6 +1,6 @@
 # Plan text from a result of LaCAM, PIBT or pibt2: awk -f from_lacam.awk RESULT > PLAN
-# Their lines are `T:(x,y),(x,y),..`, one for each time from 0; other lines are passed over. Status 1 if a time or an agent is missing or a
-# cell is wrong.
+# Their lines are `T:(x,y),(x,y),..`, one for each time from 0; other lines are passed over. Status 1 if a time or an
+# agent is missing or a cell is wrong.
 /^[0-9]+:\(/ {
     if ($1 + 0 != times) { wrong = 1; exit }
     times++

@@ -1,7 +1,7 @@
 # Plan text from a result of the League of Robot Runners: awk -f from_lorr.awk JSON > PLAN
-# `start` has [row,column,"E"] for each robot, `actualPaths` a text of its actions, one for each step. With turns (MAPF_T): F forward,
-# R clockwise, C counter-clockwise, W waits; a turn is a wait here. Without (MAPF): R, L, U and D go right, left, up and down, W waits.
-# Status 1 if a robot has no start or no actions, or one of them is wrong.
+# `start` has [row,column,"E"] for each robot, `actualPaths` a text of its actions, one for each step. With turns
+# (MAPF_T): F forward, R clockwise, C counter-clockwise, W waits; a turn is a wait here. Without (MAPF): R, L, U and D
+# go right, left, up and down, W waits. Status 1 if a robot has no start or no actions, or one of them is wrong.
 { sub(/\r$/, ""); gsub(/[ \t]/, ""); text = text $0 }
 
 # What stands behind the key, up to the end.

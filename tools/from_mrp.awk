@@ -1,6 +1,7 @@
 # Plan text from a schedule of libMultiRobotPlanning: awk -f from_mrp.awk YAML > PLAN
-# Below `schedule:` each agent, `agent0:` and so on, has entries of x, y and t, one for each time from 0, in blocks (`- x: X`, `y: Y`, `t: T`)
-# or in flow style (`- {x: X, y: Y, t: T}`, or all of them as `[{..}, {..}]`). Status 1 if one is missing.
+# Below `schedule:` each agent, `agent0:` and so on, has entries of x, y and t, one for each time from 0, in blocks (`-
+# x: X`, `y: Y`, `t: T`) or in flow style (`- {x: X, y: Y, t: T}`, or all of them as `[{..}, {..}]`). Status 1 if one is
+# missing.
 { sub(/\r$/, "") }
 /^[ \t]*(#.*)?$/ { next }
 /^[^ \t]/ { inside = ($0 ~ /^schedule:/); sub(/^schedule:/, "") }

@@ -10,6 +10,7 @@ mkdir -p "$1" && to=$(cd "$1" && pwd) || exit 2
 kit=$(dirname "$(rt doc)")
 work=$(mktemp -d) || exit 2
 trap 'rm -rf "$work"' EXIT
+trap 'exit 2' INT TERM HUP
 
 # Proves and builds the crate over the libraries that `rt ci` left, which `rt lib` takes for none of its own and would
 # prove once more. It fails where one of them is lacking or older than its sources.

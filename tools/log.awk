@@ -1,6 +1,7 @@
-# The reports of a dispatch in which robots break down, one at most of each agent: awk -v dead="A:N B:M" -f tools/log.awk LIST
-# LIST is what `fleet list` prints. In each line of the log all robots report their next action that may begin; those that are
-# dead never report theirs. So the last line is the last report that such a fleet can make.
+# The reports of a dispatch in which robots break down, one at most of each agent:
+#     awk -v dead="A:N B:M" -f tools/log.awk LIST
+# LIST is what `fleet list` prints. In each line of the log all robots report their next action that may begin; those
+# that are dead never report theirs. So the last line is the last report that such a fleet can make.
 
 function number_of(word) {
     sub(/.*:/, "", word)

@@ -4,6 +4,7 @@
 cd "$(dirname "$0")/.." || exit 2
 work=$(mktemp -d) || exit 2
 trap 'rm -rf "$work"' EXIT
+trap 'exit 2' INT TERM HUP
 cases=$work/cases
 mkdir "$cases" || exit 2
 

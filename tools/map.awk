@@ -1,8 +1,9 @@
 # A map at random, of the kinds on which planners are compared (Stern et al. 2019):
 #     awk -v kind=random -v width=32 -v height=32 -v seed=1 -f tools/map.awk > MAP
-# random: each cell is blocked with a chance (-v share=0.2). room: rooms with sides of -v size=3 cells, a door in each wall between two of
-# them. maze: ways -v size=2 cells wide that part and do not meet again. warehouse: shelves of 10 x 2 cells with aisles between them. den: caves,
-# by a cellular automaton. The same numbers give the same map everywhere (the generator is that of Park and Miller, 1988).
+# random: each cell is blocked with a chance (-v share=0.2). room: rooms with sides of -v size=3 cells, a door in each
+# wall between two of them. maze: ways -v size=2 cells wide that part and do not meet again. warehouse: shelves of 10 x
+# 2 cells with aisles between them. den: caves, by a cellular automaton. The same numbers give the same map everywhere
+# (the generator is that of Park and Miller, 1988).
 
 function random() {
     seed = (seed * 16807) % 2147483647

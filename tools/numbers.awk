@@ -1,8 +1,9 @@
 # The numbers of a run or of a plan, an agent a line and then all of them:
 #     awk -f tools/run.awk -f tools/numbers.awk TRACE [HOLDS]
 #     awk -f tools/run.awk -f tools/numbers.awk PLAN
-# Its arrival (the tick of its last move), its moves, and the ticks before that in which it was held, or waited for another. The sum of the
-# arrivals is the sum of costs, the greatest of them the makespan. -v csv=1: with commas, and without the last lines.
+# Its arrival (the tick of its last move), its moves, and the ticks before that in which it was held, or waited for
+# another. The sum of the arrivals is the sum of costs, the greatest of them the makespan.
+# -v csv=1: with commas, and without the last lines.
 
 END {
     OFS = csv ? "," : " "

@@ -1,7 +1,8 @@
-# Which definitions of specs/ docs/DEFINITIONS.md has: those that the contracts of the calls of tests/names.txt and of the exports for
-# callers in C name, or docs/PROVED.md; and of those that these reach the ones that five others cite, and all of fleet_model. One that a
-# single other definition cites, or a few, stands beside these in its file. tools/definitions.sh gives the files: tests/names.txt,
-# docs/PROVED.md, each crate's src/lib.rt before its other sources, then specs/.
+# Which definitions of specs/ docs/DEFINITIONS.md has: those that the contracts of the calls of tests/names.txt and of
+# the exports for callers in C name, or docs/PROVED.md; and of those that these reach the ones that five others cite,
+# and all of fleet_model. One that a single other definition cites, or a few, stands beside these in its file.
+# tools/definitions.sh gives the files: tests/names.txt, docs/PROVED.md, each crate's src/lib.rt before its other
+# sources, then specs/.
 #     awk -f tools/reached.awk tests/names.txt docs/PROVED.md crates/NAME/src/lib.rt .. crates/NAME/specs/FILE.antt ..
 # Writes a line CRATE.FILE NAME for each.
 
@@ -145,7 +146,8 @@ END {
     }
 }
 
-# Wants the definitions that the words of a clause, or of the definition `by`, name, and counts the definitions that name them.
+# Wants the definitions that the words of a clause, or of the definition `by`, name, and counts the definitions that
+# name them.
 function want(where, words, by,    n, word, i, key, is_told) {
     gsub(/[^A-Za-z0-9_-]+/, " ", words)
     n = split(words, word, " ")

@@ -1,10 +1,12 @@
-# Plays the robots of a dispatch, each with a speed of its own, and checks from outside that they keep apart (robots.sh calls it):
-#     awk -v reports=PIPE -v log_file=FILE [-v repeats=1] [-v seed=N] [-v trace=FILE] -f tools/robots.awk INSTANCE ORDERS
-# INSTANCE is what `fleet instance` prints: where the robots stand. ORDERS are the lines of `fleet dispatch`, and between them lines `tick`, the
-# clock, and `again` where a dispatch was killed and another one goes on. A move takes a robot some ticks, by chance, of which some robots
-# need more than others. All that end in one tick are one report; FILE is the log that the dispatch keeps. A robot claims the cell on which
-# it stands, and from its orders on also those to which they lead, until it has reported; it reports anew what it has carried out and is
-# ordered again. At the end stands how many orders and ticks there were, or else what was wrong. In the trace a line is a tick.
+# Plays the robots of a dispatch, each with a speed of its own, and checks from outside that they keep apart:
+#     awk -v reports=PIPE -v log_file=FILE [-v repeats=1] [-v seed=N] [-v trace=FILE] \
+#         -f tools/robots.awk INSTANCE ORDERS
+# robots.sh calls it. INSTANCE is what `fleet instance` prints: where the robots stand. ORDERS are the lines of `fleet
+# dispatch`, and between them lines `tick`, the clock, and `again` where a dispatch was killed and another one goes on.
+# A move takes a robot some ticks, by chance, of which some robots need more than others. All that end in one tick are
+# one report; FILE is the log that the dispatch keeps. A robot claims the cell on which it stands, and from its orders
+# on also those to which they lead, until it has reported; it reports anew what it has carried out and is ordered again.
+# At the end stands how many orders and ticks there were, or else what was wrong. In the trace a line is a tick.
 
 function wrong(text) {
     if (!fault) print "wrong: " text

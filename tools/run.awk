@@ -1,8 +1,9 @@
 # Reads a map, a trace and the holds of its run, in any order, for the scripts beside this one:
 #     awk -f tools/run.awk -f tools/SCRIPT.awk [MAP] TRACE [HOLDS]
-# In place of a trace a plan may stand: then each robot is on time. Status 1 if a file is none of these, or there is no trace or plan, or more
-# than one. At the end there are: width, height and blocked (a path of SVG) of the map; agents, last (the last time), X[i, t] and Y[i, t];
-# arrival[i], the time from which agent i stays where it is; and state(i, t), what agent i does in tick t.
+# In place of a trace a plan may stand: then each robot is on time. Status 1 if a file is none of these, or there is no
+# trace or plan, or more than one. At the end there are: width, height and blocked (a path of SVG) of the map; agents,
+# last (the last time), X[i, t] and Y[i, t]; arrival[i], the time from which agent i stays where it is; and state(i, t),
+# what agent i does in tick t.
 
 { sub(/[ \t\r]*$/, "") }
 FNR == 1 { kind = kind_of($0) }

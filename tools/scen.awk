@@ -1,6 +1,7 @@
 # Agents at random on a map: awk -v agents=100 -v seed=1 -f tools/scen.awk MAP > SCEN
-# Their starts are distinct, and so are their goals; all are on the largest part of the map within which each cell is reached from each.
-# Status 1 if that has too few cells. The same numbers give the same agents everywhere (the generator is that of Park and Miller, 1988).
+# Their starts are distinct, and so are their goals; all are on the largest part of the map within which each cell is
+# reached from each. Status 1 if that has too few cells. The same numbers give the same agents everywhere (the generator
+# is that of Park and Miller, 1988).
 
 function random() {
     seed = (seed * 16807) % 2147483647

@@ -1,20 +1,22 @@
 #!/bin/sh
-# What late robots do to a plan: tools/study.sh MAP SCEN [--agents K] [--horizon H] [--tries N] [--best chain|cost] [--deps all|last] [--dwell N]
-#                                tools/study.sh MAP SCEN --plan PLAN [--agents K] [--deps all|last] [--dwell N]
-# Plans (or takes the plan that was made elsewhere) and compiles once (with the program `fleet`, or that in the variable FLEET), and then
-# runs the program under random holds: for each chance with which an agent stops in a tick (for 3 to 12 ticks; other chances: --chances '0.1
-# 0.2'), five lists of holds, with the seeds 1 to 5, four times as long as the chain. Prints CSV, a line for each chance: of the plan the
-# agents, steps (the makespan), cost (the sum of costs), bound (the sum of the distances to the goals) and chain, and run_cost, the sum of
-# costs of its run with nobody held; the chance; of the five runs the ticks in which some ready agent was held (the mean), the ticks (least,
-# mean and most), and the delay of an agent, by which it comes to rest later than with nobody held: the mean, that which 95 of 100 do not
-# exceed, and the worst, of all agents in all five runs.
+# What late robots do to a plan:
+#     tools/study.sh MAP SCEN [--agents K] [--horizon H] [--tries N] [--best chain|cost] [--deps all|last] [--dwell N]
+#     tools/study.sh MAP SCEN --plan PLAN [--agents K] [--deps all|last] [--dwell N]
+# Plans (or takes the plan that was made elsewhere) and compiles once (with the program `fleet`, or that in the variable
+# FLEET), and then runs the program under random holds: for each chance with which an agent stops in a tick (for 3 to 12
+# ticks; other chances: --chances '0.1 0.2'), five lists of holds, with the seeds 1 to 5, four times as long as the
+# chain. Prints CSV, a line for each chance: of the plan the agents, steps (the makespan), cost (the sum of costs),
+# bound (the sum of the distances to the goals) and chain, and run_cost, the sum of costs of its run with nobody held;
+# the chance; of the five runs the ticks in which some ready agent was held (the mean), the ticks (least, mean and
+# most), and the delay of an agent, by which it comes to rest later than with nobody held: the mean, that which 95 of
+# 100 do not exceed, and the worst, of all agents in all five runs.
 
 fleet=${FLEET:-fleet}
 tools=$(cd "$(dirname "$0")" && pwd) || exit 2
 work=$(mktemp -d) || exit 2
 trap 'rm -rf "$work"' EXIT
 trap 'exit 2' INT TERM HUP
-[ $# -ge 2 ] || { sed -n '2,3s/^# *//p' "$0" >&2; exit 2; }
+[ $# -ge 2 ] || { sed -n 's/^#     //p' "$0" >&2; exit 2; }
 map=$1 scen=$2
 shift 2
 
@@ -36,16 +38,16 @@ if [ -n "$given" ]; then
     [ -z "$planning" ] || { echo "study:$planning is of no use with a plan" >&2; exit 2; }
     cat "$given" > "$work/plan" || exit 3
 else
-    $fleet plan "$map" "$scen" $agents $planning > "$work/plan" || exit
+    "$fleet" plan "$map" "$scen" $agents $planning > "$work/plan" || exit
 fi
-$fleet check "$map" "$scen" "$work/plan" $agents --numbers > "$work/checked" || exit
-$fleet compile "$map" "$scen" "$work/plan" "$work/program" $agents $compiling > "$work/compiled" || exit
+"$fleet" check "$map" "$scen" "$work/plan" $agents --numbers > "$work/checked" || exit
+"$fleet" compile "$map" "$scen" "$work/plan" "$work/program" $agents $compiling > "$work/compiled" || exit
 
 # run NAME [--holds FILE]: the last lines of a run, and the time from which on each agent rests in it.
 run() {
     name=$1
     shift
-    $fleet run "$map" "$scen" "$work/program" $agents "$@" > "$work/trace" || exit
+    "$fleet" run "$map" "$scen" "$work/program" $agents "$@" > "$work/trace" || exit
     tail -n 4 "$work/trace" > "$work/$name.end"
     arrivals "$work/trace" > "$work/$name.arrivals"
 }

@@ -1,6 +1,6 @@
 # A result in the form of the League of Robot Runners from plan text, for PlanViz: awk -f to_planviz.awk PLAN > JSON
-# The action model is MAPF: R, L, U and D go right, left, up and down, W waits. Robots that arrive early wait to the end. Status 1 if the
-# text is no plan, or a step of it is longer than one cell.
+# The action model is MAPF: R, L, U and D go right, left, up and down, W waits. Robots that arrive early wait to the
+# end. Status 1 if the text is no plan, or a step of it is longer than one cell.
 {
     sub(/[ \t\r]*$/, "")
     agents++

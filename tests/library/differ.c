@@ -337,7 +337,8 @@ static int run_program(const char *fleet, enum call call)
         execv(fleet, (char **)words);
         _exit(127);
     }
-    waitpid(child, &status, 0);
+    if (child < 0 || waitpid(child, &status, 0) != child)
+        wrong("the program could not be run");
     return WIFEXITED(status) ? WEXITSTATUS(status) : -1;
 }
 
@@ -350,16 +351,21 @@ static int is_file(const char *name, const void *at, size_t length)
     return same;
 }
 
-/* Whether the refusal that was printed has the line that is due; of a ring its first three actions, and so many in all. */
+/*
+ * Whether the refusal that was printed has the line that is due; of a ring its first three actions, and so many in all.
+ */
 static int is_told(void)
 {
     struct bytes told = read_file("told");
     size_t length = strlen(due.line);
+    uint64_t actions = 0;
     int is_ring = strncmp(due.line, "verify 7 ", 9) == 0;
     int same = told.length > length && memcmp(told.at, due.line, length) == 0
         && (told.at[length] == '\n' ? told.length == length + 1 : is_ring && told.at[length] == ' ');
+    for (size_t i = 0; i < told.length; i++)
+        actions += told.at[i] == ':';
     free(told.at);
-    return same;
+    return same && (!is_ring || due.fault.count == 2 * actions);
 }
 
 static int is_alike(const char *fleet, enum call call)

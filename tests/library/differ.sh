@@ -7,5 +7,6 @@ here=$(cd "$(dirname "$0")" && pwd) || exit 2
 fleet=$(cd "$(dirname "$1")" && pwd)/$(basename "$1") && library=$(cd "$2" && pwd) || exit 2
 work=$(mktemp -d) || exit 2
 trap 'rm -rf "$work"' EXIT
-cc -Wall -Wextra -Werror -O1 -I"$library" -o "$work/differ" "$here/differ.c" "$library/libfleet.a" || exit 2
+trap 'exit 2' INT TERM HUP
+"${CC:-cc}" -Wall -Wextra -Werror -O1 -I"$library" -o "$work/differ" "$here/differ.c" "$library/libfleet.a" || exit 2
 cd "$work" && ./differ "$fleet" "${3:-10000}" "${4:-1}"

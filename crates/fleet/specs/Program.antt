@@ -34,8 +34,8 @@ pub record ReportsNoWords (kind : ErrorKind) (err err' : SinkState) (status : �
   pub memory : kind ≡ OutOfMemory → (status ≡ 3) × IsRefusalWritten f.Memory err err'
   pub usage : kind ≢ OutOfMemory → (status ≡ 2) × Receives err err' no_text_line
 
--- the command that the words after the first ask for was done; or there was no memory for the words, or they cannot be had, and then that alone
--- was reported
+-- the command that the words after the first ask for was done; or there was no memory for the words, or they cannot be
+-- had, and then that alone was reported
 abbrev pub RunsProgram : Result (IntoIter (String Global) Global) Error → Option (List ℕ) → (files after : Option Store) → (unread unwritten : Type 0) → ((log log' : SinkState) → ReportForm → Talk → Type 0) → (out out' err err' : SinkState) → ℕ → Type 0
 RunsProgram (Ok args) input files after unread unwritten talks out out' err err' status =
     RunsCommand (map string_bytes (drop 1 (into_iter_items args))) input files after unread unwritten talks out out' err err' status

@@ -1,4 +1,5 @@
--- What the action of an agent in a step awaits: only leavings of its cell by others, up to that step, and among them that of the visit before.
+-- What the action of an agent in a step awaits: only leavings of its cell by others, up to that step, and among them
+-- that of the visit before.
 use Rattle.std.proofs.Common.{◌≡◌, ◌≢◌, ℕ, zero, suc, ◌+◌, ◌<◌, ◌≤◌, Bool, true, cond, not, ◌==◌, List, [], ◌∷◌, map, filter, filter_map, length, get_or, All, Contains, Option, Some, None, option_map, option_and_then, option_to_list, is_some, inl, inr, refl, sym, ap, ◌∙◌, subst, arith, add-one}
 use Rattle.std.specs.List.{range_with_len, AllByRecursion, cons_option}
 use Rattle.std.specs.List.Sorted.{IsStrictlyIncreasing}

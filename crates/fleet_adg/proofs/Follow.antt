@@ -1,4 +1,5 @@
--- The agents that follow each other in one step of a plan without swapping and cycle conflict: how many are ahead of one.
+-- The agents that follow each other in one step of a plan without swapping and cycle conflict: how many are ahead of
+-- one.
 use Rattle.std.proofs.Common.{◌≡◌, ◌≢◌, ℕ, zero, suc, ◌+◌, ◌<◌, ◌≤◌, Bool, true, cond, List, map, length, get_or, Option, Some, None, ◌⊎◌, inl, inr, sym, ap, ◌∙◌, subst, arith, add-one, ◌==◌}
 use Rattle.std.specs.List.{range_with_len}
 use Rattle.std.proofs.lemmas.Bool.{cases_lt, cases_Bool, ne_eqb}

@@ -1,4 +1,5 @@
--- What is awaited, said by visits: under `Last` the leaving of the latest visit, under `All` the last leaving by each other agent.
+-- What is awaited, said by visits: under `Last` the leaving of the latest visit, under `All` the last leaving by each
+-- other agent.
 use Rattle.std.proofs.Common.{◌≡◌, ◌≢◌, ℕ, suc, ◌+◌, ◌<◌, Bool, true, cond, not, ◌==◌, List, [], ◌∷◌, filter, filter_map, length, Contains, Some, option_map, option_and_then, option_to_list, is_some, inl, inr, refl, sym, ap, ◌∙◌, subst, arith, add-one}
 use Rattle.std.proofs.lemmas.Bool.{cases_lt, both_ways, false_from_ne_true, eq-eqb, ne_eqb, eqb-false, not-true, not_from_false}
 use Rattle.std.proofs.lemmas.List.Elements.{All-from_recursion, All-filter, filter_passes, All-contains}

@@ -1,4 +1,5 @@
--- The visits of a cell in a compiled program, listed by the time of entering: each but the first awaits that the one before has left.
+-- The visits of a cell in a compiled program, listed by the time of entering: each but the first awaits that the one
+-- before has left.
 use Rattle.std.proofs.Common.{◌≡◌, ◌≢◌, ℕ, zero, suc, ◌+◌, ◌<◌, ◌≤◌, Bool, true, false, List, [], ◌∷◌, ◌++◌, length, get_or, slice_get, All, Contains, Some, ◌⊎◌, inl, inr, refl, sym, ap, ◌∙◌, subst, arith, add-one, ℤ, pos, negsuc}
 use Rattle.std.proofs.lemmas.Bool.{cases_lt, cases_Bool, cases_eq}
 use Rattle.std.proofs.lemmas.Option.{none-some, slice_get_within, get_or_from_slice_get, slice_get-get_or}

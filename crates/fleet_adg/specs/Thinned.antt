@@ -33,6 +33,7 @@ pub record AreThinnedActions (p : Program) (i n : ℕ) (actions : List Action) :
   pub long : length actions ≡ n
   pub each : (k : ℕ) (s : Action) → slice_get actions k ≡ Some s → IsThinnedAction p (record { agent = i; number = k + 1 }) s
 
+-- the start and the goal of agent i, and its thinned actions
 pub record IsThinnedAgent (p : Program) (i : ℕ) (a : AgentProgram) : Type 0 where
   pub start : a.start ≡ start_of p i
   pub goal : a.goal ≡ goal_of p i

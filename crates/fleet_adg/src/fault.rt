@@ -8,7 +8,7 @@ use thiserror::Error;
 pub enum CompileFault {
     #[error("out of memory")]
     OutOfMemory,
-    /// An agent has at most 1,000,000 actions, and all agents together have at most 4,194,304.
+    /// In the program an agent would have more than 1,000,000 actions, or all agents more than 4,194,304 together.
     #[error("an agent has more than 1000000 actions, or the agents have more than 4194304 together")]
     TooLong,
 }

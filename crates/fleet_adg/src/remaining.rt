@@ -25,8 +25,8 @@ use std::alloc::Global;
 /// The rest of an accepted program, some of whose actions are finished: for each agent, from the cell on which it
 /// stands, the actions that it has not finished. They await what is not met yet, counted from what is finished.
 ///
-/// It is accepted for the tasks that are left, from these cells to the same goals, and runs on as the program would. The
-/// standings are those of a run, one for each agent. It goes once over the actions that are left.
+/// It is accepted for the tasks that are left, from these cells to the same goals, and runs on as the program would.
+/// The standings are those of a run, one for each agent. It goes once over the actions that are left.
 pub fn rest<P: ProgramView>(
     alloc: Global,
     accepted: &Accepted<'_, P>,
@@ -45,6 +45,7 @@ pub fn rest<P: ProgramView>(
     rests_are_well_formed();
     rests_run_on();
     let program = accepted.program();
+    // The contracts of these calls say that the program is well formed, and the sizes of the map.
     let _ = program.agents();
     let _ = accepted.grid().width();
     let agents = rest_agents(alloc, program, standings)?;
@@ -146,6 +147,7 @@ fn rest_awaits<P: ProgramView>(
     ensures { IfOk result (λ awaits. awaits ≡ rest_awaits standings.now
         (awaits_of (P.program program.now) action.agent action.number)) }
 {
+    // The view's answer shows that the program is well formed.
     let _ = program.agents();
     let mut awaits = Awaits::new(alloc);
     for k in 0..program.await_count(action.agent, action.number) {

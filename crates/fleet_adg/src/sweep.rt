@@ -129,12 +129,14 @@ fn make_moves(
 fn cells_are_on_map(checked: &Checked<'_>)
     ensures { IsOnMap checked.now.grid checked.now.plan }
 {
+    // The plan that is read is free of conflict, so its cells are passable.
     let _plan = checked.plan();
     // The contract of this call says the sizes of the map.
     let _width = checked.grid().width();
 }
 
-/// For each agent no action, and room for a move in each step of its path, and for their awaits if each has at most one.
+/// For each agent no action, and room for a move in each step of its path, and for their awaits if each has at most
+/// one.
 fn empty_lists(
     alloc: Global,
     plan: &Plan,

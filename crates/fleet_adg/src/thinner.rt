@@ -163,6 +163,7 @@ fn put_action<P: ProgramView>(
     ensures after { IfOk result (λ after. after
         ≡ P.offset program.now action.agent action.number 0) }
 {
+    // The view's answer shows that the program is well formed.
     let _agents = program.agents();
     let finished = action.number - 1;
     let mut at = at;

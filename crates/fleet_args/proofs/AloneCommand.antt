@@ -205,7 +205,8 @@ module _ {X : Type 0} (f : X → Text) (ws : List X) (first : X) (some : 1 ≤ l
     begin : map f ws ≡ (command_at j).0 ∷ map f (drop 1 ws)
     begin = words ∙ ap (λ w. w ∷ map f (drop 1 ws)) text.2
 
-    -- words whose first is the name of a text of a command are matched by the command alone as by the whole command line
+    -- words whose first is the name of a text of a command are matched by the command alone as by the whole command
+    -- line
     pub found_by_name : (m : ArgMatches) → HasMatchesOf app (map f ws) m → (is_simple_and_free app ≡ true → fault_of app (map f ws) ≡ [])
         → (fault_of (fleet names) (map f ws) ≡ []) × (subcommand_rows_of m ≡ subcommand_of (fleet names) (map f ws))
     found_by_name m has none = found_alone names (command_at j) (found_at names j text.0) (map f ws) (map f (drop 1 ws)) begin app m alone_is has none

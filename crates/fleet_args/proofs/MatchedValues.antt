@@ -160,7 +160,8 @@ filter_among p (y ∷ ys) x h = go (p y) h (filter_among p ys x)
     go true k later = elim k [ inl same ↦ inl same | inr rest ↦ inr (later rest) ]
     go false k later = inr (later k)
 
--- a command without subcommands, words in which it finds no fault, and an argument of it: no other has its id, and its uses have a value
+-- a command without subcommands, words in which it finds no fault, and an argument of it: no other has its id, and its
+-- uses have a value
 module _ (s : Shape) (words : List Text) (none : level_fault s [] nothing_held words false [] ≡ []) (a : Rule) (alone : filter (λ x. bytes_eq x.id a.id) s.rules ≡ a ∷ [])
     (least : nat_lt 0 (least_values a) ≡ true) where
   among : Among a s.rules

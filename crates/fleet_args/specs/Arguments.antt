@@ -18,7 +18,8 @@ use Rattle.fleet_args.specs.declared.arguments.CommandText.{CommandText}
 use Rattle.fleet_args.specs.declared.arguments.Form.{Form}
 use Rattle.fleet_args.specs.declared.arguments.Form.TheVariants as form
 
--- the names that options take: `all` and `last` are those of the kinds of awaits, and `chain` and `cost` those of what makes a plan the best
+-- the names that options take: `all` and `last` are those of the kinds of awaits, and `chain` and `cost` those of what
+-- makes a plan the best
 pub record AreNames (names : OptionNames) : Type 0 where
   pub deps : map (λ name. name.now) names.deps.now ≡ codes "all" ∷ codes "last" ∷ []
   pub best : map (λ name. name.now) names.best.now ≡ codes "chain" ∷ codes "cost" ∷ []

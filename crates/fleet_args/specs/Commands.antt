@@ -16,8 +16,8 @@ use Rattle.fleet_args.specs.declared.commands.Tries.{Tries}
 use Rattle.fleet_args.specs.declared.commands.Request.{Request}
 use Rattle.fleet_args.specs.declared.commands.Request.TheVariants as r
 
--- the command line before it has commands: its words do not begin with the program's name, it has a version, and one of the commands is
--- wanted
+-- the command line before it has commands: its words do not begin with the program's name, it has a version, and one of
+-- the commands is wanted
 abbrev pub fleet_top : App
 fleet_top = record (new_app (codes "fleet")) {
   top = record (new_app (codes "fleet")).top { no_binary_name = true; has_version = true; subcommand_required = true };

@@ -52,7 +52,8 @@ abbrev pub begin_with_command : List Text → Bool
 begin_with_command [] = false
 begin_with_command (word ∷ words) = list_any (λ c. bytes_eq c.0 word) commands
 
--- the request that the words ask; or none, if they do not begin with the name of a command, or the command line finds a fault in them
+-- the request that the words ask; or none, if they do not begin with the name of a command, or the command line finds a
+-- fault in them
 abbrev pub AsksAlone : OptionNames → List Text → Option Request → Type 0
 AsksAlone names words (Some request) = Asks (fleet names) words request
 AsksAlone names words None = begin_with_command words ≡ true → fault_of (fleet names) words ≢ []

@@ -40,7 +40,8 @@ number_in bits text =
     let digits = without_leading_plus text in
     if is_numeral digits && nat_lt (digits_value 10 digits) (2 ^ bits) then Some (digits_value 10 digits) else None
 
--- an option's number, by the option's text: none if the option was not used, and no answer if the text is no number of so many bits
+-- an option's number, by the option's text: none if the option was not used, and no answer if the text is no number of
+-- so many bits
 abbrev pub number_by : ℕ → Option Text → Option (Option ℕ)
 number_by bits text = option_map_or (λ t. option_map Some (number_in bits t)) text (Some None)
 
@@ -112,7 +113,8 @@ reads_best values id = is_some (best_by (values.first id))
 abbrev pub in_bits : ℕ → (ℕ → Bool) → Bool
 in_bits most test = if nat_lt most 65536 then test 16 else (if nat_lt most 4294967296 then test 32 else true)
 
--- an argument of this name and form, with a default or none, has a value, if a command cannot do without one; and one that it has can be read
+-- an argument of this name and form, with a default or none, has a value, if a command cannot do without one; and one
+-- that it has can be read
 abbrev pub has_value_by : Values → Text → Form → Option Text → Bool
 has_value_by values id form.Word default = has_text values id
 has_value_by values id (form.Numbers least most) None = in_bits most (λ bits. reads_number bits values id)

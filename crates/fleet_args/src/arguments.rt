@@ -12,8 +12,8 @@ use clap::{Arg, ArgAction, ArgMatches, Command};
 use fleet_model::{Deps, MAX_MOVES, MAX_TRIES};
 use std::alloc::{AllocError, Global};
 
-/// The names that options take, as texts that `clap` is lent: those of the kinds of awaits, and those of what makes a plan
-/// the best.
+/// The names that options take, as texts that `clap` is lent: those of the kinds of awaits, and those of what makes a
+/// plan the best.
 #[derive(Clone, Copy)]
 pub(crate) struct OptionNames<'a> {
     pub(crate) deps: &'a [&'a str],

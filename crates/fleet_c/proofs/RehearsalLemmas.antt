@@ -1,4 +1,5 @@
--- A rehearsal under holds that are read in place, into a sink over memory, said of the bytes of the holds and of the text.
+-- A rehearsal under holds that are read in place, into a sink over memory, said of the bytes of the holds and of the
+-- text.
 use Rattle.std.proofs.Common.{◌≡◌, ℕ, false, List, [], Result, Ok, Err, length, subst}
 use Rattle.fleet_model.specs.Program.{Program}
 use Rattle.fleet_text.specs.Text.{lines}

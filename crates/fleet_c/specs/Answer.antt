@@ -39,7 +39,8 @@ abbrev pub AnswersNumbers : {T : Type 0} (is_answer : T → Type 0) (is_stop : C
 AnswersNumbers is_answer is_stop old new fault fault' status =
     (is_answer new × (fault' ≡ fault) × (status ≡ DONE)) ⊎ (IsRefused is_stop fault' status × (new ≡ old))
 
--- the call has these bytes as its answer, with this status, or was refused, and then the caller's buffer and length are as before
+-- the call has these bytes as its answer, with this status, or was refused, and then the caller's buffer and length are
+-- as before
 abbrev pub AnswersBytes : (is_answer : List ℕ → ℕ → Type 0) (is_stop : CallFault → Type 0) (out out' : List ℕ) (length length' : ℕ) (fault fault' : FleetFault) → ℕ → Type 0
 AnswersBytes is_answer is_stop out out' length length' fault fault' status =
     ((bytes : List ℕ) × (done : ℕ) × is_answer bytes done × HandsOver bytes done out out' length' status × (fault' ≡ fault))

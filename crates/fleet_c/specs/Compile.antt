@@ -21,8 +21,8 @@ use Rattle.fleet_c.specs.declared.fault.CallFault.TheVariants as f
 abbrev pub deps_of : ℕ → Deps
 deps_of number = if nat_eq number 0 then Last else All
 
--- The text stands for a plan that is free of conflict. The program is that of the plan with so many stays after the moves of each agent;
--- it is accepted, and runs as it would with either kind of awaits
+-- The text stands for a plan that is free of conflict. The program is that of the plan with so many stays after the
+-- moves of each agent; it is accepted, and runs as it would with either kind of awaits
 pub record IsProgramOf (g : Ground) (tasks : List Task) (text : List ℕ) (deps : Deps) (dwell : ℕ) (program : Program) : Type 0 where
   pub plan : Plan
   pub free : IsFreePlan g tasks text plan
@@ -30,13 +30,15 @@ pub record IsProgramOf (g : Ground) (tasks : List Task) (text : List ℕ) (deps 
   pub accepted : IsAccepted (is_passable g) tasks program
   pub equally : (other : Deps) → RunEqually program (compiled_staying plan other dwell)
 
--- the first fault of the plan's text, or of the plan; or the plan, which is free of conflict, has too many actions; or memory ran out
+-- the first fault of the plan's text, or of the plan; or the plan, which is free of conflict, has too many actions; or
+-- memory ran out
 abbrev pub IsProgramStop : Ground → List Task → List ℕ → Deps → ℕ → CallFault → Type 0
 IsProgramStop g tasks text deps dwell (f.Compile fault) =
     (plan : Plan) × IsFreePlan g tasks text plan × (fault ≢ c.OutOfMemory → compiled_staying_if_few plan deps dwell ≡ Err fault)
 IsProgramStop g tasks text deps dwell fault = IsPlanStop g tasks text fault
 
--- the texts stand for a map, for tasks and for a plan, and the bytes spell its program, in version 1 if that has bytes for it
+-- the texts stand for a map, for tasks and for a plan, and the bytes spell its program, in version 1 if that has bytes
+-- for it
 pub record CompilesTexts (map scen : List ℕ) (agents : ℕ) (text : List ℕ) (deps : Deps) (dwell : ℕ) (bytes : List ℕ) : Type 0 where
   pub ground : Ground
   pub tasks : List Task

@@ -11,8 +11,8 @@ use Rattle.fleet_c.specs.Texts.{AreTextsOf, IsTextsStop}
 use Rattle.fleet_c.specs.declared.fault.CallFault.{CallFault}
 use Rattle.fleet_c.specs.declared.fault.CallFault.TheVariants as f
 
--- the texts stand for a map and for tasks; the plan is made for them in one of the first orders of the agents, is free of conflict, and is
--- written so
+-- the texts stand for a map and for tasks; the plan is made for them in one of the first orders of the agents, is free
+-- of conflict, and is written so
 pub record PlansTexts (map scen : List ℕ) (agents horizon tries : ℕ) (text : List ℕ) : Type 0 where
   pub ground : Ground
   pub tasks : List Task
@@ -22,7 +22,8 @@ pub record PlansTexts (map scen : List ℕ) (agents horizon tries : ℕ) (text :
   pub free : IsConflictFree (is_passable ground) tasks plan
   pub written : text ≡ plan_text plan
 
--- the first fault of the texts; or an agent that is left without a path by those before it in the last of so many orders; or memory ran out
+-- the first fault of the texts; or an agent that is left without a path by those before it in the last of so many
+-- orders; or memory ran out
 abbrev pub IsPlannerStop : (map scen : List ℕ) → (agents horizon tries : ℕ) → CallFault → Type 0
 IsPlannerStop map scen agents horizon tries (f.Search stop) =
     (g : Ground) × (tasks : List Task) × AreTextsOf map scen agents g tasks

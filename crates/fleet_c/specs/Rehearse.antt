@@ -24,8 +24,8 @@ abbrev pub end_status : End → ℕ
 end_status Finished = DONE
 end_status Stuck = STUCK
 
--- the text is that of the rehearsal of the program that the bytes spell, under the holds for which the others stand, and it ended so; of the
--- holds no line was asked for that is no tick's
+-- the text is that of the rehearsal of the program that the bytes spell, under the holds for which the others stand,
+-- and it ended so; of the holds no line was asked for that is no tick's
 pub record RehearsesBytes (bytes held text : List ℕ) (end : End) : Type 0 where
   pub program : Program
   pub spelled : Spells bytes program
@@ -44,8 +44,8 @@ stop_of fault = f.Run fault
 abbrev pub empty_sink : SinkState
 empty_sink = record { taken = Some []; has_failed = false; is_flushed = false }
 
--- the first fault of the program's bytes; or a line of the holds that was asked for is no tick's, or the holds have more ticks than a run
--- takes; or memory ran out. What was written until then is let go
+-- the first fault of the program's bytes; or a line of the holds that was asked for is no tick's, or the holds have
+-- more ticks than a run takes; or memory ran out. What was written until then is let go
 abbrev pub IsRehearseStop : List ℕ → List ℕ → CallFault → Type 0
 IsRehearseStop bytes held f.OutOfMemory = Unit {0}
 IsRehearseStop bytes held (f.Load fault) = fault ≢ l.OutOfMemory → IsFirstLoadFault bytes fault

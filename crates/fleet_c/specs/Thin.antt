@@ -11,8 +11,9 @@ use Rattle.fleet_c.specs.declared.answer.TheConstants.{DONE}
 use Rattle.fleet_c.specs.Texts.{AreTextsOf}
 use Rattle.fleet_c.specs.Verify.{Accepts}
 
--- The bytes spell a program that is accepted for the ground and the tasks. This one is it without its implied awaits: it is accepted too,
--- has the same longest chain, runs equally, and has the least awaits of all programs with its chains
+-- The bytes spell a program that is accepted for the ground and the tasks. This one is it without its implied awaits:
+-- it is accepted too, has the same longest chain, runs equally, and has the least awaits of all programs with its
+-- chains
 pub record IsThinProgram (g : Ground) (tasks : List Task) (bytes : List ℕ) (thinned : Program) : Type 0 where
   pub program : Program
   pub chain : ℕ
@@ -23,7 +24,8 @@ pub record IsThinProgram (g : Ground) (tasks : List Task) (bytes : List ℕ) (th
   pub equally : RunEqually program thinned
   pub least : HasLeastAwaits program thinned
 
--- the texts stand for a map and for tasks, and the bytes that are written spell such a program, in version 1 if that has bytes for it
+-- the texts stand for a map and for tasks, and the bytes that are written spell such a program, in version 1 if that
+-- has bytes for it
 pub record ThinsTexts (map scen : List ℕ) (agents : ℕ) (bytes written : List ℕ) : Type 0 where
   pub ground : Ground
   pub tasks : List Task

@@ -13,7 +13,8 @@ use Rattle.fleet_c.specs.declared.verify.FleetAccepted.{FleetAccepted}
 use Rattle.fleet_c.specs.declared.fault.CallFault.{CallFault}
 use Rattle.fleet_c.specs.declared.fault.CallFault.TheVariants as f
 
--- the bytes spell this program, which is accepted for the ground and the tasks, with a longest chain of so many actions, and runs as promised
+-- the bytes spell this program, which is accepted for the ground and the tasks, with a longest chain of so many
+-- actions, and runs as promised
 pub record Accepts (g : Ground) (tasks : List Task) (bytes : List ℕ) (p : Program) (chain : ℕ) : Type 0 where
   pub spelled : Spells bytes p
   pub accepted_for : IsAcceptedFor g tasks p chain

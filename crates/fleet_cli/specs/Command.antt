@@ -60,9 +60,9 @@ names_of (r.Dispatch q) = record (names_of_program q.subject) { log = q.resume }
 names_of (r.Times q) = record (names_of_program q.subject) { holds = q.costs }
 names_of (r.Rest q) = record (names_of_program q.subject) { log = Some q.reports }
 
--- What each command answers for the texts of its files: all but `compile`, `thin`, `migrate`, `dispatch` and `rest` leave every file as
--- before, and all but `dispatch` leave the input unread; `dispatch` tells robots over the output, hears them by the input, and logs what they
--- report
+-- What each command answers for the texts of its files: all but `compile`, `thin`, `migrate`, `dispatch` and `rest`
+-- leave every file as before, and all but `dispatch` leave the input unread; `dispatch` tells robots over the output,
+-- hears them by the input, and logs what they report
 abbrev pub AnswersRequest : (files after : Option Store) → (unread unwritten : Type 0) → ((log log' : SinkState) → ReportForm → Talk → Type 0) → Request → FileTexts → (out out' : SinkState) → Result ℕ Fault → Type 0
 AnswersRequest files after unread unwritten talks (r.Instance q) texts out out' result = AnswersInstance q texts out out' result × AreUnchanged files after × unread
 AnswersRequest files after unread unwritten talks (r.Check q) texts out out' result = AnswersCheck q texts out out' result × AreUnchanged files after × unread
@@ -79,8 +79,8 @@ AnswersRequest files after unread unwritten talks (r.Dispatch q) texts out out' 
 AnswersRequest files after unread unwritten talks (r.Times q) texts out out' result = AnswersTimes q texts out out' result × AreUnchanged files after × unread
 AnswersRequest files after unread unwritten talks (r.Rest q) texts out out' result = AnswersRest files after q texts out out' result × unread
 
--- What a request is answered. Its files were read, which leaves every file as before, and this is the answer for their texts; or one of
--- them was not read, which is the refusal, and nothing was written, and the input not read
+-- What a request is answered. Its files were read, which leaves every file as before, and this is the answer for their
+-- texts; or one of them was not read, which is the refusal, and nothing was written, and the input not read
 abbrev pub DoesRequest : (files after : Option Store) → (unread unwritten : Type 0) → ((log log' : SinkState) → ReportForm → Talk → Type 0) → Request → (out out' : SinkState) → Result ℕ Fault → Type 0
 DoesRequest files after unread unwritten talks request out out' result =
     ((texts : FileTexts) × (read : Option Store) × AreTexts files (names_of request) texts × AreUnchanged files read
@@ -88,8 +88,8 @@ DoesRequest files after unread unwritten talks request out out' result =
     ⊎ ((fault : Fault) × (result ≡ Err fault) × IsUnread files (given_names (names_of request)) fault × AreUnchanged files after × IsUnwritten out out'
     × unread × unwritten)
 
--- the request was done, and its status is answered; or a refusal was reported, and the refusal's status is answered: the other output took
--- that one line, or failed within it
+-- the request was done, and its status is answered; or a refusal was reported, and the refusal's status is answered:
+-- the other output took that one line, or failed within it
 abbrev pub RunsRequest : (files after : Option Store) → (unread unwritten : Type 0) → ((log log' : SinkState) → ReportForm → Talk → Type 0) → Request → (out out' err err' : SinkState) → ℕ → Type 0
 RunsRequest files after unread unwritten talks request out out' err err' status =
     (done : Result ℕ Fault) × DoesRequest files after unread unwritten talks request out out' done × Finishes done err err' status
@@ -103,9 +103,9 @@ StopsAtWords (w.Help text) out out' err err' status =
     ⊎ ((status ≡ 3) × FailsAfter out out' (string_bytes text)
     × Receives err err' (line_text (codes "file" ∷ codes "-" ∷ [])))
 
--- without words the run of the input; else the command that the words ask for, or a stop at words that the command line does not take.
--- Every file is as before, but for the files OUT of `compile`, `thin`, `migrate` and `rest`, and the log of `dispatch`. The input is read whole without words, and else
--- by `dispatch` alone, whose robots report by it
+-- without words the run of the input; else the command that the words ask for, or a stop at words that the command line
+-- does not take. Every file is as before, but for the files OUT of `compile`, `thin`, `migrate` and `rest`, and the log
+-- of `dispatch`. The input is read whole without words, and else by `dispatch` alone, whose robots report by it
 abbrev pub RunsCommand : List Text → Option (List ℕ) → (files after : Option Store) → (unread unwritten : Type 0) → ((log log' : SinkState) → ReportForm → Talk → Type 0) → (out out' err err' : SinkState) → ℕ → Type 0
 RunsCommand [] input files after unread unwritten talks out out' err err' status = RunsHex input out out' err err' status × AreUnchanged files after
 RunsCommand (word ∷ words) input files after unread unwritten talks out out' err err' status =

@@ -1,4 +1,5 @@
--- What the command `dispatch` does: it verifies the program of a file, and dispatches its agents over an input and an output.
+-- What the command `dispatch` does: it verifies the program of a file, and dispatches its agents over an input and an
+-- output.
 use Rattle.std.specs.Prelude.{◌≡◌, ℕ, ◌⊎◌, List, Option, min, Ok, Err, Result, if◌then◌else◌}
 use Rattle.fleet_text.specs.Sink.{SinkState}
 use Rattle.fleet_model.specs.Program.{Program}
@@ -27,15 +28,17 @@ abbrev pub AnswersTold : Result DispatchReport DispatchFault → Result ℕ Faul
 AnswersTold (Ok report) result = result ≡ Ok 0
 AnswersTold (Err fault) result = result ≡ Err (f.Dispatch fault)
 
--- The agents of the program were told and heard, turn after turn, and what they reported was put behind the whole lines of the log, until all
--- had arrived or the dispatch stopped; or the log could not be begun, and nothing was told or heard
+-- The agents of the program were told and heard, turn after turn, and what they reported was put behind the whole lines
+-- of the log, until all had arrived or the dispatch stopped; or the log could not be begun, and nothing was told or
+-- heard
 abbrev pub Leads : (files after : Option Store) → DispatchRequest → Program → (past : List ℕ) → (untold : Type 0) → ((log log' : SinkState) → ReportForm → Talk → Type 0) → Result ℕ Fault → Type 0
 Leads files after r p past untold talks result =
     ((told : Result DispatchReport DispatchFault) × DispatchesAfter (first_course p (pace_of r)) past (IsKept files after r.log talks (pace_of r).form) told × AnswersTold told result)
     ⊎ ((fault : Fault) × (result ≡ Err fault) × IsLogFault r.log fault × untold)
 
--- What `dispatch` answers for the texts of its files. The texts and the bytes are refused, nothing was told or heard, and every file is as
--- before; or the program is accepted, and its agents are led, and every file but the log is as before
+-- What `dispatch` answers for the texts of its files. The texts and the bytes are refused, nothing was told or heard,
+-- and every file is as before; or the program is accepted, and its agents are led, and every file but the log is as
+-- before
 abbrev pub AnswersDispatch : (files after : Option Store) → DispatchRequest → FileTexts → (untold : Type 0) → ((log log' : SinkState) → ReportForm → Talk → Type 0) → Result ℕ Fault → Type 0
 AnswersDispatch files after r texts untold talks result =
     ((x : AcceptsTexts texts.map.items texts.scen.items r.subject.tasks.agents texts.subject.items)

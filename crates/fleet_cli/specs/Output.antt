@@ -15,7 +15,8 @@ use Rattle.fleet_text.specs.Words.{line_text, count_line}
 abbrev pub IsRefusalWritten : Fault → (err err' : SinkState) → Type 0
 IsRefusalWritten fault err err' = Receives err err' (refusal_line fault)
 
--- the command is done with this status, and nothing was reported; or its refusal was reported, and the refusal's status is answered
+-- the command is done with this status, and nothing was reported; or its refusal was reported, and the refusal's status
+-- is answered
 abbrev pub Finishes : Result ℕ Fault → (err err' : SinkState) → ℕ → Type 0
 Finishes (Ok done) err err' status = (status ≡ done) × IsUnwritten err err'
 Finishes (Err fault) err err' status = IsRefusalWritten fault err err' × (status ≡ status_of fault)
@@ -48,8 +49,8 @@ abbrev pub Prints : List ℕ → (out out' : SinkState) → Result ℕ Fault →
 Prints text out out' (Ok status) = IsDelivered out out' text × (status ≡ 0)
 Prints text out out' (Err fault) = IsOutFault fault × FailsAfter out out' text
 
--- What a command answers that makes something of its texts, before anything is written, and then does something with it: it was made, and
--- this is what came after it; or it was refused, and nothing was written
+-- What a command answers that makes something of its texts, before anything is written, and then does something with
+-- it: it was made, and this is what came after it; or it was refused, and nothing was written
 abbrev pub Does : (A : Type 0) → (Fault → Type 0) → (A → (out out' : SinkState) → Result ℕ Fault → Type 0) → (out out' : SinkState) → Result ℕ Fault → Type 0
 Does A Refuses After out out' result = ((a : A) × After a out out' result) ⊎ ((fault : Fault) × (result ≡ Err fault) × Refuses fault × IsUnwritten out out')
 
@@ -63,16 +64,16 @@ WritesGiven files after None bytes result = (after ≡ files) × (result ≡ Ok 
 WritesGiven files after (Some name) bytes (Ok _) = Replaces files after name.now bytes
 WritesGiven files after (Some name) bytes (Err fault) = IsWriteFault name.now fault × ChangesOnly files after name.now
 
--- the files that are named were written one after another, and then the text was printed; or one could not be written, and nothing more was
--- done
+-- the files that are named were written one after another, and then the text was printed; or one could not be written,
+-- and nothing more was done
 abbrev pub WritesFiles : (files after : Option Store) → List (Option (Bor (List ℕ)) × List ℕ) → (text : List ℕ) → (out out' : SinkState) → Result ℕ Fault → Type 0
 WritesFiles files after [] text out out' result = (after ≡ files) × Prints text out out' result
 WritesFiles files after (one ∷ others) text out out' result =
     ((mid : Option Store) × WritesGiven files mid one.0 one.1 (Ok tt) × WritesFiles mid after others text out out' result)
     ⊎ ((fault : Fault) × (result ≡ Err fault) × WritesGiven files after one.0 one.1 (Err fault) × IsUnwritten out out')
 
--- What a command answers that makes a value, writes files of it and then prints a text of it. The value was made, and this came of the
--- writing; or it was refused, before anything is written: every file is as before
+-- What a command answers that makes a value, writes files of it and then prints a text of it. The value was made, and
+-- this came of the writing; or it was refused, before anything is written: every file is as before
 abbrev pub AnswersOut : {A : Type 0} → (files after : Option Store) → (A → Type 0) → (Fault → Type 0) → (A → List (Option (Bor (List ℕ)) × List ℕ)) → (A → List ℕ) → (out out' : SinkState) → Result ℕ Fault → Type 0
 AnswersOut {A} files after Makes Refuses written text out out' result =
     ((made : A) × Makes made × WritesFiles files after (written made) (text made) out out' result)

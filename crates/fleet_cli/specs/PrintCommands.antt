@@ -68,8 +68,8 @@ abbrev pub AnswersInstance : Tasks → FileTexts → (out out' : SinkState) → 
 AnswersInstance r texts out out' result =
     Does (ReadsProblem texts.map.items texts.scen.items r.agents) (IsProblemRefusal texts.map.items texts.scen.items r.agents) (λ x. Prints (instance_text x.ground x.tasks)) out out' result
 
--- `conflict-free`, then the agents and the steps, each with its number; if the bound is given, then also the sum of costs, the bound, the
--- moves and the waits
+-- `conflict-free`, then the agents and the steps, each with its number; if the bound is given, then also the sum of
+-- costs, the bound, the moves and the waits
 abbrev pub check_text : Plan → Option ℕ → List ℕ
 check_text plan None = report (codes "conflict-free") ((codes "agents", length plan) ∷ (codes "steps", steps plan) ∷ [])
 check_text plan (Some bound) =
@@ -142,8 +142,8 @@ pub record SpellsBreakingHolds (p : Program) (first second : Visit) (text : List
   pub breaking : AreBreakingHolds p first second holds
   pub written : text ≡ holds_text holds
 
--- how a refused program is reported. Of two visits of a cell that no chain orders the breaking holds were printed and handed on before,
--- or the output failed; of every other refusal nothing was printed
+-- how a refused program is reported. Of two visits of a cell that no chain orders the breaking holds were printed and
+-- handed on before, or the output failed; of every other refusal nothing was printed
 abbrev pub ReportsRefused : Program → VerifyFault → (out out' : SinkState) → Fault → Type 0
 ReportsRefused p fault out out' f.Memory = IsUnwritten out out'
 ReportsRefused p fault out out' (f.Verify (v.Unordered cell first second)) =
@@ -154,7 +154,8 @@ ReportsRefused p fault out out' (f.File name) =
     × (text : List ℕ) × SpellsBreakingHolds p first second text × FailsAfter out out' text
 ReportsRefused p fault out out' _ = ⊥
 
--- the texts stand for a map and for tasks, and the program that the bytes spell is refused, which is reported by this refusal
+-- the texts stand for a map and for tasks, and the program that the bytes spell is refused, which is reported by this
+-- refusal
 pub record RefusesProgram (map scen : List ℕ) (asked : Option ℕ) (bytes : List ℕ) (out out' : SinkState) (reported : Fault) : Type 0 where
   pub ground : Ground
   pub tasks : List Task

@@ -29,7 +29,8 @@ use Rattle.fleet_cli.specs.Steps.{AcceptsTexts, IsTextsRefusal}
 use Rattle.fleet_cli.specs.declared.fault.Fault.{Fault}
 use Rattle.fleet_cli.specs.declared.fault.Fault.TheVariants as f
 
--- q is the rest of the program where the reports of the log have led its agents, and its runs are the rests of the program's runs
+-- q is the rest of the program where the reports of the log have led its agents, and its runs are the rests of the
+-- program's runs
 pub record IsRestOf (p : Program) (log : List ℕ) (q : Program) : Type 0 where
   pub standings : Configuration
   pub after : StandsAfter p log standings
@@ -71,9 +72,10 @@ IsMapAround g dead name text = IfSome name (λ _. text ≡ map_text (ground_with
 abbrev pub AreOthers : Ground → List Task → Option DeadRobot → Option (Bor (List ℕ)) → List ℕ → Type 0
 AreOthers g tasks dead name text = IfSome name (λ _. text ≡ scen_text g.width g.height (tasks_without dead tasks))
 
--- The program of the bytes is accepted for the texts, and what is left of it is its rest after the log, from where the agents stand to the
--- same goals, which is accepted for that; the one text stands for its tasks, and the bytes spell it, in version 1 if that has bytes for it.
--- Around a dead robot there are the map in which its cells are blocked and the tasks of the others
+-- The program of the bytes is accepted for the texts, and what is left of it is its rest after the log, from where the
+-- agents stand to the same goals, which is accepted for that; the one text stands for its tasks, and the bytes spell
+-- it, in version 1 if that has bytes for it. Around a dead robot there are the map in which its cells are blocked and
+-- the tasks of the others
 pub record RestsTexts (texts : FileTexts) (r : RestRequest) (made : Rest) : Type 0 where
   pub accepts : AcceptsTexts texts.map.items texts.scen.items r.subject.tasks.agents texts.subject.items
   pub left : IsRestOf accepts.program texts.log.items made.program
@@ -87,8 +89,8 @@ pub record RestsTexts (texts : FileTexts) (r : RestRequest) (made : Rest) : Type
   pub around : IsMapAround accepts.ground robot r.map_out made.map.items
   pub rest_of_them : AreOthers accepts.ground (tasks_of made.program) robot r.others_out made.others.items
 
--- the texts and the bytes are refused; or the log is, for the program that is accepted, or what is named as dead, for its rest; or memory
--- ran out
+-- the texts and the bytes are refused; or the log is, for the program that is accepted, or what is named as dead, for
+-- its rest; or memory ran out
 abbrev pub IsRestRefusal : FileTexts → RestRequest → Fault → Type 0
 IsRestRefusal texts r fault =
     IsTextsRefusal texts.map.items texts.scen.items r.subject.tasks.agents texts.subject.items fault
@@ -101,8 +103,8 @@ abbrev pub rest_files : RestRequest → Rest → List (Option (Bor (List ℕ)) �
 rest_files r made =
     (Some r.scen_out, made.scen.items) ∷ (r.map_out, made.map.items) ∷ (r.others_out, made.others.items) ∷ (Some r.program_out, made.bytes.items) ∷ []
 
--- What the command answers for the texts of its files. The rest was made, and the files were written so; or there was a refusal before
--- anything is written, and every file is as before
+-- What the command answers for the texts of its files. The rest was made, and the files were written so; or there was a
+-- refusal before anything is written, and every file is as before
 abbrev pub AnswersRest : (files after : Option Store) → RestRequest → FileTexts → (out out' : SinkState) → Result ℕ Fault → Type 0
 AnswersRest files after r texts =
     AnswersOut files after (RestsTexts texts r) (IsRestRefusal texts r) (rest_files r) (λ made. numbers_text made.program made.bytes.items)

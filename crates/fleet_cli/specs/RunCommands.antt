@@ -34,15 +34,16 @@ use Rattle.fleet_code.specs.Hex.{bytes_of}
 use Rattle.fleet_code.specs.declared.fault.HexFault.TheVariants as h
 use Rattle.fleet_cli.specs.declared.input.TheConstants.{MAX_BYTES}
 
--- The answer of a run after the flush. It is the run's own, and the sink has handed on all, unless it had failed; or the sink
--- could not hand on what it took, and that is a failed write.
+-- The answer of a run after the flush. It is the run's own, and the sink has handed on all, unless it had failed; or
+-- the sink could not hand on what it took, and that is a failed write.
 abbrev pub FlushesRun : {T : Type 0} → (out out' : SinkState) → (ran answer : Result T RunFault) → Type 0
 FlushesRun out out' ran answer =
     Keeps out.taken out'.taken
     × (((answer ≡ ran) × (out'.has_failed ≡ out.has_failed) × (IsWorking out' → out'.is_flushed ≡ true))
     ⊎ ((answer ≡ Err Write) × IsWorking out × HasFailed out'))
 
--- a run wrote to the sink and ended so, the sink was flushed, and the status of the answer after that, or its fault, is answered
+-- a run wrote to the sink and ended so, the sink was flushed, and the status of the answer after that, or its fault, is
+-- answered
 abbrev pub Ends : {T : Type 0} → ((out' : SinkState) → Result T RunFault → Type 0) → (T → ℕ) → (out' : SinkState) → Result ℕ Fault → Type 0
 Ends {T} Ran status out' result =
     (mid : SinkState) × (ran answer : Result T RunFault) × Ran mid ran × FlushesRun mid out' ran answer × (result ≡ result_map_both status f.Run answer)
@@ -57,9 +58,9 @@ AnswersRun r texts out out' result =
     Does (AcceptsTexts texts.map.items texts.scen.items r.subject.tasks.agents texts.subject.items) (IsTextsRefusal texts.map.items texts.scen.items r.subject.tasks.agents texts.subject.items)
     (λ x. Runs x.program x.chain texts.holds.items) out out' result
 
--- The texts stand for a map and for tasks. For these a plan is made agent by agent in one of the first orders, each path the earliest
--- against those before it; it is free of conflict; and this is its program, which is accepted for the map and the tasks, and the longest
--- chain of the program. The plan has these numbers
+-- The texts stand for a map and for tasks. For these a plan is made agent by agent in one of the first orders, each
+-- path the earliest against those before it; it is free of conflict; and this is its program, which is accepted for the
+-- map and the tasks, and the longest chain of the program. The plan has these numbers
 pub record MakesProgram (map scen : List ℕ) (asked : Option ℕ) (horizon : ℕ) (tries : Tries) (deps : Deps) : Type 0 where
   pub ground : Ground
   pub tasks : List Task
@@ -73,9 +74,9 @@ pub record MakesProgram (map scen : List ℕ) (asked : Option ℕ) (horizon : �
   pub chain : ℕ
   pub accepted_for : IsAcceptedFor ground tasks program chain
 
--- The refusal is that of the first step that refuses: the first fault of the map's text, or of the scenario's on that map; or an agent is
--- left without a path by those before it; or the agents of the plan make too many moves; or the run of the program stops. Memory may run
--- out in each step before the run, and until the run nothing is written
+-- The refusal is that of the first step that refuses: the first fault of the map's text, or of the scenario's on that
+-- map; or an agent is left without a path by those before it; or the agents of the plan make too many moves; or the run
+-- of the program stops. Memory may run out in each step before the run, and until the run nothing is written
 abbrev pub IsAutoFault : (map scen : List ℕ) → Option ℕ → ℕ → Tries → Deps → List ℕ → (out out' : SinkState) → AutoFault → Type 0
 IsAutoFault map scen asked horizon tries deps held out out' a.OutOfMemory = IsUnwritten out out'
 IsAutoFault map scen asked horizon tries deps held out out' (a.Map fault) = IsFirstMapFault map fault × IsUnwritten out out'
@@ -91,8 +92,8 @@ IsAutoFault map scen asked horizon tries deps held out out' (a.Run fault) =
 abbrev pub one_try : Tries
 one_try = record { count = 1; best = None }
 
--- the trace of the program that is made of the texts was written under the holds, with the plan of that order, and the report has its
--- numbers; or a refusal
+-- the trace of the program that is made of the texts was written under the holds, with the plan of that order, and the
+-- report has its numbers; or a refusal
 abbrev pub AutoRuns : (map scen : List ℕ) → Option ℕ → ℕ → Deps → List ℕ → (out out' : SinkState) → Result Report AutoFault → Type 0
 AutoRuns map scen asked horizon deps held out out' (Ok r) = (m : MakesProgram map scen asked horizon one_try deps) × WritesTrace m.program m.chain held out out' r
 AutoRuns map scen asked horizon deps held out out' (Err fault) = IsAutoFault map scen asked horizon one_try deps held out out' fault
@@ -151,7 +152,7 @@ AnswersHex input out out' result =
     Does ((bytes : List ℕ) × ReadsInput input bytes × ReadsProgram bytes) (λ fault. IsInputRefusal input fault ⊎ ((bytes : List ℕ) × ReadsInput input bytes × IsLoadRefusal bytes fault))
     (λ x. RehearsesProgram x.2.program []) out out' result
 
--- 0 if the rehearsal was written and ends finished, 1 if it was written and ends stuck, and else the status of a refusal
--- that was reported: the other output took that one line, or failed within it
+-- 0 if the rehearsal was written and ends finished, 1 if it was written and ends stuck, and else the status of a
+-- refusal that was reported: the other output took that one line, or failed within it
 abbrev pub RunsHex : Option (List ℕ) → (out out' err err' : SinkState) → ℕ → Type 0
 RunsHex input out out' err err' status = (done : Result ℕ Fault) × AnswersHex input out out' done × Finishes done err err' status

@@ -46,14 +46,15 @@ abbrev pub IsChainIn : Result Program CompileFault → ℕ → Type 0
 IsChainIn (Ok program) chain = IsLongestChain program chain
 IsChainIn (Err fault) chain = chain ≡ NO_CHAIN
 
--- by what a plan is the best: the longest chain of its program, in which a move into a cell awaits the latest leaving of it; or its sum of
--- costs
+-- by what a plan is the best: the longest chain of its program, in which a move into a cell awaits the latest leaving
+-- of it; or its sum of costs
 abbrev pub IsMeasure : Best → Plan → ℕ → Type 0
 IsMeasure best.Chain plan measure = IsChainIn (compiled_if_few plan Last) measure
 IsMeasure best.Cost plan measure = measure ≡ sum_of_costs plan
 
--- in one of the first orders of the agents, of which so many are tried at most, each path is the earliest against those before it; or so
--- many are tried in any case, and of the plans that are so made this one is the first with the least measure. So many were tried
+-- in one of the first orders of the agents, of which so many are tried at most, each path is the earliest against those
+-- before it; or so many are tried in any case, and of the plans that are so made this one is the first with the least
+-- measure. So many were tried
 abbrev pub IsMadeBy : (Place → Bool) → List Task → ℕ → ℕ → Option Best → (tried : ℕ) → Plan → Type 0
 IsMadeBy passable tasks horizon count None tried plan = IsMadeInTry passable tasks horizon count tried plan
 IsMadeBy passable tasks horizon count (Some best) tried plan =
@@ -110,8 +111,8 @@ pub record ReadsProgram (bytes : List ℕ) : Type 0 where
   pub program : Program
   pub spelled : Spells bytes program
 
--- the texts of a map and a scenario are refused: the first fault of the map's text, or of the scenario's on that map. Memory may run out
--- in any step, and stands in place of any fault
+-- the texts of a map and a scenario are refused: the first fault of the map's text, or of the scenario's on that map.
+-- Memory may run out in any step, and stands in place of any fault
 abbrev pub IsProblemRefusal : (map scen : List ℕ) → Option ℕ → Fault → Type 0
 IsProblemRefusal map scen asked (f.Map fault) = fault ≢ m.OutOfMemory → IsFirstMapFault map fault
 IsProblemRefusal map scen asked (f.Scen fault) = (g : Ground) × IsMapText map g × (fault ≢ s.OutOfMemory → IsFirstScenFault scen g asked fault)

@@ -1,4 +1,5 @@
--- What the command `times` prints: when each agent of an accepted program arrives, or how far each one comes if some break down.
+-- What the command `times` prints: when each agent of an accepted program arrives, or how far each one comes if some
+-- break down.
 use Rattle.std.specs.Prelude.{◌≡◌, ℕ, List, Option, None, Some, Result, ⊤}
 use Rattle.std.specs.Borrow.{Bor}
 use Rattle.fleet_model.specs.declared.program.ActionId.{ActionId}
@@ -38,7 +39,8 @@ IsCostsRefusal p costs text f.Memory = ⊤
 IsCostsRefusal p (Some name) text (f.Times fault) = IsCostsFault p text fault
 IsCostsRefusal p costs text _ = ⊥
 
--- how far each agent comes, and no further, if the actions that the line names are never ended, which every schedule bears out
+-- how far each agent comes, and no further, if the actions that the line names are never ended, which every schedule
+-- bears out
 pub record HasReached (p : Program) (line : List ℕ) (counts : List ℕ) : Type 0 where
   pub breaks : List ℕ
   pub named : AreBreaksOf p line breaks

@@ -26,8 +26,9 @@ use Rattle.fleet_args.specs.declared.commands.ThinRequest.{ThinRequest}
 use Rattle.fleet_code.specs.declared.format.Version.TheVariants.{Two}
 use Rattle.fleet_args.specs.declared.commands.MigrateRequest.{MigrateRequest}
 
--- the texts stand for a map, for tasks and for a plan that is free of conflict; the program is that of the plan with so many stays after
--- the moves of each agent, and is accepted; and the bytes spell it, in version 1 if that has bytes for it
+-- the texts stand for a map, for tasks and for a plan that is free of conflict; the program is that of the plan with so
+-- many stays after the moves of each agent, and is accepted; and the bytes spell it, in version 1 if that has bytes for
+-- it
 pub record CompilesTexts (map scen plan : List ℕ) (asked : Option ℕ) (deps : Deps) (dwell : ℕ) (program : Program) (bytes : List ℕ) : Type 0 where
   pub ground : Ground
   pub tasks : List Task
@@ -56,16 +57,17 @@ abbrev pub numbers_text : Program → List ℕ → List ℕ
 numbers_text p bytes =
     count_lines ((codes "agents", length p) ∷ (codes "moves", total_moves p) ∷ (codes "awaits", total_awaits p) ∷ (codes "bytes", length bytes) ∷ [])
 
--- What the command answers for the texts of its files. The file OUT holds the program's bytes, every other file is as before, and the
--- program's numbers were printed; or a refusal before anything is written; or OUT could not be written, or the output failed
+-- What the command answers for the texts of its files. The file OUT holds the program's bytes, every other file is as
+-- before, and the program's numbers were printed; or a refusal before anything is written; or OUT could not be written,
+-- or the output failed
 abbrev pub AnswersCompile : (files after : Option Store) → CompileRequest → FileTexts → (out out' : SinkState) → Result ℕ Fault → Type 0
 AnswersCompile files after r texts out out' result =
     AnswersOut {A = Program × List ℕ} files after (λ made. CompilesTexts texts.map.items texts.scen.items texts.subject.items r.tasks.agents r.deps r.dwell made.0 made.1)
     (IsCompileFault texts.map.items texts.scen.items texts.subject.items r.tasks.agents r.deps r.dwell) (λ made. (Some r.out, made.1) ∷ []) (λ made. numbers_text made.0 made.1) out out' result
 
--- the program of the bytes is accepted for the texts; the bytes that are written spell that program without its implied awaits, in
--- version 1 if that has bytes for it; it is accepted for the same map and tasks, has the same longest chain and runs equally; and the
--- two have so many awaits
+-- the program of the bytes is accepted for the texts; the bytes that are written spell that program without its implied
+-- awaits, in version 1 if that has bytes for it; it is accepted for the same map and tasks, has the same longest chain
+-- and runs equally; and the two have so many awaits
 pub record ThinsTexts (map scen : List ℕ) (asked : Option ℕ) (program : List ℕ) (before after : ℕ) (bytes : List ℕ) : Type 0 where
   pub accepts : AcceptsTexts map scen asked program
   pub thinned : Program
@@ -81,8 +83,9 @@ pub record ThinsTexts (map scen : List ℕ) (asked : Option ℕ) (program : List
 abbrev pub thinned_text : ℕ → ℕ → List ℕ
 thinned_text before after = count_lines ((codes "awaits", before) ∷ (codes "awaits", after) ∷ [])
 
--- What the command answers for the texts of its files. The file OUT holds the bytes, every other file is as before, and the numbers of
--- awaits were printed; or a refusal before anything is written; or OUT could not be written, or the output failed
+-- What the command answers for the texts of its files. The file OUT holds the bytes, every other file is as before, and
+-- the numbers of awaits were printed; or a refusal before anything is written; or OUT could not be written, or the
+-- output failed
 abbrev pub AnswersThin : (files after : Option Store) → ThinRequest → FileTexts → (out out' : SinkState) → Result ℕ Fault → Type 0
 AnswersThin files after r texts out out' result =
     AnswersOut {A = ℕ × ℕ × List ℕ} files after (λ made. ThinsTexts texts.map.items texts.scen.items r.subject.tasks.agents texts.subject.items made.0 made.1 made.2)
@@ -98,8 +101,9 @@ pub record MigratesBytes (bytes migrated : List ℕ) : Type 0 where
 abbrev pub migrated_text : List ℕ → List ℕ
 migrated_text migrated = count_lines ((codes "bytes", length migrated) ∷ [])
 
--- What the command answers for the bytes of its file. The file OUT holds the program's bytes in version 2, every other file is as before,
--- and how many they are was printed; or a refusal before anything is written; or OUT could not be written, or the output failed
+-- What the command answers for the bytes of its file. The file OUT holds the program's bytes in version 2, every other
+-- file is as before, and how many they are was printed; or a refusal before anything is written; or OUT could not be
+-- written, or the output failed
 abbrev pub AnswersMigrate : (files after : Option Store) → MigrateRequest → FileTexts → (out out' : SinkState) → Result ℕ Fault → Type 0
 AnswersMigrate files after r texts out out' result =
     AnswersOut files after (MigratesBytes texts.subject.items) (IsLoadRefusal texts.subject.items) (λ migrated. (Some r.out, migrated) ∷ []) migrated_text out out' result

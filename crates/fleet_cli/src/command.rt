@@ -134,8 +134,9 @@ fn answer_request<'a, R: ReportsTo<O>, F: Files, O: Flush>(
     }
 }
 
-/// Reads the files that the request names, all before any is judged, and does what it asks: its output goes to `out`, a refusal's line to `err`, and of the commands `dispatch` alone
-/// reads `input`, by which robots report. Answers the status.
+/// Reads the files that the request names, all before any is judged, and does what it asks: its output goes to `out`, a
+/// refusal's line to `err`, and of the commands `dispatch` alone reads `input`, by which robots report. Answers the
+/// status.
 pub fn run_request<R: ReportsTo<O>, F: Files, O: Flush, E: TraceOut>(
     alloc: Global,
     request: &Request<'_>,
@@ -184,8 +185,8 @@ fn stop_at<O: Flush, E: TraceOut>(stop: &WordStop, out: &mut O, err: &mut E) -> 
 }
 
 /// What the program does for the words after its name: without words it rehearses the program that `input` gives in
-/// hexadecimal, and else it does what the words ask for. Of the commands `dispatch` alone reads `input`, by which robots
-/// report; every reader will do. Answers the status: 2 only if the words ask for no command.
+/// hexadecimal, and else it does what the words ask for. Of the commands `dispatch` alone reads `input`, by which
+/// robots report; every reader will do. Answers the status: 2 only if the words ask for no command.
 pub fn run_command<R: ReportsTo<O>, F: Files, O: Flush, E: TraceOut>(
     alloc: Global,
     words: &[String],

@@ -155,8 +155,8 @@ fn sync_folder<R: rt::Files>(runtime: &R, name: &str) {
     }
 }
 
-/// Whether it is a file with bytes of its own, and no pipe, terminal or other device. Of what is open the system can say
-/// it; if it does not, that is a failure, and not "no file".
+/// Whether it is a file with bytes of its own, and no pipe, terminal or other device. Of what is open the system can
+/// say it; if it does not, that is a failure, and not "no file".
 fn is_file<F: OpenFile>(file: &F) -> Result<bool, FileFault> {
     match file.metadata() {
         Ok(metadata) => Ok(metadata.is_file()),
@@ -164,8 +164,8 @@ fn is_file<F: OpenFile>(file: &F) -> Result<bool, FileFault> {
     }
 }
 
-/// The files that a command reads, by their names, in this order: the map, the scenario, the plan or the program that it
-/// is about, the holds (of `times` the costs), and the log of reports.
+/// The files that a command reads, by their names, in this order: the map, the scenario, the plan or the program that
+/// it is about, the holds (of `times` the costs), and the log of reports.
 #[derive(Clone, Copy)]
 pub(crate) struct FileNames<'a> {
     pub(crate) map: Option<&'a str>,

@@ -130,7 +130,8 @@ fn asked_bound(
 }
 
 /// The command `check`: judges the plan, and prints to `out` that it is free of conflict, with its agents and its steps
-/// and, if they are asked for, its sum of costs, the sum of the distances to the goals, its moves and its waits. Answers 0. A plan's first fault is a refusal.
+/// and, if they are asked for, its sum of costs, the sum of the distances to the goals, its moves and its waits.
+/// Answers 0. A plan's first fault is a refusal.
 #[inline(never)]
 pub(crate) fn do_check<'a, O: Flush>(
     alloc: Global,
@@ -158,7 +159,8 @@ pub(crate) fn do_check<'a, O: Flush>(
 }
 
 /// The command `plan`: prints to `out` a plan in which each agent's path is the earliest against those of the agents
-/// before it, in one of the first orders of the agents, or the best of these plans. Answers 0. The texts are let go once they are read.
+/// before it, in one of the first orders of the agents, or the best of these plans. Answers 0. The texts are let go
+/// once they are read.
 #[inline(never)]
 pub(crate) fn do_plan<'a, O: Flush>(
     alloc: Global,
@@ -250,8 +252,8 @@ fn report_refused<'a, P: ProgramView + Drop, O: Flush>(
     }
 }
 
-/// The command `verify`: prints to `out` that the program is accepted, with its numbers, or, of a program that is refused
-/// for two visits which no chain orders, the holds that break it. Answers 0.
+/// The command `verify`: prints to `out` that the program is accepted, with its numbers, or, of a program that is
+/// refused for two visits which no chain orders, the holds that break it. Answers 0.
 #[inline(never)]
 pub(crate) fn do_verify<'a, O: Flush>(
     alloc: Global,

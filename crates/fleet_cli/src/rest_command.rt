@@ -41,8 +41,8 @@ fn rest_of<'a, P: ProgramView>(
     }
 }
 
-/// What is left of a program, the text of its tasks and the bytes that spell it; and around a dead robot, as far as they
-/// are asked for, the text of the map and that of the tasks of the others.
+/// What is left of a program, the text of its tasks and the bytes that spell it; and around a dead robot, as far as
+/// they are asked for, the text of the map and that of the tasks of the others.
 #[derive(Drop)]
 struct Rest {
     program: Program,

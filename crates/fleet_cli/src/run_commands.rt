@@ -1,5 +1,6 @@
-//! The commands that run a program tick by tick, `run`, `auto` and `rehearse`, and the run of the program without words;
-//! and what becomes of their output at the end: a run's sink hands on all that was written before anything is reported.
+//! The commands that run a program tick by tick, `run`, `auto` and `rehearse`, and the run of the program without
+//! words; and what becomes of their output at the end: a run's sink hands on all that was written before anything is
+//! reported.
 
 ghost use Rattle.std.specs.Prelude.{◌≡◌, IfOk, IfErr};
 ghost use Rattle.fleet_text.specs.Sink.{IsWorking};
@@ -134,8 +135,8 @@ fn tell_numbers<'a, O: Flush>(
     hand_on(out, printed)
 }
 
-/// The command `auto`: plans for the map and the scenario, compiles the plan, and writes the trace of the program, under
-/// the holds, to `out`, and after it the numbers of the plan, if they are asked for. Answers 0.
+/// The command `auto`: plans for the map and the scenario, compiles the plan, and writes the trace of the program,
+/// under the holds, to `out`, and after it the numbers of the plan, if they are asked for. Answers 0.
 #[inline(never)]
 pub(crate) fn do_auto<'a, O: Flush>(
     alloc: Global,
@@ -196,8 +197,8 @@ fn rehearse_program<'a, P: ProgramView, O: Flush>(
     }
 }
 
-/// The command `rehearse`: writes the rehearsal of the program, under the holds, to `out`. Answers 0 if it ends finished
-/// and 1 if it ends stuck.
+/// The command `rehearse`: writes the rehearsal of the program, under the holds, to `out`. Answers 0 if it ends
+/// finished and 1 if it ends stuck.
 #[inline(never)]
 pub(crate) fn do_rehearse<'a, O: Flush>(
     alloc: Global,

@@ -80,8 +80,8 @@ pub(crate) fn view_subject<'g, 'a>(
     view_program(alloc, &texts.subject)
 }
 
-/// The program that the bytes of that file spell, read in place and accepted for the map and the instance, or the refusal
-/// of the program.
+/// The program that the bytes of that file spell, read in place and accepted for the map and the instance, or the
+/// refusal of the program.
 pub(crate) fn accept<'g, 'a>(
     alloc: Global,
     texts: &'g FileTexts,
@@ -99,8 +99,8 @@ pub(crate) fn accept<'g, 'a>(
     }
 }
 
-/// What is told of a plan that was made: how many orders of the agents were tried for it, its steps, and its sum of costs
-/// in steps.
+/// What is told of a plan that was made: how many orders of the agents were tried for it, its steps, and its sum of
+/// costs in steps.
 #[derive(Clone, Copy, Debug)]
 pub struct PlanNumbers {
     pub tried: u32,
@@ -178,8 +178,8 @@ fn view_made(alloc: Global, bytes: &[u8]) -> Result<CodeView<'_>, OutOfMemory>
     }
 }
 
-/// The program that the bytes spell, which is accepted for the map and the instance, read in place and accepted: refused
-/// for want of memory alone.
+/// The program that the bytes spell, which is accepted for the map and the instance, read in place and accepted:
+/// refused for want of memory alone.
 pub fn accept_made<'g>(
     alloc: Global,
     bytes: &'g [u8],

@@ -45,8 +45,8 @@ fn compile_texts<'a>(
     }
 }
 
-/// The command `compile`: writes the bytes of the plan's program to the file OUT once all before it succeeded, and prints
-/// the program's numbers to `out`. Answers 0.
+/// The command `compile`: writes the bytes of the plan's program to the file OUT once all before it succeeded, and
+/// prints the program's numbers to `out`. Answers 0.
 #[inline(never)]
 pub(crate) fn do_compile<'a, F: Files, O: Flush>(
     alloc: Global,

@@ -103,8 +103,8 @@ pub record ReachesCount (v : Version) (bytes : List ℕ) (at : ℕ) (rest : List
 abbrev pub IsWithoutMagic : Version → List ℕ → Type 0
 IsWithoutMagic v bytes = (k : ℕ) × (k < 4) × (k < length bytes) × (get_or bytes k 0 ≢ get_or (magic v) k 0)
 
--- the bytes end where the magic, the number of agents, the head of an agent, an opcode, an awaited agent or a count is to be
--- and is not wholly there
+-- the bytes end where the magic, the number of agents, the head of an agent, an opcode, an awaited agent or a count is
+-- to be and is not wholly there
 abbrev pub EndsWithin : Version → List ℕ → Type 0
 EndsWithin v bytes =
     ((rest : List ℕ) × (magic v ≡ bytes ++ rest) × (length bytes < 4))
@@ -135,7 +135,8 @@ IsFirstFaultIn v bytes (AwaitCount at) = (at_count rest : List ℕ) × ReachesCo
 IsFirstFaultIn v bytes (Trailing at) =
     (p : Program) × (b : ℕ) × (rest : List ℕ) × ReachesAgent v bytes (length p) p (b ∷ rest) × IsOffset bytes (b ∷ rest) at
 
--- the first fault: that the magic is neither version's, or another one in the version whose magic the bytes have, or may yet have
+-- the first fault: that the magic is neither version's, or another one in the version whose magic the bytes have, or
+-- may yet have
 abbrev pub IsFirstLoadFault : List ℕ → LoadFault → Type 0
 IsFirstLoadFault bytes Magic = (v : Version) → IsFirstFaultIn v bytes Magic
 IsFirstLoadFault bytes f = (v : Version) × IsFirstFaultIn v bytes f

@@ -28,7 +28,8 @@ record Stands (p : Program) (f : ℕ → ℕ) : Type 0 where
 module _ (p : Program) (a b : ℕ → ℕ) (past : (i : ℕ) → length p ≤ i → a i ≡ 0) (rise : (i : ℕ) → i < length p → a i ≤ b i)
     (within : (i : ℕ) → i < length p → b i ≤ moves p i)
     (due : (i n : ℕ) (w : Await) → i < length p → a i < n → n ≤ b i → Contains (awaits_of p i n) w → w.count ≤ a w.agent) where
-  -- no agent has finished less than at first nor more than at last, nor less than d more than at first unless it is done
+  -- no agent has finished less than at first nor more than at last, nor less than d more than at first unless it is
+  -- done
   record Between (d : ℕ) : Type 0 where
     at : Configuration
     reached : IsReached p at

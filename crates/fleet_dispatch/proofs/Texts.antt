@@ -49,7 +49,8 @@ module _ (p : Program) (form : ReportForm) (old : Counts) where
   abbrev texts : Counts → ℕ → List ℕ
   texts now i = agent_orders p form i (count_of old i) (count_of now i)
 
-  -- the orders up to agent i are written, those before `from` were; then those of agent i are, and what it is told changes no other
+  -- the orders up to agent i are written, those before `from` were; then those of agent i are, and what it is told
+  -- changes no other
   pub one_agent_more : (now then : Counts) (from i : ℕ) (row row' : List ℕ) → from ≤ i
       → row ≡ flat_map (texts now) (range_with_len 0 from)
       → ((j : ℕ) → from ≤ j → count_of now j ≡ count_of old j)

@@ -53,7 +53,8 @@ abbrev pub last_cost : (agent number : ℕ) → (otherwise : ℕ) → List CostL
 last_cost i n otherwise [] = otherwise
 last_cost i n otherwise (l ∷ said) = last_cost i n (if is_named i n l then l.cost else otherwise) said
 
--- what an action costs: as the last line says that names it; if none does, as the last one that names its agent; and else one
+-- what an action costs: as the last line says that names it; if none does, as the last one that names its agent; and
+-- else one
 abbrev pub cost_by : List CostLine → ActionId → ℕ
 cost_by said a = last_cost a.agent a.number (last_cost a.agent 0 1 said) said
 
@@ -80,7 +81,7 @@ IsCostsFault p text OutOfMemory = ⊤
 IsCostsFault p text (Cost n) = IsFirstNoCost p (lines text) n
 IsCostsFault p text _ = ⊥
 
--- ---- how they are kept: a row for each agent, with what is said of all its actions, and then of each one; 0 if nothing is
+-- ---- how they are kept: a row for each agent, with what is said of all its actions, then of each one; 0 for nothing
 
 -- what is said of it
 abbrev pub entry : List (List ℕ) → (agent number : ℕ) → ℕ

@@ -14,8 +14,8 @@ use Rattle.fleet_dispatch.specs.Ahead.{told_at, AreOrdered, IsFirstUnordered, is
 use Rattle.fleet_dispatch.specs.Talk.{Turn, Talk, Told, Cut, Heard, Asked, Logged, Unlogged, Misheard, NoMore, Unheard}
 use Rattle.fleet_dispatch.specs.Orders.{new_orders, closing}
 
--- What a dispatch is of: a program; how its actions are named; how many actions an agent is told at most that it has not
--- reported; what is carried out when it begins, and how many reports were taken by then
+-- What a dispatch is of: a program; how its actions are named; how many actions an agent is told at most that it has
+-- not reported; what is carried out when it begins, and how many reports were taken by then
 pub record Course : Type 0 where
   pub program : Program
   pub form : ReportForm
@@ -49,13 +49,14 @@ taken_by counts (line ∷ lines) = (if is_taken counts line then 1 else 0) + tak
 abbrev pub log_turns : Counts → Words → Talk
 log_turns counts words = if is_repeat counts words then [] else Logged (log_line words) ∷ []
 
--- A line, and what follows from it before orders are told: a report that is no repeat is logged, and the question where the agents are
--- is answered
+-- A line, and what follows from it before orders are told: a report that is no repeat is logged, and the question where
+-- the agents are is answered
 abbrev pub turns_of : Program → Counts → Line → Talk
 turns_of p counts (Reports words) = Heard words ∷ log_turns counts words
 turns_of p counts Asks = Asked ∷ Told (standings_text p counts) ∷ []
 
--- What is said and heard up to the last of these lines: the orders that are due, the first line, the orders that are due then, and so on
+-- What is said and heard up to the last of these lines: the orders that are due, the first line, the orders that are
+-- due then, and so on
 unfoldable pub talk_before : Program → ReportForm → ℕ → (told counts : Counts) → List Line → Talk
 talk_before p form k told counts [] = []
 talk_before p form k told counts (line ∷ lines) =
@@ -143,8 +144,8 @@ pub record StopsAtTelling (d : Course) (talks : Talk → Type 0) (lines : List L
   pub taken : AreHeard d lines
   pub told : IsCut talks (said_before d lines) (due_orders d lines) ⊎ StopsAtAnswer d talks lines ⊎ StopsAtClosing d talks lines
 
--- after these lines, with actions left, this report was heard, which could be taken and is no repeat, and a front of its line was logged; it was
--- not taken
+-- after these lines, with actions left, this report was heard, which could be taken and is no repeat, and a front of
+-- its line was logged; it was not taken
 pub record StopsAtLogging (d : Course) (talks : Talk → Type 0) (line : ℕ) (lines : List Line) : Type 0 where
   pub taken : AreHeard d lines
   pub report : Words

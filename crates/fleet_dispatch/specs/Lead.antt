@@ -1,4 +1,5 @@
--- Robots that are led by a dispatch: when each action is ordered and reported, and what is promised of whatever they do.
+-- Robots that are led by a dispatch: when each action is ordered and reported, and what is promised of whatever they
+-- do.
 use Rattle.std.specs.Prelude.{◌≡◌, ◌≢◌, ℕ, ◌+◌, ◌<◌, ◌≤◌, Bool, true, false, IsTrue, ◌&&◌, nat_le, nat_lt, List, [], ◌∷◌, length, get_or, take, filter, replicate, Option, option_map, if◌then◌else◌}
 use Rattle.std.specs.List.{list_any, position, flat_map}
 use Rattle.fleet_model.specs.declared.geometry.Place.{Place}
@@ -97,8 +98,8 @@ news_by counts (r ∷ reports) = (if is_news counts r then 1 else 0) + news_by (
 -- What is promised of a dispatch that took these reports, k orders of an agent ahead. No order is taken back, so each
 -- action is ordered once; agents that stand where they have reported to be, or are anywhere on what they are told, have
 -- no place in common, and each such place is passable; while an action is left some agent has an order that it has not
--- reported; at most as many reports say something new as there are actions, and after as many all stand on their
--- goals, as they do once all is carried out
+-- reported; at most as many reports say something new as there are actions, and after as many all stand on their goals,
+-- as they do once all is carried out
 pub record LeadsWell (passable : Place → Bool) (p : Program) (k : ℕ) (reports : List Words) : Type 0 where
   pub safely : (clock : ℕ → ℕ) → NeverFalls clock → IsSafelyLed passable p (dispatch_of clock p k reports)
   pub once : (t u i : ℕ) → t ≤ u → u ≤ length reports → i < length p
@@ -152,9 +153,10 @@ unfoldable pub orders_in_run : Program → ReportForm → Holds → ℕ → List
 orders_in_run p form holds t =
     flat_map (λ i. if is_new p holds t i then order_line p form i (count_at (run p holds t) i) else []) (indices (length p))
 
--- A dispatch that took these reports and gives one order at a time is the run of the machine under the holds of all others: each agent
--- stands where it does in the run, and all is carried out when the run is finished; those that have carried out more by a report were ready;
--- and the orders that are due are those of the agents that are ready, and have not still the order that they had before
+-- A dispatch that took these reports and gives one order at a time is the run of the machine under the holds of all
+-- others: each agent stands where it does in the run, and all is carried out when the run is finished; those that have
+-- carried out more by a report were ready; and the orders that are due are those of the agents that are ready, and have
+-- not still the order that they had before
 pub record IsRun (p : Program) (form : ReportForm) (reports : List Words) : Type 0 where
   pub here : configuration_at p (counts_by (none_done p) reports) ≡ run p (holds_by p reports) (length reports)
   pub finished : is_all_done p (counts_by (none_done p) reports) ≡ is_finished p (run p (holds_by p reports) (length reports))

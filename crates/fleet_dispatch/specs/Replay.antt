@@ -14,7 +14,8 @@ use Rattle.fleet_dispatch.specs.Dispatch.{Course, Left, Dispatches}
 use Rattle.fleet_dispatch.specs.Session.{IsReady, left_in, first_course}
 use Rattle.fleet_dispatch.specs.declared.run.Session.{Session}
 
--- One turn over a log: what is told is told to nobody, nothing more is logged, and what is heard is the next line, which an LF ends
+-- One turn over a log: what is told is told to nobody, nothing more is logged, and what is heard is the next line,
+-- which an LF ends
 abbrev pub ReplaysTurn : ReportForm → (log log' : List ℕ) → Turn → Type 0
 ReplaysTurn form log log' (Told bytes) = log' ≡ log
 ReplaysTurn form log log' (Cut bytes) = ⊥

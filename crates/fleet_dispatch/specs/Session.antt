@@ -18,7 +18,8 @@ use Rattle.fleet_dispatch.specs.Dispatch.{Course, Left, IsCut, log_turns, turns_
 use Rattle.fleet_dispatch.specs.Orders.{closing}
 use Rattle.fleet_dispatch.specs.Talk.{Talk, Logs, Told, Cut, Heard, Asked, Unlogged, Misheard, NoMore, Unheard}
 
--- what is told may be told at this pace, and there is room for all orders of one time, for a line of the log, and for where all agents are
+-- what is told may be told at this pace, and there is room for all orders of one time, for a line of the log, and for
+-- where all agents are
 pub record IsReady (p : Program) (pace : Pace) (s : Session) : Type 0 where
   pub leads : Leads p pace.ahead s.progress
   pub row : length s.row.items ≡ ORDER * pace.ahead * length p
@@ -41,7 +42,8 @@ pub record Stays (s s' : Session) : Type 0 where
   pub done : s'.progress.done ≡ s.progress.done
   pub taken : s'.taken ≡ s.taken
 
--- the line says only what is ordered, and it and what follows from it were said and heard; by a report its actions are carried out
+-- the line says only what is ordered, and it and what follows from it were said and heard; by a report its actions are
+-- carried out
 pub record IsLineTaken (p : Program) (pace : Pace) (talks : Talk → Type 0) (works : Type 0) (s s' : Session) (line : Line) : Type 0 where
   pub said : talks (turns_of p s.progress.done line)
   pub still : works
@@ -75,7 +77,8 @@ TakesLine p pace talks works s s' n (Err (LogWrite line)) = (line ≡ n) × ((re
 TakesLine p pace talks works s s' n (Err Input) = talks (Unheard ∷ []) × Stays s s'
 TakesLine p pace talks works s s' n (Err _) = ⊥
 
--- A report that was heard was taken: first it was logged, unless it is a repeat, and then its actions are carried out and it is counted
+-- A report that was heard was taken: first it was logged, unless it is a repeat, and then its actions are carried out
+-- and it is counted
 pub record IsReportTaken (p : Program) (pace : Pace) (talks : Talk → Type 0) (works : Type 0) (s s' : Session) (report : Words) : Type 0 where
   pub logged : talks (log_turns s.progress.done report)
   pub still : works

@@ -15,8 +15,8 @@ use Rattle.fleet_dispatch.specs.Ahead.{is_done}
 abbrev pub await_text : Await → List ℕ
 await_text w = codes " waits " ++ (decimal w.agent ++ (codes ":" ++ decimal w.count))
 
--- `at A X,Y done N of M`: where agent A stands, and how many of its actions it has carried out, of how many; and an await for which it
--- waits, if it does
+-- `at A X,Y done N of M`: where agent A stands, and how many of its actions it has carried out, of how many; and an
+-- await for which it waits, if it does
 abbrev pub standing_text : (agent : ℕ) (place : Place) (done moves : ℕ) → Option Await → List ℕ
 standing_text agent place done moves waits =
     codes "at " ++ (decimal agent ++ (place_text place ++ (codes " done " ++ (decimal done ++ (codes " of " ++ (decimal moves ++ (option_map_or await_text waits [] ++ codes "\n")))))))

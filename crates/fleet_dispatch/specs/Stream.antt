@@ -39,7 +39,8 @@ IsMisheard form text =
 abbrev pub HasNoLine : List ℕ → Type 0
 HasNoLine text = position is_lf text ≡ None
 
--- One thing was told, heard or logged, which leaves the other ends as they were. What was told or logged whole was handed on
+-- One thing was told, heard or logged, which leaves the other ends as they were. What was told or logged whole was
+-- handed on
 abbrev pub TakesTurn : ReportForm → (ends ends' : Ends) → Turn → Type 0
 TakesTurn form ends ends' (Told bytes) = IsDelivered ends.out ends'.out bytes × (ends'.left ≡ ends.left) × (ends'.log ≡ ends.log)
 TakesTurn form ends ends' (Cut bytes) = Appends ends.out.taken ends'.out.taken bytes × HasFailed ends'.out × (ends'.left ≡ ends.left) × (ends'.log ≡ ends.log)

@@ -42,8 +42,8 @@ Hears talks works (Ok None) words = talks (NoMore ∷ [])
 Hears talks works (Err Form) words = talks (Misheard ∷ [])
 Hears talks works (Err Broken) words = talks (Unheard ∷ [])
 
--- from the first input, output and log to the second ones this was told, heard and logged: nothing was read ahead of the input at first, and
--- some bytes at last
+-- from the first input, output and log to the second ones this was told, heard and logged: nothing was read ahead of
+-- the input at first, and some bytes at last
 abbrev pub IsLogged : {R O : Type 0} → (talks : ReportForm → R → List ℕ → O → SinkState → R → List ℕ → O → SinkState → Talk → Type 0) → (input : R) (out : O) (input' : R) (out' : O)
     → (log log' : SinkState) → ReportForm → Talk → Type 0
 IsLogged talks input out input' out' log log' form talk = (ahead : List ℕ) × talks form input [] out log input' ahead out' log' talk

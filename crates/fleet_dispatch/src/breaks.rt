@@ -23,8 +23,8 @@ fn is_action<P: ProgramView>(program: &P, agent: u32, number: u32) -> bool
     1 <= number && number <= moves
 }
 
-/// Notes for the agent of each word the action that it names. Answers whether all of them are actions of the program; if
-/// not, some may be noted.
+/// Notes for the agent of each word the action that it names. Answers whether all of them are actions of the program;
+/// if not, some may be noted.
 fn note_breaks<P: ProgramView>(program: &P, words: &[Reported], breaks: &mut Vec<u32>) -> bool
     requires { length breaks.old.items ≡ length (P.program program.now) }
     ensures { MatchBool result

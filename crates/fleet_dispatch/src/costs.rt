@@ -91,8 +91,8 @@ fn cost_line_in<P: ProgramView>(program: &P, line: &[u8]) -> Option<CostLine>
     }
 }
 
-/// What the actions of a program cost, in any unit: each what is said of it alone, or else of its agent, or else one. It
-/// has a row for each agent, with what is said of all its actions, and then of each one; 0 if nothing is.
+/// What the actions of a program cost, in any unit: each what is said of it alone, or else of its agent, or else one.
+/// It has a row for each agent, with what is said of all its actions, and then of each one; 0 if nothing is.
 #[derive(Drop)]
 pub struct CostTable {
     rows: Vec<Vec<u32>>,
@@ -192,8 +192,8 @@ fn note_lines<P: ProgramView>(
     Ok(())
 }
 
-/// What the actions of the program cost, by a text of lines `A X`, each action of agent A costs X, and `A:N X`, action N
-/// of agent A does, one space between two words. What is said of an action goes before what is said of its agent, the
+/// What the actions of the program cost, by a text of lines `A X`, each action of agent A costs X, and `A:N X`, action
+/// N of agent A does, one space between two words. What is said of an action goes before what is said of its agent, the
 /// last line before others; an action of which nothing is said costs one. The text is read once, from the front.
 ///
 /// Errors: `Cost` with the first line that is none of these, that names no agent or action of the program, or a cost

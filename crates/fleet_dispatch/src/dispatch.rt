@@ -26,8 +26,8 @@ use std::alloc::Global;
 /// It goes on where the reports of a log have led another dispatch of the same program and form, and says first the
 /// orders that are open. The log is lines as `dispatch_over` hears them; what stands behind its last LF is none.
 ///
-/// Memory is taken before anything is said, two times: 12 KB for a report, 28 bytes an agent, and 73 for each order that
-/// may be given at once, of which there are `pace.ahead` an agent.
+/// Memory is taken before anything is said, two times: 35 KB for a report and its line of the log, 124 bytes an agent,
+/// and 73 for each order that may be given at once, of which there are `pace.ahead` an agent.
 ///
 /// Errors: before anything is said `OutOfMemory`, or `Log` if a line of the log is no report that the dispatch could
 /// take; and else those of `run_session`.

@@ -34,14 +34,14 @@ pub trait Floor {
         requires { works self.old }
         ensures { Tells (talks self.old self.new) (works self.new) result bytes.now };
 
-    /// Has the log take all of the bytes and hand them on before it answers. If it fails, a front of them was taken, and
-    /// nothing more can be logged.
+    /// Has the log take all of the bytes and hand them on before it answers. If it fails, a front of them was taken,
+    /// and nothing more can be logged.
     fn log(&mut self, bytes: &[u8]) -> Result<(), OutFault>
         requires { works self.old }
         ensures { Logs (talks self.old self.new) (works self.new) result bytes.now };
 
-    /// Waits for a line, and answers what was heard: of a report, it makes this one the one that it heard. `Ok(None)` if
-    /// there is no line any more.
+    /// Waits for a line, and answers what was heard: of a report, it makes this one the one that it heard. `Ok(None)`
+    /// if there is no line any more.
     fn hear(&mut self, report: &mut Report) -> Result<Option<LineKind>, HearFault>
         requires { works self.old }
         ensures { Hears (talks self.old self.new) (works self.new) result report.new };

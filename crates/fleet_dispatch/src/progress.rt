@@ -317,6 +317,7 @@ impl Progress {
         requires leads { (k : ℕ) × Leads (P.program program.now) k self.now }
         ensures { result ≡ is_all_done (P.program program.now) self.now.done }
     {
+        // The program is of use to the contract alone.
         let _ = program;
         self.next_left(0).is_none()
     }
@@ -462,6 +463,7 @@ impl Progress {
         requires agent { word.agent < length (P.program program.now) }
         ensures { result ≡ said_of self.now.done word }
     {
+        // The program is of use to the contract alone.
         let _ = program;
         match word.number {
             Some(number) => number,
@@ -535,6 +537,7 @@ impl Progress {
           due = self.new.due;
         } }
     {
+        // The program is of use to the contract alone.
         let _ = program;
         'woken: while self.wake_first(i).is_some() {}
         let is_waiting = self.is_waiting(i);

@@ -13,9 +13,9 @@ use fleet_text::deliver;
 use std::io::Read;
 
 /// An input by which robots report, beside the output over which they are told and a log. What is told over the one,
-/// heard from the other and logged is one talk, in turn, so a contract says what was told before a report was heard, and
-/// logged before an order was told. The window has the bytes of the input that were read ahead. Every reader is one,
-/// beside every output that hands on: a report is a line.
+/// heard from the other and logged is one talk, in turn, so a contract says what was told before a report was heard,
+/// and logged before an order was told. The window has the bytes of the input that were read ahead. Every reader is
+/// one, beside every output that hands on: a report is a line.
 pub trait ReportsTo<O: Flush>: Read {
     ghost use Rattle.std.specs.Prelude.{ℕ, List, ◌++◌, ◌∷◌, []};
     ghost use Rattle.std.specs.Io.KnownBytes.{Appends};
@@ -43,8 +43,8 @@ pub trait ReportsTo<O: Flush>: Read {
             orders.old log self.new (window_rest window.now) orders.new log)
             (IsWorking (O.state orders.new)) result bytes.now };
 
-    /// Waits for a line, and answers what was heard: of a report, it makes this one the one that it heard. `Ok(None)` if
-    /// there is no line any more.
+    /// Waits for a line, and answers what was heard: of a report, it makes this one the one that it heard. `Ok(None)`
+    /// if there is no line any more.
     fn hear(
         &mut self,
         form: ReportForm,
@@ -81,8 +81,8 @@ pub trait ReportsTo<O: Flush>: Read {
         → talks form r ahead o log r'' ahead'' o'' log'' (before ++ after) };
 }
 
-/// Turn after turn, what was told was handed on by the output, what was logged by the log, and what was heard is the next
-/// line of the input.
+/// Turn after turn, what was told was handed on by the output, what was logged by the log, and what was heard is the
+/// next line of the input.
 impl<R: Read, O: Flush> ReportsTo<O> for R {
     ghost use Rattle.std.specs.Io.KnownBytes.{prepend_known};
     ghost use Rattle.fleet_dispatch.specs.Stream.{TakesTurns};

@@ -139,8 +139,8 @@ fn log_report<F: Floor>(
     floor.log(&row[begin..])
 }
 
-/// Takes the report that was heard in the line of this number. It is logged before anything follows from it; one that is
-/// a repeat changes nothing.
+/// Takes the report that was heard in the line of this number. It is logged before anything follows from it; one that
+/// is a repeat changes nothing.
 fn take_report<P: ProgramView, F: Floor>(
     session: &mut Session,
     program: &P,

@@ -24,9 +24,9 @@ use fleet_verify::Accepted;
 use std::alloc::Global;
 
 /// A floor over an input, an output and a log, which it borrows. A report is a line of the input, read as it comes and
-/// ended by an LF: `-` for nobody, or words in strictly rising order of agent with one space between two, each `A:N`, or
-/// `A` in the form without numbers; the line `?` asks where the agents are. What is told or logged is handed on before
-/// anything else is done. Takes no memory.
+/// ended by an LF: `-` for nobody, or words in strictly rising order of agent with one space between two, each `A:N`,
+/// or `A` in the form without numbers; the line `?` asks where the agents are. What is told or logged is handed on
+/// before anything else is done. Takes no memory.
 #[derive(Drop)]
 pub struct StreamFloor<'a, R: ReportsTo<O>, O: Flush, L: ReportLog> {
     form: ReportForm,

@@ -129,7 +129,8 @@ accepted_by_chain passable k cs p e = accepted_is ComesAfterByChain passable k (
 
 -- ---- what is refused
 
--- of the two visits of a place the second, which is entered later by a numbering, may not come after the first by an await
+-- of the two visits of a place the second, which is entered later by a numbering, may not come after the first by an
+-- await
 pub unawaited : (passable : Place → Bool) (k : ℕ) (p : Program) (q : Place) (v w : Visit)
     → (is_right passable p && (is_numbered k p && (lists_visits p q (v ∷ w ∷ []) && (nat_lt (entry_level (weighed k) v) (entry_level (weighed k) w) && not (comes_by_await p v w))))) ≡ true
     → HasNoOrder ComesAfterByAwait p q

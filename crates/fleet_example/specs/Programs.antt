@@ -62,7 +62,8 @@ is_on_open_map columns rows q = is_below q.x columns && is_below q.y rows
 
 -- ---- programs
 
--- agent 0 goes from 1,0 to 3,0, and agent 1 behind it from 0,0 to 2,0. Each action of agent 1 awaits that its next cell has been left
+-- agent 0 goes from 1,0 to 3,0, and agent 1 behind it from 0,0 to 2,0. Each action of agent 1 awaits that its next cell
+-- has been left
 abbrev pub pair : Program
 pair =
     agent_with (cell_xy 1 0) (cell_xy 3 0) (go East [] ∷ go East [] ∷ [])
@@ -190,8 +191,8 @@ pub record IsRefusedAlways (p : Program) : Type 0 where
   pub by_await : (passable : Place → Bool) (tasks : List Task) → IsAcceptedBy ComesAfterByAwait passable tasks p → ⊥
   pub by_chain : (passable : Place → Bool) (tasks : List Task) → IsAcceptedBy ComesAfterByChain passable tasks p → ⊥
 
--- for these passable places and tasks the program is right, and it is numbered. But the place has no order, neither by awaits nor by
--- chains, and for that alone the program is refused
+-- for these passable places and tasks the program is right, and it is numbered. But the place has no order, neither by
+-- awaits nor by chains, and for that alone the program is refused
 pub record IsRefusedAt (passable : Place → Bool) (tasks : List Task) (p : Program) (q : Place) : Type 0 where
   pub right : IsRight passable tasks p
   pub numbered : (number : ActionId → ℕ) × IsNumbering p number

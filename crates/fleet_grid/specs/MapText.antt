@@ -77,7 +77,8 @@ AreEmpty ls = All (AllPass is_row_space) ls
 
 -- ---- a map text
 
--- a header, then a row of glyphs for each row of the ground, and then only lines that are empty but for spaces, tabs and CRs
+-- a header, then a row of glyphs for each row of the ground, and then only lines that are empty but for spaces, tabs
+-- and CRs
 pub record AreMapLines (ls : List Bytes) (g : Ground) : Type 0 where
   pub header : IsSizedHeader ls g.width g.height
   pub rows : AreMapRows g.width g.height (drop 4 ls)
@@ -109,7 +110,8 @@ pub record IsMapRightUpTo (row : ℕ) (ls : List Bytes) (w h : ℕ) : Type 0 whe
   pub rows : AreMapRows w row (drop 4 ls)
   pub within : row < h
 
--- the fault is there, and all that is judged before it is right. The header's lines count from 1, rows and columns from 0
+-- the fault is there, and all that is judged before it is right. The header's lines count from 1, rows and columns from
+-- 0
 abbrev pub IsFirstMapLineFault : List Bytes → MapFault → Type 0
 IsFirstMapLineFault ls OutOfMemory = ⊥
 IsFirstMapLineFault ls (Header line) = (k : ℕ) × (line ≡ k + 1) × IsFirstWithoutForm ls k

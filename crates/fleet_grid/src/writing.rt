@@ -11,7 +11,7 @@ use fleet_model::{Cell, OutOfMemory};
 use fleet_text::write_small_number;
 use std::alloc::{AllocError, Global};
 
-/// How many digits the longest number of a side has room for.
+/// How many digits the longest number of 16 bits has. That of a side has one less.
 const DIGITS: usize = 5;
 
 /// Whether the cell is one of these.

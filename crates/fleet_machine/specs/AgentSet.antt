@@ -6,6 +6,7 @@ use Rattle.fleet_model.specs.Machine.{indices}
 use Rattle.fleet_machine.specs.declared.cursor.Cursor.{Cursor}
 use Rattle.fleet_machine.specs.Machine.{flag_of}
 
+-- the bit of a member, or of none
 abbrev pub bit_if : Bool → ℕ
 bit_if b = if b then 1 else 0
 

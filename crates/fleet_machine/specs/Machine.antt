@@ -60,7 +60,7 @@ list_of w = w.agent * LISTS_EACH + w.count % LISTS_EACH
 abbrev pub agent_of : ℕ → ℕ
 agent_of list = list / LISTS_EACH
 
--- each agent in list j waits for this count or for a greater one
+-- the least count of list j: each agent in the list waits for this one or for a greater one
 abbrev pub least_of : List ℕ → ℕ → ℕ
 least_of least j = get_or least j 0
 

@@ -56,7 +56,8 @@ carried_all p m = record m {
   marks = marks_after p (all_but (flag_of m.moving)) m;
 }
 
--- the agents that a tick moves have moved, and are due, and nothing else is done yet of the tick in which these are held
+-- the agents that a tick moves have moved, and are due, and nothing else is done yet of the tick in which these are
+-- held
 abbrev pub after_moves : Program → (held : ℕ → Bool) → MachineState → MachineState
 after_moves p held m = record m {
   configuration = tick p held m.configuration;
@@ -81,7 +82,8 @@ pub record IsCarriedOut (p : Program) (held : ℕ → Bool) (before after : Mach
   pub most : judged ≤ moved_in p held before.configuration + awaiting_in p held before.configuration
   pub few : judged ≤ length p
 
--- agent i is flagged anew, has read as far as it can, and stands in the list in which it belongs; nothing else is changed
+-- agent i is flagged anew, has read as far as it can, and stands in the list in which it belongs; nothing else is
+-- changed
 pub record IsPlaced (p : Program) (before after : MachineState) (i : ℕ) : Type 0 where
   pub lacked : Option Await
   pub belongs : IsLacked p before.configuration i lacked
@@ -104,8 +106,8 @@ pub record IsAsBefore (before after : MachineState) (i : ℕ) : Type 0 where
   pub home : home_of after.waiting.homes i ≡ home_of before.waiting.homes i
   pub least : (j : ℕ) → least_of after.least j ≤ least_of before.least j
 
--- the agents that are due can be judged: each agent has read what it is to have read, who has an action left is flagged so,
--- and who is due stands in no list
+-- the agents that are due can be judged: each agent has read what it is to have read, who has an action left is flagged
+-- so, and who is due stands in no list
 pub record CanJudge (p : Program) (m : MachineState) : Type 0 where
   pub well_formed : IsWellFormed p
   pub agents : length m.configuration ≡ length p

@@ -216,8 +216,8 @@ impl AgentSet {
         self.filled = other.filled;
     }
 
-    /// The members of the other set are members too from now on. It costs as much as there are words with members of the
-    /// other.
+    /// The members of the other set are members too from now on. It costs as much as there are words with members of
+    /// the other.
     pub fn add(&mut self, other: &AgentSet)
         requires { length self.old ≡ length other.now }
         ensures agents { length self.new ≡ length self.old }
@@ -287,6 +287,7 @@ impl AgentSet {
         ensures behind { IfSome result (λ i. cursor.new.from ≡ i + 1) }
         ensures cursor { IsCursorOf self.now cursor.new }
     {
+        // Reading a field brings the invariant: there are so few agents that the place behind a member has a number.
         let _ = &self.words;
         match lowest(cursor.bits) {
             Some(place) => Some(cursor.pass(place as u16)),

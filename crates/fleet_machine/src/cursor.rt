@@ -19,6 +19,7 @@ fn without_lowest(word: u64, place: u16) -> u64
     ensures here { bit_at result place ≡ 0 }
     ensures others { (k : ℕ) → k ≢ place → bit_at result k ≡ bit_at word k }
 {
+    // Of the place the contract alone speaks.
     let _ = place;
     word & (word - 1)
 }

@@ -146,6 +146,7 @@ impl Machine {
         requires runs { Runs (P.program program.now) self.now }
         ensures { result ≡ is_finished (P.program program.now) self.now.configuration }
     {
+        // Of the program the contract alone speaks.
         let _ = program;
         self.next_left(0).is_none()
     }
@@ -156,6 +157,7 @@ impl Machine {
         ensures { result ≡ list_any (is_ready (P.program program.now) self.now.configuration)
             (indices (length (P.program program.now))) }
     {
+        // Of the program the contract alone speaks.
         let _ = program;
         self.next_ready(&mut self.ready_cursor()).is_some()
     }
@@ -166,6 +168,7 @@ impl Machine {
         requires agent { i < length (P.program program.now) }
         ensures { result ≡ is_ready (P.program program.now) self.now.configuration i }
     {
+        // Of the program the contract alone speaks.
         let _ = program;
         self.ready.contains(i)
     }
@@ -177,6 +180,7 @@ impl Machine {
         ensures ready { (i : ℕ) → i < length (P.program program.now)
             → flag_of result.now i ≡ is_ready (P.program program.now) self.now.configuration i }
     {
+        // Of the program the contract alone speaks.
         let _ = program;
         &self.ready
     }
@@ -257,6 +261,7 @@ impl Machine {
         ensures { option_map (λ a. a.step)
             (next_action (P.program program.now) self.now.configuration i) ≡ Some result }
     {
+        // Of the program the contract alone speaks.
         let _ = program;
         self.mark(i).step
     }
@@ -359,7 +364,8 @@ impl Machine {
         self.marks[i as usize] = mark;
     }
 
-    /// Flags agent `i` anew, which is flagged as ready and stands in no list, and puts it into the one in which it belongs.
+    /// Flags agent `i` anew, which is flagged as ready and stands in no list, and puts it into the one in which it
+    /// belongs.
     #[inline(always)]
     fn judge<P: ProgramView>(&mut self, program: &P, i: u16)
         requires well_formed { IsWellFormed (P.program program.now) }
@@ -487,8 +493,8 @@ impl Machine {
         self.least[j as usize]
     }
 
-    /// Takes all agents off the list of agent `j` in which those stand that wait for its count, which is this one, if the
-    /// list's least count is reached. They are due.
+    /// Takes all agents off the list of agent `j` in which those stand that wait for its count, which is this one, if
+    /// the list's least count is reached. They are due.
     fn wake_if_reached(&mut self, j: u16, count: u32)
         requires count { count ≡ count_at self.old.configuration j }
         requires few { j < MAX_AGENTS }

@@ -28,14 +28,16 @@ pub record KeepsOrder (p : Program) (c d : Configuration) (i : ℕ) : Type 0 whe
   pub stays : standing_at d i ≡ standing_at c i
   pub order : (s : Step) → order_of p c i ≡ Some s → order_of p d i ≡ Some s
 
--- After t ticks agent i may be on its way to q, or on it: it claimed q at some time up to then, and has finished nothing since.
+-- after t ticks agent i may be on its way to q, or on it: it claimed q at some time up to then, and has finished
+-- nothing since
 pub record MayBeOn (p : Program) (holds : Holds) (t i : ℕ) (q : Place) : Type 0 where
   pub since : ℕ
   pub before : since ≤ t
   pub nothing_since : count_at (run p holds since) i ≡ count_at (run p holds t) i
   pub claimed : Claims p (run p holds since) i q
 
--- after t ticks an order is to be given to agent i: it has one, and is not still on its way by the one that it had before
+-- after t ticks an order is to be given to agent i: it has one, and is not still on its way by the one that it had
+-- before
 abbrev pub is_new : Program → Holds → ℕ → ℕ → Bool
 is_new p holds zero i = is_ready p (run p holds zero) i
 is_new p holds (suc t) i = is_ready p (run p holds (suc t)) i && not (is_ready p (run p holds t) i && is_held holds t i)
@@ -45,6 +47,7 @@ abbrev pub orders_given : Program → Holds → ℕ → ℕ → ℕ
 orders_given p holds zero i = if is_new p holds zero i then 1 else 0
 orders_given p holds (suc t) i = orders_given p holds t i + (if is_new p holds (suc t) i then 1 else 0)
 
--- for reports of which each names the agents that have finished their moves: the holds that hold all others, of n agents
+-- for reports of which each names the agents that have finished their moves: the holds that hold all others, of n
+-- agents
 abbrev pub holds_of : ℕ → List (List ℕ) → Holds
 holds_of n reports = map (λ done. filter (λ i. not (is_among done i)) (indices n)) reports

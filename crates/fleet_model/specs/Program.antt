@@ -1,6 +1,6 @@
--- A program: for each agent a start, a goal and a list of actions. An action is a step and awaits, which are pairs of an agent
--- and a count. Agents count from 0, the actions of each from 1. What is asked of an agent or an action that is not there is answered
--- by the origin, nothing or an empty list.
+-- A program: for each agent a start, a goal and a list of actions. An action is a step and awaits, which are pairs of
+-- an agent and a count. Agents count from 0, the actions of each from 1. What is asked of an agent or an action that is
+-- not there is answered by the origin, nothing or an empty list.
 use Rattle.std.specs.Prelude.{◌≡◌, ◌≢◌, ℕ, zero, suc, ◌+◌, ◌<◌, ◌≤◌, List, [], ◌∷◌, length, map, take, Option, Some, None, slice_get, option_map, sum_by, All, Contains, IsTrue}
 use Rattle.std.specs.Option.{option_map_or}
 use Rattle.std.specs.List.Sorted.{IsStrictlyIncreasing}
@@ -15,6 +15,7 @@ use Rattle.fleet_model.specs.declared.program.Instruction.TheVariants as v
 use Rattle.fleet_model.specs.declared.limits.TheConstants.{MAX_AGENTS, MAX_COORDINATE, MAX_MOVES, MAX_MOVES_IN_ALL, MAX_MOVES_V1, MAX_AWAIT, MAX_AWAIT_V1}
 use Rattle.fleet_model.specs.Geometry.{place_of, is_move, stepped}
 
+-- for each agent, by its number, what it is to do
 abbrev pub Program : Type 0
 Program = List AgentProgram
 
@@ -72,8 +73,8 @@ abbrev pub IsInstruction : Program → (i n k : ℕ) → Instruction → Type 0
 IsInstruction p i n k (v.Await w) = slice_get (awaits_of p i n) k ≡ Some w
 IsInstruction p i n k (v.Step s) = (k ≡ length (awaits_of p i n)) × (step_of p i n ≡ Some s)
 
--- where the instruction stands with which an agent goes on after that one: the next one of its action, or after a step the first
--- one of the action after it
+-- where the instruction stands with which an agent goes on after that one: the next one of its action, or after a step
+-- the first one of the action after it
 abbrev pub offset_after : ((finished k : ℕ) → ℕ) → (finished k : ℕ) → Instruction → ℕ
 offset_after offset finished k (v.Await w) = offset finished (k + 1)
 offset_after offset finished k (v.Step s) = offset (finished + 1) 0

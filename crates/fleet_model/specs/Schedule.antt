@@ -33,8 +33,8 @@ pub record IsSchedule (p : Program) (s : Schedule) : Type 0 where
       → s.begins a ≡ Some t → HasEndedBy s t b
   pub begins_first : BeginsFirst p s
 
--- At time x agent i may be on q, wholly or in part: a number of its actions leads it to q, the last of these has begun
--- (it needs none for its start), and the next one has not ended (after its last one it stays).
+-- at time x agent i may be on q, wholly or in part: a number of its actions leads it to q, the last of these has begun
+-- (it needs none for its start), and the next one has not ended (after its last one it stays)
 pub record MayBeOnAt (p : Program) (s : Schedule) (x i : ℕ) (q : Place) : Type 0 where
   pub position : ℕ
   pub within : position ≤ moves p i

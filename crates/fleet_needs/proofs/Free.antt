@@ -233,10 +233,6 @@ module _ (p : Program) (m : MachineState) (t : ℕ) (h : IsTicked p m t) (from :
   pub none_ready : AreNoneFrom m.moving from → AreNoneReady p t from
   none_ready none j l agent = sym (h.moved j agent) ∙ none j l
 
-  -- and the machine has the number of the action
-  pub machine_number : (i : ℕ) → IsNextReady p t from i → (n : ℕ) → n ≡ count_at m.configuration i → n ≡ count p t i + 1
-  machine_number i next n e = e ∙ ap (λ c. count_at c i) h.here ∙ ap (λ (k : ℕ). count p k i) (add-one t) ∙ moves_on p t i next.agent next.ready
-
 module _ (p : Program) (t from : ℕ) where
   -- where nobody from there on was ready, all that is finished was finished before or is of an agent before
   pub none_more : AreNoneReady p t from → (a : ActionId) → IsAction p a → a.number ≤ count p (t + 1) a.agent
@@ -259,7 +255,8 @@ module _ (p : Program) (t from : ℕ) where
     pub next_action : IsAction p here
     next_action = record { agent = next.agent; first = omega arith; last = (let l : count p t i < moves p i = ready_left p (run p [] t) i next.ready in omega arith) }
 
-    -- an action that is finished after the tick, of an agent up to this one, was finished before it, or is its next one, or is of an agent before the others
+    -- an action that is finished after the tick, of an agent up to this one, was finished before it, or is its next
+    -- one, or is of an agent before the others
     pub one_more : (a : ActionId) → IsAction p a → (a.number ≤ count p t a.agent) ⊎ ((a.agent < i + 1) × (a.number ≤ count p (t + 1) a.agent))
         → ((a.number ≤ count p t a.agent) ⊎ ((a.agent < from) × (a.number ≤ count p (t + 1) a.agent))) ⊎ (a ≡ here)
     one_more a k (inl done) = inl (inl done)

@@ -1,4 +1,5 @@
--- Entries for actions, noted in the ticks that finish these if nobody is held; and these ticks, which rise along chains.
+-- Entries for actions, noted in the ticks that finish these if nobody is held; and these ticks, which rise along
+-- chains.
 use Rattle.std.proofs.Common.{◌≡◌, ◌≢◌, ℕ, zero, suc, ◌+◌, ◌-◌, ◌<◌, ◌≤◌, true, List, [], length, set, slice_index, refl, sym, ap, subst, ◌∙◌, arith, inl, inr, ◌⊎◌}
 use Rattle.std.proofs.lemmas.Bool.{cases_lt}
 use Rattle.std.proofs.lemmas.List.{get_or-set_same, get_or-set_other}

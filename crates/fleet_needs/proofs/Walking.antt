@@ -277,34 +277,15 @@ module _ (p : Program) (cost : ActionId → ℕ) where
 -- ---- an agent that has no await left
 
 -- the costs of one action more
-module _ (cost : ActionId → ℕ) (begin i : ℕ) (from : Standing) (old table : List ℕ) (n greatest : ℕ) (begun : from.finished ≤ n) where
+module _ (cost : ActionId → ℕ) (i : ℕ) (from : Standing) (n : ℕ) (begun : from.finished ≤ n) where
   abbrev so_far : ℕ
   so_far = n - from.finished
-
-  one_further : n + 1 - from.finished ≡ suc so_far
-  one_further = omega arith
-
-  here_again : from.finished + so_far ≡ n
-  here_again = omega arith
-
-  pub costs_more : greatest ≡ cost_after cost i from so_far → (v : ℕ) → v ≡ greatest + cost (after i n) → v ≡ cost_after cost i from (n + 1 - from.finished)
-  costs_more before v is =
-      subst (λ (j : ℕ). v ≡ cost_after cost i from j) (sym one_further)
-      (is ∙ ap (λ (g : ℕ). g + cost (after i n)) before ∙ ap (λ (j : ℕ). cost_after cost i from so_far + cost (after i j)) (sym here_again))
 
   pub low_more : ((k : ℕ) → k < so_far → cost (after i (from.finished + k)) ≤ MAX_COST) → cost (after i n) ≤ MAX_COST → (k : ℕ) → k < n + 1 - from.finished → cost (after i (from.finished + k)) ≤ MAX_COST
   low_more before here k l = elim (cases_lt k so_far) [
     | inl s ↦ before k s
     | inr s ↦ (let e : n ≡ from.finished + k = omega (arith, s, l) in subst (λ (j : ℕ). cost (after i j) ≤ MAX_COST) e here)
   ]
-
-  pub filled_more : table ≡ filled cost begin i from old so_far → greatest ≡ cost_after cost i from so_far → (x v : ℕ) → x ≡ begin + n → v ≡ greatest + cost (after i n)
-      → set table x v ≡ filled cost begin i from old (n + 1 - from.finished)
-  filled_more is before x v at value =
-      let place : x ≡ begin + (from.finished + so_far) = omega (arith, at, here_again) in
-      let cost_is : v ≡ cost_after cost i from (suc so_far) = subst (λ (j : ℕ). v ≡ cost_after cost i from j) one_further (costs_more before v value) in
-      subst (λ (j : ℕ). set table x v ≡ filled cost begin i from old j) (sym one_further)
-      (ap (λ (t : List ℕ). set t x v) is ∙ ap (λ (y : ℕ). set (filled cost begin i from old so_far) y v) place ∙ ap (set (filled cost begin i from old so_far) (begin + (from.finished + so_far))) cost_is)
 
 module _ (p : Program) (cost : ActionId → ℕ) (offset : (i finished k : ℕ) → ℕ) (ticks : ℕ) (finishes : Finishes p ticks)
     (counts : List ℕ) (stages : List Stage) (places : ActionPlaces) (costs : List ℕ) (h : IsWalkBy p cost offset counts stages places costs) (i : ℕ) (agent : i < length p)

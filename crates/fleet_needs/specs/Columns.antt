@@ -20,7 +20,8 @@ pub record AreColumns (asked : List Bool) (from : ℕ) (columns : Columns) : Typ
   pub within : (j k : ℕ) → column_of columns j ≡ Some k → k < columns.width
   pub apart : (i j k : ℕ) → column_of columns i ≡ Some k → column_of columns j ≡ Some k → i ≡ j
 
--- the blocks that are left: for each agent whether it is asked for, and the agent below whom all that are have had a column
+-- the blocks that are left: for each agent whether it is asked for, and the agent below whom all that are have had a
+-- column
 pub record BlocksLeft : Type 0 where
   pub asked : List Bool
   pub from : ℕ

@@ -105,8 +105,8 @@ pub record AreAwaitFlags (p : Program) (s : Schedule) (columns : Columns) (n : �
   pub all : length (flags_of m) ≡ total_awaits p
   pub flagged : AreFlaggedFor p columns (IsMade s n) (flags_of m)
 
--- the flags of awaits of agents below this one say whether they are implied, and so do those of awaits of agents who are
--- not asked for, and of actions without a row
+-- the flags of awaits of agents below this one say whether they are implied, and so do those of awaits of agents who
+-- are not asked for, and of actions without a row
 pub record AreFlaggedTo (p : Program) (s : Schedule) (asked : List Bool) (from : ℕ) (m : ImpliedAwaits) : Type 0 where
   pub places : AreAwaitPlaces p m.places
   pub all : length (flags_of m) ≡ total_awaits p

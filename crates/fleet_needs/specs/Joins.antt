@@ -57,6 +57,7 @@ pub record IsJoin (p : Program) (joins : List Join) (needs : List Need) (n : ℕ
   pub awaits : (k : ℕ) (w : Await) → slice_get (awaits_of p j.action.agent j.action.number) k ≡ Some w
       → (row_taken needs j k ≤ n) × StandsFor p joins (row_taken needs j k) w.agent w.count
 
+-- it is so of each join of the list
 abbrev pub AreJoins : Program → List Join → List Need → Type 0
 AreJoins p joins needs = (n : ℕ) (j : Join) → slice_get joins n ≡ Some j → IsJoin p joins needs n j
 

@@ -16,6 +16,7 @@ count_by x n = min (x.count + (n - x.from)) x.most
 abbrev pub key_of : Piece → ℕ
 key_of x = (x.last_agent * AGENTS + x.first_agent) * NUMBERS + x.from
 
+-- the pieces stand in that order
 abbrev pub AreSorted : List Piece → Type 0
 AreSorted pieces = IsNonDecreasingBy key_of pieces
 

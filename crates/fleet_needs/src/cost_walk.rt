@@ -210,8 +210,8 @@ pub struct Standing {
     pub greatest: u64,
 }
 
-/// Notes what the agent's next actions cost, up to the last one, each by so much more than the one before it, as long as
-/// that fits four bytes. They stand in the table from `begin` on, where the agent's first action has its place.
+/// Notes what the agent's next actions cost, up to the last one, each by so much more than the one before it, as long
+/// as that fits four bytes. They stand in the table from `begin` on, where the agent's first action has its place.
 fn fill<C: ActionCosts>(
     costs: &C,
     table: &mut [u32],

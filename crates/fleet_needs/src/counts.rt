@@ -93,7 +93,8 @@ impl Counts {
         requires alike { are_narrow other.now ≡ are_narrow self.old }
         ensures alike { AreAlike self.old self.new }
         ensures counts { (k : ℕ) → k < length (counts_of self.old)
-            → slice_index (counts_of self.new) k ≡ max (slice_index (counts_of other.now) (first + k))
+            → slice_index (counts_of self.new) k
+            ≡ max (slice_index (counts_of other.now) (first + k))
             (slice_index (counts_of other.now) (second + k)) }
     {
         match (self, other) {

@@ -1,5 +1,5 @@
-//! The cost of the critical path of each action: the greatest cost of a chain of needs that ends with it. What an action
-//! costs may be the time that it takes (Kelley and Walker 1959), or one if it matters and nothing if not.
+//! The cost of the critical path of each action: the greatest cost of a chain of needs that ends with it. What an
+//! action costs may be the time that it takes (Kelley and Walker 1959), or one if it matters and nothing if not.
 
 ghost use Rattle.std.specs.Prelude.{◌≡◌, ℕ, ◌≤◌, [], IfOk};
 ghost use Rattle.fleet_model.specs.declared.program.ActionId.{ActionId};

@@ -1,5 +1,5 @@
-//! A pass over the rows of a schedule, in the columns of one block: each is made of rows whose counts are still in their
-//! slots, used, and kept in its own slot.
+//! A pass over the rows of a schedule, in the columns of one block: each is made of rows whose counts are still in
+//! their slots, used, and kept in its own slot.
 
 ghost use Rattle.std.specs.Prelude.{◌≡◌, ◌≢◌, ◌+◌, ◌<◌, ℕ, length, max, slice_index, OnOk, ◌-◌, ◌*◌, ◌≤◌, slice_get, Some, IfOk};
 ghost use Rattle.fleet_needs.specs.Columns.{agents_in};

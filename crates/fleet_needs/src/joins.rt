@@ -1,5 +1,5 @@
-//! Which rows are made, and of which rows each is joined: one for each action that awaits something, unless it awaits one
-//! action alone and needs it anyhow. The row of any other is that of its agent's action before.
+//! Which rows are made, and of which rows each is joined: one for each action that awaits something, unless it awaits
+//! one action alone and needs it anyhow. The row of any other is that of its agent's action before.
 
 ghost use Rattle.std.specs.Prelude.{◌≡◌, ◌↔◌, ◌+◌, ◌-◌, ◌<◌, ◌≤◌, Bool, true, false, [], length, get_or, slice_index, set, IfOk, OnOk};
 ghost use Rattle.fleet_model.specs.Program.{AreInRange, awaits_of, total_moves};
@@ -339,8 +339,8 @@ impl Joins {
     }
 }
 
-/// Whether the action is to have a row: it awaits something, or is wanted to have one. An action of one await that others
-/// imply needs no more than the agent's action before does.
+/// Whether the action is to have a row: it awaits something, or is wanted to have one. An action of one await that
+/// others imply needs no more than the agent's action before does.
 fn needs_row<P: ProgramView>(program: &P, course: &Course<'_>, action: ActionId) -> bool
     requires range { AreInRange (P.program program.now) }
     requires places { ArePlacesOf (P.program program.now) course.now.places.now }

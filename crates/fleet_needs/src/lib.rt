@@ -1,8 +1,8 @@
 //! Needs: which actions of a program begin a chain of needs that ends with another action, by rows of counts that are
 //! joined and compared by lanes, and which awaits others imply.
 //!
-//! `counts` keeps the counts of rows in two bytes each or in four, and joins and compares rows: two rows of four bytes a
-//! count lane by lane, eight counts at once, and then the counts that are left, one by one. A lane is a vector of
+//! `counts` keeps the counts of rows in two bytes each or in four, and joins and compares rows: two rows of four bytes
+//! a count lane by lane, eight counts at once, and then the counts that are left, one by one. A lane is a vector of
 //! `std::simd`, in two small functions of their own, whose proofs alone speak of lanes: the loops over them know places
 //! and counts.
 //!
@@ -20,28 +20,30 @@
 //! `join_pass` makes the rows in that order, in the columns of one block, and keeps their counts slot by slot. A row is
 //! made in two steps: first of the rows of all that its action needs, and then, for each await, with the awaited
 //! action's own number. A row in its slot has 0 in the column of its own agent, so after the first step the count of
-//! each awaited agent is that of all needs but this await. What is done with a row is a `JoinUse`, which is shown the row
-//! after either step; there are three, in `questions`, `gather` and `implied`.
+//! each awaited agent is that of all needs but this await. What is done with a row is a `JoinUse`, which is shown the
+//! row after either step; there are three, in `questions`, `gather` and `implied`.
 //!
-//! `questions` answers questions for chains: it looks a few steps back from the end of a chain first, and asks what this
-//! leaves open agent by agent, in blocks of columns.
+//! `questions` answers questions for chains: it looks a few steps back from the end of a chain first, and asks what
+//! this leaves open agent by agent, in blocks of columns.
 //!
 //! `gather` gathers the counts of all rows: by each row it goes on with the last *piece* of the two agents, or begins a
 //! new one, block by block of columns. It sorts the pieces (`Pieces`) and looks counts up in them.
 //!
 //! Flags stand agent by agent, action by action (`await_places`). `settled` looks a few steps back from each action, as
-//! far as the ticks let it: most awaits are settled so, and the agents of the others are asked for. Once most agents are
-//! asked for it looks back less, the less the shorter rows are.
+//! far as the ticks let it: most awaits are settled so, and the agents of the others are asked for. Once most agents
+//! are asked for it looks back less, the less the shorter rows are.
 //!
 //! `implied` has a flag for each await. Those that a few steps back settle come first (`settled`), and for the agents
 //! that are left it goes block by block over the rows, in which these agents alone have a column: between the two steps
-//! of a row an await is implied if the count of its agent is no less than its own. An action without a row awaits nothing
-//! or has flags that are set already.
+//! of a row an await is implied if the count of its agent is no less than its own. An action without a row awaits
+//! nothing or has flags that are set already.
 //!
 //! `cost_walk` lets each agent go on as far as its awaits allow, without ticks: while it waits, the agent that it waits
-//! for goes on. For each action that is finished so it notes the greatest cost among what the action needs, and its own;
-//! `cost_table` keeps these in four bytes each as long as all fit, and `critical` hands them out (`CriticalCosts`). What
-//! an action costs is a trait, `ActionCosts`.
+//! for goes on. For each action that is finished so it notes the greatest cost among what the action needs, and its
+//! own; `cost_table` keeps these in four bytes each as long as all fit, and `critical` hands them out
+//! (`CriticalCosts`). What an action costs is a trait, `ActionCosts`.
+//!
+//! `let _ = program.agents();` stands where what that call ensures is needed: the program is well-formed.
 #![tactic(auto)]
 
 mod await_places;

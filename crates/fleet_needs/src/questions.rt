@@ -310,7 +310,8 @@ fn answer_one<P: ProgramView>(
 fn count_for(row: &Counts, k: usize, question: Question) -> u32
     requires { k < length (counts_of row.now) }
     ensures own { question.first.agent ≡ question.last.agent → result ≡ question.last.number }
-    ensures other { question.first.agent ≢ question.last.agent → result ≡ slice_index (counts_of row.now) k }
+    ensures other { question.first.agent ≢ question.last.agent
+        → result ≡ slice_index (counts_of row.now) k }
 {
     if question.first.agent == question.last.agent {
         return question.last.number;

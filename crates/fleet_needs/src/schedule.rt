@@ -105,8 +105,8 @@ impl Schedule {
         self.needs[join.first as usize + usize::from(k)]
     }
 
-    /// How many columns a block has at most: as many as there is room for in all slots, but at least 8, and no more than
-    /// a program may have agents.
+    /// How many columns a block has at most: as many as there is room for in all slots, but at least 8, and no more
+    /// than a program may have agents.
     pub(crate) fn columns_at_once(&self) -> u16
         ensures least { LEAST_COLUMNS ≤ result }
         ensures most { result ≤ MAX_AGENTS }

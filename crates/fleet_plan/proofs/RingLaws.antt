@@ -98,8 +98,8 @@ module _ (ahead : List (Option ℕ)) where
 
   -- ---- all the way round
 
-  -- what holds of a first agent, of a list of agents that leads on from it, and the last of which has the first one ahead of it, holds of
-  -- each agent that the first one reaches
+  -- what holds of a first agent, of a list of agents that leads on from it, and the last of which has the first one
+  -- ahead of it, holds of each agent that the first one reaches
   pub all_round : (P : ℕ → Type 0) (first : ℕ) (js : List ℕ) (last : ℕ) → Leads ahead first js last → ahead_of ahead last ≡ Some first → P first → AllByRecursion P js → (e : ℕ) → LeadsTo ahead first e → P e
   all_round P first js last f back here all e g = go g.0 first js f here all g.1
     where

@@ -326,9 +326,6 @@ first_meets have g plan on t places s i j m =
     let next = places_at g plan (t + 1) in
     first_is have g plan on t places next.0 s.here next.1 s.earlier (Vertex t i j) (refl, m)
 
-pub sweep_begins : (g : Ground) (plan : Plan) (places : List ℕ) → StandOnPlaces g plan 0 places → IsSweep g plan places 0
-sweep_begins g plan places h = record { here = h; earlier = λ d c. omega arith }
-
 -- what one step of the loop found
 module _ (have : HavePlaces) (g : Ground) (plan : Plan) (on : StandOnMap g plan) (t : ℕ) (places next : List ℕ) (s : IsSweep g plan places t) (then : StandOnPlaces g plan (t + 1) next) (found : Option Conflict) where
   pub found_first : IfSome found (IsFirstIn places next t) → IfSome found (IsFirstConflict plan)

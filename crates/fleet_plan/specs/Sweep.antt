@@ -137,7 +137,8 @@ pub record IsSwept (g : Ground) (plan : Plan) (table : Table ℕ) (places next :
   pub settled : (i : ℕ) → i < length next → IsAgentSettled places next ahead walks i
   pub covers : Covers plan t row
 
--- what a sweep knows: the table, for each agent its place at the time and at the next one, who is ahead of it and whose walk has met it, and last the agents that are looked at
+-- what a sweep knows: the table, for each agent its place at the time and at the next one, who is ahead of it and whose
+-- walk has met it, and last the agents that are looked at
 pub record SweepRows : Type 0 where
   pub table : Table ℕ
   pub places : List ℕ

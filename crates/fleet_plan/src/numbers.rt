@@ -1,4 +1,4 @@
-//! Numbers of a plan that are printed of plans: the sum of costs, the moves and the waits (Stern et al. 2019).
+//! The numbers that are printed of a plan: the sum of costs, the moves and the waits (Stern et al. 2019).
 
 ghost use Rattle.std.specs.Prelude.{◌≡◌, ◌+◌, ◌≤◌, length};
 ghost use Rattle.fleet_model.specs.declared.limits.TheConstants.{MAX_HORIZON};

@@ -149,12 +149,6 @@ module _ (other q : Place) (row : List ℕ) (at end : ℕ) (text : IsTextOf othe
     past_is : length (past_column other) ≡ suc digits
     past_is = ap (λ z. suc (length (signed_decimal z))) y_is ∙ ap suc (sym digits_are)
 
-    -- the column ends in the row of bytes
-    pub column_within : 2 + digits ≤ end
-    column_within =
-        let parts : length (place_text other) ≡ suc (length (signed_decimal other.x) + length (past_column other)) = ap suc (length-append (signed_decimal other.x) (past_column other)) in
-        omega (arith, text.fits, parts, past_is)
-
     module _ (m : ℕ) (m_is : other.x ≡ pos m) (few : m < 2 ^ 32) where
       fits : m < 2 ^ 64
       fits = omega (arith, few)
@@ -206,13 +200,6 @@ pub in_column_if : (o q : Place) → IsBeside o q → o.y ≢ q.y → (o.x ≡ q
 in_column_if o q beside other = elim beside [
   | inl same ↦ same
   | inr same ↦ absurd (other same.0)
-]
-
--- in the same row it stands in a column close to that
-pub in_row_if : (o q : Place) → IsBeside o q → o.y ≡ q.y → AreClose o.x q.x
-in_row_if o q beside row = elim beside [
-  | inl same ↦ rw same.0 (record { low = omega (arith, ints); high = omega (arith, ints) })
-  | inr same ↦ same.1
 ]
 
 -- what was written, if it was

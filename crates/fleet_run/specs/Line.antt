@@ -33,8 +33,8 @@ abbrev pub WritesOver : Bool → (q : Place) (at end : ℕ) (row row' : List ℕ
 WritesOver true q at end row row' = IsWrittenOver q at end row row'
 WritesOver false q at end row row' = row' ≡ row
 
--- the bytes before the place of agent i, from the first place on, are moved so far that a text which begins at `to` ends
--- where the place does
+-- the bytes before the place of agent i, from the first place on, are moved so far that a text which begins at `to`
+-- ends where the place does
 abbrev pub moved_before : (i to : ℕ) (row begins : List ℕ) → List ℕ
 moved_before i to row begins = copy_within row (get_or begins 0 0) (get_or begins i 0) (to + get_or begins 0 0 - get_or begins i 0)
 

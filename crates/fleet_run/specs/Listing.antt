@@ -37,7 +37,8 @@ unfoldable pub agent_line : ℕ → Cell → Cell → List ℕ
 agent_line i start goal =
     line_text (codes "agent" ∷ (decimal i ++ 58 ∷ []) ∷ pair_text start.x start.y ∷ codes "to" ∷ pair_text goal.x goal.y ∷ [])
 
--- the line of action n of agent i that does this step: `i:n east to x,y after j:m ..`, with the place where the agent is then
+-- the line of action n of agent i that does this step: `i:n east to x,y after j:m ..`, with the place where the agent
+-- is then
 abbrev pub step_line : Program → ℕ → ℕ → Step → List ℕ
 step_line p i n step =
     with_spaces (numbered_text i n ∷ step_words step) ++ (place_text (path p i n) ++ (next_words (await_words (awaits_of p i n)) ++ 10 ∷ []))

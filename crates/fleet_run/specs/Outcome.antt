@@ -44,8 +44,8 @@ AsksUnless (Some _) ended s s' t r flags = (r ≡ Ok false) × (s' ≡ s)
 abbrev pub AsksUnlessOver : Time → (source source' : SourceState) → Result Bool RunFault → List Bool → Type 0
 AsksUnlessOver time s s' r flags = AsksUnless time.end time.source_ended s s' time.ticks r flags
 
--- A time of a run: the sink took its line, and then the source was asked for the next tick, unless the run had ended; or
--- the sink failed within the line, and the source is as it was
+-- A time of a run: the sink took its line, and then the source was asked for the next tick, unless the run had ended;
+-- or the sink failed within the line, and the source is as it was
 abbrev pub PassesTime : Time → (source source' : SourceState) (out out' : SinkState) (line : List ℕ) → Result Bool RunFault → List Bool → Type 0
 PassesTime time s s' o o' line (Ok more) flags = Takes o o' line × AsksUnlessOver time s s' (Ok more) flags
 PassesTime time s s' o o' line (Err OutOfMemory) flags = ⊥

@@ -24,9 +24,9 @@ hold_last p held = last_of (length p) (lines held)
 abbrev pub hold_source : Program → List ℕ → SourceState
 hold_source p held = record { ticks = hold_ticks p held; last = hold_last p held; fault = None }
 
--- The trace of the program was written whole, under the holds for which the bytes stand, and the report has its numbers. Its ticks are at
--- least the longest chain, and at most that and the ticks in which a ready agent was held; of the holds no line was asked for that is no
--- tick's
+-- The trace of the program was written whole, under the holds for which the bytes stand, and the report has its
+-- numbers. Its ticks are at least the longest chain, and at most that and the ticks in which a ready agent was held; of
+-- the holds no line was asked for that is no tick's
 pub record WritesTrace (p : Program) (chain : ℕ) (held : List ℕ) (out out' : SinkState) (r : Report) : Type 0 where
   pub finish : IsFinish p (hold_ticks p held) r.ticks
   pub written : Takes out out' (trace_text p (hold_ticks p held) r.ticks chain)
@@ -36,8 +36,8 @@ pub record WritesTrace (p : Program) (chain : ℕ) (held : List ℕ) (out out' :
   pub held_ready : r.held ≡ held_ticks p (hold_ticks p held) r.ticks
   pub in_time : IsInTime r
 
--- a line of the holds that was asked for is no tick's, or the sink failed while the trace was written, or the holds have more ticks than
--- a run takes. A text never breaks off
+-- a line of the holds that was asked for is no tick's, or the sink failed while the trace was written, or the holds
+-- have more ticks than a run takes. A text never breaks off
 pub record StopsTrace (p : Program) (chain : ℕ) (held : List ℕ) (out out' : SinkState) (fault : RunFault) : Type 0 where
   pub never_broken : (tick : ℕ) → fault ≢ Source tick
   pub source : SourceState

@@ -235,6 +235,7 @@ impl<'g, P: ProgramView> Fleet<'g, P> {
             (P.program self.now.accepted.program) self.now.accepted.chain }
         ensures few { length (P.program self.now.accepted.program) ≤ MAX_AGENTS }
     {
+        // The fleet that is read shows its invariant.
         let _ = &self.machine;
     }
 
@@ -246,6 +247,7 @@ impl<'g, P: ProgramView> Fleet<'g, P> {
             (P.program self.now.accepted.program) self.now.configuration }
     {
         ready_moves_are_apart();
+        // The fleet that is read shows its invariant.
         let _ = &self.machine;
     }
 

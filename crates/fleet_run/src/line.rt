@@ -303,8 +303,8 @@ fn is_digit(code: u32) -> bool
     (u32::from(b'0')..=u32::from(b'9')).contains(&code)
 }
 
-/// Writes the last digit of a coordinate over that of one beside it, if neither is negative, and no other digit changes.
-/// Answers whether it did.
+/// Writes the last digit of a coordinate over that of one beside it, if neither is negative, and no other digit
+/// changes. Answers whether it did.
 #[inline(always)]
 fn patch_digit(old: i32, new: i32, row: &mut [u8], at: usize) -> bool
     requires at { at < length row.old }
@@ -336,6 +336,7 @@ fn patch_place(old: Place, place: Place, row: &mut [u8], begin: usize, end: usiz
     requires beside { IsBeside old place }
     ensures { WritesOver result place begin end row.old row.new }
 {
+    // Where the text begins is of use to the contract alone.
     let _ = begin;
     let last = end - 1;
     let is_other_row = old.y != place.y;

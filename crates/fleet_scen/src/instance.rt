@@ -41,7 +41,7 @@ impl Instance {
         self.tasks.len() as u16
     }
 
-    /// The cell on which agent `i` begins, counted from 0.
+    /// The cell on which agent `i`, counted from 0, begins.
     pub fn start(&self, i: u16) -> Cell
         requires { i < length self.now }
         ensures { option_map (λ t. t.start) (slice_get self.now i) ≡ Some result }
@@ -49,7 +49,7 @@ impl Instance {
         self.tasks[usize::from(i)].start
     }
 
-    /// The cell on which agent `i` is to end, counted from 0.
+    /// The cell on which agent `i`, counted from 0, is to end.
     pub fn goal(&self, i: u16) -> Cell
         requires { i < length self.now }
         ensures { option_map (λ t. t.goal) (slice_get self.now i) ≡ Some result }

@@ -89,6 +89,7 @@ pub record IsSpread (g : Ground) (labels : List Label) (search : ℕ) (start goa
   pub in_next : (c : Cell) → Contains next c → IsOnGround g c
   pub closed : (c : Cell) (n : ℕ) → IsOnGround g c → label_in g labels search c ≡ Some n → IsClosed g labels search c n ⊎ IsWaiting f_bound (n + manhattan c start) layer next left c
 
+-- .. of the labels and the lists of a table
 abbrev pub IsSpreadOf : Option Cell → DistanceTable → Type 0
 IsSpreadOf left d = IsSpread d.grid d.labels d.search d.start d.goal d.f_bound left d.layer d.next
 

@@ -135,6 +135,7 @@ pub record IsFrontier (q : Query) (f : ℕ) (left : Option ℕ) (nodes : List No
   pub past : (k : ℕ) → k < f → bucket_of open_list k ≡ []
   pub done : (i : ℕ) → i < length nodes → ((k : ℕ) × Contains (bucket_of open_list k) i) ⊎ ((left ≡ Some i) ⊎ IsStateSettled q nodes (state_in nodes i))
 
+-- .. of what a search has come to
 abbrev pub IsFrontierOf : Query → ℕ → Option ℕ → Exploration → Type 0
 IsFrontierOf q f left s = IsFrontier q f left s.nodes (earliest_in s.labels) s.open_list
 
@@ -192,7 +193,8 @@ HasEnded q f old new (BucketEnd.Goal place) =
 HasEnded q f old new BucketEnd.Grew = (length old.nodes < length new.nodes) × IsFrontierOf q (f - 1) None new
 HasEnded q f old new BucketEnd.Empty = (length new.nodes ≡ length old.nodes) × IsFrontierOf q (f + 1) None new
 
--- the agent may stand on the start, the goal is not too far, and from `goal_free_from` on it is free
+-- the tables are right, the agent may stand on the start, the horizon is not beyond the greatest, and the goal is free
+-- from `goal_free_from` on, and not sooner
 pub record IsPosed (q : Query) : Type 0 where
   pub measured : IsMeasured q
   pub on_ground : IsTrue (is_passable q.grid.now (place_of q.start))

@@ -28,6 +28,7 @@ pub record IsTurnOf (problem : Problem) (order : List ℕ) (kept : Plan) : Type 
   pub made : IsMadeAfterFirst problem order kept
   pub fewer : length kept < length order
 
+-- .. of a turn
 abbrev pub IsTurn : Problem → Turn → Type 0
 IsTurn problem turn = IsTurnOf problem turn.order.items turn.kept.items
 

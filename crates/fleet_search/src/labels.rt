@@ -31,7 +31,7 @@ pub struct Labels {
 }
 
 impl Labels {
-    /// No interval has a label. Takes no memory.
+    /// No interval has a label, and no search has begun. Takes no memory.
     pub fn new(alloc: Global) -> Labels
         ensures labels { AreLabels result }
         ensures search { result.search ≡ 0 }
@@ -175,7 +175,7 @@ pub struct Arrivals {
 }
 
 impl Arrivals {
-    /// No search has come anywhere. Takes no memory.
+    /// No search has begun. What is answered before the first one begins is of no use. Takes no memory.
     pub fn new(alloc: Global) -> Arrivals {
         let labels = Labels::new(alloc);
         Arrivals { labels }
@@ -189,7 +189,7 @@ impl Arrivals {
     }
 
     /// Notes that the search comes to this safe interval of the cell at the time. If memory is refused, all labels are
-    /// taken off.
+    /// taken off, and another search has to begin.
     pub fn note(&mut self, cell: usize, interval: usize, time: u16) -> Result<(), OutOfMemory>
         requires { interval < 4294967295 }
         ensures { OnOk result

@@ -38,10 +38,6 @@ written_front front row old start le same written room =
     ∙ (ap (take (16 - start)) written
     ∙ (ap (λ n. take n (front ++ drop 16 old)) (sym long) ∙ (take-append-le (length front) front (drop 16 old) (omega arith) ∙ take_all (length front) front (omega arith))))
 
--- one word alone
-pub numbered_one : (owner first : ℕ) → 32 ∷ numbered_text owner first ≡ next_words (numbered_words owner first 1)
-numbered_one owner first = sym (append-nil (32 ∷ numbered_text owner first))
-
 -- ---- so many numbers, and more after them
 
 range_split : (a m n : ℕ) → range_with_len a (m + n) ≡ range_with_len a m ++ range_with_len (a + m) n

@@ -4,17 +4,11 @@ use Rattle.std.proofs.Math.Seq.{take-add, take-append-add}
 use Rattle.std.proofs.lemmas.List.{take-append-le, take_all, take_more, map-append, take-append-drop}
 use Rattle.std.specs.List.{flat_map}
 use Rattle.std.proofs.lemmas.Grind.{common_steps, flat_map-append}
-use Rattle.std.specs.Io.KnownBytes.{Keeps, Appends}
+use Rattle.std.specs.Io.KnownBytes.{Appends}
 use Rattle.fleet_text.specs.Sink.{SinkState, Takes, StopsWithin, TakesAll, IsWorking}
 use Rattle.fleet_text.specs.Row.{PassesOn, Gathers}
 use Rattle.fleet_text.specs.declared.writing.Word.{Word}
 use Rattle.fleet_text.specs.Words.{word_text, with_spaces, next_words}
-
--- what is kept has grown by nothing
-pub appends_nothing : (a b : Option (List ℕ)) → Keeps a b → Appends a b []
-appends_nothing None b h = tt
-appends_nothing (Some xs) None h = h
-appends_nothing (Some xs) (Some ys) h = grind (arith, common_steps)
 
 -- one growth after another
 pub appends_more : (a b c : Option (List ℕ)) (xs ys : List ℕ) → Appends a b xs → Appends b c ys → Appends a c (xs ++ ys)

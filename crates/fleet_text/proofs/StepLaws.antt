@@ -1,4 +1,5 @@
--- Steps of reading: what follows if they gave a value or a fault, and if a reader answers what a text stands for or its first fault.
+-- Steps of reading: what follows if they gave a value or a fault, and if a reader answers what a text stands for or its
+-- first fault.
 use Rattle.std.proofs.Common.{◌≡◌, ℕ, Bool, true, false, Option, Some, None, Result, Ok, Err, refl, ap, inl, inr, zero, suc, List, [], ◌∷◌, drop, sym, ◌∙◌}
 use Rattle.std.specs.Prelude.{◌⊎◌, slice_get}
 use Rattle.fleet_text.specs.Steps.{◌>>=◌, ◌>>◌, right_or, fault_if, some_or, none_or}

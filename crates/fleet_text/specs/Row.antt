@@ -8,7 +8,8 @@ pub record PassesOn (out out' : SinkState) (row left bytes : List ℕ) : Type 0 
   pub taken : Takes out out' handed
   pub in_order : row ++ bytes ≡ handed ++ left
 
--- the bytes were put into the row, from which some may have been handed on; or the sink failed before it had taken all of them
+-- the bytes were put into the row, from which some may have been handed on; or the sink failed before it had taken all
+-- of them
 abbrev pub Gathers : {T E : Type 0} → (out out' : SinkState) → Result T E → (row left bytes : List ℕ) → Type 0
 Gathers out out' (Ok _) row left bytes = PassesOn out out' row left bytes
 Gathers out out' (Err _) row left bytes = StopsWithin out out' (row ++ bytes)

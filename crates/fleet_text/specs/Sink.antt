@@ -41,7 +41,8 @@ pub record IsDelivered (out out' : SinkState) (bytes : List ℕ) : Type 0 where
   pub written : Takes out out' bytes
   pub flushed : out'.is_flushed ≡ true
 
--- One call of `put`: some front of the piece was taken, which may still be kept back; at a fault nothing was, and the sink has failed.
+-- One call of `put`: some front of the piece was taken, which may still be kept back; at a fault nothing was, and the
+-- sink has failed.
 abbrev pub TakesPiece : {E : Type 0} → (out out' : SinkState) → Result ℕ E → List ℕ → Type 0
 TakesPiece out out' (Ok n) piece =
     (0 < n) × (n ≤ length piece) × Takes out out' (take n piece) × (out'.is_flushed ≡ false)

@@ -29,7 +29,8 @@ next_front owner tens = 32 ∷ (decimal owner ++ 58 ∷ []) ++ tens_text tens
 abbrev pub digit_words : List ℕ → (digit count : ℕ) → List ℕ
 digit_words front digit count = flat_map (λ d. front ++ d ∷ []) (range_with_len digit count)
 
--- a text as it stands, a number in base ten, a number and a colon, two numbers, or a number with another that counts within it
+-- a text as it stands, a number in base ten, a number and a colon, two numbers, or a number with another that counts
+-- within it
 abbrev pub word_text : Word → List ℕ
 word_text (Text text) = text.now
 word_text (Number n) = decimal n

@@ -36,8 +36,8 @@ fn number_front(text: &[u8]) -> Option<(u64, &[u8])>
     Some((number, rest))
 }
 
-/// The number that a word of digits spells, however many they are. A number above `TOO_LONG` is answered as
-/// `TOO_LONG`; an empty word, or one with another byte, spells none.
+/// The number that a word of digits spells, however many they are. A number above `TOO_LONG` is answered as `TOO_LONG`;
+/// an empty word, or one with another byte, spells none.
 pub fn number_of(word: &[u8]) -> Option<u64>
     ensures { result ≡ option_map (λ n. min n TOO_LONG) (number word.now) }
 {

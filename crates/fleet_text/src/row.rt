@@ -193,8 +193,8 @@ impl Row {
         self.len += count;
     }
 
-    /// Adds so many of the first bytes of a piece and a digit behind them, for each of so many digits, from this one on.
-    /// There is room for as many whole pieces and digits.
+    /// Adds so many of the first bytes of a piece and a digit behind them, for each of so many digits, from this one
+    /// on. There is room for as many whole pieces and digits.
     #[inline(always)]
     pub(crate) fn append_digits(&mut self, piece: &[u8], front: usize, digit: u8, count: u8)
         requires piece { length piece.now ≡ TWO }

@@ -38,7 +38,6 @@ pub after_found : (p : Program) (v w : Visit) (k : ℕ) (a : Await) → slice_ge
 after_found p v w k a at e l =
     inr (a, (k, slice_get_within (awaits_of p w.agent w.position) k a at, get_or_from_slice_get (awaits_of p w.agent w.position) k a a at), e, l)
 
--- none of the awaits is one of the leaving, and the visit is no later one of the agent
 -- one await more that is of another agent, or of too few actions
 pub after_more : (p : Program) (v w : Visit) (k : ℕ) (x : Await) → slice_get (awaits_of p w.agent w.position) k ≡ Some x → (x.agent ≡ v.agent → (leaving p v).number ≤ x.count → ⊥)
     → ((m : ℕ) (a : Await) → m < k → slice_get (awaits_of p w.agent w.position) m ≡ Some a → a.agent ≡ v.agent → (leaving p v).number ≤ a.count → ⊥)
@@ -52,6 +51,7 @@ after_more p v w k x here not sooner m a below at =
           subst (λ (b : Await). b.agent ≡ v.agent → (leaving p v).number ≤ b.count → ⊥) one not
     ]
 
+-- none of the awaits is one of the leaving, and the visit is no later one of the agent
 pub after_none : (p : Program) (v w : Visit) (k : ℕ) → (IsLaterVisit v w → ⊥) → length (awaits_of p w.agent w.position) ≤ k
     → ((m : ℕ) (a : Await) → m < k → slice_get (awaits_of p w.agent w.position) m ≡ Some a → a.agent ≡ v.agent → (leaving p v).number ≤ a.count → ⊥) → ComesAfterByAwait p v w → ⊥
 after_none p v w k own all none (inl h) = own h

@@ -1,4 +1,5 @@
--- Orders of visits, the listing sorted by the levels of the entering actions, and the chains between two visits of a place.
+-- Orders of visits, the listing sorted by the levels of the entering actions, and the chains between two visits of a
+-- place.
 use Rattle.std.proofs.Common.{◌≡◌, ℕ, zero, suc, ◌+◌, ◌<◌, ◌≤◌, Bool, true, cond, List, length, get_or, refl, sym, ap, subst, arith, inl, inr, Some, ◌∙◌}
 use Rattle.std.specs.Prelude.{Contains, slice_get, ◌⊎◌}
 use Rattle.std.proofs.lemmas.Bool.{cases_lt, eq-eqb, ne_eqb, cases_order}
@@ -125,7 +126,8 @@ reach_on p u v w r k =
     (Reaches-trans p (entering v) (leaving p v) (entering w)
     (entered_left p v (Reaches-last p (leaving p u) (entering v) r) (Reaches-first p (leaving p v) (entering w) k)) k)
 
--- of two visits by different agents in an orderly listing the leaving of one begins a chain that ends with the entering of the other
+-- of two visits by different agents in an orderly listing the leaving of one begins a chain that ends with the entering
+-- of the other
 pub two_ordered : (p : Program) (q : Place) (v w : Visit) → IsVisitOf p q v → IsVisitOf p q w → (v.agent ≡ w.agent → ⊥) → (l : List Visit) → ListsVisits p q l → Adjacent (ComesAfterByChain p) l → Reaches p (leaving p v) (entering w) ⊎ Reaches p (leaving p w) (entering v)
 two_ordered p q v w m n apart l h a = go (place_in l v v (h.all v m)) (place_in l w v (h.all w n))
   where
@@ -144,7 +146,8 @@ two_ordered p q v w m n apart l h a = go (place_in l v v (h.all v m)) (place_in 
 pub unordered_refuses : (p : Program) (q : Place) (v w : Visit) → AreUnordered p q v w → (l : List Visit) → ListsVisits p q l → Adjacent (ComesAfterByChain p) l → ⊥
 unordered_refuses p q v w u l h a = elim (two_ordered p q v w u.first u.second u.apart l h a) [ inl r ↦ u.forth r | inr r ↦ u.back r ]
 
--- of two visits in an orderly listing the leaving of the earlier begins a chain that ends with the entering of the later
+-- of two visits in an orderly listing the leaving of the earlier begins a chain that ends with the entering of the
+-- later
 pub listed_reach : (p : Program) (q : Place) (l : List Visit) → ListsVisits p q l → Adjacent (ComesAfterByChain p) l → (i j : ℕ) (v w : Visit) → i < j → slice_get l i ≡ Some v → slice_get l j ≡ Some w → Reaches p (leaving p v) (entering w)
 listed_reach p q l h a i j v w m ev ew =
     let far : Reaches p (leaving p (get_or l i v)) (entering (get_or l j v)) =

@@ -1,4 +1,5 @@
--- Runs by counts of finished actions: what is finished before what, how runs end, and from how far an action is reached.
+-- Runs by counts of finished actions: what is finished before what, how runs end, and from how far an action is
+-- reached.
 use Rattle.std.proofs.Common.{◌≡◌, ℕ, zero, suc, ◌+◌, ◌<◌, ◌≤◌, Bool, true, false, not, ◌&&◌, length, Contains, refl, ap, sym, ◌∙◌, inl, inr, ◌⊎◌, List, [], ◌∷◌, get_or, nat_le, arith, leb-true, leb-false, subst, cond, ◌||◌, sum_by, IsTrue, ◌++◌, map, filter, ◌==◌, eqb-true, get_or-append-add}
 use Rattle.std.proofs.lemmas.Bool.{cases_lt, and_right, cases_Bool, cond-true, cond-false, cases_eq}
 use Rattle.fleet_model.specs.declared.geometry.Place.{Place}
@@ -227,7 +228,8 @@ module _ (p : Program) (held ready : ℕ → ℕ → Bool) (count : ℕ → ℕ 
         | inr eq ↦ (t, omega arith, ready_needs t a b e.0 eq d)
       ]
 
-  -- of a chain whose last action is finished after t ticks, the first was finished a tick sooner for each action after it
+  -- of a chain whose last action is finished after t ticks, the first was finished a tick sooner for each action after
+  -- it
   pub chain_before : (t : ℕ) (a : ActionId) (cs : List ActionId) (b : ActionId) → ChainFrom p a cs b → b.number ≤ count t b.agent
       → (s : ℕ) × (s + length cs ≤ t) × (a.number ≤ count s a.agent)
   chain_before t a [] b h done = (t, omega arith, subst (λ (x : ActionId). x.number ≤ count t x.agent) (sym h.1) done)

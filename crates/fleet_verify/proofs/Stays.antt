@@ -205,7 +205,8 @@ accepted passable tasks p stays h all o = accepted_by passable tasks p h (all.le
 
 -- ---- a run without holds that arrives
 
--- all that is judged agent by agent is right, the visits kept are all visits, and the number of ticks is that of the longest chain
+-- all that is judged agent by agent is right, the visits kept are all visits, and the number of ticks is that of the
+-- longest chain
 pub record WholeRun (p : Program) (passable : Place → Bool) (tasks : List Task) (r : UnheldRun) : Type 0 where
   pub ranges : HasRanges passable tasks p
   pub added : AreAllAdded p r.visits

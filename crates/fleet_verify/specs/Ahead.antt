@@ -143,7 +143,8 @@ pub record IsArrival (p : Program) (s : PlacedVisit) (needs : Needs) : Type 0 wh
 
 -- ---- the ends
 
--- the first n agents have finished all actions and stand where they are to end, and the chain is the greatest of their levels
+-- the first n agents have finished all actions and stand where they are to end, and the chain is the greatest of their
+-- levels
 pub record AreDone (tasks : List Task) (p : Program) (rows : List (List ℕ)) (n chain : ℕ) : Type 0 where
   pub whole : (i : ℕ) → i < n → count_in rows i ≡ moves p i
   pub ends : (i : ℕ) → i < n → EndsRight tasks p i

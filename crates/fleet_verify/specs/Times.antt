@@ -112,9 +112,9 @@ pub record AreReached (p : Program) (breaks counts : List ℕ) : Type 0 where
 abbrev pub stopped_agents : Program → List ℕ → ℕ
 stopped_agents p counts = count_by (λ i. nat_lt (get_or counts i 0) (moves p i)) (indices (length p))
 
--- what the counts say of every schedule: an action up to its agent's count ends by the cost of its critical path, if all
--- that are not broken end in time; and if the broken ones never end, no action above its agent's count does, and none
--- but the broken ones even begins
+-- what the counts say of every schedule: an action up to its agent's count ends by the cost of its critical path, if
+-- all that are not broken end in time; and if the broken ones never end, no action above its agent's count does, and
+-- none but the broken ones even begins
 pub record StopsOthers (p : Program) (breaks counts : List ℕ) : Type 0 where
   pub in_time : (s : Schedule) → IsSchedule p s → (cost : ActionId → ℕ) → EndInTime p s (is_broken breaks) cost
       → (b : ActionId) (m : ℕ) → IsAction p b → b.number ≤ get_or counts b.agent 0 → IsCriticalCost p cost b m → HasEndedBy s m b

@@ -386,8 +386,8 @@ fn keep_visit<P: ProgramView>(
     }
 }
 
-/// Adds the visit and the one before it at the cell as an open pair, unless it comes after that one. Mostly it is by the
-/// same agent, or one await of the action that enters it shows that it does.
+/// Adds the visit and the one before it at the cell as an open pair, unless it comes after that one. Mostly it is by
+/// the same agent, or one await of the action that enters it shows that it does.
 #[inline(always)]
 fn open_unless_follows<P: ProgramView>(
     program: &P,
@@ -502,6 +502,7 @@ fn bare_needs<P: ProgramView>(
     ensures { IfSome result (AreNeeds (P.program program.now) (P.offset program.now)
         (climbed_in rows.now.items agent runner.finished) agent runner.finished) }
 {
+    // Clauses alone speak of the rows.
     let _ = rows;
     if runner.level == u32::MAX {
         return None;
@@ -713,6 +714,7 @@ fn finished_chain<P: ProgramView>(
     ensures { IfSome result (λ chain. (n : ℕ) × (length (P.program program.now) ≤ n)
         × AreDone instance.now (P.program program.now) ahead.now.rows.items n chain) }
 {
+    // Clauses alone speak of the map.
     let _ = grid;
     let mut chain: u32 = 0;
     for agent in 0..program.agents() {

@@ -16,15 +16,18 @@
 //! looks whether all stand on their goals. Only if that run goes wrong are the paths judged one by one, in the order of
 //! the faults (`agents`, `path`); if they are right the run is stuck, and `ring` finds a ring of needs. If pairs are
 //! open `order` asks for chains, unless `chained` has kept that of the run ahead, and if some pair has none `order`
-//! finds which is reported. `runs`, `orders`, `schedules`, `exactness`, `promises`, `counting`, `reduced` and `rest`
-//! are laws: their functions do nothing. What `verify` promises stands in the spec `Promises`. `reach` keeps, of an
-//! accepted program, where chains begin (`Reach`): the pieces of `fleet_needs`. `times` has when its actions end at the
-//! soonest (`Times`), by the critical costs of `fleet_needs`, and a chain that takes so long; `stopped` how far each
-//! agent comes if some actions are never ended: each of these costs one and all others nothing, so that what costs
-//! nothing needs none of them. `fault` has the refusals, and writes rows of actions.
+//! finds which is reported. `runs`, `orders`, `schedules`, `exactness`, `promises`, `counting`, `ahead_laws`, `reduced`
+//! and `rest` are laws: their functions do nothing. What `verify` promises stands in the spec `Promises`. `reach`
+//! keeps, of an accepted program, where chains begin (`Reach`): the pieces of `fleet_needs`. `times` has when its
+//! actions end at the soonest (`Times`), by the critical costs of `fleet_needs`, and a chain that takes so long, in
+//! stretches of one agent's actions, which `stretch` also writes; `stopped` how far each agent comes if some actions
+//! are never ended: each of these costs one and all others nothing, so that what costs nothing needs none of them.
+//! `fault` has the refusals.
 //!
 //! `needed` finds for two visits how many actions of each agent they need, and `breaking` runs the counts of the
 //! machine, tick by tick, and says whom each tick holds: those whose next action is not needed.
+//!
+//! `let _agents = program.agents();` stands where what that call ensures is needed: the program is well-formed.
 #![tactic(auto)]
 
 mod agents;

@@ -50,6 +50,7 @@ pub fn check_order<P: ProgramView>(
     if pairs.is_empty() {
         return Ok(());
     }
+    // The contract of this call says that no two starts are the same.
     let _agents = instance.agents();
     let violations = find_violations(alloc, program, run.ticks, pairs, known)?;
     if violations.is_empty() {

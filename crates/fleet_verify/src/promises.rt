@@ -24,8 +24,9 @@ pub fn promises_are_kept()
         → (q : Place) → (listing : List Visit) × ListsVisits p q listing
         × Adjacent (ComesAfter p) listing
         × ((holds : Holds) (t : ℕ) → IsOwnedInTurn p listing (run p holds t)) }
-    ensures arrives { (passable : Place → Bool) (p : Program) (chain : ℕ) → Promises passable p chain
-        → (holds : Holds) → (f : ℕ) × IsFinish p holds f × Arrives p holds chain f }
+    ensures arrives { (passable : Place → Bool) (p : Program) (chain : ℕ)
+        → Promises passable p chain → (holds : Holds)
+        → (f : ℕ) × IsFinish p holds f × Arrives p holds chain f }
     ensures well { (passable : Place → Bool) (p : Program) (chain : ℕ) → Promises passable p chain
         → RunsWell p }
 {}

@@ -13,11 +13,12 @@ ghost use Rattle.fleet_verify.specs.Rest.{StandOn, rest, rest_tasks};
 
 /// The rest of a run is the run of the rest: the agents are on the same places, and have finished as many actions more.
 pub fn rests_run_on()
-    ensures { (p : Program) (holds : Holds) (x : ℕ) (cells : ℕ → Cell) → StandOn p (run p holds x) cells
-        → (t i : ℕ) → i < length p
-        → (place_at (run p holds (x + t)) i ≡ place_at (run (rest cells p (run p holds x)) (drop x holds) t) i)
-        × (count_at (run p holds (x + t)) i
-        ≡ count_at (run p holds x) i + count_at (run (rest cells p (run p holds x)) (drop x holds) t) i) }
+    ensures { (p : Program) (holds : Holds) (x : ℕ) (cells : ℕ → Cell)
+        → StandOn p (run p holds x) cells → (t i : ℕ) → i < length p
+        → (place_at (run p holds (x + t)) i
+        ≡ place_at (run (rest cells p (run p holds x)) (drop x holds) t) i)
+        × (count_at (run p holds (x + t)) i ≡ count_at (run p holds x) i
+        + count_at (run (rest cells p (run p holds x)) (drop x holds) t) i) }
 {}
 
 /// The rest of an accepted program is accepted from where its agents stand, in each configuration that a run reaches.

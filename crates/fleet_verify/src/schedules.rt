@@ -48,13 +48,15 @@ pub fn schedules_end_in_time()
     ensures in_time { (passable : Place → Bool) (tasks : List Task) (p : Program)
         → IsAcceptedBy ComesAfterByChain passable tasks p → (s : Schedule)
         → (stalls : ActionId → Bool) (cost : ActionId → ℕ) → EndInTime p s stalls cost
-        → (b : ActionId) (m : ℕ) → IsAction p b → ((a : ActionId) → IsTrue (stalls a) → Reaches p a b → ⊥)
+        → (b : ActionId) (m : ℕ) → IsAction p b
+        → ((a : ActionId) → IsTrue (stalls a) → Reaches p a b → ⊥)
         → IsCriticalCost p cost b m → HasEndedBy s m b }
     ensures no_sooner { (p : Program) (s : Schedule) → IsSchedule p s
         → (cost : ActionId → ℕ) → TakeAtLeast p s cost
         → (b : ActionId) (m u : ℕ) → IsCriticalCost p cost b m → HasEndedBy s u b → m ≤ u }
-    ensures stopped { (p : Program) (s : Schedule) → IsSchedule p s → (a b : ActionId) → Reaches p a b
-        → a ≢ b → ((t : ℕ) → HasEndedBy s t a → ⊥) → (t : ℕ) → HasBegunBy s t b → ⊥ }
+    ensures stopped { (p : Program) (s : Schedule) → IsSchedule p s → (a b : ActionId)
+        → Reaches p a b → a ≢ b → ((t : ℕ) → HasEndedBy s t a → ⊥)
+        → (t : ℕ) → HasBegunBy s t b → ⊥ }
     ensures on_goal { (passable : Place → Bool) (tasks : List Task) (p : Program)
         → IsAcceptedBy ComesAfterByChain passable tasks p → (s : Schedule) → IsSchedule p s
         → (x i : ℕ) (q : Place) → i < length p
@@ -76,8 +78,8 @@ pub fn schedules_are_never_stuck()
 /// was due. Where an agent stands, and where the next tick brings it, it may be on by each such schedule, and by the
 /// longest also where an order sends it.
 pub fn runs_are_schedules()
-    ensures each { (p : Program) → AreInRange p → (holds : Holds) (s : Schedule) → IsScheduleOf p holds s
-        → IsSchedule p s }
+    ensures each { (p : Program) → AreInRange p → (holds : Holds) (s : Schedule)
+        → IsScheduleOf p holds s → IsSchedule p s }
     ensures shortest { (p : Program) (holds : Holds)
         → (s : Schedule) × IsScheduleOf p holds s × TakesOneTick p s }
     ensures longest { (p : Program) (holds : Holds)
@@ -116,8 +118,8 @@ pub fn schedules_need_acceptance()
 /// busy with earlier ones, and agents carry out their orders in turn, that is a schedule. If all are prompt, each
 /// action ends within the two lags and its own time after all that it directly needs.
 pub fn orders_may_be_given_ahead()
-    ensures schedule { (p : Program) → AreInRange p → (d : Dispatch) (s : Schedule) → OrdersAwait p d
-        → IsCarriedOut p d s → IsSchedule p s }
+    ensures schedule { (p : Program) → AreInRange p → (d : Dispatch) (s : Schedule)
+        → OrdersAwait p d → IsCarriedOut p d s → IsSchedule p s }
     ensures in_time { (p : Program) → AreInRange p → (d : Dispatch) (s : Schedule)
         → (stalls : ActionId → Bool) (report_lag order_lag : ℕ) (takes : ActionId → ℕ)
         → IsPrompt p d s stalls report_lag order_lag takes
@@ -128,15 +130,16 @@ pub fn orders_may_be_given_ahead()
 /// passable cells, has no conflict, and finishes with each agent on its goal.
 pub fn acceptance_is_exact_for_tasks()
     ensures { (passable : Place → Bool) (tasks : List Task) (p : Program) → IsWellFormed p
-        → HasTasks tasks p → IsAcceptedBy ComesAfterByChain passable tasks p ↔ RunsRight passable p }
+        → HasTasks tasks p
+        → IsAcceptedBy ComesAfterByChain passable tasks p ↔ RunsRight passable p }
 {}
 
 /// Each action has its own bound: some tick finishes it, not before that of its level, and at most so much later as
 /// ready agents were held before.
 pub fn actions_are_finished_in_time()
     ensures finished { (passable : Place → Bool) (tasks : List Task) (p : Program)
-        → IsAcceptedBy ComesAfterByChain passable tasks p → (holds : Holds) (a : ActionId) → IsAction p a
-        → (t : ℕ) × IsFinishedIn p holds t a }
+        → IsAcceptedBy ComesAfterByChain passable tasks p → (holds : Holds) (a : ActionId)
+        → IsAction p a → (t : ℕ) × IsFinishedIn p holds t a }
     ensures in_time { (p : Program) → AreInRange p → (holds : Holds) (a : ActionId) (n t : ℕ)
         → IsLevel p a n → IsFinishedIn p holds t a
         → (n ≤ t + 1) × (t + 1 ≤ n + held_ticks p holds t) }

@@ -77,7 +77,8 @@ impl<'a, P: ProgramView, C: ActionCosts> Times<'a, P, C> {
     /// When an action ends. Takes no memory.
     pub fn end(&self, action: ActionId) -> u64
         requires { IsAction (P.program self.now.program) action }
-        ensures { IsCriticalCost (P.program self.now.program) (C.cost self.now.costs) action result }
+        ensures { IsCriticalCost (P.program self.now.program) (C.cost self.now.costs) action
+            result }
     {
         self.ends.cost(self.program, action)
     }
@@ -112,7 +113,8 @@ impl<'a, P: ProgramView, C: ActionCosts> Times<'a, P, C> {
 
     /// An action that ends last of all, if there are any. Takes no memory.
     pub fn latest(&self) -> Option<ActionId>
-        ensures some { IfSome result (IsLatest (P.program self.now.program) (C.cost self.now.costs)) }
+        ensures some { IfSome result
+            (IsLatest (P.program self.now.program) (C.cost self.now.costs)) }
         ensures none { IfNone result ((i : ℕ) → moves (P.program self.now.program) i ≡ 0) }
     {
         self.known();
@@ -208,7 +210,8 @@ impl<'a, P: ProgramView, C: ActionCosts> Times<'a, P, C> {
     #[inline(never)]
     fn stretch_to(&self, action: ActionId, end: u64) -> (Stretch, u64)
         requires action { IsAction (P.program self.now.program) action }
-        requires end { IsCriticalCost (P.program self.now.program) (C.cost self.now.costs) action end }
+        requires end { IsCriticalCost (P.program self.now.program) (C.cost self.now.costs) action
+            end }
         ensures { IsWayTo (P.program self.now.program) (C.cost self.now.costs) action end
             (stretch_actions result.0) (first_of result.0) result.1 }
     {
@@ -225,7 +228,8 @@ impl<'a, P: ProgramView, C: ActionCosts> Times<'a, P, C> {
     #[inline(always)]
     fn way_to(&self, action: ActionId, end: u64) -> (ActionId, u64)
         requires action { IsAction (P.program self.now.program) action }
-        requires end { IsCriticalCost (P.program self.now.program) (C.cost self.now.costs) action end }
+        requires end { IsCriticalCost (P.program self.now.program) (C.cost self.now.costs) action
+            end }
         ensures first { result.0.number ≤ action.number }
         ensures few { action.number < result.0.number + 65535 }
         ensures way { IsWayTo (P.program self.now.program) (C.cost self.now.costs) action end
@@ -247,7 +251,8 @@ impl<'a, P: ProgramView, C: ActionCosts> Times<'a, P, C> {
     #[inline(always)]
     fn longer(&self, action: ActionId, end: u64) -> Option<(ActionId, u64)>
         requires action { IsAction (P.program self.now.program) action }
-        requires end { IsCriticalCost (P.program self.now.program) (C.cost self.now.costs) action end }
+        requires end { IsCriticalCost (P.program self.now.program) (C.cost self.now.costs) action
+            end }
         ensures agent { IfSome result (λ found. found.0.agent ≡ action.agent) }
         ensures number { IfSome result (λ found. found.0.number + 1 ≡ action.number) }
         ensures before { IfSome result (λ found. LeadsBack
@@ -264,7 +269,8 @@ impl<'a, P: ProgramView, C: ActionCosts> Times<'a, P, C> {
     #[inline(always)]
     fn begin(&self, action: ActionId, end: u64) -> u64
         requires action { IsAction (P.program self.now.program) action }
-        requires end { IsCriticalCost (P.program self.now.program) (C.cost self.now.costs) action end }
+        requires end { IsCriticalCost (P.program self.now.program) (C.cost self.now.costs) action
+            end }
         ensures { result + C.cost self.now.costs action ≡ end }
     {
         let own = u64::from(self.costs.cost(action));
@@ -275,7 +281,8 @@ impl<'a, P: ProgramView, C: ActionCosts> Times<'a, P, C> {
     /// unless the chain is of this one alone.
     fn before(&self, action: ActionId, end: u64) -> Option<(ActionId, u64)>
         requires action { IsAction (P.program self.now.program) action }
-        requires end { IsCriticalCost (P.program self.now.program) (C.cost self.now.costs) action end }
+        requires end { IsCriticalCost (P.program self.now.program) (C.cost self.now.costs) action
+            end }
         ensures some { IfSome result (λ found. LeadsBack
             (P.program self.now.program) (C.cost self.now.costs) action found.0) }
         ensures end { IfSome result (λ found. IsCriticalCost

@@ -27,6 +27,6 @@ loop-come-preserved g c =
       short = search rules;
       len = search rules;
       table = search rules;
-      low = low_more cost c.args.begin c.args.agent c.args.from c.args.table.now c.loop-come.table n c.loop-come.come.greatest c.loop-come.invariant.more c.loop-come.invariant.low (omega (arith, c.cost-own.ensures.cost, c.cost-own.ensures.most));
+      low = low_more cost c.args.agent c.args.from n c.loop-come.invariant.more c.loop-come.invariant.low (omega (arith, c.cost-own.ensures.cost, c.cost-own.ensures.most));
       greatest = search rules;
     }

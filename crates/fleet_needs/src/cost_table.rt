@@ -1,6 +1,6 @@
 //! Costs by place, in four bytes each as long as all of them fit.
 
-ghost use Rattle.std.specs.Prelude.{◌≡◌, ◌<◌, length, replicate, set, slice_index, IfOk, OnOk};
+ghost use Rattle.std.specs.Prelude.{◌≡◌, ◌<◌, ◌^◌, length, replicate, set, slice_index, IfOk, OnOk};
 ghost use Rattle.fleet_needs.specs.CostTable.{costs_of, HasRoomFor};
 
 use fleet_model::OutOfMemory;
@@ -48,6 +48,7 @@ impl CostTable {
     pub(crate) fn make_room_for(&mut self, alloc: Global, cost: u64) -> Result<(), OutOfMemory>
         ensures same { OnOk result (costs_of self.new ≡ costs_of self.old) }
         ensures room { OnOk result (HasRoomFor self.new cost) }
+        ensures short { OnOk result (cost < 2 ^ 32 → self.new ≡ self.old) }
     {
         let is_short = cost <= u64::from(u32::MAX);
         if is_short {

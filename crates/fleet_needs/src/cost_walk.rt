@@ -229,6 +229,8 @@ fn fill<C: ActionCosts>(
         (result.finished - from.finished) }
     ensures greatest { result.greatest ≡ cost_after (C.cost costs.now) agent from
         (result.finished - from.finished) }
+    ensures stops { result.finished < last → 2 ^ 32
+        ≤ result.greatest + C.cost costs.now (after agent result.finished) }
     ensures low { (k : ℕ) → k < result.finished - from.finished
         → C.cost costs.now (after agent (from.finished + k)) ≤ MAX_COST }
 {

@@ -143,6 +143,10 @@ flag_is words n k bits =
 pub long_flags : (words : List ℕ) (n : ℕ) → length (flags_in words n) ≡ n
 long_flags words n = length-map-range_with_len (is_bit words) 0 n
 
+-- sets of as many flags are for as many agents
+pub same_agents : (words others : List ℕ) (n m : ℕ) → length (flags_in words n) ≡ length (flags_in others m) → n ≡ m
+same_agents words others n m e = sym (long_flags words n) ∙ (e ∙ long_flags others m)
+
 -- ---- no bit
 
 module _ (words : List ℕ) (m n : ℕ) (e : words ≡ replicate m 0) (long : m ≡ MAX_AGENTS / 64 + 1) (few : n ≤ MAX_AGENTS) where

@@ -1,6 +1,6 @@
 -- How far agents have read.
-use Rattle.std.proofs.Common.{◌≡◌, ◌≢◌, ◌<◌, ◌≤◌, ℕ, ◌+◌, ◌&&◌, not, Bool, true, false, List, zero, suc, replicate, length, set, take, refl, ap, sym, ◌∙◌, subst, inl, inr, arith, below_more, get_or-set_same, get_or-set_other, length-set}
-use Rattle.std.proofs.lemmas.Bool.{cases_Bool, lt-ltb, ltb-true}
+use Rattle.std.proofs.Common.{◌≡◌, ◌≢◌, ◌<◌, ◌≤◌, ℕ, ◌+◌, not, Bool, true, false, List, zero, suc, replicate, length, set, take, refl, ap, sym, ◌∙◌, subst, inl, inr, arith, below_more, get_or-set_same, get_or-set_other, length-set}
+use Rattle.std.proofs.lemmas.Bool.{cases_Bool, lt-ltb, ltb-true, and_parts}
 use Rattle.std.proofs.lemmas.List.FromFn.{fill_by_all, get_or-map-range_with_len, length-map-range_with_len}
 use Rattle.fleet_model.specs.declared.standing.Standing.{Standing}
 use Rattle.fleet_model.specs.Program.{Program, IsWellFormed, moves, awaits_of, awaits_before}
@@ -123,13 +123,9 @@ module _ (p : Program) (held : ℕ → Bool) (m : MachineState) (runs : Runs p m
   pub read_after : IsRead p (tick p held m.configuration) k (mark_of (marks_after p held m) k)
   read_after =
       elim (cases_Bool (is_moving p held m.configuration k)) [
-        | inl moves ↦ rw (mark_is p held m k agent, moves) (read_moved moves (and_left (is_ready p m.configuration k) (not (held k)) moves))
+        | inl moves ↦ rw (mark_is p held m k agent, moves) (read_moved moves (and_parts (is_ready p m.configuration k) (not (held k)) moves).0)
         | inr still ↦ rw (mark_is p held m k agent, still) (read_unmoved still)
       ]
-    where
-      and_left : (a b : Bool) → (a && b) ≡ true → a ≡ true
-      and_left true b h = refl
-      and_left false b h = h
 
 -- who has an action left after a tick had one before
 pub flagged_after : (p : Program) (held : ℕ → Bool) (m : MachineState) → Runs p m → (k : ℕ) → k < length p → is_left p (tick p held m.configuration) k ≡ true → flag_of m.left k ≡ true

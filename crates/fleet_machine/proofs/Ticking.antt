@@ -1,7 +1,7 @@
 -- The steps of a tick, one after another.
 use Rattle.std.proofs.Common.{◌≡◌, ◌<◌, ◌≤◌, ◌+◌, ◌||◌, ◌&&◌, not, ℕ, Bool, true, false, List, [], length, filter, set, slice_get, Option, Some, None, refl, ap, sym, ◌∙◌, subst, inl, inr, ◌⊎◌, arith, cond, add-one}
 use Rattle.std.specs.Prelude.{nat_le, ◌==◌}
-use Rattle.std.proofs.lemmas.Bool.{cases_lt, cases_Bool, lt-ltb, le-leb, leb-true, or_parts, true≢false}
+use Rattle.std.proofs.lemmas.Bool.{cases_lt, cases_Bool, lt-ltb, lt-leb, leb-false, and_cases, and_parts, or_parts, true≢false}
 use Rattle.std.proofs.lemmas.List.{get_or_past}
 use Rattle.std.proofs.lemmas.List.Folds.{list_any_at}
 use Rattle.std.proofs.lemmas.List.FromFn.{get_or-map-range_with_len, length-map-range_with_len}
@@ -141,28 +141,6 @@ module _ (p : Program) (held : ℕ → Bool) (old : MachineState) (runs : Runs p
 
 -- ---- agents that lack a count
 
-and_fails : (a b : Bool) → (a && b) ≡ false → (a ≡ false) ⊎ (b ≡ false)
-and_fails true b h = inr h
-and_fails false b h = inl refl
-
-and_first : (a b : Bool) → (a && b) ≡ true → a ≡ true
-and_first true b h = refl
-and_first false b h = h
-
-lt-leb-false : (a b : ℕ) → b < a → nat_le a b ≡ false
-lt-leb-false a b lt = go (nat_le a b) refl
-  where
-    go : (r : Bool) → nat_le a b ≡ r → nat_le a b ≡ false
-    go true e = absurd (let le = leb-true a b e in omega arith)
-    go false e = e
-
-leb-false-lt : (a b : ℕ) → nat_le a b ≡ false → b < a
-leb-false-lt a b h =
-    elim (cases_lt b a) [
-      | inl lt ↦ lt
-      | inr le ↦ absurd (true≢false (sym (le-leb a b le) ∙ h))
-    ]
-
 module _ (p : Program) (c : Configuration) (least i j : ℕ) (lacks : Lacks p c least i j) where
   left_if_lacking : count_at c i < moves p i
   left_if_lacking =
@@ -280,7 +258,7 @@ module _ (p : Program) (held : ℕ → Bool) (m : MachineState) (runs : Runs p m
             elim (cases_lt (count_at after lacks.awaited.agent) lacks.awaited.count) [
               | inl lt ↦ lt
               | inr le ↦
-                  let short : count_at c lacks.awaited.agent < lacks.awaited.count = leb-false-lt lacks.awaited.count (count_at c lacks.awaited.agent) lacks.is_unmet.unmet in
+                  let short : count_at c lacks.awaited.agent < lacks.awaited.count = leb-false lacks.awaited.count (count_at c lacks.awaited.agent) lacks.is_unmet.unmet in
                   let more = count_rises p held c runs.agents lacks.awaited.agent in
                   let same : count_at after lacks.awaited.agent ≡ lacks.awaited.count = omega (arith, short, more, le) in
                   let list : list_of (record { agent = agent_of j; count = count_at after (agent_of j) }) ≡ j = ap (λ (n : ℕ). list_of (record { agent = n; count = count_at after n })) here ∙ (ap (λ (n : ℕ). list_of (record { agent = lacks.awaited.agent; count = n })) same ∙ lacks.list) in
@@ -289,7 +267,7 @@ module _ (p : Program) (held : ℕ → Bool) (m : MachineState) (runs : Runs p m
 
         early : nat_le (least_of m.least j) (count_at after (agent_of j)) ≡ false → count_at after lacks.awaited.agent < lacks.awaited.count
         early unreached =
-            let short = leb-false-lt (least_of m.least j) (count_at after (agent_of j)) unreached in
+            let short = leb-false (least_of m.least j) (count_at after (agent_of j)) unreached in
             let same = ap (λ (n : ℕ). count_at after n) here in
             omega (arith, short, same, lacks.late)
 
@@ -299,11 +277,11 @@ module _ (p : Program) (held : ℕ → Bool) (m : MachineState) (runs : Runs p m
             let same : standing_at after (agent_of j) ≡ standing_at c (agent_of j) = standing_at_tick p held c (agent_of j) there ∙ other_stays p held c (agent_of j) still in
             ap (λ n. nat_le lacks.awaited.count n) (ap (λ (s : Standing). s.count) (subst (λ a. standing_at after a ≡ standing_at c a) here same)) ∙ lacks.is_unmet.unmet
         unmet_by (inr unreached) =
-            let few : count_at after lacks.awaited.agent < lacks.awaited.count = elim (and_fails (list_of (record { agent = agent_of j; count = count_at after (agent_of j) }) == j) (nat_le (least_of m.least j) (count_at after (agent_of j))) unreached) [
+            let few : count_at after lacks.awaited.agent < lacks.awaited.count = elim (and_cases (list_of (record { agent = agent_of j; count = count_at after (agent_of j) }) == j) (nat_le (least_of m.least j) (count_at after (agent_of j))) unreached) [
               | inl other ↦ other_count other
               | inr late ↦ early late
             ] in
-            lt-leb-false lacks.awaited.count (count_at after lacks.awaited.agent) few
+            lt-leb lacks.awaited.count (count_at after lacks.awaited.agent) few
 
     ready_or_done : (r : Bool) → is_ready p c k ≡ r → is_left p c k ≡ r → is_ready p after k ≡ r
     ready_or_done true ready left = ready_lasts p held c runs.agents k same_count ready
@@ -320,7 +298,7 @@ module _ (p : Program) (held : ℕ → Bool) (m : MachineState) (runs : Runs p m
     home_still (Some j) off home =
         let least = least_of m.least j in
         let there = lacked_agent p c least k j home runs.well_formed in
-        let rests : (is_moving p held c (agent_of j) ≡ false) ⊎ (is_reached moved j ≡ false) = elim (and_fails (flag_of (moving_flags p held c) (agent_of j)) (is_reached moved j) off) [
+        let rests : (is_moving p held c (agent_of j) ≡ false) ⊎ (is_reached moved j ≡ false) = elim (and_cases (flag_of (moving_flags p held c) (agent_of j)) (is_reached moved j) off) [
           | inl still ↦ inl (sym (flag_is_moving (agent_of j) there) ∙ still)
           | inr unreached ↦ inr unreached
         ] in
@@ -394,7 +372,7 @@ module _ (p : Program) (held : ℕ → Bool) (m : MachineState) (runs : Runs p m
             let least = least_of m.least j in
             let there = lacked_agent p c least k j home runs.well_formed in
             let woken_list : woken_lists j ≡ true = rw e at is in
-            let flag : flag_of (moving_flags p held c) (agent_of j) ≡ true = and_first (flag_of (moving_flags p held c) (agent_of j)) (is_reached moved j) woken_list in
+            let flag : flag_of (moving_flags p held c) (agent_of j) ≡ true = (and_parts (flag_of (moving_flags p held c) (agent_of j)) (is_reached moved j) woken_list).0 in
             inr (rw (unready_if_lacking p c least k j home) (awaits_if_lacking p c least k j home held (sym (flag_is_moving (agent_of j) there) ∙ flag)))
 
     -- the agents that are due can be judged

@@ -2,7 +2,7 @@
 use Rattle.std.proofs.Common.{◌≡◌, ◌≢◌, ◌<◌, ◌≤◌, ◌+◌, ℕ, Bool, true, false, ◌||◌, ◌&&◌, List, length, set, Option, Some, None, refl, ap, sym, ◌∙◌, inl, inr, ◌⊎◌, arith, cond, get_or-set_same, get_or-set_other, length-set}
 use Rattle.std.specs.Prelude.{is_some, IfSome, IfNone, ◌==◌, nat_lt, nat_le}
 use Rattle.std.specs.List.{count_by}
-use Rattle.std.proofs.lemmas.Bool.{cases_eq, cases_lt, eqb-true, lt-ltb, le-ltb, le-leb, leb-true, or_parts, true≢false}
+use Rattle.std.proofs.lemmas.Bool.{cases_eq, cases_lt, eqb-true, ne_eqb, lt-ltb, le-ltb, le-leb, leb-true, and_parts, or_parts, true≢false}
 use Rattle.std.proofs.lemmas.Bool.Decides.{eqb_tells}
 use Rattle.std.proofs.lemmas.Option.{same_Some, none-some}
 use Rattle.std.proofs.lemmas.List.Sums.{sum_by-set}
@@ -16,9 +16,6 @@ use Rattle.fleet_machine.specs.Waking.{is_on, if_not_on, is_woken_by, IsWoken}
 
 pub eqb-refl : (n : ℕ) → (n == n) ≡ true
 eqb-refl n = elim (eqb_tells n n) [ inl h ↦ h.0 | inr h ↦ absurd (h.1 refl) ]
-
-ne-eqb : (a b : ℕ) → a ≢ b → (a == b) ≡ false
-ne-eqb a b other = elim (eqb_tells a b) [ inl h ↦ absurd (other h.1) | inr h ↦ h.0 ]
 
 -- ---- one list
 
@@ -79,7 +76,7 @@ module _ (j : ℕ) (a b : MachineState) (before : IsWaking j a b) where
           ⊎ ((home_of a.waiting.homes i ≡ Some j) × (home_of b.waiting.homes i ≡ None) × (i < length a.due → flag_of b.due i ≡ true))
 
       off : (i k : ℕ) → home_of a.waiting.homes i ≡ Some k → home_of b.waiting.homes i ≡ home_of a.waiting.homes i → (k == j) ≡ false
-      off i k at kept = ne-eqb k j (λ same. none i (kept ∙ at ∙ ap Some same))
+      off i k at kept = ne_eqb k j (λ same. none i (kept ∙ at ∙ ap Some same))
 
       homes_of : {i : ℕ} (h : Option ℕ) → home_of a.waiting.homes i ≡ h → Each i → home_of b.waiting.homes i ≡ if_not_on (λ k. k == j) h
       homes_of {i} None e (inl kept) = kept.0 ∙ e
@@ -207,12 +204,12 @@ one_more_below flags from i next k =
     elim (cases_lt k from) [
       | inl lt ↦
           let later = next.later in
-          rw (lt-ltb k from lt, lt-ltb k (i + 1) (omega arith), ne-eqb k i (omega arith)) (sym (or-false _))
+          rw (lt-ltb k from lt, lt-ltb k (i + 1) (omega arith), ne_eqb k i (omega arith)) (sym (or-false _))
       | inr ge ↦ elim (cases_eq k i) [
         | inl same ↦ rw (same, next.member, lt-ltb i (i + 1) (omega arith), eqb-refl i) (sym (or-true _))
         | inr other ↦ elim (cases_lt k i) [
-          | inl lt ↦ rw (next.between k ge lt, ne-eqb k i other) refl
-          | inr past ↦ rw (le-ltb k (i + 1) (omega arith), le-ltb k from ge, ne-eqb k i other) (sym (or-false _))
+          | inl lt ↦ rw (next.between k ge lt, ne_eqb k i other) refl
+          | inr past ↦ rw (le-ltb k (i + 1) (omega arith), le-ltb k from ge, ne_eqb k i other) (sym (or-false _))
         ]
       ]
     ]
@@ -283,13 +280,9 @@ module _ (j count list : ℕ) (a : MachineState) (count_is : count ≡ count_at 
   -- a list of the agent that is reached is this one
   reached_is : (k : ℕ) → agent_of k ≡ j → is_reached a k ≡ true → k ≡ list
   reached_is k here reached =
-      let of_count : (list_of (record { agent = agent_of k; count = count_at a.configuration (agent_of k) }) == k) ≡ true = and_first (list_of (record { agent = agent_of k; count = count_at a.configuration (agent_of k) }) == k) (nat_le (least_of a.least k) (count_at a.configuration (agent_of k))) reached in
+      let of_count : (list_of (record { agent = agent_of k; count = count_at a.configuration (agent_of k) }) == k) ≡ true = (and_parts (list_of (record { agent = agent_of k; count = count_at a.configuration (agent_of k) }) == k) (nat_le (least_of a.least k) (count_at a.configuration (agent_of k))) reached).0 in
       let is = eqb-true _ _ of_count in
       sym is ∙ (ap (λ (n : ℕ). list_of (record { agent = n; count = count_at a.configuration n })) here ∙ (ap (λ (n : ℕ). list_of (record { agent = j; count = n })) (sym count_is) ∙ sym list_is))
-    where
-      and_first : (x y : Bool) → (x && y) ≡ true → x ≡ true
-      and_first true y h = refl
-      and_first false y h = h
 
   here_reached : is_reached a list ≡ nat_le (least_of a.least list) count
   here_reached =

@@ -21,6 +21,9 @@ use std::marker::Model;
 
 mod sets;
 
+/// The least count of a list in which nobody stands.
+const NO_COUNT: u32 = u32::MAX;
+
 /// The outcome of a tick: how many agents finished an action, and whether some ready agent was held.
 #[derive(Clone, Copy)]
 pub struct Tick {
@@ -83,14 +86,14 @@ impl Machine {
         let marks = vec![in alloc; Mark::unread(); count as usize]?;
         let lists = count as usize * LISTS_EACH as usize;
         let waiting = WaitLists::new(alloc, lists, count as usize)?;
-        let least = vec![in alloc; u32::MAX; lists]?;
+        let least = vec![in alloc; NO_COUNT; lists]?;
         let mut machine = Machine::with_agents(agents, marks, count, waiting, least);
-        machine.judge_all(program);
+        machine.judge_supposed(program);
         Ok(machine)
     }
 
-    /// So many agents, which stand there and in these lists, and have read so far. Each is flagged as ready and as one
-    /// with an action left, and otherwise none.
+    /// So many agents, which stand there and in these lists, and have read so far. Each is due, and flagged as ready and
+    /// as one with an action left; none moves.
     fn with_agents(
         agents: Vec<Standing>,
         marks: Vec<Mark>,
@@ -106,7 +109,7 @@ impl Machine {
           moving = replicate count false;
           ready = replicate count true;
           left = replicate count true;
-          due = replicate count false;
+          due = replicate count true;
           waiting = waiting;
           least = least.items;
           looked = 0;
@@ -118,7 +121,7 @@ impl Machine {
             moving: AgentSet::new(count),
             ready: AgentSet::of_all(count),
             left: AgentSet::of_all(count),
-            due: AgentSet::new(count),
+            due: AgentSet::of_all(count),
             waiting,
             least,
             looked: 0,
@@ -192,7 +195,7 @@ impl Machine {
         self.looked
     }
 
-    /// Reads on through the awaits of the next action of agent `i`, if it has one, and answers how far: up to the first
+    /// Reads on through the awaits of the next action of agent `i`, which has one, and answers how far: up to the first
     /// one that is not met, which it answers too, or through the step.
     #[inline(always)]
     fn read_on<P: ProgramView>(&self, program: &P, i: u16) -> (Mark, Option<Await>)
@@ -200,6 +203,7 @@ impl Machine {
         requires agents { length self.now.configuration ≡ length (P.program program.now) }
         requires marks { length self.now.marks ≡ length (P.program program.now) }
         requires agent { i < length (P.program program.now) }
+        requires left { count_at self.now.configuration i < moves (P.program program.now) i }
         requires read { IsRead (P.program program.now) self.now.configuration i (mark_of self.now.marks i) }
         ensures read { IsRead (P.program program.now) self.now.configuration i result.0 }
         ensures all { HasReadAll (P.program program.now) self.now.configuration i result.0 }
@@ -214,10 +218,6 @@ impl Machine {
     {
         let finished = self.agent(i).count;
         let mark = self.mark(i);
-        let has_finished = finished >= program.moves(i);
-        if has_finished {
-            return (mark, None);
-        }
         let before = mark.before;
         let mut met = mark.met;
         'awaits: loop {
@@ -391,28 +391,6 @@ impl Machine {
         }
     }
 
-    /// Judges every agent.
-    fn judge_all<P: ProgramView>(&mut self, program: &P)
-        requires well_formed { IsWellFormed (P.program program.now) }
-        requires agents { length self.old.configuration ≡ length (P.program program.now) }
-        requires flags { length self.old.moving ≡ length (P.program program.now) }
-        requires rows { HasRows (length (P.program program.now)) self.old }
-        requires read { (i : ℕ) → i < length (P.program program.now)
-            → IsRead (P.program program.now) self.old.configuration i (mark_of self.old.marks i) }
-        requires flagged { (i : ℕ) → i < length (P.program program.now)
-            → flag_of self.old.left i ≡ true }
-        requires ready { (i : ℕ) → i < length (P.program program.now)
-            → flag_of self.old.ready i ≡ true }
-        requires nowhere { (i : ℕ) → home_of self.old.waiting.homes i ≡ None }
-        ensures runs { Runs (P.program program.now) self.new }
-        ensures configuration { self.new.configuration ≡ self.old.configuration }
-        ensures looked { self.new.looked ≡ self.old.looked }
-    {
-        for i in 0..program.agents() {
-            self.judge(program, i);
-        }
-    }
-
     /// Judges the agents that are due, each of which is flagged as ready, and answers how many they are.
     fn judge_supposed<P: ProgramView>(&mut self, program: &P) -> u16
         requires can { CanJudge (P.program program.now) self.old }
@@ -469,9 +447,9 @@ impl Machine {
     /// List `j`, in which nobody stands any more, has no least count.
     fn forget(&mut self, j: u16)
         requires { j < length self.old.least }
-        ensures { self.new ≡ record self.old { least = set self.old.least j 4294967295 } }
+        ensures { self.new ≡ record self.old { least = set self.old.least j NO_COUNT } }
     {
-        self.least[j as usize] = u32::MAX;
+        self.least[j as usize] = NO_COUNT;
     }
 
     /// Takes all agents off list `j`. They are due.

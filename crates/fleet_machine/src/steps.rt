@@ -32,7 +32,7 @@ impl Mark {
 }
 
 /// An agent at its start.
-pub fn at_start(cell: Cell) -> Standing
+fn at_start(cell: Cell) -> Standing
     ensures place { result ≡ record { place = place_of cell; count = 0 } }
     ensures near { IsNear result }
 {

@@ -163,7 +163,7 @@ Reaches-rises p number s a b (cs, h) = let up : number a + length cs ≤ number 
 
 -- ---- there are finitely many actions, so their numbers have a bound
 
-bound_below : (f : ℕ → ℕ) (n : ℕ) → (m : ℕ) × ((i : ℕ) → i < n → f i ≤ m)
+pub bound_below : (f : ℕ → ℕ) (n : ℕ) → (m : ℕ) × ((i : ℕ) → i < n → f i ≤ m)
 bound_below f zero = (0, λ i h. absurd (omega arith))
 bound_below f (suc n) = let r = bound_below f n in (r.0 + f n, λ i h. go i (cases i n h) r)
   where

@@ -1,11 +1,7 @@
-use Rattle.std.proofs.Common.{◌≡◌, ◌∙◌, ap, sym, length, List, ℕ}
-use Rattle.fleet_machine.specs.AgentSet.{flags_in}
-use Rattle.fleet_machine.proofs.Bits.{long_flags}
+use Rattle.std.proofs.Common.{◌∙◌, ap, sym, length}
+use Rattle.fleet_machine.proofs.Bits.{same_agents}
 use Rattle.fleet_machine.proofs.Copied.{bits_added, flags_added}
 use Rattle.fleet_machine.proofs.agent_set.AgentSet.add.Goals as goal
-
-same_agents : (words others : List ℕ) (n m : ℕ) → length (flags_in words n) ≡ length (flags_in others m) → n ≡ m
-same_agents words others n m e = sym (long_flags words n) ∙ (e ∙ long_flags others m)
 
 pub invariant_of-self : goal.invariant_of-self
 invariant_of-self c =

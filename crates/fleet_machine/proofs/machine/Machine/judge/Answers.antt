@@ -24,3 +24,6 @@ returns-in-Some g c =
     let on = c.read_on-lacked in
     placed_in_list p c.args.self.now c.wait.new.self c.args.i c.requires.nowhere (omega (arith, count, c.if-has_finished.false)) c.requires.flagged
     on.result.0 on.ensures.read on.ensures.all on.result.1 c.in-Some.awaited c.in-Some.is on.ensures.kept on.ensures.lacked on.ensures.ready c.wait.ensures
+
+pub read_on-lacked-requires-clause-left : goal.read_on-lacked-requires-clause-left
+read_on-lacked-requires-clause-left g c = omega (arith, ap (λ (s : Standing). s.count) c.agent.ensures.standing, c.if-has_finished.false)

@@ -1,8 +1,8 @@
-use Rattle.std.proofs.Common.{◌≡◌, ◌<◌, ◌+◌, ◌∙◌, length, slice_get, Some, sym, ap, arith}
+use Rattle.std.proofs.Common.{◌≡◌, ◌+◌, ◌∙◌, length, slice_get, Some, sym, ap, arith}
 use Rattle.std.proofs.lemmas.Bool.{true≢false}
 use Rattle.std.proofs.lemmas.Option.{slice_get_within}
 use Rattle.fleet_model.specs.declared.standing.Standing.{Standing}
-use Rattle.fleet_model.specs.Program.{moves, awaits_of}
+use Rattle.fleet_model.specs.Program.{awaits_of}
 use Rattle.fleet_model.specs.Machine.{count_at}
 use Rattle.fleet_model.proofs.Totals.{few_awaits_of}
 use Rattle.fleet_machine.proofs.Ready.{awaited_agent, one_more_met, not_ready_if_unmet}
@@ -22,9 +22,8 @@ returns-then-not-has_met-clause-all g c =
     let p = g.P.ProgramView.program c.args.program.now in
     let rows = c.args.self.now.configuration in
     let standing = c.agent-finished.ensures.standing in
-    let left : count_at rows c.args.i < moves p c.args.i = omega (arith, ap (λ (s : Standing). s.count) standing, c.if-has_finished.false, c.moves.ensures) in
     let at : slice_get (awaits_of p c.args.i (count_at rows c.args.i + 1)) c.awaits.met ≡ Some c.in-Await.awaited = rw standing at c.in-Await.ensures in
-    absurd (true≢false (sym ready ∙ sym (not_ready_if_unmet p rows c.args.i left c.awaits.met c.in-Await.awaited at (sym c.has_met.ensures ∙ c.if-not-has_met.true))))
+    absurd (true≢false (sym ready ∙ sym (not_ready_if_unmet p rows c.args.i c.requires.left c.awaits.met c.in-Await.awaited at (sym c.has_met.ensures ∙ c.if-not-has_met.true))))
 
 pub returns-then-not-has_met-clause-agent : goal.returns-then-not-has_met-clause-agent
 returns-then-not-has_met-clause-agent g c =
@@ -43,9 +42,8 @@ returns-then-not-has_met-clause-ready g c =
     let p = g.P.ProgramView.program c.args.program.now in
     let rows = c.args.self.now.configuration in
     let standing = c.agent-finished.ensures.standing in
-    let left : count_at rows c.args.i < moves p c.args.i = omega (arith, ap (λ (s : Standing). s.count) standing, c.if-has_finished.false, c.moves.ensures) in
     let at : slice_get (awaits_of p c.args.i (count_at rows c.args.i + 1)) c.awaits.met ≡ Some c.in-Await.awaited = rw standing at c.in-Await.ensures in
-    one_lacked p rows c.args.i left c.awaits.met c.in-Await.awaited at (sym c.has_met.ensures ∙ c.if-not-has_met.true)
+    one_lacked p rows c.args.i c.requires.left c.awaits.met c.in-Await.awaited at (sym c.has_met.ensures ∙ c.if-not-has_met.true)
 
 pub overflow_add-met : goal.overflow_add-met
 overflow_add-met g c =
@@ -68,3 +66,6 @@ awaits-preserved g c =
       few = omega (arith, within);
       met = one_more_met c.args.self.now.configuration awaits c.awaits.met c.in-Await.awaited c.in-Await.ensures (sym c.has_met.ensures ∙ c.if-not-has_met.false) c.awaits.invariant.met;
     }
+
+pub instruction-requires-clause-left : goal.instruction-requires-clause-left
+instruction-requires-clause-left g c = omega (arith, ap (λ (s : Standing). s.count) c.agent-finished.ensures.standing, c.requires.left)

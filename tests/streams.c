@@ -1,15 +1,17 @@
 // Lets the streams and the files of a program fail. With LD_PRELOAD naming this library, standard output takes as many
 // bytes as the variable ROOM says, one at a time, and standard input gives as many as REST says; the files that the
-// program opens take TAKES bytes and give GIVES, all together. Then each answers the error whose number is in WAY, or,
-// if that is 0, takes or gives nothing. The file named by WRITES, if any, gets how often standard error was written to.
+// program opens take TAKES bytes and give GIVES, all together, and they and the folder FOLDER are put on the disk SYNCS
+// times. Then each answers the error whose number is in WAY, or, if that is 0, takes or gives nothing. The file named by
+// WRITES, if any, gets how often standard error was written to.
 #define _GNU_SOURCE
 #include "counts.h"
 #include <dlfcn.h>
 #include <errno.h>
+#include <sys/stat.h>
 
-// How many bytes standard output took and standard input gave, how many the other files took and gave, and how often
-// standard error was written to.
-static long written, given, stored, fetched, told;
+// How many bytes standard output took and standard input gave, how many the other files took and gave, how often
+// standard error was written to, and how often a file or the folder was put on the disk.
+static long written, given, stored, fetched, told, synced;
 
 // How many bytes of so many the stream or the file takes or gives: all if the variable is not set; else one, if there
 // are fewer so far than it says, and otherwise none.
@@ -65,6 +67,35 @@ ssize_t read(int file, void *bytes, size_t count)
     if (*limit && got > 0)
         *so_far += got;
     return got;
+}
+
+// Whether it is a folder, and not the one that is watched.
+static int is_elsewhere(int file)
+{
+    const char *name = getenv("FOLDER");
+    struct stat it, folder;
+    if (fstat(file, &it) || !S_ISDIR(it.st_mode))
+        return 0;
+    return !name || stat(name, &folder) || it.st_dev != folder.st_dev || it.st_ino != folder.st_ino;
+}
+
+// Puts a file on the disk, by the call of this name.
+static int put_on_disk(const char *call, int file)
+{
+    const char *times = getenv("SYNCS");
+    if (!is_elsewhere(file) && times && synced++ >= atol(times))
+        return failure();
+    return ((int (*)(int))dlsym(RTLD_NEXT, call))(file);
+}
+
+int fsync(int file)
+{
+    return put_on_disk("fsync", file);
+}
+
+int fdatasync(int file)
+{
+    return put_on_disk("fdatasync", file);
 }
 
 __attribute__((destructor)) static void tell(void)

@@ -123,9 +123,10 @@ while [ "$rest" -le "$bytes" ]; do
 done
 echo $bytes:$heard
 EOF
-# files_cut WAY VARIABLE COMMAND..: the files that the program opens give (GIVES) or take (TAKES) 0 bytes, or one more
-# each time until it is done, at most 1,000 times, and then fail in this way. Prints each status and line, and how often
-# they came in a row.
+
+# files_cut WAY VARIABLE COMMAND..: the files that the program opens give (GIVES) or take (TAKES) 0 bytes, or are put on
+# the disk 0 times (SYNCS), or once more each time until it is done, at most 1,000 times, and then fail in this way.
+# Prints each status and line, and how often they came in a row.
 script files_cut <<'EOF'
 #!/bin/sh
 WAY=$1 variable=$2 bytes=0 status=3
@@ -173,6 +174,14 @@ EOF
     for way in 0 28; do
         check "OUT is cut ($way): migrate" 0 '48 3 file anew\n1 0 \n' '' \
             "files_cut $way TAKES fleet migrate examples/pair.program anew"
+    done
+
+    # The folder of a log is put on the disk when the log is begun, which may fail, and then each report. 5 is an error
+    # of the disk.
+    mkdir "$room/kept.logs"
+    for log in new.log kept.logs/new.log; do
+        check "reports are not on the disk: $log" 0 '2 3 dispatch 8 LogWrite line 1\n1 3 dispatch 8 LogWrite line 2\n1 3 dispatch 8 LogWrite line 3\n1 0 \n' '' \
+            "FOLDER=$(dirname $log) files_cut 5 SYNCS sh -c 'rm -f $log; fleet dispatch $pair --log $log < lines'"
     done
 
     # Two agents await each other, the second one 100,000 actions of the first.

@@ -15,7 +15,7 @@ use Rattle.fleet_needs.specs.Columns.{AreColumns}
 use Rattle.fleet_needs.specs.JoinPass.{IsMade}
 use Rattle.fleet_needs.specs.Joins.{AreOwn, IsRow}
 use Rattle.fleet_needs.specs.Schedule.{AreCounts, HasRows, IsSchedule}
-use Rattle.fleet_needs.specs.Answering.{AnswersSoFar, AreAnsweredTo, IsNextAnswered, IsAsked, IsAnswering}
+use Rattle.fleet_needs.specs.Answering.{AreAnsweredTo, IsNextAnswered, IsAsked}
 use Rattle.fleet_needs.specs.declared.schedule.Columns.{Columns}
 use Rattle.fleet_needs.specs.declared.joins.Join.{Join}
 use Rattle.fleet_needs.specs.declared.questions.Question.{Question}
@@ -189,24 +189,6 @@ module _ (p : Program) (columns : Columns) (questions : List Question) (a : Acti
     where
       set_here : get_or (set flags n flag) n false ≡ flag
       set_here = (let l : n < length questions = slice_get_within questions n asked.0 asked.1 in grind (arith, common_steps))
-
-pub asked_question : (p : Program) (questions : List Question) (a : ActionId) (n : ℕ) (d : Question) → (q : Question) × (slice_get questions n ≡ Some q) × (q.last ≡ a) → All (IsQuestion p) questions
-    → IsQuestion p (get_or questions n d)
-asked_question p questions a n d asked each = subst (IsQuestion p) (sym (get_or_from_slice_get questions n asked.0 d asked.1)) (question_at p questions each n asked.0 asked.1)
-
--- ---- before the first action
-
-pub answering_none : (p : Program) (b : Schedule) (columns : Columns) (s : AnswersSoFar) → AreQuestions p s.questions → HasRows b s.questions → length s.flags ≡ length s.questions → s.next ≡ 0 → IsAnswering p b columns 0 s
-answering_none p b columns s asked rows long next = record {
-  questions = asked;
-  rows = rows;
-  flags = long;
-  answers = record {
-    before = λ k q at done. absurd (let some : 1 ≤ done.0 = done.2.some in let none : done.0 ≤ 0 = done.1 in omega arith);
-    done = λ k q at l. absurd (omega arith);
-    answered = λ k c q at l. absurd (omega arith);
-  };
-}
 
 -- ---- one row more
 

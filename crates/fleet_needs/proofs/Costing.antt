@@ -46,6 +46,10 @@ module _ (p : Program) (cost : ActionId → ℕ) where
   pub one_cost : (b : ActionId) (m n : ℕ) → IsCriticalCost p cost b m → IsCriticalCost p cost b n → m ≡ n
   one_cost b m n c d = omega (arith, c.most n d.some, d.most m c.some)
 
+  -- .. which is no less than its own
+  pub own_cost : (b : ActionId) (m : ℕ) → IsAction p b → IsCriticalCost p cost b m → cost b ≤ m
+  own_cost b m act c = c.most (cost b) (ends_alone p cost b act)
+
   -- the greatest of the costs of what an action directly needs, and its own
   critical_from : (value : ActionId → ℕ) (b : ActionId) (m : ℕ) → IsAction p b → ((d : ActionId) → DirectlyNeeds p b d → IsCriticalCost p cost d (value d)) → ((d : ActionId) → DirectlyNeeds p b d → value d ≤ m)
       → (m ≡ 0) ⊎ ((d : ActionId) × DirectlyNeeds p b d × IsCriticalCost p cost d m) → IsCriticalCost p cost b (m + cost b)

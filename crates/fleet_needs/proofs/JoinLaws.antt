@@ -2,7 +2,7 @@
 use Rattle.std.proofs.Common.{◌≡◌, ◌≢◌, ℕ, ◌+◌, ◌-◌, ◌<◌, ◌≤◌, Bool, true, false, List, [], ◌∷◌, ◌++◌, length, get_or, set, slice_index, refl, sym, ap, subst, ◌∙◌, arith, inl, inr, ◌⊎◌}
 use Rattle.std.specs.Prelude.{slice_get, Some}
 use Rattle.std.proofs.lemmas.Bool.{cases_lt, false≢true}
-use Rattle.std.proofs.lemmas.Option.{slice_get-get_or, slice_get_within, get_or_from_slice_get, same_Some}
+use Rattle.std.proofs.lemmas.Option.{slice_get-get_or, slice_get_within, same_Some}
 use Rattle.std.proofs.lemmas.List.{get_or-set_same, get_or-set_other, length-set, length_push, get_or_append_left, get_or_push, get_or_past}
 use Rattle.fleet_model.specs.declared.program.ActionId.{ActionId}
 use Rattle.fleet_model.specs.declared.program.Await.{Await}
@@ -19,27 +19,7 @@ use Rattle.fleet_needs.specs.declared.joins.Need.{Need}
 use Rattle.fleet_needs.specs.declared.joins.Joins.{Joins}
 use Rattle.fleet_needs.proofs.Counting.{counted_back, counted_apart, counted_still, counted_here}
 use Rattle.fleet_needs.proofs.Placed.{place_apart, place_within}
-
--- ---- a list with one more at its end
-
-pub push_kept : (xs : List Join) (x y : Join) (n : ℕ) → slice_get xs n ≡ Some y → slice_get (xs ++ x ∷ []) n ≡ Some y
-push_kept xs x y n at =
-    let l : n < length xs = slice_get_within xs n y at in
-    slice_get-get_or (xs ++ x ∷ []) n y (omega (arith, length_push xs x))
-    ∙ ap Some (get_or_append_left xs (x ∷ []) y n l ∙ get_or_from_slice_get xs n y y at)
-
-pub push_last : (xs : List Join) (x : Join) → slice_get (xs ++ x ∷ []) (length xs) ≡ Some x
-push_last xs x = slice_get-get_or (xs ++ x ∷ []) (length xs) x (omega (arith, length_push xs x)) ∙ ap Some (get_or_push xs x x (length xs) refl)
-
-pub push_cases : (xs : List Join) (x y : Join) (n : ℕ) → slice_get (xs ++ x ∷ []) n ≡ Some y → (slice_get xs n ≡ Some y) ⊎ ((n ≡ length xs) × (y ≡ x))
-push_cases xs x y n at =
-    let l : n < length (xs ++ x ∷ []) = slice_get_within (xs ++ x ∷ []) n y at in
-    elim (cases_lt n (length xs)) [
-      | inl lt ↦ inl (slice_get-get_or xs n x lt ∙ ap Some (sym (get_or_append_left xs (x ∷ []) x n lt) ∙ get_or_from_slice_get (xs ++ x ∷ []) n y x at))
-      | inr ge ↦
-          let e : n ≡ length xs = omega (arith, l, length_push xs x) in
-          inr (e, sym (get_or_from_slice_get (xs ++ x ∷ []) n y x at) ∙ ap (λ (k : ℕ). get_or (xs ++ x ∷ []) k x) e ∙ get_or_push xs x x (length xs) refl)
-    ]
+use Rattle.fleet_needs.proofs.Pushed.{pushed_old, pushed_new, pushed_cases}
 
 -- ---- what more rows keep
 
@@ -87,13 +67,13 @@ module _ (p : Program) (places : ActionPlaces) (a : ActionId) (old new : Joins) 
   one = record { action = a; base = base; first = length old.needs.items; count = count }
 
   still : AreKeptIn old.joins.items new.joins.items
-  still n j at = ap (λ (xs : List Join). slice_get xs n) put ∙ push_kept old.joins.items one j n at
+  still n j at = ap (λ (xs : List Join). slice_get xs n) put ∙ pushed_old old.joins.items one n j at
 
   newest : slice_get new.joins.items (length old.joins.items) ≡ Some one
-  newest = ap (λ (xs : List Join). slice_get xs (length old.joins.items)) put ∙ push_last old.joins.items one
+  newest = ap (λ (xs : List Join). slice_get xs (length old.joins.items)) put ∙ pushed_new old.joins.items one
 
   parts : (n : ℕ) (j : Join) → slice_get new.joins.items n ≡ Some j → (slice_get old.joins.items n ≡ Some j) ⊎ ((n ≡ length old.joins.items) × (j ≡ one))
-  parts n j at = push_cases old.joins.items one j n (ap (λ (xs : List Join). slice_get xs n) (sym put) ∙ at)
+  parts n j at = pushed_cases old.joins.items one n j (ap (λ (xs : List Join). slice_get xs n) (sym put) ∙ at)
 
   same_need : (n : ℕ) (j : Join) → slice_get old.joins.items n ≡ Some j → (k : ℕ) → k < length (awaits_of p j.action.agent j.action.number) → need_of new.needs.items j k ≡ need_of old.needs.items j k
   same_need n j at k l = kept (j.first + k) (let w = (can.sound.joins n j at).within in omega arith)

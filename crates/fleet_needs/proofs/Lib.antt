@@ -9,6 +9,7 @@ pub mod NextBlock
 pub mod Answered
 pub mod Passing
 pub mod OthersJoined
+mod Pushed
 pub mod PiecePairs
 pub mod Gathered
 pub mod GatheredAll

@@ -263,8 +263,3 @@ module _ (p : Program) (new : SlotRows) (n : ℕ) (was : ℕ → ℕ → ℕ) (r
 
   pub rows_more : AreRowsTo p new (n + 1)
   rows_more = record { schedule = schedule; columns = columns; room = room; narrow = narrow; right = still_right }
-
--- before the first row
-pub rows_none : (p : Program) (m : SlotRows) → IsSchedule p m.schedule.now → AreColumnsOf p m.columns → length (counts_of m.counts) ≡ m.schedule.now.slots * m.columns.width
-    → are_narrow m.counts ≡ m.schedule.now.is_narrow → AreRowsTo p m 0
-rows_none p m schedule columns room narrow = record { schedule = schedule; columns = columns; room = room; narrow = narrow; right = λ r j some upto at still. absurd (omega arith) }

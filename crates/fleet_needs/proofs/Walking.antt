@@ -17,7 +17,7 @@ use Rattle.fleet_model.proofs.Totals.{actions_more, moves_more}
 use Rattle.fleet_needs.specs.Places.{ArePlacesOf}
 use Rattle.fleet_needs.specs.Order.{IsCounted}
 use Rattle.fleet_needs.specs.Critical.{IsNotedCost, value_at}
-use Rattle.fleet_needs.specs.CostWalk.{after, next_in, IsGreatestTo, IsStage, IsReadyStage, IsWalkBy, Finishes, HaveGrown, IsUnmet, IsGoal, cost_after, filled}
+use Rattle.fleet_needs.specs.CostWalk.{after, next_in, IsGreatestTo, IsStage, IsReadyStage, IsWalkBy, FinishesAfter, HaveGrown, IsUnmet, IsGoal, cost_after, filled}
 use Rattle.fleet_needs.specs.declared.await_places.ActionPlaces.{ActionPlaces}
 use Rattle.fleet_needs.specs.declared.cost_walk.Stage.{Stage}
 use Rattle.fleet_needs.specs.declared.cost_walk.Standing.{Standing}
@@ -242,7 +242,7 @@ module _ (p : Program) (cost : ActionId → ℕ) where
       }
 
       -- what the action costs, by the greatest cost of what it needs
-      pub costs_here : (ticks : ℕ) → Finishes p ticks → (s : Stage) → IsReadyStage p cost offset (IsCounted counts) i n s → (own : ℕ) → own ≡ cost (after i n) → own ≤ MAX_COST
+      pub costs_here : (ticks : ℕ) → FinishesAfter p ticks → (s : Stage) → IsReadyStage p cost offset (IsCounted counts) i n s → (own : ℕ) → own ≡ cost (after i n) → own ≤ MAX_COST
           → IsNotedCost p cost (after i n) (s.greatest + own)
       costs_here ticks f s ready own is most =
           noted_next p cost f.range (after i n) here_action s.greatest (value_at places costs) (λ d need. h.noted d (need_action p f.range (after i n) d here_action need) (ready.met d need)) needs ready.greatest.some own is most
@@ -257,7 +257,7 @@ module _ (p : Program) (cost : ActionId → ℕ) where
               ]
 
       -- that fits
-      pub costs_fit : (ticks : ℕ) → Finishes p ticks → (s : Stage) → IsReadyStage p cost offset (IsCounted counts) i n s → (own : ℕ) → own ≡ cost (after i n) → own ≤ MAX_COST → s.greatest + own ≤ MAX_TICKS * MAX_COST
+      pub costs_fit : (ticks : ℕ) → FinishesAfter p ticks → (s : Stage) → IsReadyStage p cost offset (IsCounted counts) i n s → (own : ℕ) → own ≡ cost (after i n) → own ≤ MAX_COST → s.greatest + own ≤ MAX_TICKS * MAX_COST
       costs_fit ticks f s ready own is most =
           let few = (costs_here ticks f s ready own is most).few ticks (all_finished p ticks f.finish.holds (after i n) here_action) in
           let times = mul-le ticks MAX_COST MAX_TICKS MAX_COST f.few (omega arith) in
@@ -287,7 +287,7 @@ module _ (cost : ActionId → ℕ) (i : ℕ) (from : Standing) (n : ℕ) (begun 
     | inr s ↦ (let e : n ≡ from.finished + k = omega (arith, s, l) in subst (λ (j : ℕ). cost (after i j) ≤ MAX_COST) e here)
   ]
 
-module _ (p : Program) (cost : ActionId → ℕ) (offset : (i finished k : ℕ) → ℕ) (ticks : ℕ) (finishes : Finishes p ticks)
+module _ (p : Program) (cost : ActionId → ℕ) (offset : (i finished k : ℕ) → ℕ) (ticks : ℕ) (finishes : FinishesAfter p ticks)
     (counts : List ℕ) (stages : List Stage) (places : ActionPlaces) (costs : List ℕ) (h : IsWalkBy p cost offset counts stages places costs) (i : ℕ) (agent : i < length p)
     (from : Standing) (count : from.finished ≡ slice_index counts i) (s : Stage) (there : slice_get stages i ≡ Some s) (met : s.met ≡ 0) (bare : s.left ≡ 0) (same : s.greatest ≡ from.greatest)
     (begin : ℕ) (at : begin ≡ slice_index places i) where
@@ -416,7 +416,7 @@ module _ (p : Program) where
     waiting_less (suc t) done = longer_less (cases_lt (count p t a.agent) a.number) (cases_lt (count p t b.agent) b.number) (waiting t a) (waiting t b) (λ l. omega (arith, l, before t done)) (waiting_le t a b open_before) (λ before. waiting_less t before)
 
   -- so does the next action of the agent for which one waits
-  waiting_falls : (ticks : ℕ) → Finishes p ticks → (counts : List ℕ) → (i : ℕ) (w : Await) → i < length p → IsUnmet p counts i w → waiting ticks (next_in counts w.agent) < waiting ticks (next_in counts i)
+  waiting_falls : (ticks : ℕ) → FinishesAfter p ticks → (counts : List ℕ) → (i : ℕ) (w : Await) → i < length p → IsUnmet p counts i w → waiting ticks (next_in counts w.agent) < waiting ticks (next_in counts i)
   waiting_falls ticks f counts i w agent unmet =
       waiting_less (next_in counts i) (next_in counts w.agent) act needed.agent before ticks (all_finished p ticks f.finish.holds (next_in counts i) act)
     where
@@ -459,7 +459,7 @@ pub to_go : Program → ℕ → List ℕ → ℕ → ℕ
 to_go p ticks counts i = left p counts * (ticks + 1) + waiting p ticks (next_in counts i)
 
 -- where the agent of the last goal went on, or the agent for which it waits is next, less is to go
-pub goes_on : (p : Program) (ticks : ℕ) → Finishes p ticks → (old new : List ℕ) → length old ≡ length p → length new ≡ length p → HaveGrown old new → ((i : ℕ) → i < length p → slice_index new i ≤ moves p i)
+pub goes_on : (p : Program) (ticks : ℕ) → FinishesAfter p ticks → (old new : List ℕ) → length old ≡ length p → length new ≡ length p → HaveGrown old new → ((i : ℕ) → i < length p → slice_index new i ≤ moves p i)
     → (i j : ℕ) → i < length p → (slice_index new i ≡ slice_index old i → (w : Await) × IsUnmet p new i w × (w.agent ≡ j)) → to_go p ticks new j < to_go p ticks old i
 unfolding to_go
 goes_on p ticks f old new long also grown within i j agent next = elim (cases_lt (slice_index old i) (slice_index new i)) [

@@ -61,14 +61,14 @@ pub record IsWalkBy (p : Program) (cost : ActionId → ℕ) (offset : (i finishe
   pub noted : AreNotedCosts p cost places (IsCounted counts) costs
 
 -- so many ticks finish the program if nobody is held
-pub record Finishes (p : Program) (ticks : ℕ) : Type 0 where
+pub record FinishesAfter (p : Program) (ticks : ℕ) : Type 0 where
   pub range : AreInRange p
   pub finish : IsFinish p [] ticks
   pub few : ticks ≤ MAX_TICKS
 
 -- it is so with these agents
 pub record IsCostWalk (p : Program) (cost : ActionId → ℕ) (offset : (i finished k : ℕ) → ℕ) (w : CostWalk) : Type 0 where
-  pub finishes : Finishes p w.ticks
+  pub finishes : FinishesAfter p w.ticks
   pub walk : IsWalkBy p cost offset w.counts.items w.stages.items w.places (costs_of w.costs)
 
 -- ---- how it goes on

@@ -34,7 +34,7 @@ impl Model for FinishOrder {
 
 impl FinishOrder {
     /// No ticks yet, with room for so many actions and ticks.
-    pub(crate) fn new(alloc: Global, actions: usize, ticks: u32) -> Result<FinishOrder, OutOfMemory>
+    fn new(alloc: Global, actions: usize, ticks: u32) -> Result<FinishOrder, OutOfMemory>
         ensures order { IfOk result (λ order. (p : Program) → IsOrder p order) }
         ensures ticks { IfOk result (λ order. length order.ends ≡ 1) }
     {
@@ -66,7 +66,7 @@ impl FinishOrder {
     }
 
     /// Adds the agents that the last tick of the machine has moved.
-    pub(crate) fn add_tick<P: ProgramView>(
+    fn add_tick<P: ProgramView>(
         &mut self,
         program: &P,
         machine: &Machine,

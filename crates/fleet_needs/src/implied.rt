@@ -174,7 +174,7 @@ impl JoinUse for ImpliedAwaits {
 }
 
 /// Flags the awaits of the action whose agents have a column: whether others imply them.
-pub(crate) fn flag_awaits<P: ProgramView>(program: &P, row: &JoinRow, implied: &mut ImpliedAwaits)
+fn flag_awaits<P: ProgramView>(program: &P, row: &JoinRow, implied: &mut ImpliedAwaits)
     requires range { AreInRange (P.program program.now) }
     requires row { IsJoinRow (P.program program.now) row.now }
     requires others { HasOthers (P.program program.now) row.now }
@@ -202,8 +202,6 @@ fn count_in(columns: &Columns, row: &Counts, agent: u16) -> Option<u32>
         → result ≡ Some (slice_index (counts_of row.now) k) }
     ensures none { column_of columns.now agent ≡ None → result ≡ None }
 {
-    match columns.of(agent) {
-        Some(k) => Some(row.get(usize::from(k))),
-        None => None,
-    }
+    let k = columns.of(agent)?;
+    Some(row.get(usize::from(k)))
 }

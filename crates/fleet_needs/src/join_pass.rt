@@ -1,7 +1,7 @@
 //! A pass over the rows of a schedule, in the columns of one block: each is made of rows whose counts are still in
 //! their slots, used, and kept in its own slot.
 
-ghost use Rattle.std.specs.Prelude.{◌≡◌, ◌≢◌, ◌+◌, ◌<◌, ℕ, length, max, slice_index, OnOk, ◌-◌, ◌*◌, ◌≤◌, slice_get, Some, IfOk};
+ghost use Rattle.std.specs.Prelude.{◌≡◌, ◌≢◌, ◌+◌, ◌<◌, ℕ, length, max, slice_index, OnOk, ◌-◌, ◌*◌, ◌≤◌, Some, IfOk};
 ghost use Rattle.fleet_needs.specs.Columns.{agents_in};
 ghost use Rattle.fleet_needs.specs.Block.{HasColumn};
 ghost use Rattle.fleet_model.specs.Program.{AreInRange};

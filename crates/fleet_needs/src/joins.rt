@@ -1,7 +1,7 @@
 //! Which rows are made, and of which rows each is joined: one for each action that awaits something, unless it awaits
 //! one action alone and needs it anyhow. The row of any other is that of its agent's action before.
 
-ghost use Rattle.std.specs.Prelude.{◌≡◌, ◌↔◌, ◌+◌, ◌-◌, ◌<◌, ◌≤◌, Bool, true, false, [], length, get_or, slice_index, set, IfOk, OnOk};
+ghost use Rattle.std.specs.Prelude.{◌≡◌, ◌↔◌, ◌+◌, ◌-◌, ◌<◌, ◌≤◌, Bool, true, false, [], length, get_or, set, IfOk, OnOk};
 ghost use Rattle.fleet_model.specs.Program.{AreInRange, awaits_of, total_moves};
 ghost use Rattle.fleet_model.specs.Machine.{IsFinish};
 ghost use Rattle.fleet_model.specs.Chain.{IsAction};

@@ -114,7 +114,7 @@ const STEPS: u8 = 3;
 const AWAITS: u16 = 4;
 
 /// Flags the agents whose columns are asked for: those of questions for which few steps back find no chain.
-pub(crate) fn asked_agents<P: ProgramView>(
+fn asked_agents<P: ProgramView>(
     alloc: Global,
     program: &P,
     questions: &[Question],
@@ -192,7 +192,7 @@ impl<'a> Model for Answering<'a> {
 
 /// The flags of the questions. Those of questions whose first agent has a column now say whether no chain leads from
 /// the first action to the last.
-pub(crate) fn answer<P: ProgramView>(
+fn answer<P: ProgramView>(
     alloc: Global,
     program: &P,
     schedule: &Schedule,

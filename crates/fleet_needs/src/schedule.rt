@@ -189,7 +189,7 @@ impl Model for Slots {
 }
 
 /// The slots of all rows.
-pub(crate) fn slots_of(alloc: Global, joins: &Joins) -> Result<Slots, OutOfMemory>
+fn slots_of(alloc: Global, joins: &Joins) -> Result<Slots, OutOfMemory>
     ensures slotted { IfOk result (AreSlotted joins.now.lasts.items) }
     ensures all { IfOk result (λ m. length m.outs ≡ length joins.now.joins.items) }
 {

@@ -1,6 +1,6 @@
 //! Awaits for which a few steps back from their action show whether others imply them.
 
-ghost use Rattle.std.specs.Prelude.{◌≡◌, ◌+◌, ◌<◌, ◌≤◌, ℕ, [], true, false, length, slice_get, Some, IfOk, IsTrue};
+ghost use Rattle.std.specs.Prelude.{◌≡◌, ◌+◌, ◌<◌, ◌≤◌, [], true, false, length, slice_get, Some, IfOk, IsTrue};
 ghost use Rattle.fleet_model.specs.Program.{AreInRange, awaits_of, moves, total_awaits};
 ghost use Rattle.fleet_model.specs.declared.program.Await.{Await};
 ghost use Rattle.fleet_model.specs.Machine.{IsFinish};

@@ -1,6 +1,6 @@
-use Rattle.std.proofs.Common.{◌≡◌, ℕ, length, replicate, sym, subst, ap, ◌∙◌, arith}
+use Rattle.std.proofs.Common.{◌≡◌, ℕ, length, replicate, sym, subst, ap, ◌∙◌}
 use Rattle.fleet_needs.specs.Order.{AreMid}
-use Rattle.fleet_needs.specs.Settled.{IsFinishedBy, IsFinishTick, AreFinishTicks}
+use Rattle.fleet_needs.specs.Settled.{IsFinishTick}
 use Rattle.fleet_needs.proofs.Counting.{mid_first}
 use Rattle.fleet_needs.proofs.Ticking.{noted_none}
 use Rattle.fleet_needs.proofs.finish_order.note_ticks.Goals as goal
@@ -13,9 +13,3 @@ loop-t-init g c =
       counts = subst (AreMid p 0 0) (sym zeros) (mid_first p);
       noted = noted_none p c.args.places.now (IsFinishTick p) c.args.entries.now;
     }
-
-pub returns : goal.returns
-returns g c =
-    let p = g.P.ProgramView.program c.args.program.now in
-    let all : c.loop-t.t ≡ c.args.ticks = omega (arith, c.loop-t-test.false, c.loop-t.auto.t-end) in
-    subst (λ (n : ℕ). AreFinishTicks p c.args.places.now (IsFinishedBy p n) c.loop-t.entries) all c.loop-t.invariant.noted

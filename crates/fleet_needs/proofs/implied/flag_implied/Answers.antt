@@ -19,18 +19,6 @@ returns-then-not-is_any g c =
           (flagged_if_none p c.in_ok-asked.asked.items new (λ j. ap (λ (xs : List Bool). get_or xs j false) (sym c.deref.ensures.value) ∙ c.is_any.ensures.0 c.if-not-is_any.true j) c.in_ok-asked.ensures.settled);
     }
 
-pub settle_all-requires-clause-flags : goal.settle_all-requires-clause-flags
-settle_all-requires-clause-flags g c = ap (λ (xs : List Bool). length xs) c.deref_mut.ensures.value ∙ c.requires.flags
-
-pub flag_all-requires-clause-flags : goal.flag_all-requires-clause-flags
-flag_all-requires-clause-flags g c =
-    let new : List Bool = c.settle_all.new.flags in
-    let long : length new ≡ c.args.implied.now.flags.len = omega (arith, c.settle_all.auto.flags, c.deref_mut.ensures.len) in
-    ap (λ (xs : List Bool). length xs) (take_at new (drop (length new) c.args.implied.now.flags.items) c.args.implied.now.flags.len long) ∙ c.settle_all.auto.flags ∙ ap (λ (xs : List Bool). length xs) c.deref_mut.ensures.value ∙ c.requires.flags
-
-pub flag_all-requires-clause-asked : goal.flag_all-requires-clause-asked
-flag_all-requires-clause-asked g c = ap (λ (xs : List Bool). length xs) c.deref-2.ensures.value ∙ c.in_ok-asked.ensures.all
-
 pub flag_all-requires-clause-settled : goal.flag_all-requires-clause-settled
 flag_all-requires-clause-settled g c =
     let p = g.P.ProgramView.program c.args.program.now in

@@ -1,4 +1,4 @@
-use Rattle.std.proofs.Common.{◌≡◌, ◌≤◌, ◌-◌, ◌<◌, List, length, refl, sym, subst, ap, ◌∙◌, arith}
+use Rattle.std.proofs.Common.{◌≡◌, ◌≤◌, ◌-◌, ◌<◌, List, length, sym, subst, ap, ◌∙◌, arith}
 use Rattle.std.specs.Prelude.{slice_get, Some}
 use Rattle.std.proofs.lemmas.Option.{slice_get_within}
 use Rattle.fleet_model.specs.Program.{Program}
@@ -7,7 +7,6 @@ use Rattle.fleet_needs.specs.Block.{AreAnswered}
 use Rattle.fleet_needs.specs.declared.questions.Question.{Question}
 use Rattle.fleet_needs.specs.declared.schedule.Columns.{Columns}
 use Rattle.fleet_needs.specs.declared.schedule.Schedule.{Schedule}
-use Rattle.fleet_needs.proofs.Answered.{answering_none}
 use Rattle.fleet_needs.proofs.questions.answer.Goals as goal
 
 -- once all rows are used, all questions whose agents have a column are answered
@@ -22,12 +21,6 @@ answered_all p b columns s t long is left = record {
       is.answers.answered m k q there (is.answers.before m q there (row.0, (let some : 1 ≤ row.0 = row.1.some in omega arith), row.1)) has;
   others = left.flags;
 }
-
-pub use_joins-requires-clause-used : goal.use_joins-requires-clause-used
-use_joins-requires-clause-used g c =
-    let p = g.P.ProgramView.program c.args.program.now in
-    let state : AnswersSoFar = record { questions = c.args.questions.now; flags = c.args.flags.items; next = 0 } in
-    answering_none p c.args.schedule.now c.args.columns state c.requires.questions c.requires.rows c.requires.flags refl
 
 pub returns : goal.returns
 returns g c =

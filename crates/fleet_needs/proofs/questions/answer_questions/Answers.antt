@@ -18,9 +18,3 @@ returns-then-not-is_any g c =
     (λ k. ap (λ (xs : List Bool). get_or xs k false) (sym c.deref.ensures.value) ∙ c.is_any.ensures.0 c.if-not-is_any.true k)
     (ap (λ (xs : List Bool). length xs) (c.in_ok-flags.ensures.items_if_clones_equal (λ y same. same)) ∙ length-replicate (length c.args.questions.now) false)
     (λ k. ap (λ (xs : List Bool). get_or xs k false) (c.in_ok-flags.ensures.items_if_clones_equal (λ y same. same)) ∙ none_flagged_at (length c.args.questions.now) k)
-
-pub answer_rest-requires-clause-asked : goal.answer_rest-requires-clause-asked
-answer_rest-requires-clause-asked g c = ap (λ (xs : List Bool). length xs) c.deref-2.ensures.value ∙ c.in_ok-asked.ensures.all
-
-pub answer_rest-requires-clause-flags : goal.answer_rest-requires-clause-flags
-answer_rest-requires-clause-flags g c = ap (λ (xs : List Bool). length xs) (c.in_ok-flags.ensures.items_if_clones_equal (λ y same. same)) ∙ length-replicate (length c.args.questions.now) false

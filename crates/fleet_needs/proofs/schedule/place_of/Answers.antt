@@ -6,6 +6,3 @@ pub returns-clause-within : goal.returns-clause-within
 returns-clause-within g c =
     let l = place_within (g.P.ProgramView.program c.args.program.now) c.args.places.now c.requires.places c.args.action c.requires.action in
     omega (arith, l, place_is c.args.places.now c.args.action c.place.result c.place.ensures)
-
-pub returns-clause-place : goal.returns-clause-place
-returns-clause-place g c = place_is c.args.places.now c.args.action c.place.result c.place.ensures

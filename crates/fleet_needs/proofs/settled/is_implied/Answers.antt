@@ -16,11 +16,3 @@ pub returns-clause-no : goal.returns-clause-no
 returns-clause-no g c = λ w at e.
     subst (λ (v : Await). IsImplied (g.P.ProgramView.program c.args.program.now) c.args.action v → ⊥) (same_Some (await_of c.awaited_at-awaited.result) w (sym c.awaited_at-awaited.ensures.awaited ∙ at))
     (c.reaches_other.ensures.no e)
-
-pub returns-clause-yes : goal.returns-clause-yes
-returns-clause-yes g c = λ w at e.
-    subst (λ (v : Await). IsImplied (g.P.ProgramView.program c.args.program.now) c.args.action v) (same_Some (await_of c.awaited_at-awaited.result) w (sym c.awaited_at-awaited.ensures.awaited ∙ at))
-    (c.reaches_other.ensures.yes e)
-
-pub returns-then-is_needed-clause-no : goal.returns-then-is_needed-clause-no
-returns-then-is_needed-clause-no g c = λ w at e. absurd (cc)

@@ -3,7 +3,7 @@ use Rattle.std.specs.Prelude.{Some}
 use Rattle.fleet_model.specs.declared.program.ActionId.{ActionId}
 use Rattle.fleet_model.specs.Program.{awaits_of}
 use Rattle.fleet_model.specs.Chain.{Reaches}
-use Rattle.fleet_needs.proofs.Settling.{await_of, apart_but, by_other, by_own, none_implied, no_is_not_yes, yes_is_not_no}
+use Rattle.fleet_needs.proofs.Settling.{await_of, apart_but, by_other, by_own, none_implied}
 use Rattle.fleet_needs.proofs.settled.reaches_other.Goals as goal
 use Rattle.fleet_needs.proofs.settled.reaches_other.Goals.{then-is_other+in-Some-false, then-is_other+in-None, else-is_other}
 
@@ -49,12 +49,3 @@ returns-clause-no g c = λ e.
     (λ b agent number some r. c.reaches-2.ensures.no (c.join_answers-2.ensures.no e).1 (subst (λ (x : ActionId). Reaches p c.args.first x)
     (let f : b.number ≡ c.before-before.result.number = omega (arith, number, c.before-before.ensures.number) in
     (λ s. record { agent = (agent ∙ sym c.before-before.ensures.agent) s; number = f s })) r))
-
-pub loop-m-init : goal.loop-m-init
-loop-m-init g c = record { apart = λ known m w l. (let before = l.0 in absurd (omega arith)) }
-
-pub returns-in-Some-true-clause-no : goal.returns-in-Some-true-clause-no
-returns-in-Some-true-clause-no g c = λ e. absurd (yes_is_not_no e)
-
-pub returns-then-action-le1-clause-yes : goal.returns-then-action-le1-clause-yes
-returns-then-action-le1-clause-yes g c = λ e. absurd (no_is_not_yes (c.join_answers.ensures.yes e))

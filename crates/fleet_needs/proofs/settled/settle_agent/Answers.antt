@@ -1,6 +1,5 @@
-use Rattle.std.proofs.Common.{◌≡◌, ◌+◌, ℕ, subst, arith}
-use Rattle.fleet_model.specs.Program.{moves}
-use Rattle.fleet_needs.specs.Settled.{AreSettledOf, IsUpTo}
+use Rattle.std.proofs.Common.{◌+◌, arith}
+use Rattle.fleet_needs.specs.Settled.{IsUpTo}
 use Rattle.fleet_needs.proofs.Settling.{settled_on, one_up, not_up}
 use Rattle.fleet_needs.proofs.settled.settle_agent.Goals as goal
 
@@ -13,15 +12,3 @@ loop-finished-preserved g c =
           c.loop-finished.asked c.settle_action.new.asked c.loop-finished.flags c.settle_action.new.flags
           (record { agent = c.requires.agent; first = omega arith; last = omega (arith, c.loop-finished-test.true, c.moves-finished-end.ensures) }) (λ b k. one_up i n b) (not_up i n) c.settle_action.ensures c.loop-finished.invariant.settled;
     }
-
-pub returns : goal.returns
-returns g c =
-    let p = g.P.ProgramView.program c.args.program.now in
-    let all : c.loop-finished.finished ≡ moves p c.args.agent = omega (arith, c.loop-finished-test.false, c.loop-finished.auto.finished-end, c.moves-finished-end.ensures) in
-    subst (λ (n : ℕ). AreSettledOf p c.loop-finished.asked (IsUpTo c.args.agent n) c.loop-finished.flags) all c.loop-finished.invariant.settled
-
-pub loop-finished-init : goal.loop-finished-init
-loop-finished-init g c = record { settled = c.requires.settled }
-
-pub settle_action-requires-clause-action : goal.settle_action-requires-clause-action
-settle_action-requires-clause-action g c = record { agent = c.requires.agent; first = omega arith; last = omega (arith, c.loop-finished-test.true, c.moves-finished-end.ensures) }

@@ -1,4 +1,4 @@
-use Rattle.std.proofs.Common.{◌≡◌, ◌+◌, Bool, List, length, sym, subst, ◌∙◌, ap, arith, inl, inr}
+use Rattle.std.proofs.Common.{◌≡◌, ◌+◌, Bool, List, length, sym, subst, ◌∙◌, ap, arith}
 use Rattle.std.specs.Prelude.{drop}
 use Rattle.std.proofs.lemmas.List.{take_at}
 use Rattle.fleet_needs.specs.Settled.{AreTicks, AreSettledOf, IsUpTo}
@@ -16,20 +16,3 @@ loop-agent-preserved g c =
       ticks = subst (AreTicks p) (sym c.look_less_if_most.ensures) c.loop-agent.invariant.ticks;
       settled = subst (λ (xs : List Bool). AreSettledOf p xs (IsUpTo (c.loop-agent.agent + 1) 0) c.settle_agent.new.flags) (sym same) (agent_up p c.loop-agent.agent new c.settle_agent.new.flags c.settle_agent.ensures);
     }
-
-pub loop-agent-init : goal.loop-agent-init
-loop-agent-init g c = record {
-  all = omega (arith, c.in_ok-asked.ensures.len, c.from.ensures, c.agents-agents.ensures.count);
-  ticks = c.in_ok-finish.ensures;
-  settled = λ a is these k w at. elim these [ inl low ↦ absurd (omega arith) | inr (same, low) ↦ (let first = is.first in absurd (omega arith)) ];
-}
-
-pub settle_agent-requires-clause-asked : goal.settle_agent-requires-clause-asked
-settle_agent-requires-clause-asked g c = ap (λ (xs : List Bool). length xs) c.deref_mut.ensures.value ∙ c.loop-agent.invariant.all
-
-pub settle_agent-requires-clause-settled : goal.settle_agent-requires-clause-settled
-settle_agent-requires-clause-settled g c =
-    subst (λ (xs : List Bool). AreSettledOf (g.P.ProgramView.program c.args.program.now) xs (IsUpTo c.loop-agent.agent 0) c.loop-agent.flags) (sym c.deref_mut.ensures.value) c.loop-agent.invariant.settled
-
-pub returns-clause-settled : goal.returns-clause-settled
-returns-clause-settled g c = λ a is too k w at. c.loop-agent.invariant.settled a is (inl (omega (arith, is.agent, c.loop-agent-test.false, c.agents-agents.ensures.count))) k w at

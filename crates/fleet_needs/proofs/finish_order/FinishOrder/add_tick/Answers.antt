@@ -1,16 +1,8 @@
 use Rattle.std.proofs.Common.{◌+◌, ◌-◌, ◌++◌, ◌∷◌, [], ℕ, List, length, sym, subst, ap, ◌∙◌, arith}
-use Rattle.std.proofs.lemmas.List.{length_push}
 use Rattle.fleet_needs.specs.Order.{Finishes}
 use Rattle.fleet_needs.proofs.Free.{next_ready, none_ready}
-use Rattle.fleet_needs.proofs.Ordering.{AreBegun, begun_none, begun_on, order_on}
+use Rattle.fleet_needs.proofs.Ordering.{AreBegun, begun_on, order_on}
 use Rattle.fleet_needs.proofs.finish_order.FinishOrder.add_tick.Goals as goal
-
-pub loop-agent-init : goal.loop-agent-init
-loop-agent-init g c = record {
-  begun = rw (← c.self.view_is) (begun_none (g.P.ProgramView.program c.args.program.now) (length c.self.inside.ends.items - 1) c.self.inside.agents.items);
-  ends = ap (λ (o : Finishes). o.ends) c.self.view_is;
-  within = omega arith;
-}
 
 pub loop-agent-preserved : goal.loop-agent-preserved
 loop-agent-preserved g c =
@@ -32,7 +24,3 @@ returns-clause-order g c =
     let new : Finishes = record { agents = c.loop-agent.self-inside.agents.items; ends = c.push-2.new.self.items } in
     order_on p o new c.loop-agent.from c.len-end.result c.requires.order c.loop-agent.invariant.begun (none_ready p c.args.machine.now t c.requires.ticked c.loop-agent.from c.in_default.ensures)
     (c.in_ok-push-2.ensures.items ∙ ap (λ (xs : List ℕ). xs ++ c.len-end.result ∷ []) c.loop-agent.invariant.ends) (omega (arith, c.len-end.ensures, c.loop-agent.self-inside.agents.ok))
-
-pub returns-clause-ticks : goal.returns-clause-ticks
-returns-clause-ticks g c =
-    ap (λ (xs : List ℕ). length xs) (c.in_ok-push-2.ensures.items ∙ ap (λ (xs : List ℕ). xs ++ c.len-end.result ∷ []) c.loop-agent.invariant.ends) ∙ length_push c.args.self.now.ends c.len-end.result

@@ -3,7 +3,7 @@ use Rattle.std.specs.Prelude.{drop}
 use Rattle.std.proofs.lemmas.List.{get_or-drop}
 use Rattle.fleet_needs.specs.Counts.{counts_of}
 use Rattle.fleet_needs.specs.Schedule.{count_in_slot, slot_of}
-use Rattle.fleet_needs.proofs.RowsMade.{slot_room, counts_some, counts_same, counts_joined, row_alike, same_bytes}
+use Rattle.fleet_needs.proofs.RowsMade.{slot_room, counts_some, counts_same, counts_joined}
 use Rattle.fleet_needs.proofs.join_pass.SlotRows.begin_joined.Goals as goal
 
 pub returns-clause-counts : goal.returns-clause-counts
@@ -30,17 +30,6 @@ pub read_joined-requires-clause-first : goal.read_joined-requires-clause-first
 read_joined-requires-clause-first g c =
     let room = slot_room (g.P.ProgramView.program c.args.program.now) c.args.self.now c.args.n c.requires.rows c.args.r (omega arith) c.requires.there in
     omega (arith, room, c.begin.ensures, c.requires.row.width)
-
-pub read_joined-requires-clause-second : goal.read_joined-requires-clause-second
-read_joined-requires-clause-second g c =
-    let room = slot_room (g.P.ProgramView.program c.args.program.now) c.args.self.now c.args.n c.requires.rows c.args.other (omega arith) c.requires.other in
-    omega (arith, room, c.begin-2.ensures, c.requires.row.width)
-
-pub read_joined-requires-clause-alike : goal.read_joined-requires-clause-alike
-read_joined-requires-clause-alike g c = same_bytes (g.P.ProgramView.program c.args.program.now) c.args.self.now c.args.n c.args.row.now c.requires.rows c.requires.row
-
-pub returns-clause-row : goal.returns-clause-row
-returns-clause-row g c = row_alike c.args.self.now c.args.row.now c.read_joined.new.self c.read_joined.ensures.alike c.requires.row
 
 pub returns-then-r-eq0-clause-counts : goal.returns-then-r-eq0-clause-counts
 returns-then-r-eq0-clause-counts g c = λ i m j l s t. (counts_of c.begin_row.new.row, c.begin_row.ensures.counts i m s, c.join_row.ensures.joined j l t)

@@ -2,7 +2,7 @@ use Rattle.std.proofs.Common.{◌≡◌, ◌+◌, ◌*◌, ◌<◌, ◌≤◌, �
 use Rattle.fleet_needs.specs.Counts.{counts_of}
 use Rattle.fleet_needs.proofs.Counting.{count_read}
 use Rattle.fleet_needs.proofs.Placed.{row_ends, outside}
-use Rattle.fleet_needs.proofs.RowsMade.{rows_more, same_bytes}
+use Rattle.fleet_needs.proofs.RowsMade.{rows_more}
 use Rattle.fleet_needs.proofs.join_pass.SlotRows.keep_row.Goals as goal
 
 pub write-requires-clause-within : goal.write-requires-clause-within
@@ -40,6 +40,3 @@ returns-clause-rows g c =
     ap (λ (n : ℕ). slice_index (counts_of c.write.new.self) (n + k)) (sym from)
     ∙ c.write.ensures.row k (omega (arith, l, c.requires.row.width)))
     c.requires.counts
-
-pub write-requires-clause-alike : goal.write-requires-clause-alike
-write-requires-clause-alike g c = same_bytes (g.P.ProgramView.program c.args.program.now) c.args.self.now c.args.n c.args.row.now c.requires.rows c.requires.row

@@ -5,7 +5,7 @@ use Rattle.fleet_needs.specs.Answering.{AreAnsweredTo, IsAsked}
 use Rattle.fleet_needs.specs.declared.questions.Question.{Question}
 use Rattle.fleet_needs.specs.JoinPass.{IsMade}
 use Rattle.fleet_needs.specs.Schedule.{HasRows}
-use Rattle.fleet_needs.proofs.Answered.{answers_on, others_on, made_here, made_still, made_back, made_sooner}
+use Rattle.fleet_needs.proofs.Answered.{answers_on, made_here, made_still, made_back, made_sooner}
 use Rattle.fleet_needs.proofs.RowsMade.{next_join}
 use Rattle.fleet_needs.proofs.questions.AnsweringJoinUse.use_row.Goals as goal
 
@@ -29,14 +29,4 @@ returns-clause-used g c =
       answers = subst (λ (q : List Question). AreAnsweredTo p columns q (IsMade s (row.n + 1)) new.flags new.next) e
           (answers_on p columns old.questions was.questions (IsMade s row.n) (IsMade s (row.n + 1)) j.0.action (made_here p s is row.n j.0 j.1) (made_still p s is row.n j.0 j.1) (made_back p s is row.n j.0 j.1)
           (made_sooner p s is row.n j.0 j.1 old.questions was.questions was.rows) old.next new.next old.flags new.flags was.answers (subst (λ (a : ActionId). IsAsked p columns old.questions a old.next old.flags new.flags new.next) of c.answer_next.ensures.asked));
-    }
-
-pub returns-clause-keeps : goal.returns-clause-keeps
-returns-clause-keeps g c =
-    let p = g.P.ProgramView.program c.args.program.now in
-    let old = c.args.self.now in
-    let new = c.answer_next.new.self in
-    record {
-      questions = c.answer_next.ensures.questions;
-      flags = others_on p c.args.row.now.columns.now old.questions c.args.row.now.action old.next new.next old.flags new.flags c.answer_next.ensures.asked;
     }

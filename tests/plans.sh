@@ -71,6 +71,8 @@ check 'scen_of_plan.awk, CR LF' 0 '' '' \
 check 'scen_of_plan.awk of no map' 1 '' 'scen_of_plan: no map and plan\n' "awk -f tools/scen_of_plan.awk $P $P"
 check 'scen_of_plan.awk of a map alone' 1 '' 'scen_of_plan: no map and plan\n' 'awk -f tools/scen_of_plan.awk examples/corridor.map'
 check 'to_eecbs.awk' 0 '' '' "awk -f tools/to_eecbs.awk $P | cmp - examples/corridor.eecbs"
+check 'to_eecbs.awk of none' 1 '' 'to_eecbs: no plan\n' 'awk -f tools/to_eecbs.awk examples/corridor.scen'
+check 'to_lacam.awk of none' 1 '' 'to_lacam: no trace\n' "awk -f tools/to_lacam.awk $P"
 check 'to_lacam.awk, of a trace' 0 '' '' \
     "fleet auto examples/corridor.map examples/corridor.scen | awk -f tools/to_lacam.awk | awk -f tools/from_lacam.awk > plan && fleet check examples/corridor.map examples/corridor.scen plan | grep -c free > /dev/null"
 check 'the plan of the warehouse, there and back' 0 '' '' \

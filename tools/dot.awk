@@ -1,7 +1,9 @@
 # A program as a graph for Graphviz: a box for each action with the place where it ends, a black arrow from each to the
 # next of its agent, and a red one from each awaited action.
 #     fleet list PROGRAM | awk -f tools/dot.awk | dot -Tsvg > program.svg
-BEGIN {
+# Status 1 if it is no list.
+NR == 1 && !/^agent 0: / { exit }
+NR == 1 {
     print "digraph program {"
     print "  rankdir=LR"
     print "  node [shape=box, fontname=\"sans-serif\"]"
@@ -16,4 +18,7 @@ $1 == "agent" {
     for (k = 6; k <= NF; k++) printf "  \"%s\" -> \"%s\" [color=red]\n", $k, $1
     last = $1
 }
-END { print "}" }
+END {
+    if (last == "") { print "dot: no list of a program" > "/dev/stderr"; exit 1 }
+    print "}"
+}

@@ -1,7 +1,8 @@
 # The reports of a dispatch in which robots break down, one at most of each agent:
 #     awk -v dead="A:N B:M" -f tools/log.awk LIST
 # LIST is what `fleet list` prints. In each line of the log all robots report their next action that may begin; those
-# that are dead never report theirs. So the last line is the last report that such a fleet can make.
+# that are dead never report theirs. So the last line is the last report that such a fleet can make. Status 1 if LIST is
+# no list.
 
 function number_of(word) {
     sub(/.*:/, "", word)
@@ -13,6 +14,7 @@ BEGIN {
     for (i = 1; i <= k; i++) is_dead[words[i]]
 }
 
+NR == 1 && !/^agent 0: / { exit }
 $1 == "agent" { agents++; next }
 
 {
@@ -28,6 +30,7 @@ function is_ready(action,    k, words, j) {
 }
 
 END {
+    if (!agents) { print "log: no list of a program" > "/dev/stderr"; exit 1 }
     do {
         line = ""
         for (i = 0; i < agents; i++) before[i] = done[i]

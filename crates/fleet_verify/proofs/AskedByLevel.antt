@@ -18,7 +18,7 @@ use Rattle.fleet_verify.specs.declared.chained.Answers.{Answers}
 use Rattle.fleet_verify.specs.declared.chained.LevelQuestion.{LevelQuestion}
 use Rattle.fleet_verify.specs.declared.order.OpenPair.{OpenPair}
 use Rattle.fleet_verify.proofs.Decide.{Reaches-dec}
-use Rattle.fleet_verify.proofs.Ordered.{counted_numbering, counted_levels}
+use Rattle.fleet_verify.proofs.Levels.{counted_numbers, counted_levels}
 
 -- the question for a pair
 pub asked_of : (p : Program) (rows : List (List ℕ)) (o : OpenPair) (level : ℕ) (first : ActionId) → AreVisits p o → first ≡ leaving p o.first → 1 ≤ first.number → 1 ≤ o.second.position → level ≡ level_in rows (entering o.second)
@@ -110,7 +110,7 @@ module _ (p : Program) (rows : List (List ℕ)) (wf : IsWellFormed p) (counted :
       let here : slice_get questions k ≡ Some q.question =
       slice_get-get_or questions k q.question within ∙ ap (λ (x : Question). Some x) (get_or-map (λ (x : LevelQuestion). x.question) asked k q q.question l ∙ ap (λ (x : LevelQuestion). x.question) e) in
       let clear : get_or flags k false ≡ false = none k (omega (arith, within, answers.all)) in
-      elim (Reaches-dec p (level_in rows) (counted_numbering p (level_in rows) counted) q.question.first q.question.last) [
+      elim (Reaches-dec p (level_in rows) (counted_numbers p (level_in rows) counted) q.question.first q.question.last) [
         | yes r ↦ r
         | no m ↦ (let set : get_or flags k false ≡ true = (answers.each k q.question here).1 m in absurd cc)
       ]

@@ -1,11 +1,11 @@
 -- Visits that begin in any order.
-use Rattle.std.proofs.Common.{◌≡◌, ◌≢◌, ℕ, suc, ◌+◌, ◌<◌, ◌≤◌, Bool, List, [], ◌∷◌, ◌++◌, length, get_or, Option, Some, slice_get, refl, ap, sym, ◌∙◌, subst, arith, inl, inr, ◌⊎◌}
+use Rattle.std.proofs.Common.{◌≡◌, ◌≢◌, ℕ, suc, ◌+◌, ◌<◌, ◌≤◌, Bool, List, [], ◌∷◌, ◌++◌, length, get_or, Option, Some, slice_get, refl, ap, sym, ◌∙◌, subst, arith, inl, inr}
 use Rattle.std.specs.Prelude.{All, Contains, IsTrue}
 use Rattle.std.specs.List.{filter, AllPairs}
 use Rattle.std.proofs.lemmas.Bool.{cases_order, cases_eq, cases_lt}
 use Rattle.std.proofs.lemmas.List.{get_or_default}
 use Rattle.std.proofs.lemmas.List.Kept.{AllPairs-filter}
-use Rattle.std.proofs.lemmas.List.Elements.{Contains-push, Contains-append_left}
+use Rattle.std.proofs.lemmas.List.Elements.{Contains-push, Contains-push_cases, Contains-append_left}
 use Rattle.std.proofs.lemmas.List.Quantifiers.{all_pairs_push}
 use Rattle.std.proofs.lemmas.Option.{slice_get_within, get_or_from_slice_get, slice_get-get_or}
 use Rattle.fleet_model.specs.declared.geometry.Cell.{Cell}
@@ -15,7 +15,7 @@ use Rattle.fleet_model.specs.Geometry.{place_of, is_same_place}
 use Rattle.fleet_model.specs.Program.{Program, moves, path, AreInRange, IsCell}
 use Rattle.fleet_model.specs.Visit.{is_entry, IsVisit, IsVisitOf, ListsVisits, Adjacent, ComesAfter, IsOrderly}
 use Rattle.fleet_model.proofs.Cells.{is_same_place-true, is_same_place-eq}
-use Rattle.fleet_verify.specs.Ahead.{AreEarlier, AreBegun, AreOnGround}
+use Rattle.fleet_verify.specs.Ahead.{AreEarlier, AreBegun, AreKeptOnGround}
 use Rattle.fleet_verify.specs.Faults.{StandsRight, EachAction}
 use Rattle.fleet_verify.specs.Chained.{IsChained}
 use Rattle.fleet_verify.specs.OpenPairs.{AreVisits}
@@ -23,12 +23,9 @@ use Rattle.fleet_verify.specs.Order.{visits_of, entries, IsLastVisit, AreAddedBy
 use Rattle.fleet_verify.specs.declared.order.OpenPair.{OpenPair}
 use Rattle.fleet_verify.proofs.Judged.{some_cell}
 use Rattle.fleet_verify.proofs.Listing.{await_chain}
-use Rattle.fleet_verify.proofs.Members.{filter_has, filter_from, contains_none, contains_cases}
+use Rattle.fleet_verify.proofs.Members.{filter_has, filter_from, contains_none, same_visit}
 use Rattle.fleet_verify.proofs.Neighbours.{adjacent_from}
 use Rattle.fleet_verify.proofs.Stays.{visits_are, is_at}
-
-same_visit : (v w : Visit) → v.agent ≡ w.agent → v.position ≡ w.position → v ≡ w
-same_visit v w e g = λ i. record { agent = e i; position = g i }
 
 distinct_once : (l : List Visit) → AllPairs (λ (v w : Visit). v ≢ w) l → (j k : ℕ) (v : Visit) → slice_get l j ≡ Some v → slice_get l k ≡ Some v → j ≡ k
 distinct_once l h j k v e g = elim (cases_order j k) [
@@ -39,13 +36,6 @@ distinct_once l h j k v e g = elim (cases_order j k) [
   where
     at : (i : ℕ) → slice_get l i ≡ Some v → get_or l i v ≡ v
     at i f = get_or_from_slice_get l i v v f
-
-push_cases : (vs : List Visit) (v w : Visit) → Contains (vs ++ v ∷ []) w → Contains vs w ⊎ (w ≡ v)
-push_cases [] v w c = elim (contains_cases v [] w c) [ inl e ↦ inr (sym e) | inr k ↦ absurd (contains_none w k) ]
-push_cases (u ∷ vs) v w c = elim (contains_cases u (vs ++ v ∷ []) w c) [
-  | inl e ↦ inl (0, omega arith, e)
-  | inr k ↦ (elim (push_cases vs v w k) [ inl (m, l, e) ↦ inl (suc m, omega arith, e) | inr e ↦ inr e ])
-]
 
 module _ (passable : Place → Bool) (p : Program) where
   -- none have begun
@@ -90,9 +80,9 @@ module _ (passable : Place → Bool) (p : Program) where
       ]
 
       only : (v : Visit) → Contains (h.positions ++ next ∷ []) v → (v.agent < length p) × (v.position < new v.agent)
-      only v c = elim (push_cases h.positions next v c) [
+      only v c = elim (Contains-push_cases h.positions next v c) [
         | inl k ↦ (let r = h.only v k in (r.0, grows v.agent v.position r.1))
-        | inr e ↦ subst (λ (w : Visit). (w.agent < length p) × (w.position < new w.agent)) (sym e) (agent, omega (arith, own))
+        | inr e ↦ subst (λ (w : Visit). (w.agent < length p) × (w.position < new w.agent)) e (agent, omega (arith, own))
       ]
         where
           grows : (j n : ℕ) → n < old j → n < new j
@@ -128,7 +118,7 @@ module _ (passable : Place → Bool) (p : Program) where
       (r.0, r.1, is_same_place-true (path p v.agent v.position) q f.1)
 
   -- a cell that keeps a visit is passable ground
-  pub begun_kept : (begun : ℕ → ℕ) (last : Cell → Option Visit) (pairs : List OpenPair) → AreBegun passable p begun last pairs → AreOnGround passable last
+  pub begun_kept : (begun : ℕ → ℕ) (last : Cell → Option Visit) (pairs : List OpenPair) → AreBegun passable p begun last pairs → AreKeptOnGround passable last
   begun_kept begun last pairs h c cell v is =
       let r = begun_last begun last pairs h c cell v is in
       subst (λ (place : Place). IsTrue (passable place)) r.2 (h.on_ground v.agent v.position r.0 r.1)

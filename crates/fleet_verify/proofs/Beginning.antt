@@ -26,7 +26,8 @@ use Rattle.fleet_verify.specs.declared.ahead.Ahead.{Ahead}
 use Rattle.fleet_verify.specs.declared.order.OpenPair.{OpenPair}
 use Rattle.fleet_verify.proofs.Begin.{begun_none, begun_more, begun_ground, begun_visits, begun_chained}
 use Rattle.fleet_verify.proofs.RunCounts.{longest_finishes}
-use Rattle.fleet_verify.proofs.Ordered.{none_ranked, all_counted, all_in_range, counted_numbering, top_longest}
+use Rattle.fleet_verify.proofs.Ordered.{none_ranked, all_counted, all_in_range, top_longest}
+use Rattle.fleet_verify.proofs.Levels.{counted_numbers}
 use Rattle.fleet_verify.proofs.Stays.{accepted_by}
 
 -- 1 for the agents below n, and 0 for the others
@@ -162,7 +163,7 @@ module _ (grid : Ground) (tasks : List Task) (p : Program) (a : Ahead) (n chain 
   done_counted = all_counted p rows h.ranked whole
 
   numbering : IsNumbering p level
-  numbering = counted_numbering p level done_counted
+  numbering = counted_numbers p level done_counted
 
   pub done_range : AreInRange p
   done_range = all_in_range p rows h.ranked whole wf

@@ -14,8 +14,8 @@ use Rattle.fleet_model.specs.Program.{Program, moves, awaits_of, AreInRange}
 use Rattle.fleet_model.specs.Chain.{IsAction, DirectlyNeeds, ChainFrom, Reaches, EndsChainOfCost, IsCriticalCost, IsNumbering, awaited}
 use Rattle.fleet_model.specs.Machine.{indices}
 use Rattle.fleet_model.specs.Schedule.{Schedule, IsSchedule, HasBegunBy, HasEndedBy, NeedsNoStalled}
-use Rattle.fleet_model.proofs.Chains.{chain_first, chain_last, chain_join, own_reach, Reaches-trans, ends_alone, ends_dearer, need_action, Reaches-need, Reaches-refl}
-use Rattle.fleet_needs.proofs.Costing.{but_last}
+use Rattle.fleet_model.proofs.Chains.{chain_first, chain_last, chain_join, own_reach, Reaches-trans, ends_dearer, need_action, Reaches-need, Reaches-refl}
+use Rattle.fleet_needs.proofs.Costing.{but_last, one_cost, own_cost}
 use Rattle.fleet_verify.proofs.Timed.{ends_in_time, needs_unended, by_or_not}
 use Rattle.fleet_verify.specs.Times.{HaveArrivedAt, IsLatest, IsLater, IsAwaitedUntil, IsNeedUntil, LeadsBack, IsWayTo, IsPathOfCost, IsCriticalPath, IsFreeTo, AreReached, StopsOthers, is_broken, broken_cost, last_action}
 use Rattle.fleet_verify.specs.Stretch.{first_of, stretch_actions, stretch_between, path_actions}
@@ -23,10 +23,6 @@ use Rattle.fleet_verify.specs.declared.stretch.Stretch.{Stretch}
 use Rattle.std.specs.List.{range_with_len}
 use Rattle.fleet_verify.proofs.Members.{same_action}
 use Rattle.fleet_verify.proofs.Decide.{IsAction-dec, action-dec, some-dec, before_in, needs_before}
-
--- an action has one critical cost
-pub one_cost : (p : Program) (cost : ActionId → ℕ) (b : ActionId) (m n : ℕ) → IsCriticalCost p cost b m → IsCriticalCost p cost b n → m ≡ n
-one_cost p cost b m n h k = omega (arith, k.most m h.some, h.most n k.some)
 
 -- what an action reaches ends chains that cost as much or more
 pub costs_on : (p : Program) (cost : ActionId → ℕ) (b d : ActionId) (m n : ℕ) → Reaches p b d → EndsChainOfCost p cost m b → IsCriticalCost p cost d n → m ≤ n
@@ -361,9 +357,6 @@ stops_of p range number numbered breaks counts h = record {
         (first.0, first.1, omega (arith, first.2, ended.2))
 
 -- ---- one step back
-
-pub own_cost : (p : Program) (cost : ActionId → ℕ) (b : ActionId) (m : ℕ) → IsAction p b → IsCriticalCost p cost b m → cost b ≤ m
-own_cost p cost b m act h = h.most (cost b) (ends_alone p cost b act)
 
 module _ (p : Program) (cost : ActionId → ℕ) (b : ActionId) (m own t : ℕ) (h : IsCriticalCost p cost b m) (is : own ≡ cost b) (from : t ≡ m - own) where
   pub before_some : AreInRange p → IsAction p b → (a : ActionId) → IsNeedUntil p cost b t a → LeadsBack p cost b a

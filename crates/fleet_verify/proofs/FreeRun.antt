@@ -9,7 +9,7 @@ use Rattle.std.proofs.lemmas.List.Quantifiers.{all_pairs_push}
 use Rattle.std.proofs.lemmas.List.FromFn.{get_or-map-range_with_len, length-map-range_with_len}
 use Rattle.fleet_model.specs.declared.program.ActionId.{ActionId}
 use Rattle.fleet_model.specs.declared.program.Visit.{Visit}
-use Rattle.fleet_model.specs.Machine.{Configuration, count_at, indices, run, is_held, is_ready, is_finished, IsFinish, IsLeast, Holds}
+use Rattle.fleet_model.specs.Machine.{count_at, indices, run, is_held, is_ready, is_finished, IsLeast, Holds}
 use Rattle.fleet_model.specs.Program.{Program, moves, AreInRange, path}
 use Rattle.fleet_model.specs.Chain.{IsAction, IsLevel, EndsChain}
 use Rattle.fleet_verify.proofs.RunCounts.{counts, readies, run_counts, count_opening, run_place, run_held, held_at_most, finished_all, unfinished_ends, ends_in_time, within_moves}
@@ -20,6 +20,7 @@ use Rattle.fleet_verify.proofs.Finish.{count_grows, count_grows_to, count_within
 use Rattle.fleet_verify.proofs.Listing.{entry_start, entry_later}
 use Rattle.fleet_verify.specs.Walk.{begun_by, begun_in}
 use Rattle.fleet_verify.proofs.UnderWay.{begun_yes, begun_no}
+use Rattle.fleet_verify.proofs.Members.{same_visit}
 use Rattle.std.proofs.lemmas.Option.{slice_get-get_or, slice_get_within, same_Some}
 use Rattle.fleet_model.specs.declared.geometry.Place.{Place}
 use Rattle.fleet_model.specs.Conflict.{Motion, HasVertexConflict, HasFollowingConflict, HasCycleConflict}
@@ -96,9 +97,6 @@ module _ (p : Program) (f : ℕ) (fin : is_finished p (run p [] f) ≡ true) whe
     pub all : (v : Visit) → v.agent < length p → Begun v → Contains visits v
     pub only : (v : Visit) → Contains visits v → (v.agent < length p) × Begun v
     pub sorted : AllPairs (IsBefore level) visits
-
-  same_visit : (v w : Visit) → v.agent ≡ w.agent → v.position ≡ w.position → v ≡ w
-  same_visit v w e g = λ i. record { agent = e i; position = g i }
 
   -- one more agent of a tick, which finishes an action
   order_moved : (t n : ℕ) (visits : List Visit) → n < length p → count_at (run p [] (suc t)) n ≡ suc (count_at (run p [] t) n) → IsOrder (IsBegun t n) visits

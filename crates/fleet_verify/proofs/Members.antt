@@ -1,11 +1,15 @@
--- Members of lists, and actions that are the same.
-use Rattle.std.proofs.Common.{◌≡◌, zero, suc, Bool, true, false, List, [], ◌∷◌, refl, sym, ap, ◌∙◌, subst, arith, inl, inr}
+-- Members of lists, and actions and visits that are the same.
+use Rattle.std.proofs.Common.{◌≡◌, zero, suc, Bool, true, false, List, [], ◌∷◌, map, refl, sym, ap, ◌∙◌, subst, arith, inl, inr}
 use Rattle.std.specs.Prelude.{Contains, ◌⊎◌}
 use Rattle.std.specs.List.{filter}
 use Rattle.fleet_model.specs.declared.program.ActionId.{ActionId}
+use Rattle.fleet_model.specs.declared.program.Visit.{Visit}
 
 pub same_action : (a b : ActionId) → a.agent ≡ b.agent → a.number ≡ b.number → a ≡ b
 same_action a b e g = λ i. record { agent = e i; number = g i }
+
+pub same_visit : (v w : Visit) → v.agent ≡ w.agent → v.position ≡ w.position → v ≡ w
+same_visit v w e g = λ i. record { agent = e i; position = g i }
 
 pub contains_head : {X : Type 0} (y : X) (ys : List X) → Contains (y ∷ ys) y
 contains_head y ys = (zero, omega arith, refl)
@@ -19,6 +23,13 @@ contains_none x (k, l, e) = omega arith
 pub contains_cases : {X : Type 0} (y : X) (ys : List X) (x : X) → Contains (y ∷ ys) x → (y ≡ x) ⊎ Contains ys x
 contains_cases y ys x (zero, l, e) = inl e
 contains_cases y ys x (suc k, l, e) = inr (k, omega arith, e)
+
+pub contains_map : {X Y : Type 0} (f : X → Y) (xs : List X) (x : X) → Contains xs x → Contains (map f xs) (f x)
+contains_map f [] x h = absurd (contains_none x h)
+contains_map f (y ∷ xs) x h = elim (contains_cases y xs x h) [
+  | inl e ↦ subst (λ z. Contains (f y ∷ map f xs) (f z)) e (contains_head (f y) (map f xs))
+  | inr k ↦ contains_later (f y) (map f xs) (f x) (contains_map f xs x k)
+]
 
 pub filter_has : {X : Type 0} (test : X → Bool) (xs : List X) (x : X) → Contains xs x → test x ≡ true → Contains (filter test xs) x
 filter_has test [] x h t = h

@@ -29,7 +29,7 @@ use Rattle.fleet_verify.specs.Order.{number_of, visits_of, IsListJudged, AreAllP
 use Rattle.fleet_verify.specs.OpenPairs.{AreVisits, question_of, violation_of, HasNoChain, IsFirstBad, AnswersFirstBad, IsFlagged}
 use Rattle.fleet_model.proofs.Chains.{own_reach, Reaches-rises}
 use Rattle.fleet_verify.proofs.Decide.{Reaches-dec}
-use Rattle.fleet_verify.proofs.Listing.{levels_number, await_chain, entry_start, entry_later, before_rank}
+use Rattle.fleet_verify.proofs.Listing.{levels_number, await_chain, entry_start, entry_later, before_rank, as_visit}
 use Rattle.fleet_verify.proofs.Neighbours.{adjacent_at, adjacent_from, any_two}
 use Rattle.fleet_verify.proofs.Ordered.{same_cell}
 use Rattle.fleet_verify.proofs.Stays.{visit_at, before_itself}
@@ -139,9 +139,6 @@ module _ (p : Program) (order : VisitOrder) (placed : List PlacedVisit) (all : A
   visit_here : (q : Place) (k : ℕ) (v : Visit) → slice_get (visits_of q placed) k ≡ Some v → IsVisitOf p q v
   visit_here q k v e = subst (IsVisitOf p q) (get_or_from_slice_get (visits_of q placed) k v v e) ((all.sorted q).lists.only k v (slice_get_within (visits_of q placed) k v e))
 
-  as_visit : (q : Place) (v : Visit) → IsVisitOf p q v → IsVisit p v
-  as_visit q v h = record { agent = h.agent; position = h.position; entered = h.entered }
-
   -- visits of a place stand in the order of the levels
   before_in : (q : Place) (i j : ℕ) (v w : Visit) → i < j → slice_get (visits_of q placed) i ≡ Some v → slice_get (visits_of q placed) j ≡ Some w → IsBefore all.level v w
   before_in q i j v w l ev ew =
@@ -172,8 +169,8 @@ module _ (p : Program) (order : VisitOrder) (placed : List PlacedVisit) (all : A
     where
       visits : (o : OpenPair) → IsOpenPair p placed o → AreVisits p o
       visits o is = record {
-        first = as_visit (place_of o.cell) o.first (visit_here (place_of o.cell) is.neighbours.at o.first is.neighbours.here);
-        second = as_visit (place_of o.cell) o.second (visit_here (place_of o.cell) (is.neighbours.at + 1) o.second is.neighbours.next);
+        first = as_visit p (place_of o.cell) o.first (visit_here (place_of o.cell) is.neighbours.at o.first is.neighbours.here);
+        second = as_visit p (place_of o.cell) o.second (visit_here (place_of o.cell) (is.neighbours.at + 1) o.second is.neighbours.next);
       }
 
   -- no two agents begin on one cell, so the second visit of a pair is no start

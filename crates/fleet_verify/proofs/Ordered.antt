@@ -21,11 +21,12 @@ use Rattle.fleet_verify.specs.declared.order.VisitOrder.{VisitOrder}
 use Rattle.fleet_verify.specs.Order.{number_of, last_of, visits_of, entries, IsOpenNext, IsLastVisit, IsGrouped, IsOpenPair, AreGrouped, AreGroupedBy, AreConsecutive, StandsBefore}
 use Rattle.std.proofs.Math.Seq.{get_or-append_seam}
 use Rattle.fleet_model.specs.declared.program.ActionId.{ActionId}
-use Rattle.fleet_model.specs.Chain.{IsAction, DirectlyNeeds, EndsChain, IsLevel, IsLongestChain, IsNumbering, awaited}
-use Rattle.fleet_model.proofs.Chains.{level_is, ends_within, ends_action, ends_one, ends_more}
+use Rattle.fleet_model.specs.Chain.{IsAction, DirectlyNeeds, EndsChain, IsLongestChain, awaited}
+use Rattle.fleet_model.proofs.Chains.{ends_within, ends_action}
 use Rattle.fleet_verify.specs.Rows.{IsCountedUp}
 use Rattle.fleet_verify.specs.Ahead.{AreCountedUp, IsTop, IsRanked, AreRanked, IsNextLevel, AddsLevel, count_in, level_in, next_in}
 use Rattle.fleet_verify.proofs.Members.{same_action}
+use Rattle.fleet_verify.proofs.Levels.{counted_numbers, counted_levels}
 use Rattle.fleet_verify.proofs.Stays.{has_action}
 use Rattle.fleet_verify.proofs.Ranges.{one_in_range}
 
@@ -302,29 +303,13 @@ pairs_more R last s old new v is not more = inr (v, is, not, more)
 
 -- ---- laws
 
-pub counted_numbering : (p : Program) (level : ActionId → ℕ) → AreCountedUp p level → IsNumbering p level
-counted_numbering p level h = record {
-  positive = λ a act. elim (h a act).least [ inl e ↦ omega (arith, e) | inr r ↦ omega (arith, r.3) ];
-  rising = λ a b act other need. (h a act).above b other need;
-}
-
-counted_chain : (p : Program) (level : ActionId → ℕ) → AreCountedUp p level → (fuel : ℕ) (a : ActionId) → IsAction p a → level a ≤ fuel → EndsChain p (level a) a
-counted_chain p level h zero a act l = absurd (omega (arith, (counted_numbering p level h).positive a act))
-counted_chain p level h (suc fuel) a act l = elim (h a act).least [
-  | inl e ↦ subst (λ (n : ℕ). EndsChain p n a) (sym e) (ends_one p a act)
-  | inr r ↦ subst (λ (n : ℕ). EndsChain p n a) (sym r.3) (ends_more p (level r.0) r.0 a (counted_chain p level h fuel r.0 r.1 (omega (arith, r.3))) act r.2)
-]
-
-pub counted_levels : (p : Program) (level : ActionId → ℕ) → AreCountedUp p level → (a : ActionId) → IsAction p a → IsLevel p a (level a)
-counted_levels p level h a act = level_is p level (counted_numbering p level h) a (counted_chain p level h (level a) a act (omega arith))
-
 pub top_longest : (p : Program) (level : ActionId → ℕ) → AreCountedUp p level → (n : ℕ) → IsTop p level n → IsLongestChain p n
 top_longest p level h n top = record {
   some = elim top.some [
     | inl e ↦ inl e
     | inr r ↦ inr (r.0, subst (λ (m : ℕ). EndsChain p m r.0) (sym r.2) (counted_levels p level h r.0 r.1).some)
   ];
-  most = λ b m c. omega (arith, ends_within p level (counted_numbering p level h) m b c, top.most b (ends_action p m b c));
+  most = λ b m c. omega (arith, ends_within p level (counted_numbers p level h) m b c, top.most b (ends_action p m b c));
 }
 
 agent_there : (p : Program) (i : ℕ) → 1 ≤ moves p i → i < length p

@@ -21,7 +21,7 @@ use Rattle.fleet_model.specs.Accepted.{IsRight, IsAcceptedBy}
 use Rattle.fleet_model.specs.Run.{RunsWell, motion}
 use Rattle.fleet_model.proofs.Tick.{tick_agree}
 use Rattle.fleet_verify.specs.Rest.{StandOn, rest_await, rest_awaits, rest_action, rest_agent, rest, rest_tasks}
-use Rattle.fleet_verify.proofs.Members.{contains_head, contains_later, contains_cases, contains_none, filter_has, filter_from}
+use Rattle.fleet_verify.proofs.Members.{contains_head, contains_later, contains_cases, contains_none, filter_has, filter_from, contains_map}
 use Rattle.fleet_model.specs.Conflict.{HasVertexConflict}
 use Rattle.fleet_verify.proofs.UnderWay.{within_moves}
 use Rattle.fleet_verify.proofs.RunCounts.{finished_all, unfinished_one, run_counts, run_place, count_opening, count_past, least_of}
@@ -101,13 +101,6 @@ rest_path cells p c i n h at =
 
 -- ---- awaits
 
-mapped : {X Y : Type 0} (f : X → Y) (xs : List X) (x : X) → Contains xs x → Contains (map f xs) (f x)
-mapped f [] x h = absurd (contains_none x h)
-mapped f (y ∷ xs) x h = elim (contains_cases y xs x h) [
-  | inl e ↦ subst (λ z. Contains (f y ∷ map f xs) (f z)) e (contains_head (f y) (map f xs))
-  | inr k ↦ contains_later (f y) (map f xs) (f x) (mapped f xs x k)
-]
-
 mapped_from : {X Y : Type 0} (f : X → Y) (xs : List X) (y : Y) → Contains (map f xs) y → (x : X) × Contains xs x × (f x ≡ y)
 mapped_from f [] y h = absurd (contains_none y h)
 mapped_from f (x ∷ xs) y h = elim (contains_cases (f x) (map f xs) y h) [
@@ -133,7 +126,7 @@ rest_await_has c ws v h = go (is_met c v) refl
   where
     go : (b : Bool) → is_met c v ≡ b → (v.count ≤ count_at c v.agent) ⊎ Contains (rest_awaits c ws) (rest_await c v)
     go true e = inl (leb-true _ _ e)
-    go false e = inr (mapped (rest_await c) (filter (λ v. not (is_met c v)) ws) v (filter_has (λ v. not (is_met c v)) ws v h (ap not e)))
+    go false e = inr (contains_map (rest_await c) (filter (λ v. not (is_met c v)) ws) v (filter_has (λ v. not (is_met c v)) ws v h (ap not e)))
 
 -- ---- runs
 

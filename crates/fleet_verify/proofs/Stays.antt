@@ -21,7 +21,7 @@ use Rattle.fleet_model.specs.Program.{AreInRange}
 use Rattle.fleet_verify.proofs.RunCounts.{unheld_is_longest}
 use Rattle.fleet_model.specs.Visit.{IsVisit}
 use Rattle.fleet_verify.specs.Listing.{IsBefore, IsSortedListing}
-use Rattle.fleet_verify.proofs.Members.{contains_head, contains_later, contains_cases, contains_none, filter_has, filter_from}
+use Rattle.fleet_verify.proofs.Members.{filter_has, filter_from, contains_map}
 use Rattle.fleet_verify.proofs.Listing.{levels_number}
 use Rattle.fleet_verify.proofs.Neighbours.{adjacent_from}
 use Rattle.fleet_verify.specs.declared.order.PlacedVisit.{PlacedVisit}
@@ -54,13 +54,6 @@ pub ranges_all : (p : Program) → EachAction p (AwaitsRight p) → AreInRange p
 ranges_all p h i n w k = let r = has_action p i n w k in (h i n r.0 r.1).met w k
 
 -- ---- lists
-
-pub contains_map : {X Y : Type 0} (f : X → Y) (xs : List X) (x : X) → Contains xs x → Contains (map f xs) (f x)
-contains_map f [] x h = absurd (contains_none x h)
-contains_map f (y ∷ xs) x h = elim (contains_cases y xs x h) [
-  | inl e ↦ subst (λ z. Contains (f y ∷ map f xs) (f z)) e (contains_head (f y) (map f xs))
-  | inr k ↦ contains_later (f y) (map f xs) (f x) (contains_map f xs x k)
-]
 
 pub visit_at : (stays : List PlacedVisit) (i : ℕ) (d : PlacedVisit) → get_or (map (λ s. s.visit) stays) i d.visit ≡ (get_or stays i d).visit
 visit_at [] i d = refl

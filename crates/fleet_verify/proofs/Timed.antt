@@ -14,7 +14,7 @@ use Rattle.fleet_model.specs.Schedule.{Schedule, IsBy, HasBegunBy, HasEndedBy, I
 use Rattle.fleet_verify.proofs.Listing.{two_ordered}
 use Rattle.fleet_model.specs.Dispatch.{Dispatch, OrdersAwait, IsCarriedOut, IsPrompt}
 use Rattle.fleet_model.specs.declared.program.Await.{Await}
-use Rattle.fleet_needs.proofs.Costing.{IsBound, bound_of, bound_on}
+use Rattle.fleet_needs.proofs.Costing.{IsBound, bound_of, bound_on, own_cost}
 use Rattle.fleet_verify.proofs.Members.{same_action, contains_head, contains_later, contains_none, contains_cases}
 use Rattle.fleet_verify.proofs.Decide.{IsAction-dec, before_in, needs_before}
 
@@ -362,9 +362,6 @@ module _ (p : Program) (cost : ActionId → ℕ) where
     unfolding soonest
     begins_at a m e = ap (option_map (λ n. n - cost a)) e
 
-    costs_own : (a : ActionId) (m : ℕ) → IsAction p a → IsCriticalCost p cost a m → cost a ≤ m
-    costs_own a m act c = c.most (cost a) (ends_alone p cost a act)
-
     -- what an action needs costs so much less
     need_sooner : (a b : ActionId) (m n : ℕ) → IsAction p a → DirectlyNeeds p a b → IsCriticalCost p cost a m → IsCriticalCost p cost b n → n + cost a ≤ m
     need_sooner a b m n act need c d = c.most (n + cost a) (ends_dearer p cost n b a d.some act need)
@@ -390,5 +387,5 @@ module _ (p : Program) (cost : ActionId → ℕ) where
       (λ a t u act begins ends.
           let x = begins_critical a t act begins in
           let same : x.0 ≡ u = same_Some x.0 u (sym x.1 ∙ ends) in
-          omega (arith, x.3, same, costs_own a x.0 act x.2)),
+          omega (arith, x.3, same, own_cost p cost a x.0 act x.2)),
     )

@@ -1,5 +1,5 @@
 -- When an agent is ready, who waits, and for whom.
-use Rattle.std.proofs.Common.{◌≡◌, ℕ, suc, ◌<◌, ◌≤◌, Bool, true, false, length, refl, ap, arith, inl, inr, ◌+◌, List, [], ◌∷◌, ◌++◌, take, get_or, slice_index, Some, sym, ◌∙◌, subst, ◌≢◌, zero, ◌-◌, cond, map, IsTrue, reverse, ◌||◌, not}
+use Rattle.std.proofs.Common.{◌≡◌, ℕ, suc, ◌<◌, ◌≤◌, Bool, true, false, length, refl, ap, arith, inl, inr, ◌+◌, List, [], ◌∷◌, ◌++◌, take, get_or, slice_index, Some, sym, ◌∙◌, subst, ◌≢◌, zero, ◌-◌, IsTrue, reverse, not}
 use Rattle.std.specs.Prelude.{Contains, ◌⊎◌, slice_get}
 use Rattle.fleet_model.specs.declared.standing.Standing.{Standing}
 use Rattle.fleet_model.specs.declared.program.Await.{Await}

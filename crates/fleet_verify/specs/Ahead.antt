@@ -78,8 +78,8 @@ pub record AreBegun (passable : Place → Bool) (p : Program) (begun : ℕ → �
   pub added : AreAddedBy p positions last pairs
 
 -- each cell that keeps a visit is passable ground
-abbrev pub AreOnGround : (Place → Bool) → (Cell → Option Visit) → Type 0
-AreOnGround passable last = (c : Cell) → IsCell c → (v : Visit) → last c ≡ Some v → IsTrue (passable (place_of c))
+abbrev pub AreKeptOnGround : (Place → Bool) → (Cell → Option Visit) → Type 0
+AreKeptOnGround passable last = (c : Cell) → IsCell c → (v : Visit) → last c ≡ Some v → IsTrue (passable (place_of c))
 
 -- each visit of the agent of w that a cell keeps is earlier than w
 abbrev pub AreEarlier : (Cell → Option Visit) → Visit → Type 0
@@ -123,13 +123,13 @@ pub record IsRunner (passable : Place → Bool) (p : Program) (offset : (i finis
   pub ahead : IsAheadBy passable p (climbed_in a.rows.items i r.finished) (set a.cells.items i (stand r)) (kept_at a.last) a.pairs.items
 
 -- the await is one of those of action n of agent i, or of agent i itself
-abbrev pub IsLatest : Program → (i n : ℕ) → Await → Type 0
-IsLatest p i n w = (w.agent ≡ i) ⊎ Contains (awaits_of p i n) w
+abbrev pub IsAwaitOrOwn : Program → (i n : ℕ) → Await → Type 0
+IsAwaitOrOwn p i n w = (w.agent ≡ i) ⊎ Contains (awaits_of p i n) w
 
 -- what the action of agent i after so many says, all of whose awaits are met, and where the next action stands
 pub record AreNeeds (p : Program) (offset : (i finished k : ℕ) → ℕ) (rows : List (List ℕ)) (i finished : ℕ) (needs : Needs) : Type 0 where
   pub level : IsNextLevel p rows i needs.level
-  pub latest : IsLatest p i (finished + 1) needs.latest
+  pub latest : IsAwaitOrOwn p i (finished + 1) needs.latest
   pub step : step_of p i (finished + 1) ≡ Some needs.step
   pub after : needs.after ≡ offset i (finished + 1) 0
 
@@ -139,7 +139,7 @@ pub record IsArrival (p : Program) (s : PlacedVisit) (needs : Needs) : Type 0 wh
   pub last : s.visit.position ≤ moves p s.visit.agent
   pub here : place_of s.cell ≡ path p s.visit.agent s.visit.position
   pub step : step_of p s.visit.agent s.visit.position ≡ Some needs.step
-  pub latest : IsLatest p s.visit.agent s.visit.position needs.latest
+  pub latest : IsAwaitOrOwn p s.visit.agent s.visit.position needs.latest
 
 -- ---- the ends
 

@@ -1,15 +1,15 @@
 //! A verifier without ticks: each agent runs on as far as its awaits allow. It only says yes, or what was answered.
 
-ghost use Rattle.std.specs.Prelude.{◌≡◌, ◌≢◌, ◌<◌, ◌≤◌, ◌+◌, ◌-◌, ◌↔◌, get_or, set, ℕ, Some, None, true, IsTrue, length, max, IfOk, IfErr, IfNone, IfSome, OnOk, List, [], ◌∷◌, ◌++◌, Contains};
+ghost use Rattle.std.specs.Prelude.{◌≡◌, ◌≢◌, ◌<◌, ◌≤◌, ◌+◌, ◌-◌, ◌↔◌, get_or, set, ℕ, Some, None, true, IsTrue, length, max, IfOk, IfErr, IfNone, IfSome, OnOk, List, [], ◌∷◌, ◌++◌};
 ghost use Rattle.fleet_model.specs.declared.geometry.Cell.{Cell};
 ghost use Rattle.fleet_model.specs.declared.program.Visit.{Visit};
 ghost use Rattle.fleet_model.specs.Geometry.{place_of};
 ghost use Rattle.fleet_verify.specs.Order.{AreAddedBy, IsOpenNext};
-ghost use Rattle.fleet_model.specs.Program.{Program, start_of, moves, path, awaits_of, step_of, IsCell};
+ghost use Rattle.fleet_model.specs.Program.{Program, start_of, moves, path, IsCell};
 ghost use Rattle.fleet_model.specs.Visit.{IsVisit, ComesAfterByAwait, leaving};
 ghost use Rattle.fleet_grid.specs.Ground.{is_passable};
 ghost use Rattle.fleet_model.specs.Chain.{awaited};
-ghost use Rattle.fleet_verify.specs.Ahead.{IsRanked, IsAhead, IsNext, IsRunner, AreNeeds, AddsLevel, AreDone, AreOnGround, AreEarlier, IsArrival, IsLatest, count_in, stand, level_in, climbed_in};
+ghost use Rattle.fleet_verify.specs.Ahead.{IsRanked, IsAhead, IsNext, IsRunner, AreNeeds, AddsLevel, AreDone, AreKeptOnGround, AreEarlier, IsAwaitOrOwn, count_in, stand, level_in, climbed_in};
 ghost use Rattle.fleet_verify.specs.Rising.{climbed, last_level};
 ghost use Rattle.fleet_verify.specs.Faults.{HasStarts};
 ghost use Rattle.fleet_verify.specs.LastVisits.{kept_at};
@@ -193,7 +193,7 @@ fn raise(
     requires begun { count_in rows.old.items agent ≤ runner.finished }
     requires level { runner.level
         ≡ last_level (climbed (get_or rows.old.items agent []) runner.finished) }
-    requires few { runner.finished < 4294967295 }
+    requires few { runner.finished < u32.MAX }
     requires some { 1 ≤ level }
     ensures rows { OnOk result (length rows.new.items ≡ length rows.old.items) }
     ensures begun { OnOk result (count_in rows.new.items agent ≤ runner.finished + 1) }
@@ -214,7 +214,7 @@ fn raise(
 fn jump(row: &mut LevelRow, finished: u32, last: u32, level: u32) -> Result<(), OutOfMemory>
     requires begun { length row.old ≤ finished }
     requires last { last ≡ last_level (climbed row.old finished) }
-    requires few { finished < 4294967295 }
+    requires few { finished < u32.MAX }
     ensures { OnOk result (row.new ≡ climbed row.old finished ++ level ∷ []) }
 {
     row.climb(finished, last);
@@ -286,9 +286,9 @@ fn enter<P: ProgramView>(
     latest: Await,
 ) -> Result<(), Stop>
     requires visit { IsVisit (P.program program.now) placed.visit }
-    requires latest { IsLatest (P.program program.now) placed.visit.agent placed.visit.position
+    requires latest { IsAwaitOrOwn (P.program program.now) placed.visit.agent placed.visit.position
         latest }
-    requires ground { AreOnGround (is_passable grid.now) (kept_at last.old) }
+    requires ground { AreKeptOnGround (is_passable grid.now) (kept_at last.old) }
     requires earlier { AreEarlier (kept_at last.old) placed.visit }
     ensures ground { OnOk result (IsTrue (is_passable grid.now (place_of placed.cell))) }
     ensures here { OnOk result (kept_at last.new placed.cell ≡ Some placed.visit) }
@@ -318,7 +318,7 @@ fn enter<P: ProgramView>(
 /// Whether the visit is by the agent of the one before, or the await is met only if that is left.
 #[inline(always)]
 fn follows<P: ProgramView>(program: &P, first: Visit, second: Visit, latest: Await) -> bool
-    requires latest { IsLatest (P.program program.now) second.agent second.position latest }
+    requires latest { IsAwaitOrOwn (P.program program.now) second.agent second.position latest }
     requires earlier { first.agent ≡ second.agent → first.position < second.position }
     ensures { IsTrue result → ComesAfterByAwait (P.program program.now) first second }
 {
@@ -397,7 +397,7 @@ fn open_unless_follows<P: ProgramView>(
     pairs: &mut Vec<OpenPair>,
 ) -> Result<(), OutOfMemory>
     requires visit { IsVisit (P.program program.now) placed.visit }
-    requires latest { IsLatest (P.program program.now) placed.visit.agent placed.visit.position
+    requires latest { IsAwaitOrOwn (P.program program.now) placed.visit.agent placed.visit.position
         latest }
     requires earlier { first.agent ≡ placed.visit.agent
         → first.position < placed.visit.position }
@@ -484,8 +484,7 @@ fn begin_agent<P: ProgramView>(
     ahead.cells.push(cell)?;
     let visit = Visit { agent, position: 0 };
     let placed = PlacedVisit { visit, cell };
-    add_visit(program, &mut ahead.last, &mut ahead.pairs, placed)?;
-    Ok(())
+    add_visit(program, &mut ahead.last, &mut ahead.pairs, placed)
 }
 
 /// What the agent's next action says, if it awaits nothing.

@@ -6,7 +6,7 @@ ghost use Rattle.fleet_model.specs.Program.{AreInRange};
 ghost use Rattle.fleet_model.specs.Machine.{IsFinish};
 ghost use Rattle.fleet_verify.specs.Ahead.{AreCountedUp, level_in};
 ghost use Rattle.fleet_verify.specs.OpenPairs.{AreVisits, question_of};
-ghost use Rattle.fleet_verify.specs.Chained.{AreKnown, IsChained, IsAskedOf, AreAsked, IsAsked, key_of};
+ghost use Rattle.fleet_verify.specs.Chained.{AreKnown, IsChained, IsAskedOf, AreAsked, key_of};
 
 use crate::level_row::{LevelRow, row_of};
 use crate::order::{OpenPair, leaving};

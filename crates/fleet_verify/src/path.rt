@@ -108,9 +108,7 @@ pub fn cell_after(grid: &Grid, cell: Cell, step: Step) -> Option<Cell>
     ensures none { IfNone result (is_passable grid.now (stepped (place_of cell) step) ≡ false) }
 {
     let place = Place::from(cell).after(step);
-    let Some(next) = map_cell(grid, place) else {
-        return None;
-    };
+    let next = map_cell(grid, place)?;
     if grid.passable(next) {
         Some(next)
     } else {

@@ -1,7 +1,7 @@
 //! Laws of schedules: runs of accepted programs whose actions take any time. These functions do nothing: their
 //! contracts are the laws.
 
-ghost use Rattle.std.specs.Prelude.{◌≡◌, ◌≢◌, ◌⊎◌, ◌↔◌, IsFalse, ℕ, ◌+◌, ◌<◌, ◌≤◌, Bool, false, IsTrue, List, [], length};
+ghost use Rattle.std.specs.Prelude.{◌≡◌, ◌≢◌, ◌⊎◌, ◌↔◌, ℕ, ◌+◌, ◌<◌, ◌≤◌, Bool, false, IsTrue, List, [], length};
 ghost use Rattle.fleet_model.specs.declared.geometry.Place.{Place};
 ghost use Rattle.fleet_model.specs.declared.program.ActionId.{ActionId};
 ghost use Rattle.fleet_model.specs.declared.task.Task.{Task};

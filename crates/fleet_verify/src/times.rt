@@ -1,7 +1,7 @@
 //! When the actions of an accepted program end at the soonest, if each takes a time of its own: the critical path
 //! method (Kelley and Walker 1959).
 
-ghost use Rattle.std.specs.Prelude.{◌≡◌, ℕ, ◌+◌, ◌<◌, ◌≤◌, ◌∷◌, IfOk, IfSome, IfNone, length};
+ghost use Rattle.std.specs.Prelude.{◌≡◌, ℕ, ◌+◌, ◌<◌, ◌≤◌, IfOk, IfSome, IfNone, length};
 ghost use Rattle.fleet_model.specs.declared.program.ActionId.{ActionId};
 ghost use Rattle.fleet_model.specs.Program.{moves, AreInRange};
 ghost use Rattle.fleet_model.specs.Chain.{IsAction, IsCriticalCost};
@@ -231,7 +231,7 @@ impl<'a, P: ProgramView, C: ActionCosts> Times<'a, P, C> {
         requires end { IsCriticalCost (P.program self.now.program) (C.cost self.now.costs) action
             end }
         ensures first { result.0.number ≤ action.number }
-        ensures few { action.number < result.0.number + 65535 }
+        ensures few { action.number < result.0.number + u16.MAX }
         ensures way { IsWayTo (P.program self.now.program) (C.cost self.now.costs) action end
             (stretch_actions (stretch_between result.0 action)) result.0 result.1 }
     {

@@ -197,9 +197,7 @@ fn cell_at(grid: &Grid, place: Place) -> Option<Cell>
     ensures cell { IfSome result IsCell }
     ensures none { IfNone result (is_passable grid.now place ≡ false) }
 {
-    let Some(cell) = map_cell(grid, place) else {
-        return None;
-    };
+    let cell = map_cell(grid, place)?;
     if grid.passable(cell) {
         Some(cell)
     } else {

@@ -1,6 +1,6 @@
 use Rattle.std.proofs.Common.{◌≡◌, ◌≤◌, ◌+◌, ◌-◌, length}
 use Rattle.fleet_model.specs.Program.{awaits_of}
-use Rattle.fleet_verify.specs.Ahead.{IsLatest, climbed_in}
+use Rattle.fleet_verify.specs.Ahead.{IsAwaitOrOwn, climbed_in}
 use Rattle.fleet_verify.proofs.NextLevel.{IsLeastTo}
 use Rattle.fleet_verify.proofs.ahead.needs_of.Given as goal
 
@@ -8,7 +8,7 @@ abbrev pub invariant-instructions : goal.invariant-instructions
 invariant-instructions g l = record {
   within : l.k ≤ length (awaits_of (g.P.ProgramView.program l.program) l.agent (l.finished + 1));
   least : IsLeastTo (g.P.ProgramView.program l.program) (climbed_in l.rows.items l.agent l.finished) l.agent (l.finished + 1) l.k l.least;
-  latest : IsLatest (g.P.ProgramView.program l.program) l.agent (l.finished + 1) l.latest;
+  latest : IsAwaitOrOwn (g.P.ProgramView.program l.program) l.agent (l.finished + 1) l.latest;
   at : l.at ≡ g.P.ProgramView.offset l.program l.agent l.finished l.k;
 }
 

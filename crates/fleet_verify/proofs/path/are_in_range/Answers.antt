@@ -1,4 +1,4 @@
-use Rattle.std.proofs.Common.{◌≡◌, ◌≤◌, ◌<◌, arith, length}
+use Rattle.std.proofs.Common.{arith}
 use Rattle.fleet_verify.proofs.Waiting.{await_agent}
 use Rattle.fleet_verify.proofs.Ranges.{in_range_more, in_range_all, out_of_range}
 use Rattle.fleet_verify.proofs.path.are_in_range.Goals as goal

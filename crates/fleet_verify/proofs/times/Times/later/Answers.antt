@@ -1,7 +1,8 @@
 use Rattle.std.proofs.Common.{◌≡◌, refl, sym, subst, ◌∙◌, arith, inl, inr}
 use Rattle.std.proofs.lemmas.Option.{same_Some, none-some}
 use Rattle.fleet_model.specs.Chain.{IsAction, IsCriticalCost}
-use Rattle.fleet_verify.proofs.CriticalPaths.{one_cost, some_from}
+use Rattle.fleet_needs.proofs.Costing.{one_cost}
+use Rattle.fleet_verify.proofs.CriticalPaths.{some_from}
 use Rattle.fleet_verify.proofs.times.Times.later.Goals as goal
 
 pub returns-in_default : goal.returns-in_default

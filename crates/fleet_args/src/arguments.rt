@@ -86,238 +86,190 @@ pub(crate) struct CommandText {
     pub(crate) arguments: &'static [Argument],
 }
 
-const MAP: ArgumentText = ArgumentText {
-    name: "map",
-    value: "MAP",
-    help: "Map file (MovingAI), each side 1 to 4096",
-    form: Form::Word,
-    default: None,
-};
-
-const SCEN: ArgumentText = ArgumentText {
-    name: "scen",
-    value: "SCEN",
-    help: "Scenario file (MovingAI), one line per agent",
-    form: Form::Word,
-    default: None,
-};
-
-const PLAN: ArgumentText = ArgumentText {
-    name: "plan",
-    value: "PLAN",
-    help: "Plan text: a line per agent, its cells x,y at times 0, 1, 2 ..",
-    form: Form::Word,
-    default: None,
-};
-
-const OUT: ArgumentText = ArgumentText {
-    name: "out",
-    value: "OUT",
-    help: "The file to which the program bytes are written",
-    form: Form::Word,
-    default: None,
-};
-
-const PROGRAM: ArgumentText = ArgumentText {
-    name: "program",
-    value: "PROGRAM",
-    help: "Program file (bytes, not hexadecimal)",
-    form: Form::Word,
-    default: None,
-};
-
-const AGENTS: ArgumentText = ArgumentText {
-    name: "agents",
-    value: "K",
-    help: "Take the first K agents of the scenario, 1 to 1024 [default: all]",
-    form: Form::Numbers(0, u16::MAX as u32),
-    default: None,
-};
-
-const HORIZON: ArgumentText = ArgumentText {
-    name: "horizon",
-    value: "H",
-    help: "The latest time at which an agent may arrive, 1 to 65535; below its shortest way there is no path",
-    form: Form::Numbers(1, u16::MAX as u32),
-    default: Some("1024"),
-};
-
-const TRIES: ArgumentText = ArgumentText {
-    name: "tries",
-    value: "N",
-    help: "How many orders of the agents are tried, 1 to 1000000: an agent that finds no path is planned first in the next one",
-    form: Form::Numbers(1, MAX_TRIES),
-    default: Some("1"),
-};
-
-const BEST: ArgumentText = ArgumentText {
-    name: "best",
-    value: "BEST",
-    help: "Tries all N orders, and keeps the first plan with the shortest chain (chain) or the least sum of costs (cost)",
-    form: Form::Best,
-    default: None,
-};
-
-/// Which earlier leavings of a cell an action awaits.
-const DEPS: ArgumentText = ArgumentText {
-    name: "deps",
-    value: "DEPS",
-    help: "What a move into a cell waits for: the last leaving by each other agent (all), or only the latest leaving (last)",
-    form: Form::Deps,
-    default: Some("last"),
-};
-
-const DWELL: ArgumentText = ArgumentText {
-    name: "dwell",
-    value: "N",
-    help: "How many actions each agent stays on its last cell after its moves, 0 to 1000000",
-    form: Form::Numbers(0, MAX_MOVES),
-    default: Some("0"),
-};
-
-const HOLDS: ArgumentText = ArgumentText {
-    name: "holds",
-    value: "FILE",
-    help: "Holds text: a line per tick, - for nobody or the numbers of the held agents, rising [default: nobody is held]",
-    form: Form::Text,
-    default: None,
-};
-
-const NUMBERS: ArgumentText = ArgumentText {
-    name: "numbers",
-    value: "",
-    help: "Prints more numbers of the plan at the end",
-    form: Form::Flag,
-    default: None,
-};
-
-const AHEAD: ArgumentText = ArgumentText {
-    name: "ahead",
-    value: "K",
-    help: "How many orders an agent may have at most that it has not reported, 1 to 255",
-    form: Form::Numbers(1, u8::MAX as u32),
-    default: Some("1"),
-};
-
-const UNNUMBERED: ArgumentText = ArgumentText {
-    name: "unnumbered",
-    value: "",
-    help: "Orders and reports name agents alone: go AGENT FROM TO, and a report that comes twice counts twice",
-    form: Form::Flag,
-    default: None,
-};
-
-const RESUME: ArgumentText = ArgumentText {
-    name: "resume",
-    value: "FILE",
-    help: "Goes on after the reports in this file: takes them first, and then prints the orders that are open",
-    form: Form::Text,
-    default: None,
-};
-
-const COSTS: ArgumentText = ArgumentText {
-    name: "costs",
-    value: "FILE",
-    help: "What actions cost: lines A X, each action of agent A, and A:N X, its action N [default: each action costs 1]",
-    form: Form::Text,
-    default: None,
-};
-
-const BROKEN: ArgumentText = ArgumentText {
-    name: "broken",
-    value: "ACTIONS",
-    help: "The actions in which robots break down: words A:N, rising, one space between two [default: all robots go on]",
-    form: Form::Text,
-    default: None,
-};
-
-const REPORTS: ArgumentText = ArgumentText {
-    name: "reports",
-    value: "LOG",
-    help: "The log of a dispatch: its reports, a line for each",
-    form: Form::Word,
-    default: None,
-};
-
-const SCEN_OUT: ArgumentText = ArgumentText {
-    name: "scen_out",
-    value: "SCEN_OUT",
-    help: "The file to which the tasks that are left are written, as a scenario",
-    form: Form::Word,
-    default: None,
-};
-
-const PROGRAM_OUT: ArgumentText = ArgumentText {
-    name: "program_out",
-    value: "PROGRAM_OUT",
-    help: "The file to which the program bytes that are left are written",
-    form: Form::Word,
-    default: None,
-};
-
-const WITHOUT: ArgumentText = ArgumentText {
-    name: "without",
-    value: "CELLS",
-    help: "The agent of a dead robot, and the cells on which it stands: A:X,Y or A:X,Y:X,Y [default: no robot is dead]",
-    form: Form::Text,
-    default: None,
-};
-
-const MAP_OUT: ArgumentText = ArgumentText {
-    name: "map-out",
-    value: "FILE",
-    help: "A file to which the map is written, in which the cells of the dead robot are blocked",
-    form: Form::Text,
-    default: None,
-};
-
-const OTHERS_OUT: ArgumentText = ArgumentText {
-    name: "others-out",
-    value: "FILE",
-    help: "A file to which the tasks of all but the dead robot's agent are written, as a scenario",
-    form: Form::Text,
-    default: None,
-};
-
-const LOG: ArgumentText = ArgumentText {
-    name: "log",
-    value: "FILE",
-    help: "Appends each report that is taken to this file, on the disk before anything follows from it",
-    form: Form::Text,
-    default: None,
-};
+/// What each argument is, in the order of `Argument`.
+static ARGUMENTS: [ArgumentText; 25] = [
+    ArgumentText {
+        name: "map",
+        value: "MAP",
+        help: "Map file (MovingAI), each side 1 to 4096",
+        form: Form::Word,
+        default: None,
+    },
+    ArgumentText {
+        name: "scen",
+        value: "SCEN",
+        help: "Scenario file (MovingAI), one line per agent",
+        form: Form::Word,
+        default: None,
+    },
+    ArgumentText {
+        name: "plan",
+        value: "PLAN",
+        help: "Plan text: a line per agent, its cells x,y at times 0, 1, 2 ..",
+        form: Form::Word,
+        default: None,
+    },
+    ArgumentText {
+        name: "out",
+        value: "OUT",
+        help: "The file to which the program bytes are written",
+        form: Form::Word,
+        default: None,
+    },
+    ArgumentText {
+        name: "program",
+        value: "PROGRAM",
+        help: "Program file (bytes, not hexadecimal)",
+        form: Form::Word,
+        default: None,
+    },
+    ArgumentText {
+        name: "agents",
+        value: "K",
+        help: "Take the first K agents of the scenario, 1 to 1024 [default: all]",
+        form: Form::Numbers(0, u16::MAX as u32),
+        default: None,
+    },
+    ArgumentText {
+        name: "horizon",
+        value: "H",
+        help: "The latest time at which an agent may arrive, 1 to 65535; below its shortest way there is no path",
+        form: Form::Numbers(1, u16::MAX as u32),
+        default: Some("1024"),
+    },
+    ArgumentText {
+        name: "tries",
+        value: "N",
+        help: "How many orders of the agents are tried, 1 to 1000000: an agent that finds no path is planned first in the next one",
+        form: Form::Numbers(1, MAX_TRIES),
+        default: Some("1"),
+    },
+    ArgumentText {
+        name: "best",
+        value: "BEST",
+        help: "Tries all N orders, and keeps the first plan with the shortest chain (chain) or the least sum of costs (cost)",
+        form: Form::Best,
+        default: None,
+    },
+    ArgumentText {
+        name: "deps",
+        value: "DEPS",
+        help: "What a move into a cell waits for: the last leaving by each other agent (all), or only the latest leaving (last)",
+        form: Form::Deps,
+        default: Some("last"),
+    },
+    ArgumentText {
+        name: "dwell",
+        value: "N",
+        help: "How many actions each agent stays on its last cell after its moves, 0 to 1000000",
+        form: Form::Numbers(0, MAX_MOVES),
+        default: Some("0"),
+    },
+    ArgumentText {
+        name: "holds",
+        value: "FILE",
+        help: "Holds text: a line per tick, - for nobody or the numbers of the held agents, rising [default: nobody is held]",
+        form: Form::Text,
+        default: None,
+    },
+    ArgumentText {
+        name: "numbers",
+        value: "",
+        help: "Prints more numbers of the plan at the end",
+        form: Form::Flag,
+        default: None,
+    },
+    ArgumentText {
+        name: "ahead",
+        value: "K",
+        help: "How many orders an agent may have at most that it has not reported, 1 to 255",
+        form: Form::Numbers(1, u8::MAX as u32),
+        default: Some("1"),
+    },
+    ArgumentText {
+        name: "unnumbered",
+        value: "",
+        help: "Orders and reports name agents alone: go AGENT FROM TO, and a report that comes twice counts twice",
+        form: Form::Flag,
+        default: None,
+    },
+    ArgumentText {
+        name: "resume",
+        value: "FILE",
+        help: "Goes on after the reports in this file: takes them first, and then prints the orders that are open",
+        form: Form::Text,
+        default: None,
+    },
+    ArgumentText {
+        name: "costs",
+        value: "FILE",
+        help: "What actions cost: lines A X, each action of agent A, and A:N X, its action N [default: each action costs 1]",
+        form: Form::Text,
+        default: None,
+    },
+    ArgumentText {
+        name: "broken",
+        value: "ACTIONS",
+        help: "The actions in which robots break down: words A:N, rising, one space between two [default: all robots go on]",
+        form: Form::Text,
+        default: None,
+    },
+    ArgumentText {
+        name: "reports",
+        value: "LOG",
+        help: "The log of a dispatch: its reports, a line for each",
+        form: Form::Word,
+        default: None,
+    },
+    ArgumentText {
+        name: "scen_out",
+        value: "SCEN_OUT",
+        help: "The file to which the tasks that are left are written, as a scenario",
+        form: Form::Word,
+        default: None,
+    },
+    ArgumentText {
+        name: "program_out",
+        value: "PROGRAM_OUT",
+        help: "The file to which the program bytes that are left are written",
+        form: Form::Word,
+        default: None,
+    },
+    ArgumentText {
+        name: "without",
+        value: "CELLS",
+        help: "The agent of a dead robot, and the cells on which it stands: A:X,Y or A:X,Y:X,Y [default: no robot is dead]",
+        form: Form::Text,
+        default: None,
+    },
+    ArgumentText {
+        name: "map-out",
+        value: "FILE",
+        help: "A file to which the map is written, in which the cells of the dead robot are blocked",
+        form: Form::Text,
+        default: None,
+    },
+    ArgumentText {
+        name: "others-out",
+        value: "FILE",
+        help: "A file to which the tasks of all but the dead robot's agent are written, as a scenario",
+        form: Form::Text,
+        default: None,
+    },
+    ArgumentText {
+        name: "log",
+        value: "FILE",
+        help: "Appends each report that is taken to this file, on the disk before anything follows from it",
+        form: Form::Text,
+        default: None,
+    },
+];
 
 /// What this argument is.
-fn text_of(argument: Argument) -> ArgumentText
-    ensures { told result ≡ described argument }
+fn text_of(argument: Argument) -> &'static ArgumentText
+    ensures { told result.now ≡ described argument }
 {
-    match argument {
-        Argument::Map => MAP,
-        Argument::Scen => SCEN,
-        Argument::Plan => PLAN,
-        Argument::Out => OUT,
-        Argument::Program => PROGRAM,
-        Argument::Agents => AGENTS,
-        Argument::Horizon => HORIZON,
-        Argument::Tries => TRIES,
-        Argument::Best => BEST,
-        Argument::Deps => DEPS,
-        Argument::Dwell => DWELL,
-        Argument::Holds => HOLDS,
-        Argument::Numbers => NUMBERS,
-        Argument::Ahead => AHEAD,
-        Argument::Unnumbered => UNNUMBERED,
-        Argument::Resume => RESUME,
-        Argument::Costs => COSTS,
-        Argument::Broken => BROKEN,
-        Argument::Reports => REPORTS,
-        Argument::ScenOut => SCEN_OUT,
-        Argument::ProgramOut => PROGRAM_OUT,
-        Argument::Without => WITHOUT,
-        Argument::MapOut => MAP_OUT,
-        Argument::OthersOut => OTHERS_OUT,
-        Argument::Log => LOG,
-    }
+    &ARGUMENTS[argument as usize]
 }
 
 /// How `clap` reads the values of an argument of this form, with these names.
@@ -335,8 +287,8 @@ fn parser_for<'a>(names: OptionNames<'a>, form: Form) -> Option<ValueParser<'a>>
 }
 
 /// The argument as `clap` takes it, if it takes any text and has no default.
-fn plain_arg<'a>(alloc: Global, text: ArgumentText) -> Arg<'a>
-    ensures { IsArg (plain_rule text.name.now text.form) result }
+fn plain_arg<'a>(alloc: Global, text: &ArgumentText) -> Arg<'a>
+    ensures { IsArg (plain_rule text.now.name.now text.now.form) result }
 {
     let named = Arg::new(alloc, text.name).help(text.help);
     match text.form {

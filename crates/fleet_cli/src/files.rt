@@ -5,7 +5,7 @@ ghost use Rattle.fleet_cli.specs.Files.{Store, HoldsBytes, IsRead, IsUnreadable,
 ghost use Rattle.fleet_cli.specs.Named.{IsRefusedAs, IsReadFault, IsWriteFault, IsUnread, IsGiven, given_name, given_names, AreTexts};
 
 use crate::fault::Fault;
-use crate::input::{FileFault, MAX_BYTES, read_whole};
+use crate::input::{CHUNK, FileFault, MAX_BYTES, read_through};
 use fleet_text::{WriteOut, put_all};
 use std::alloc::Global;
 use std::fs::{OpenFile, OpenOptions};
@@ -73,16 +73,20 @@ pub fn lines_end(bytes: &[u8]) -> usize
     0
 }
 
-/// The files of the disk, by their paths.
+/// The files of the disk, by their paths, and a chunk by way of which they are read.
 #[derive(Drop)]
 pub struct Disk<'r, R: rt::Files> {
     runtime: &'r R,
+    chunk: [u8; CHUNK],
 }
 
 impl<'r, R: rt::Files> Disk<'r, R> {
     /// The files that the runtime gives.
     pub fn new(runtime: &'r R) -> Disk<'r, R> {
-        Disk { runtime }
+        Disk {
+            runtime,
+            chunk: [0; CHUNK],
+        }
     }
 }
 
@@ -95,7 +99,7 @@ impl<'r, R: rt::Files> Files for Disk<'r, R> {
         let Ok(mut file) = fs::open(self.runtime, name) else {
             return Err(FileFault::Failed);
         };
-        read_whole(alloc, &mut file)
+        read_through(alloc, &mut file, &mut self.chunk)
     }
 
     fn write(&mut self, name: &str, bytes: &[u8]) -> Result<(), FileFault> {
@@ -112,7 +116,7 @@ impl<'r, R: rt::Files> Files for Disk<'r, R> {
         if !is_file(&file)? {
             return Ok(());
         }
-        let bytes = read_whole(alloc, &mut file)?;
+        let bytes = read_through(alloc, &mut file, &mut self.chunk)?;
         let end = lines_end(&bytes);
         if end < bytes.len() && file.set_len(end as u64).is_err() {
             return Err(FileFault::Failed);

@@ -19,8 +19,8 @@ pub enum FileFault {
 /// The greatest number of bytes of a file or an input that is read.
 pub const MAX_BYTES: usize = 268_435_456;
 
-/// How many bytes are asked for at a time.
-const CHUNK: usize = 4_096;
+/// How many bytes are asked for at a time. The C library copies 4,096 or more by one instruction, byte by byte.
+pub(crate) const CHUNK: usize = 4_000;
 
 /// Why an input was not read to its end.
 #[derive(Clone, Copy)]
@@ -32,8 +32,13 @@ enum InputStop {
     TooLong,
 }
 
-/// All bytes of the reader, unless they are more than `MAX_BYTES`.
-fn read_to_limit<R: Read>(alloc: Global, reader: &mut R) -> Result<Vec<u8>, InputStop>
+/// All bytes of the reader, unless they are more than `MAX_BYTES`. Each read goes into the chunk.
+fn read_to_limit<R: Read>(
+    alloc: Global,
+    reader: &mut R,
+    chunk: &mut [u8],
+) -> Result<Vec<u8>, InputStop>
+    requires { 1 ≤ length chunk.old }
     ensures whole { IfOk result (λ bytes. IfSome (R.remaining reader.old)
         (λ rest. bytes.items ≡ rest)) }
     ensures within { IfOk result (λ bytes. length bytes.items ≤ MAX_BYTES) }
@@ -41,9 +46,8 @@ fn read_to_limit<R: Read>(alloc: Global, reader: &mut R) -> Result<Vec<u8>, Inpu
         → IfSome (R.remaining reader.old) (λ rest. MAX_BYTES < length rest) }
 {
     let mut bytes = Vec::new(alloc);
-    let mut chunk = [0; CHUNK];
     'chunks: loop {
-        let count = match reader.read(&mut chunk) {
+        let count = match reader.read(chunk) {
             Ok(count) => count,
             Err(_) => return Err(InputStop::Unreadable),
         };
@@ -67,7 +71,21 @@ pub fn read_whole<R: Read>(alloc: Global, reader: &mut R) -> Result<Vec<u8>, Fil
         (λ rest. bytes.items ≡ rest)) }
     ensures within { IfOk result (λ bytes. length bytes.items ≤ MAX_BYTES) }
 {
-    match read_to_limit(alloc, reader) {
+    read_through(alloc, reader, &mut [0; CHUNK])
+}
+
+/// The same, by way of a chunk that is there.
+pub(crate) fn read_through<R: Read>(
+    alloc: Global,
+    reader: &mut R,
+    chunk: &mut [u8],
+) -> Result<Vec<u8>, FileFault>
+    requires { 1 ≤ length chunk.old }
+    ensures whole { IfOk result (λ bytes. IfSome (R.remaining reader.old)
+        (λ rest. bytes.items ≡ rest)) }
+    ensures within { IfOk result (λ bytes. length bytes.items ≤ MAX_BYTES) }
+{
+    match read_to_limit(alloc, reader, chunk) {
         Ok(bytes) => Ok(bytes),
         Err(InputStop::OutOfMemory) => Err(FileFault::OutOfMemory),
         Err(InputStop::Unreadable | InputStop::TooLong) => Err(FileFault::Failed),

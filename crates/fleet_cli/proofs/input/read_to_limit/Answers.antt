@@ -1,4 +1,4 @@
-use Rattle.std.proofs.Common.{◌≡◌, ◌∙◌, true, not, ap, arith, refl}
+use Rattle.std.proofs.Common.{◌≡◌, ◌∙◌, true, not, ap, arith}
 use Rattle.std.specs.Result.{is_ok}
 use Rattle.std.proofs.KnownBytes.{Consumes-nil, Consumes-trans}
 use Rattle.fleet_cli.proofs.input.read_to_limit.Goals as goal
@@ -7,7 +7,7 @@ pub chunks-init : goal.chunks-init
 chunks-init g c = record {
   so_far = rw c.new-bytes.ensures.items (Consumes-nil (g.R.Read.remaining c.args.reader.now));
   within = omega (arith, c.new-bytes.ensures.len);
-  size = refl;
+  size = c.requires;
 }
 
 pub chunks-preserved : goal.chunks-preserved
@@ -18,7 +18,7 @@ chunks-preserved g c =
     record {
       so_far = rw items (Consumes-trans _ _ _ _ _ c.chunks.invariant.so_far c.in-Ok.ensures.bytes.0);
       within = omega (arith, len, c.chunks.invariant.within, c.if-is_beyond.false, c.len.ensures, c.in-Ok.ensures.bound.1);
-      size = c.read.auto.buf ∙ c.chunks.invariant.size;
+      size = omega (arith, c.read.auto.buf, c.chunks.invariant.size);
     }
 
 pub chunks-smaller : goal.chunks-smaller

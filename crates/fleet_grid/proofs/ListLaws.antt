@@ -5,8 +5,9 @@ use Rattle.std.specs.declared.alloc.Global.{Global}
 use Rattle.std.proofs.lemmas.Bool.{cases_eq, cases_lt}
 use Rattle.std.proofs.lemmas.List.{map-append, get_or_past, get_or_push, get_or_append_left, length-map}
 use Rattle.fleet_grid.specs.declared.lists.Key.{Key}
-use Rattle.fleet_grid.specs.Lists.{list_at, list_in, number_at, list_numbered, list_of, lists_by_key, HaveOwnLists, IsNumbered, IsChangedBy}
-use Rattle.fleet_grid.proofs.Pages.{page-read, page-set, page-other}
+use Rattle.fleet_grid.specs.Table.{items_at}
+use Rattle.fleet_grid.specs.Lists.{list_at, number_at, list_numbered, list_of, lists_by_key, HaveOwnLists, IsNumbered, IsChangedBy}
+use Rattle.fleet_grid.proofs.Pages.{items-read, items-past, items-set, items-other}
 
 -- ---- keys
 
@@ -24,41 +25,25 @@ key_cases k l = elim (cases_eq k.row l.row) [
 
 -- ---- lists of lists
 
-pub list-read : {V : Type 0} (lists : List (Vec V Global)) (k : ℕ) (v : Vec V Global) → k < length lists → v ≡ get_or lists k v → list_in lists k ≡ v.items
-unfolding list_in
-list-read lists k v l e = page-read lists k v l e
-
-pub list-past : {V : Type 0} (lists : List (Vec V Global)) (k : ℕ) → length lists ≤ k → list_in lists k ≡ []
-unfolding list_in
-list-past {V} lists k h = get_or_past (map (λ v. v.items) lists) k [] (omega (arith, length-map lists (λ (v : Vec V Global). v.items)))
-
-pub list-set : {V : Type 0} (lists : List (Vec V Global)) (k : ℕ) (w : Vec V Global) → k < length lists → list_in (set lists k w) k ≡ w.items
-unfolding list_in
-list-set lists k w l = page-set lists k w l
-
-pub list-other : {V : Type 0} (lists : List (Vec V Global)) (i k : ℕ) (w : Vec V Global) → k ≢ i → list_in (set lists i w) k ≡ list_in lists k
-unfolding list_in
-list-other lists i k w ne = page-other lists i k w ne
-
 -- the lists before i are changed by f, and the others are not
 pub record AreChangedTo {V : Type 0} (f : List V → List V) (old new : List (Vec V Global)) (i : ℕ) : Type 0 where
-  pub done : (k : ℕ) → k < i → list_in new k ≡ f (list_in old k)
-  pub left : (k : ℕ) → i ≤ k → list_in new k ≡ list_in old k
+  pub done : (k : ℕ) → k < i → items_at new k ≡ f (items_at old k)
+  pub left : (k : ℕ) → i ≤ k → items_at new k ≡ items_at old k
 
 pub changed-more : {V : Type 0} (f : List V → List V) (old now : List (Vec V Global)) (i : ℕ) (v w : Vec V Global) → AreChangedTo f old now i → i < length now → v ≡ get_or now i v → w.items ≡ f v.items → AreChangedTo f old (set now i w) (i + 1)
 changed-more f old now i v w h l e g = record {
   done = λ k m. elim (cases_eq k i) [
-    | inl s ↦ ap (list_in (set now i w)) s ∙ list-set now i w l ∙ g ∙ ap f (sym (list-read now i v l e) ∙ h.left i (omega arith) ∙ ap (list_in old) (sym s))
-    | inr ne ↦ list-other now i k w ne ∙ h.done k (omega arith)
+    | inl s ↦ ap (items_at (set now i w)) s ∙ items-set now i w l ∙ g ∙ ap f (sym (items-read now i v l e) ∙ h.left i (omega arith) ∙ ap (items_at old) (sym s))
+    | inr ne ↦ items-other now i k w ne ∙ h.done k (omega arith)
   ];
-  left = λ k m. list-other now i k w (λ s. omega arith) ∙ h.left k (omega arith);
+  left = λ k m. items-other now i k w (λ s. omega arith) ∙ h.left k (omega arith);
 }
 
-pub changed-all : {V : Type 0} (f : List V → List V) (old now : List (Vec V Global)) (i : ℕ) → AreChangedTo f old now i → length now ≤ i → f [] ≡ [] → (k : ℕ) → list_in now k ≡ f (list_in old k)
+pub changed-all : {V : Type 0} (f : List V → List V) (old now : List (Vec V Global)) (i : ℕ) → AreChangedTo f old now i → length now ≤ i → f [] ≡ [] → (k : ℕ) → items_at now k ≡ f (items_at old k)
 changed-all f old now i h l e k = elim (cases_lt k i) [
   | inl m ↦ h.done k m
   | inr m ↦
-      let none : list_in now k ≡ [] = list-past now k (omega arith) in
+      let none : items_at now k ≡ [] = items-past now k (omega arith) in
       none ∙ sym e ∙ ap f (sym none ∙ h.left k m)
 ]
 
@@ -68,19 +53,19 @@ pub numbered-none : {V : Type 0} (lists : List (Vec V Global)) → list_numbered
 unfolding list_numbered
 numbered-none lists = refl
 
-numbered-in : {V : Type 0} (lists : List (Vec V Global)) (k : ℕ) → list_numbered lists (suc k) ≡ list_in lists k
-unfolding list_numbered list_in
+numbered-in : {V : Type 0} (lists : List (Vec V Global)) (k : ℕ) → list_numbered lists (suc k) ≡ items_at lists k
+unfolding list_numbered
 numbered-in lists k = refl
 
 pub numbered-read : {V : Type 0} (lists : List (Vec V Global)) (k : ℕ) (v : Vec V Global) → k < length lists → v ≡ get_or lists k v → list_numbered lists (k + 1) ≡ v.items
-numbered-read lists k v l e = rw add-one (numbered-in lists k ∙ list-read lists k v l e)
+numbered-read lists k v l e = rw add-one (numbered-in lists k ∙ items-read lists k v l e)
 
 numbered-set : {V : Type 0} (lists : List (Vec V Global)) (k : ℕ) (w : Vec V Global) → k < length lists → list_numbered (set lists k w) (k + 1) ≡ w.items
-numbered-set lists k w l = rw add-one (numbered-in (set lists k w) k ∙ list-set lists k w l)
+numbered-set lists k w l = rw add-one (numbered-in (set lists k w) k ∙ items-set lists k w l)
 
 numbered-other : {V : Type 0} (lists : List (Vec V Global)) (k n : ℕ) (w : Vec V Global) → n ≢ k + 1 → list_numbered (set lists k w) n ≡ list_numbered lists n
 numbered-other lists k zero w ne = numbered-none (set lists k w) ∙ sym (numbered-none lists)
-numbered-other lists k (suc j) w ne = numbered-in (set lists k w) j ∙ list-other lists k j w (λ s. ne (omega arith)) ∙ sym (numbered-in lists j)
+numbered-other lists k (suc j) w ne = numbered-in (set lists k w) j ∙ items-other lists k j w (λ s. ne (omega arith)) ∙ sym (numbered-in lists j)
 
 numbered-before : {V : Type 0} (lists : List (Vec V Global)) (n : ℕ) (w : Vec V Global) → n ≤ length lists → list_numbered (lists ++ w ∷ []) n ≡ list_numbered lists n
 unfolding list_numbered
@@ -91,7 +76,7 @@ numbered-last : {V : Type 0} (lists : List (Vec V Global)) (w : Vec V Global) �
 unfolding list_numbered
 numbered-last {V} lists w = rw add-one (ap (λ z. get_or z (length lists) []) (map-append (λ v. v.items) lists (w ∷ [])) ∙ get_or_push (map (λ v. v.items) lists) w.items [] (length lists) (length-map lists (λ (v : Vec V Global). v.items)))
 
-pub numbered-changed : {V : Type 0} (f : List V → List V) (old new : List (Vec V Global)) → f [] ≡ [] → ((k : ℕ) → list_in new k ≡ f (list_in old k)) → (n : ℕ) → list_numbered new n ≡ f (list_numbered old n)
+pub numbered-changed : {V : Type 0} (f : List V → List V) (old new : List (Vec V Global)) → f [] ≡ [] → ((k : ℕ) → items_at new k ≡ f (items_at old k)) → (n : ℕ) → list_numbered new n ≡ f (list_numbered old n)
 numbered-changed f old new e h zero = numbered-none new ∙ sym e ∙ ap f (sym (numbered-none old))
 numbered-changed f old new e h (suc k) = numbered-in new k ∙ h k ∙ ap f (sym (numbered-in old k))
 
@@ -103,7 +88,7 @@ number-past rows k l = ap (λ z. get_or z k.place 0) (get_or_past (map (λ v. v.
 
 number-read : (rows : List (Vec ℕ Global)) (k : Key) (row : Vec ℕ Global) → k.row < length rows → row ≡ get_or rows k.row row → number_at rows k ≡ get_or row.items k.place 0
 unfolding number_at
-number-read rows k row l e = ap (λ z. get_or z k.place 0) (page-read rows k.row row l e)
+number-read rows k row l e = ap (λ z. get_or z k.place 0) (items-read rows k.row row l e)
 
 pub same-numbers : (old new : List (Vec ℕ Global)) → ((k : ℕ) → get_or (map (λ v. v.items) new) k [] ≡ get_or (map (λ v. v.items) old) k []) → (k : Key) → number_at new k ≡ number_at old k
 unfolding number_at
@@ -112,11 +97,11 @@ same-numbers old new h k = ap (λ z. get_or z k.place 0) (h k.row)
 -- a row is replaced
 number-set : (rows : List (Vec ℕ Global)) (y : ℕ) (row : Vec ℕ Global) (k : Key) → y < length rows → k.row ≡ y → number_at (set rows y row) k ≡ get_or row.items k.place 0
 unfolding number_at
-number-set rows y row k l e = ap (λ z. get_or z k.place 0) (ap (λ j. get_or (map (λ v. v.items) (set rows y row)) j []) e ∙ page-set rows y row l)
+number-set rows y row k l e = ap (λ z. get_or z k.place 0) (ap (λ j. get_or (map (λ v. v.items) (set rows y row)) j []) e ∙ items-set rows y row l)
 
 number-other : (rows : List (Vec ℕ Global)) (y : ℕ) (row : Vec ℕ Global) (k : Key) → k.row ≢ y → number_at (set rows y row) k ≡ number_at rows k
 unfolding number_at
-number-other rows y row k ne = ap (λ z. get_or z k.place 0) (page-other rows y k.row row ne)
+number-other rows y row k ne = ap (λ z. get_or z k.place 0) (items-other rows y k.row row ne)
 
 module _ (old wide : List (Vec ℕ Global)) (key : Key) (row new : Vec ℕ Global) (same : (k : ℕ) → get_or (map (λ v. v.items) wide) k [] ≡ get_or (map (λ v. v.items) old) k []) (l : key.row < length wide) (e : row ≡ get_or wide key.row row) where
   was : (k : Key) → k.row ≡ key.row → get_or row.items k.place 0 ≡ number_at old k

@@ -1,5 +1,5 @@
 -- Written maps are read again; what is written row by row; and the cells that are left.
-use Rattle.std.proofs.Common.{◌≡◌, ℕ, ◌+◌, ◌^◌, ◌<◌, Bool, true, false, ◌&&◌, leb, List, [], ◌∷◌, ◌++◌, length, map, take, drop, get_or, refl, sym, ap, subst, ◌∙◌, append_assoc, arith, inl, inr}
+use Rattle.std.proofs.Common.{◌≡◌, ℕ, ◌+◌, Bool, true, false, ◌&&◌, leb, List, [], ◌∷◌, ◌++◌, length, map, take, drop, get_or, refl, sym, ap, subst, ◌∙◌, append_assoc, arith, inl, inr}
 use Rattle.std.specs.Prelude.{decimal, codes, not}
 use Rattle.std.specs.Prelude.{All}
 use Rattle.std.specs.List.{AllByRecursion, AllPass, list_all, list_any}
@@ -13,9 +13,9 @@ use Rattle.std.proofs.Math.ListN.{drop_of_length-le}
 use Rattle.fleet_model.specs.declared.geometry.Cell.{Cell}
 use Rattle.fleet_model.specs.Geometry.{is_same_cell, place_of}
 use Rattle.fleet_model.specs.Machine.{indices}
-use Rattle.fleet_text.specs.Text.{Bytes, is_word, lines}
+use Rattle.fleet_text.specs.Text.{Bytes, lines}
 use Rattle.fleet_text.specs.Words.{ended_text}
-use Rattle.fleet_text.proofs.WrittenLaws.{spells, number_is, From, from_less, decimal_from, from_join, IsToken, word_some, tokens_from, front_join, lines_written}
+use Rattle.fleet_text.proofs.WrittenLaws.{spells, number_is, From, from_join, IsToken, decimal_token, tokens_from, front_join, lines_written}
 use Rattle.fleet_grid.specs.Ground.{Ground, is_ground_at, is_passable, IsGround, IsSide}
 use Rattle.fleet_grid.specs.MapText.{is_glyph, cells_of, is_row_space, IsNumberLine, IsHeader, IsGlyphRow, AreEmpty, AreMapLines}
 use Rattle.fleet_grid.specs.MapWriting.{is_left, row_left, ground_without, glyph_of, row_text, side_text, header_lines, map_text}
@@ -50,12 +50,6 @@ row_more f header text new y e g =
 bytes_from : (least : ℕ) (bytes : Bytes) → list_all (leb least) bytes ≡ true → From least bytes
 bytes_from least [] h = tt
 bytes_from least (b ∷ bytes) h = let parts = and_parts (leb least b) (list_all (leb least) bytes) h in (leb-true least b parts.0, bytes_from least bytes parts.1)
-
-decimal_token : (n : ℕ) → n < 2 ^ 64 → IsToken (decimal n)
-decimal_token n lt = record {
-  some = subst (λ (w : Bytes). is_word w ≡ true) (append-nil (decimal n)) (word_some (decimal n) [] (spells n lt).some);
-  bytes = from_less 48 33 (decimal n) (omega arith) (decimal_from n lt);
-}
 
 kind_tokens : AllByRecursion IsToken (codes "type" ∷ codes "octile" ∷ [])
 kind_tokens = (record { some = refl; bytes = bytes_from 33 (codes "type") refl }, (record { some = refl; bytes = bytes_from 33 (codes "octile") refl }, tt))

@@ -32,10 +32,6 @@ key_of_number n = record { row = n / PAGE; place = n % PAGE }
 
 -- ---- numbers of lists
 
--- the list at a place, which is empty past the last one
-unfoldable pub list_in : {V : Type 0} → List (Vec V Global) → ℕ → List V
-list_in lists k = get_or (map (λ v. v.items) lists) k []
-
 -- the number of a key's list; 0 if it has none of its own
 unfoldable pub number_at : List (Vec ℕ Global) → Key → ℕ
 number_at numbers key = get_or (get_or (map (λ v. v.items) numbers) key.row []) key.place 0

@@ -24,7 +24,7 @@ pub use laws::{
     a_map_text_is_one_ground, a_text_is_a_map_or_has_a_first_fault, a_written_map_is_read,
     cells_have_places_of_their_own,
 };
-pub use lists::{Key, Lists};
+pub use lists::{Key, Lists, set_in};
 pub use reading::read_map;
 pub use table::{Table, extend_to};
 pub use writing::write_map;

@@ -4,7 +4,8 @@ ghost use Rattle.std.specs.Prelude.{◌≡◌, ◌≢◌, ◌<◌, ◌+◌, ℕ,
 ghost use Rattle.std.specs.Fn.{FnReturnsAt, FnOnceTakesAtMut, FnOnceReturnsAtMut};
 ghost use Rattle.std.specs.declared.alloc.Global.{Global};
 ghost use Rattle.fleet_grid.specs.declared.lists.Key.{Key};
-ghost use Rattle.fleet_grid.specs.Lists.{list_at, HaveSameLists, IsChangedBy, key_of_cell, key_of_number, number_at, list_of, list_in, HaveOwnLists, IsNumbered};
+ghost use Rattle.fleet_grid.specs.Table.{items_at};
+ghost use Rattle.fleet_grid.specs.Lists.{list_at, HaveSameLists, IsChangedBy, key_of_cell, key_of_number, number_at, list_of, HaveOwnLists, IsNumbered};
 
 use crate::table::{PAGE, extend_to};
 use fleet_model::{Cell, OutOfMemory};
@@ -124,7 +125,7 @@ fn retain_in<V: Copy, F: Fn(&V) -> bool>(lists: &mut Vec<Vec<V>>, keep: F)
     requires { F.IsAlwaysCallable keep }
     ensures kept { (test : V → Bool)
         → ((x : V) (b : Bool) → FnReturnsAt F.Fn keep x b → b ≡ test x)
-        → (k : ℕ) → list_in lists.new.items k ≡ filter test (list_in lists.old.items k) }
+        → (k : ℕ) → items_at lists.new.items k ≡ filter test (items_at lists.old.items k) }
     ensures len { length lists.new.items ≡ length lists.old.items }
 {
     for list in lists.iter_mut() {
@@ -206,19 +207,25 @@ fn set_number(
         → number_at numbers.new.items k ≡ number_at numbers.old.items k) }
 {
     extend_to(alloc, numbers, key.row)?;
-    write(&mut numbers[key.row], key.place, number)
+    set_in(&mut numbers[key.row], key.place as usize, number, 0)
 }
 
-/// Writes the number at a place of the row. A refusal changes nothing.
-fn write(row: &mut Vec<u32>, place: u16, number: u32) -> Result<(), OutOfMemory>
-    ensures here { OnOk result (get_or row.new.items place 0 ≡ number) }
-    ensures others { (k : ℕ) → k ≢ place → get_or row.new.items k 0 ≡ get_or row.old.items k 0 }
+/// Sets the value at a place of the row, past whose end all values are blank. A refusal changes nothing.
+pub fn set_in<V: Copy>(
+    row: &mut Vec<V>,
+    place: usize,
+    value: V,
+    blank: V,
+) -> Result<(), OutOfMemory>
+    requires { place < 4294967295 }
+    ensures here { OnOk result (get_or row.new.items place blank ≡ value) }
+    ensures others { (k : ℕ) → k ≢ place
+        → get_or row.new.items k blank ≡ get_or row.old.items k blank }
     ensures err { OnErr result (row.new.items ≡ row.old.items) }
 {
-    let place = usize::from(place);
     if row.len() <= place {
-        row.resize(place + 1, 0)?;
+        row.resize(place + 1, blank)?;
     }
-    row[place] = number;
+    row[place] = value;
     Ok(())
 }

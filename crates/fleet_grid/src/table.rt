@@ -2,7 +2,7 @@
 
 ghost use Rattle.std.specs.Prelude.{◌≡◌, ◌≢◌, ◌≤◌, ◌<◌, ℕ, OnOk, OnErr, IfOk, length, get_or};
 ghost use Rattle.fleet_grid.specs.declared.table.TheConstants.{PAGE};
-ghost use Rattle.fleet_grid.specs.Table.{IsSet, AreSame, page_in, value_in};
+ghost use Rattle.fleet_grid.specs.Table.{IsSet, AreSame, items_at, value_in};
 
 use std::alloc::{AllocError, Global};
 
@@ -79,7 +79,7 @@ pub fn extend_to<V: Copy>(
     page: usize,
 ) -> Result<(), AllocError>
     ensures room { OnOk result (page < length pages.new.items) }
-    ensures same { (k : ℕ) → page_in pages.new.items k ≡ page_in pages.old.items k }
+    ensures same { (k : ℕ) → items_at pages.new.items k ≡ items_at pages.old.items k }
 {
     while pages.len() <= page {
         pages.push(Vec::new(alloc))?;

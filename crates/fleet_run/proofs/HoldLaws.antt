@@ -156,7 +156,7 @@ line_not_dash i (j ∷ held) small =
 
 -- ---- lines
 
-dash_is : (line : Bytes) → is_dash line ≡ true → line ≡ codes "-"
+pub dash_is : (line : Bytes) → is_dash line ≡ true → line ≡ codes "-"
 dash_is [] e = absurd cc
 dash_is (b ∷ []) e = ap (λ (x : ℕ). x ∷ []) (eqb-true b 45 e)
 dash_is (b ∷ c ∷ bs) e = absurd cc

@@ -1,5 +1,5 @@
 -- Rows of bytes that end with kept places.
-use Rattle.std.proofs.Common.{◌≡◌, ◌≤◌, ◌<◌, ◌+◌, ◌-◌, ◌++◌, ◌∷◌, [], ◌⊎◌, get_or, zero, suc, inl, inr, refl, ℕ, List, length, take, drop, set, ap, sym, ◌∙◌, arith, length-append, subst, Bool, true, false, ◌≢◌, Option, None, Some, if◌then◌else◌}
+use Rattle.std.proofs.Common.{◌≡◌, ◌≤◌, ◌<◌, ◌+◌, ◌-◌, ◌++◌, ◌∷◌, [], ◌⊎◌, get_or, zero, suc, inl, inr, refl, ℕ, List, length, take, drop, set, ap, sym, ◌∙◌, arith, length-append, subst, Bool, true, false, Option, None, Some, if◌then◌else◌, add-one}
 use Rattle.std.proofs.lemmas.List.{append_assoc, drop-append-le, drop-drop, drop-set-lt, drop-take, drop_all, ext_get_or, get_or_past, get_or-map, map-set, get_or-set_other, get_or-set_same, length-drop, length-map, length-set, length-take}
 use Rattle.std.specs.Prelude.{codes}
 use Rattle.std.specs.List.{flat_map}
@@ -7,6 +7,7 @@ use Rattle.std.proofs.lemmas.List.FromFn.{get_or-map-range_with_len}
 use Rattle.std.proofs.lemmas.List.Concat.{flat_map-cons}
 use Rattle.std.proofs.Math.Seq.{drop-append-add, drop-append_seam, drop-cons, take-append-add}
 use Rattle.std.proofs.lemmas.Int.{ints}
+use Rattle.std.proofs.lemmas.Bool.{cases_eq, cases_lt}
 use Rattle.fleet_model.specs.declared.geometry.Place.{Place}
 use Rattle.fleet_model.specs.declared.geometry.Dir.TheVariants.{North, East, South, West}
 use Rattle.fleet_model.specs.declared.geometry.Step.{Step}
@@ -83,21 +84,6 @@ piece_before row rest t n m at next low high e =
     drop-append-le n (take at row) rest (omega (arith, front, next)) ∙ ap (λ x. x ++ rest) (left ∙ ap (λ x. t ++ x) (sym right)) ∙ append_assoc t (drop m (take at row)) rest
     ∙ ap (λ x. t ++ x) (sym (drop-append-le m (take at row) rest (omega (arith, front))))
 
-pub eq_or_not : (j i : ℕ) → (j ≡ i) ⊎ (j ≢ i)
-eq_or_not zero zero = inl refl
-eq_or_not zero (suc i) = inr (λ e. absurd (omega arith))
-eq_or_not (suc j) zero = inr (λ e. absurd (omega arith))
-eq_or_not (suc j) (suc i) = elim (eq_or_not j i) [ inl e ↦ inl (ap suc e) | inr ne ↦ inr (λ e. ne (omega arith)) ]
-
-pub before_or_not : (k i : ℕ) → (k < i) ⊎ (i ≤ k)
-before_or_not zero zero = inr (omega arith)
-before_or_not zero (suc i) = inl (omega arith)
-before_or_not (suc k) zero = inr (omega arith)
-before_or_not (suc k) (suc i) = elim (before_or_not k i) [ inl m ↦ inl (omega arith) | inr l ↦ inr (omega arith) ]
-
-suc_is : (k : ℕ) → k + 1 ≡ suc k
-suc_is k = omega arith
-
 -- how far the next place is
 pub next_begin : (c : Configuration) (row begins : List ℕ) (k : ℕ) (d : Standing) → IsLineKept c row begins → k < length c
     → (get_or begins (k + 1) 0 ≡ get_or begins k 0 + length (place_text (get_or c k d).place)) × (drop (get_or begins k 0) row ≡ place_text (get_or c k d).place ++ drop (get_or begins (k + 1) 0) row)
@@ -107,7 +93,7 @@ next_begin c row begins k d kept agent =
     kept.places k (omega arith) ∙ ap places_text (drop-cons c k d agent)
     ∙ ap (λ x. x ++ codes "\n") (flat_map-cons (λ (s : Standing). place_text s.place) (get_or c k d) (drop (suc k) c))
     ∙ append_assoc text (flat_map (λ s. place_text s.place) (drop (suc k) c)) (codes "\n")
-    ∙ ap (λ n. text ++ places_text (drop n c)) (sym (suc_is k)) ∙ ap (λ x. text ++ x) (sym (kept.places (k + 1) (omega arith))) in
+    ∙ ap (λ n. text ++ places_text (drop n c)) (sym (add-one k)) ∙ ap (λ x. text ++ x) (sym (kept.places (k + 1) (omega arith))) in
     (written_length row row text (get_or begins k 0) (get_or begins (k + 1) 0) e refl (omega (arith, kept.room, kept.within k (omega arith))) (omega (arith, kept.room, kept.within (k + 1) (omega arith))), e)
 
 -- places behind one another begin one after the other
@@ -195,7 +181,7 @@ overwritten c row row' begins i s kept agent over =
       time = kept.time;
       rising = λ k h. kept.rising k (omega (arith, same_length));
       within = λ k h. kept.within k (omega (arith, same_length));
-      places = λ k h. elim (before_or_not k i) [
+      places = λ k h. elim (cases_lt k i) [
         | inl m ↦ before c row row' begins i s kept agent over (i - k) k (omega arith)
         | inr l ↦ after_or_at c row row' begins i s kept agent over k (omega (arith, same_length)) l
       ];
@@ -216,7 +202,7 @@ ArePlacesTo c places n = (k : ℕ) → k < n → get_or places k (standing_at []
 pub one_copied : (c : Configuration) (places : List Place) (i : ℕ) (q : Place) → i < length places → q ≡ (standing_at c i).place → ArePlacesTo c places i → ArePlacesTo c (set places i q) (i + 1)
 one_copied c places i q within e before k lt =
     let nowhere : Place = (standing_at [] 0).place in
-    elim (eq_or_not k i) [
+    elim (cases_eq k i) [
       | inl same ↦ rw same (get_or-set_same places i q nowhere within ∙ e)
       | inr other ↦ get_or-set_other places i k q nowhere other ∙ before k (omega arith)
     ]
@@ -250,11 +236,11 @@ rewritten_next m from i row row' begins begins' places h next agent kept =
       kept = kept;
       placed = ap (λ (l : List Place). set l i s.place) h.placed ∙ places_with h.now i s;
       agents = omega (arith, length-set h.now i s, h.agents);
-      same = λ j none. elim (eq_or_not j i) [
+      same = λ j none. elim (cases_eq j i) [
         | inl e ↦ rw e (get_or-set_same h.now i s _ within)
-        | inr ne ↦ get_or-set_other h.now i j s _ ne ∙ h.same j (λ low. elim (before_or_not j i) [ inl l ↦ next.between j low l | inr l ↦ none (omega arith) ])
+        | inr ne ↦ get_or-set_other h.now i j s _ ne ∙ h.same j (λ low. elim (cases_lt j i) [ inl l ↦ next.between j low l | inr l ↦ none (omega arith) ])
       ];
-      beside = λ j. elim (eq_or_not j i) [
+      beside = λ j. elim (cases_eq j i) [
         | inl e ↦ let here : standing_at (set h.now i s) i ≡ s = get_or-set_same h.now i s _ within in rw (e, here) (beside_itself s.place)
         | inr ne ↦ let there : standing_at (set h.now i s) j ≡ standing_at h.now j = get_or-set_other h.now i j s _ ne in rw there (h.beside j)
       ];
@@ -305,7 +291,7 @@ timed c row row' begins digits at kept e same low = record {
 
 -- who does not move stands where it stood
 pub unmoved : (p : Program) (held : ℕ → Bool) (c : Configuration) (i : ℕ) → length c ≡ length p → flag_of (moving_flags p held c) i ≡ false → standing_at c i ≡ standing_at (tick p held c) i
-unmoved p held c i agents still = elim (before_or_not i (length p)) [
+unmoved p held c i agents still = elim (cases_lt i (length p)) [
   | inl agent ↦
       let flag : is_moving p held c i ≡ false = sym (get_or-map-range_with_len (is_moving p held c) 0 (length p) i i false agent (omega arith)) ∙ still in
       let after : standing_after p held c i ≡ standing_at c i = rw flag refl in
@@ -329,7 +315,7 @@ beside_finished false s a = beside_itself s.place
 
 beside_tick : (p : Program) (held : ℕ → Bool) (c : Configuration) (i : ℕ) → length c ≡ length p
     → IsBeside (standing_at c i).place (standing_at (tick p held c) i).place
-beside_tick p held c i agents = elim (before_or_not i (length p)) [
+beside_tick p held c i agents = elim (cases_lt i (length p)) [
   | inl agent ↦ rw (standing_at_tick p held c i agent) (beside_finished (is_moving p held c i) (standing_at c i) (next_action p c i))
   | inr past ↦
       let before : standing_at c i ≡ standing_at [] i = get_or_past c i _ (omega (arith, agents)) in

@@ -1,5 +1,5 @@
 -- The text of a place, written over that of one beside it by its last digits.
-use Rattle.std.proofs.Common.{◌≡◌, ◌≢◌, ◌≤◌, ◌<◌, ◌+◌, ◌-◌, ◌/◌, ◌%◌, ◌^◌, ◌++◌, ◌∷◌, [], ℤ, pos, set, zero, suc, inl, inr, refl, ℕ, List, length, take, drop, ap, sym, ◌∙◌, arith, append_assoc, length-append, slice_index}
+use Rattle.std.proofs.Common.{◌≡◌, ◌≢◌, ◌≤◌, ◌<◌, ◌+◌, ◌-◌, ◌/◌, ◌%◌, ◌^◌, ◌++◌, ◌∷◌, [], ℤ, pos, set, suc, inl, inr, refl, ℕ, List, length, take, drop, ap, sym, ◌∙◌, arith, append_assoc, length-append, slice_index}
 use Rattle.std.proofs.lemmas.Int.{ints}
 use Rattle.std.proofs.lemmas.Bool.{cases_lt}
 use Rattle.std.proofs.lemmas.List.{append-nil, take-append-drop, length-take}

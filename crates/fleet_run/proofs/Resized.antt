@@ -2,13 +2,14 @@
 use Rattle.std.proofs.Common.{◌≡◌, ◌≤◌, ◌<◌, ◌+◌, ◌-◌, ◌++◌, get_or, zero, suc, inl, inr, refl, ℕ, List, length, take, drop, set, ap, sym, ◌∙◌, arith, length-append, subst}
 use Rattle.std.proofs.lemmas.List.{append_assoc, drop-drop, drop-set-lt, get_or-set_same, get_or-set_other, length-drop, length-set, length-take}
 use Rattle.std.proofs.lemmas.List.Edits.{take-paste, drop-paste}
+use Rattle.std.proofs.lemmas.Bool.{cases_lt}
 use Rattle.std.specs.List.{copy_within}
 use Rattle.std.proofs.Math.Seq.{drop-append-add, drop-append_seam}
 use Rattle.fleet_model.specs.declared.standing.Standing.{Standing}
 use Rattle.fleet_model.specs.Machine.{Configuration}
 use Rattle.fleet_run.specs.Text.{place_text}
 use Rattle.fleet_run.specs.Line.{places_text, moved_before, IsLineKept, IsResized}
-use Rattle.fleet_run.proofs.Lines.{left_behind, same_or_later, placed, piece_before, before_or_not, next_begin, begins_rise}
+use Rattle.fleet_run.proofs.Lines.{left_behind, same_or_later, placed, piece_before, next_begin, begins_rise}
 
 module _ (c : Configuration) (row row1 row2 begins begins2 : List ℕ) (i to : ℕ) (s : Standing) (kept : IsLineKept c row begins) (agent : i < length c)
     (fits : to + length (place_text s.place) ≡ get_or begins (i + 1) 0) (roomy : get_or begins i 0 + 11 ≤ get_or begins 0 0 + to)
@@ -152,15 +153,15 @@ module _ (c : Configuration) (row row1 row2 begins begins2 : List ℕ) (i to : �
         room = as_long;
         begun = omega (arith, long, kept.begun);
         time = omega (arith, moved 0 (omega arith), roomy);
-        rising = λ k h. elim (before_or_not i k) [
+        rising = λ k h. elim (cases_lt i k) [
           | inl later ↦ (let low = begins_rise c row begins s kept (i + 1) (k - (i + 1)) (omega (arith, same_length)) in let goes : i + 1 + (k - (i + 1)) ≡ k = omega arith in let low' : end ≤ get_or begins k 0 = subst (λ n. end ≤ get_or begins n 0) goes low in omega (arith, low', moved 0 (omega arith), others k (omega arith), fits, rises))
           | inr le ↦ omega (arith, moved 0 (omega arith), moved k (omega arith), kept.rising k (omega arith))
         ];
-        within = λ k h. elim (before_or_not i k) [
+        within = λ k h. elim (cases_lt i k) [
           | inl later ↦ omega (arith, others k (omega arith), kept.within k (omega (arith, same_length)))
           | inr le ↦ (let low = begins_rise c row begins s kept k (i - k) (omega arith) in let goes : k + (i - k) ≡ i = omega arith in let low' : get_or begins k 0 ≤ at = subst (λ n. get_or begins k 0 ≤ get_or begins n 0) goes low in omega (arith, low', moved k (omega arith), fits, end_within))
         ];
-        places = λ k h. elim (before_or_not k i) [
+        places = λ k h. elim (cases_lt k i) [
           | inl lt ↦ before (i - k) k (omega arith)
           | inr ge ↦ elim (same_or_later i k ge) [
             | inl e ↦ rw e here

@@ -17,7 +17,8 @@ use Rattle.fleet_text.specs.Sink.{SinkState, StopsWithin, Takes, TakesAll, HasFa
 use Rattle.fleet_run.specs.Text.{line_of, lines_below, trace_closing}
 use Rattle.fleet_machine.specs.Machine.{flag_of}
 use Rattle.fleet_model.proofs.Tick.{length-run, tick_agree, held_ticks-le, length-tick, standing_at_tick}
-use Rattle.fleet_text.proofs.SinkLemmas.{appends_more, takes_more}
+use Rattle.std.proofs.KnownBytes.{Appends-trans}
+use Rattle.fleet_text.proofs.SinkLemmas.{takes_more}
 use Rattle.fleet_run.proofs.Progress.{ready_held_same, all_left, all_left_le, all_left_lt, all_left_few}
 use Rattle.std.specs.Io.KnownBytes.{Appends}
 use Rattle.fleet_model.specs.declared.standing.Standing.{Standing}
@@ -284,7 +285,7 @@ stops_at_sink p s now c t held ended first mid last b f lines line =
       record {
         needed = b.needed;
         asked = asked_so_far p s now c t held ended b f;
-        taken = (line'.taken.0, line'.taken.1, appends_more first.taken mid.taken last.taken (lines_below p s.ticks t) (take line'.taken.0 (line_of t (run p s.ticks t))) lines.taken line'.taken.2);
+        taken = (line'.taken.0, line'.taken.1, Appends-trans first.taken mid.taken last.taken (lines_below p s.ticks t) (take line'.taken.0 (line_of t (run p s.ticks t))) lines.taken line'.taken.2);
         failed = line'.failed;
       },
     )
@@ -357,7 +358,7 @@ pub driven : (p : Program) (chain : ℕ) (s s' : SourceState) (o mid o' : SinkSt
     → IsDriven p chain s s' o o' (record { agents = agents; ticks = r.ticks; chain = chain; held = r.held })
 driven p chain s s' o mid o' agents r ran never same took = record {
   finish = least_at (λ t. is_finished p (run p s.ticks t)) r.ticks (finished_at_end p (run p s.ticks r.ticks) r.end never ran.end) (needed_to_finish p s.ticks r.ticks ran.needed);
-  taken = appends_more o.taken mid.taken o'.taken (lines_below p s.ticks (r.ticks + 1)) (trace_closing (length p) r.ticks chain (held_ticks p s.ticks r.ticks)) ran.taken took.taken;
+  taken = Appends-trans o.taken mid.taken o'.taken (lines_below p s.ticks (r.ticks + 1)) (trace_closing (length p) r.ticks chain (held_ticks p s.ticks r.ticks)) ran.taken took.taken;
   working = took.working;
   asked = ran.asked;
   agents = same;

@@ -5,6 +5,7 @@ use Rattle.fleet_model.specs.declared.geometry.Place.{Place}
 use Rattle.fleet_model.specs.Machine.{Configuration, standing_at}
 use Rattle.fleet_machine.specs.Machine.{MachineState, flag_of}
 use Rattle.fleet_model.specs.declared.limits.TheConstants.{MAX_AGENTS}
+use Rattle.fleet_run.specs.declared.line.TheConstants.{TIME}
 use Rattle.fleet_run.specs.declared.trace.TheConstants.{LINE}
 use Rattle.fleet_run.specs.Text.{place_text}
 
@@ -18,7 +19,7 @@ pub record IsLineKept (c : Configuration) (row begins : List ℕ) : Type 0 where
   pub agents : length c ≤ MAX_AGENTS
   pub room : length row ≡ LINE
   pub begun : length begins ≡ MAX_AGENTS + 1
-  pub time : 11 ≤ get_or begins 0 0
+  pub time : TIME ≤ get_or begins 0 0
   pub rising : (k : ℕ) → k ≤ length c → get_or begins 0 0 ≤ get_or begins k 0
   pub within : (k : ℕ) → k ≤ length c → get_or begins k 0 ≤ LINE - 1
   pub places : (k : ℕ) → k ≤ length c → drop (get_or begins k 0) row ≡ places_text (drop k c)
@@ -42,7 +43,7 @@ moved_before i to row begins = copy_within row (get_or begins 0 0) (get_or begin
 pub record IsResized (i : ℕ) (text row row' begins begins' : List ℕ) : Type 0 where
   pub to : ℕ
   pub fits : to + length text ≡ get_or begins (i + 1) 0
-  pub room : get_or begins i 0 + 11 ≤ get_or begins 0 0 + to
+  pub room : get_or begins i 0 + TIME ≤ get_or begins 0 0 + to
   pub written : row' ≡ take to (moved_before i to row begins) ++ (text ++ drop (get_or begins (i + 1) 0) (moved_before i to row begins))
   pub long : length begins' ≡ length begins
   pub moved : (k : ℕ) → k < i + 1 → get_or begins' k 0 + get_or begins i 0 ≡ get_or begins k 0 + to

@@ -6,12 +6,12 @@ use Rattle.fleet_text.specs.Words.{line_text, next_words, count_line}
 use Rattle.fleet_verify.specs.RefusalWords.{action_text}
 
 -- the line of agent i with its number: `i: N`
-abbrev pub agent_line : ℕ → ℕ → List ℕ
-agent_line i number = line_text ((decimal i ++ 58 ∷ []) ∷ decimal number ∷ [])
+abbrev pub label_line : ℕ → ℕ → List ℕ
+label_line i number = line_text ((decimal i ++ 58 ∷ []) ∷ decimal number ∷ [])
 
 -- the lines of all agents
 abbrev pub agent_lines : List ℕ → List ℕ
-agent_lines numbers = texts_below (λ i. agent_line i (slice_index numbers i)) (length numbers)
+agent_lines numbers = texts_below (λ i. label_line i (slice_index numbers i)) (length numbers)
 
 -- the line of a path: `path i:n ..`
 abbrev pub path_line : List ActionId → List ℕ

@@ -33,7 +33,8 @@ pub use listing::put_program;
 pub use report::{Rehearsal, rehearse};
 pub use run::{End, MAX_RUN_TICKS, RunFault};
 pub use source::{
-    HoldSource, HoldText, SourceFault, a_tick_line_is_read, clear, cut, plain_number_of, set_tick,
+    HoldSource, HoldText, SourceFault, a_tick_line_is_read, clear, cut, is_dash, plain_number_of,
+    set_tick, space_in,
 };
 pub use times_text::{put_reached, put_times};
 pub use trace::{PLACE, Report, write_bytes, write_count, write_number_line, write_place};

@@ -1,6 +1,6 @@
 //! The line of a run, kept from tick to tick.
 
-ghost use Rattle.std.specs.Prelude.{◌≡◌, false, ◌+◌, ◌-◌, ◌<◌, ◌≤◌, ◌^◌, ◌++◌, ◌∷◌, ℕ, true, length, take, drop, set, get_or, slice_index, IfSome, ◌%◌, pos};
+ghost use Rattle.std.specs.Prelude.{◌≡◌, ◌≢◌, false, ◌+◌, ◌-◌, ◌<◌, ◌≤◌, ◌^◌, ◌++◌, ◌∷◌, ℕ, true, length, take, drop, set, get_or, slice_index, IfSome, IfNone, IsTrue, ◌↔◌, ◌%◌, pos};
 ghost use Rattle.std.specs.List.{copy_within};
 ghost use Rattle.fleet_model.specs.declared.standing.Standing.{Standing};
 ghost use Rattle.fleet_model.specs.Machine.{Configuration, standing_at};
@@ -34,8 +34,8 @@ pub fn copy_places(rows: &[Standing], places: &mut [Place])
     requires { length places.old ≡ length rows.now }
     ensures { places.new ≡ places_of rows.now }
 {
-    for i in 0..rows.len() {
-        places[i] = rows[i].place;
+    for (i, row) in rows.iter().enumerate() {
+        places[i] = row.place;
     }
 }
 
@@ -138,7 +138,8 @@ fn place_for(text: &[u8], front: usize, begin: usize, end: usize) -> Option<usiz
     requires end { end ≤ LINE }
     requires short { length text.now ≤ PLACE }
     ensures fits { IfSome result (λ to. to + length text.now ≡ end) }
-    ensures room { IfSome result (λ to. begin + 11 ≤ front + to) }
+    ensures room { IfSome result (λ to. begin + TIME ≤ front + to) }
+    ensures full { IfNone result (front + end < begin + TIME + length text.now) }
 {
     let least = begin + TIME + text.len();
     let is_full = least > front + end;
@@ -213,7 +214,7 @@ fn put_place(i: usize, place: Place, row: &mut [u8], begins: &mut [usize]) -> u3
 
 /// Writes the time before the places, and answers where the line begins.
 pub fn write_time(time: u32, row: &mut [u8], begin: usize) -> usize
-    requires room { 11 ≤ begin }
+    requires room { TIME ≤ begin }
     requires within { begin ≤ length row.old }
     ensures high { result ≤ begin }
     ensures room { length row.new ≡ length row.old }
@@ -251,17 +252,31 @@ pub fn write_moved(machine: &Machine, row: &mut [u8], begins: &mut [usize], plac
     }
 }
 
-/// A number above each that is written here in place.
-const MOST: i32 = 100_000;
-
-/// The coordinate as a number, if it is not negative and has five digits at most.
-fn small_number(coordinate: i32) -> Option<u32>
-    ensures { IfSome result (λ n. (coordinate ≡ pos n) × (n < 100000)) }
+/// The coordinate as a number, if it is not negative.
+fn natural(coordinate: i32) -> Option<u32>
+    ensures some { IfSome result (λ n. (coordinate ≡ pos n) × (n < 2 ^ 32)) }
+    ensures none { IfNone result ((n : ℕ) → coordinate ≢ pos n) }
 {
-    if coordinate < 0 || coordinate >= MOST {
+    if coordinate < 0 {
         return None;
     }
     Some(coordinate.unsigned_abs())
+}
+
+/// The least number of six digits, above each that is written here in place.
+const SIX_DIGITS: u32 = 100_000;
+
+/// The coordinate as a number, if it is not negative and has five digits at most.
+fn small_number(coordinate: i32) -> Option<u32>
+    ensures some { IfSome result (λ n. (coordinate ≡ pos n) × (n < SIX_DIGITS)) }
+    ensures none { IfNone result ((n : ℕ) → coordinate ≡ pos n → SIX_DIGITS ≤ n) }
+{
+    let number = natural(coordinate)?;
+    if number < SIX_DIGITS {
+        Some(number)
+    } else {
+        None
+    }
 }
 
 /// 1 if the number is this one or a greater one, and 0 if not.
@@ -275,7 +290,7 @@ fn reaches(number: u32, bound: u32) -> usize
 
 /// How many digits the number has.
 fn digit_count(number: u32) -> usize
-    requires { number < 100000 }
+    requires { number < SIX_DIGITS }
     ensures few { result ≤ 5 }
     ensures digits { result ≡ length (decimal number) }
 {
@@ -286,19 +301,9 @@ fn digit_count(number: u32) -> usize
     3 + reaches(number, 1_000) + reaches(number, 10_000)
 }
 
-/// The coordinate as a number, if it is not negative.
-fn natural(coordinate: i32) -> Option<u32>
-    ensures { IfSome result (λ n. (coordinate ≡ pos n) × (n < 2 ^ 32)) }
-{
-    if coordinate < 0 {
-        return None;
-    }
-    Some(coordinate.unsigned_abs())
-}
-
 /// Whether a number is the code of a digit.
 fn is_digit(code: u32) -> bool
-    ensures { result ≡ true → IsDigit code }
+    ensures { IsTrue result ↔ IsDigit code }
 {
     (u32::from(b'0')..=u32::from(b'9')).contains(&code)
 }

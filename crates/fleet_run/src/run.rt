@@ -104,7 +104,7 @@ fn end_at<P: ProgramView>(program: &P, machine: &Machine) -> Option<End>
 }
 
 /// Writes the line of a time to the sink: the time, before the places that are kept.
-fn put_line<O: TraceOut>(
+fn put_time_line<O: TraceOut>(
     out: &mut O,
     time: u32,
     row: &mut [u8],
@@ -197,7 +197,7 @@ fn pass_time<S: HoldSource, O: TraceOut>(
         → PassesTime time (S.state source.old) (S.state source.new)
         (O.state out.old) (O.state out.new) (line_of time.ticks c) result flags.new }
 {
-    match put_line(out, time.ticks, row, begins) {
+    match put_time_line(out, time.ticks, row, begins) {
         Ok(()) => next_unless_over(source, time, flags),
         Err(_) => Err(RunFault::Write),
     }

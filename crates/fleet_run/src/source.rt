@@ -142,8 +142,8 @@ pub fn set_tick(line: &[u8], agents: u16, flags: &mut [bool]) -> bool
     is_dash(line) || set_agents(line, agents, flags)
 }
 
-/// Whether it is the line of a tick that holds nobody.
-fn is_dash(line: &[u8]) -> bool
+/// Whether it is the line `-`, which names nobody.
+pub fn is_dash(line: &[u8]) -> bool
     ensures { result ≡ is_dash line.now }
 {
     matches!(line, [b'-'])
@@ -194,7 +194,7 @@ pub fn cut(line: &[u8]) -> (&[u8], Option<&[u8]>)
 }
 
 /// Where the first space is.
-fn space_in(line: &[u8]) -> Option<usize>
+pub fn space_in(line: &[u8]) -> Option<usize>
     ensures { result ≡ position is_space line.now }
 {
     line.iter().position(|b| *b == b' ')

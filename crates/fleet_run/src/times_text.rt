@@ -12,8 +12,8 @@ fn put_arrivals<O: TraceOut>(out: &mut O, arrivals: &[u64]) -> Result<(), OutFau
     requires { IsWorking (O.state out.old) }
     ensures { TakesAll (O.state out.old) (O.state out.new) result (agent_lines arrivals.now) }
 {
-    for i in 0..arrivals.len() {
-        put_line(out, &[Word::Label(i as u64), Word::Number(arrivals[i])])?;
+    for (i, arrival) in arrivals.iter().enumerate() {
+        put_line(out, &[Word::Label(i as u64), Word::Number(*arrival)])?;
     }
     Ok(())
 }
@@ -23,8 +23,8 @@ fn put_counts<O: TraceOut>(out: &mut O, counts: &[u32]) -> Result<(), OutFault>
     requires { IsWorking (O.state out.old) }
     ensures { TakesAll (O.state out.old) (O.state out.new) result (agent_lines counts.now) }
 {
-    for i in 0..counts.len() {
-        let number = Word::Number(u64::from(counts[i]));
+    for (i, count) in counts.iter().enumerate() {
+        let number = Word::Number(u64::from(*count));
         put_line(out, &[Word::Label(i as u64), number])?;
     }
     Ok(())

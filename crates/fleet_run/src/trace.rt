@@ -90,9 +90,9 @@ fn write_signed(number: i32, row: &mut [u8], end: usize) -> usize
 
 /// Writes a place as ` x,y`, with the space before it, so that it ends before `end`, and answers where it begins.
 pub fn write_place(place: Place, row: &mut [u8], end: usize) -> usize
-    requires room { 24 ≤ end }
+    requires room { PLACE ≤ end }
     requires within { end ≤ length row.old }
-    ensures low { end ≤ result + 24 }
+    ensures low { end ≤ result + PLACE }
     ensures high { result ≤ end }
     ensures written { drop result row.new ≡ place_text place ++ drop end row.old }
 {

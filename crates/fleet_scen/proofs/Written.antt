@@ -1,5 +1,5 @@
 -- Written scenarios are read again.
-use Rattle.std.proofs.Common.{◌≡◌, ◌≢◌, ℕ, zero, suc, ◌+◌, ◌-◌, ◌^◌, ◌<◌, true, false, eqb, List, [], ◌∷◌, ◌++◌, length, map, filter, take, drop, get_or, None, refl, sym, ap, subst, ◌∙◌, append_assoc, arith, inl, inr, true≢false}
+use Rattle.std.proofs.Common.{◌≡◌, ◌≢◌, ℕ, zero, suc, ◌+◌, ◌-◌, ◌<◌, true, false, eqb, List, [], ◌∷◌, ◌++◌, length, map, filter, take, drop, get_or, None, refl, sym, ap, subst, ◌∙◌, append_assoc, arith, inl, inr, true≢false}
 use Rattle.std.specs.Prelude.{decimal, codes, All, IsTrue}
 use Rattle.std.specs.List.{AllByRecursion, AllZip, onto_first, enumerate_from, join_with_byte}
 use Rattle.std.specs.Str.Lines.{strip_carriage_return}
@@ -11,39 +11,17 @@ use Rattle.std.proofs.lemmas.List.Elements.{recursion_from_All}
 use Rattle.fleet_model.specs.declared.geometry.Cell.{Cell}
 use Rattle.fleet_model.specs.declared.task.Task.{Task}
 use Rattle.fleet_model.specs.Geometry.{place_of}
-use Rattle.fleet_text.specs.Text.{Bytes, is_blank, is_word, ended_lines, lines, words}
+use Rattle.fleet_text.specs.Text.{Bytes, ended_lines, lines, words}
 use Rattle.fleet_text.specs.Words.{ended_text}
 use Rattle.fleet_text.specs.declared.numbers.TheConstants.{TOO_LARGE}
-use Rattle.fleet_text.proofs.WrittenLaws.{spells, small_is, From, decimal_from, from_less, split_first, split_last, word_some}
+use Rattle.fleet_text.proofs.WrittenLaws.{small_is, From, IsToken, decimal_token, words_join}
 use Rattle.fleet_grid.specs.Ground.{Ground, is_passable, IsGround}
 use Rattle.fleet_grid.proofs.StoredLaws.{off_map}
 use Rattle.fleet_scen.specs.Instance.{IsInstance}
 use Rattle.fleet_scen.specs.ScenText.{Line, is_filled, is_version, filled_lines, agent_lines, SpellsTask, HasPassableEnds, StandsForTask, AreScenLines}
 use Rattle.fleet_scen.specs.ScenWriting.{pair_text, task_words, task_line, scen_text}
 
--- ---- words with a tab between two
-
--- a word of digits or letters
-record IsPlain (w : Bytes) : Type 0 where
-  some : is_word w ≡ true
-  bytes : From 33 w
-
-no_blank : (w : Bytes) → From 33 w → AllByRecursion (λ b. is_blank b ≡ false) w
-no_blank [] h = tt
-no_blank (b ∷ w) h =
-    let here = h.0 in
-    let space : b ≢ 32 = omega (arith, here) in
-    let tab : b ≢ 9 = omega (arith, here) in
-    (rw (ne_eqb b 32 space, ne_eqb b 9 tab) refl, no_blank w h.1)
-
-words_tabbed : (ws : List Bytes) → AllByRecursion IsPlain ws → words (join_with_byte 9 ws) ≡ ws
-unfolding words
-words_tabbed [] h = refl
-words_tabbed (w ∷ []) h = ap (filter is_word) (split_last is_blank w (no_blank w h.0.bytes)) ∙ rw h.0.some refl
-words_tabbed (w ∷ v ∷ ws) h =
-    ap (filter is_word) (split_first is_blank w 9 (join_with_byte 9 (v ∷ ws)) (no_blank w h.0.bytes) refl) ∙ rw h.0.some (ap (λ (more : List Bytes). w ∷ more) (words_tabbed (v ∷ ws) h.1))
-
--- ---- lines of such words
+-- ---- lines of words with a tab between two
 
 -- no byte ends a line, or is taken off its end
 abbrev AreKept : Bytes → Type 0
@@ -61,7 +39,7 @@ kept_word (b ∷ w) h =
     let cr : b ≢ 13 = omega (arith, here) in
     ((ne_eqb b 10 lf, ne_eqb b 13 cr), kept_word w h.1)
 
-kept_join : (ws : List Bytes) → AllByRecursion IsPlain ws → AreKept (join_with_byte 9 ws)
+kept_join : (ws : List Bytes) → AllByRecursion IsToken ws → AreKept (join_with_byte 9 ws)
 kept_join [] h = tt
 kept_join (w ∷ []) h = kept_word w h.0.bytes
 kept_join (w ∷ v ∷ ws) h = kept_append w (9 ∷ join_with_byte 9 (v ∷ ws)) (kept_word w h.0.bytes) ((refl, refl), kept_join (v ∷ ws) h.1)
@@ -86,17 +64,11 @@ lines_kept (l ∷ ls) h =
 
 -- ---- the line of a task
 
-decimal_plain : (n : ℕ) → n < 2 ^ 64 → IsPlain (decimal n)
-decimal_plain n lt = record {
-  some = subst (λ (w : Bytes). is_word w ≡ true) (append-nil (decimal n)) (word_some (decimal n) [] (spells n lt).some);
-  bytes = from_less 48 33 (decimal n) (omega arith) (decimal_from n lt);
-}
+zero_token : IsToken (codes "0")
+zero_token = record { some = refl; bytes = (omega arith, tt) }
 
-zero_plain : IsPlain (codes "0")
-zero_plain = record { some = refl; bytes = (omega arith, tt) }
-
-map_plain : IsPlain (codes "map")
-map_plain = record { some = refl; bytes = (omega arith, (omega arith, (omega arith, tt))) }
+map_token : IsToken (codes "map")
+map_token = record { some = refl; bytes = (omega arith, (omega arith, (omega arith, tt))) }
 
 -- sizes and cells that are read
 record AreSmall (w h : ℕ) (t : Task) : Type 0 where
@@ -130,22 +102,22 @@ pieces_joined w h t before =
     ∙ two_joined w h (decimal t.start.x ++ 9 ∷ (decimal t.start.y ++ 9 ∷ (decimal t.goal.x ++ 9 ∷ (decimal t.goal.y ++ 9 ∷ last)))) in
     out ∙ ap (λ (x : Bytes). before ++ (first ++ x)) inner ∙ simp append_assoc
 
-words_plain : (w h : ℕ) (t : Task) → AreSmall w h t → AllByRecursion IsPlain (task_words w h t)
+tokens : (w h : ℕ) (t : Task) → AreSmall w h t → AllByRecursion IsToken (task_words w h t)
 unfolding task_words
-words_plain w h t s =
+tokens w h t s =
     let width = s.width in
     let height = s.height in
     let sx = s.start_x in
     let sy = s.start_y in
     let gx = s.goal_x in
     let gy = s.goal_y in
-    (zero_plain, (map_plain, (decimal_plain w (omega (arith, width)), (decimal_plain h (omega (arith, height)), (decimal_plain t.start.x (omega (arith, sx)), (decimal_plain t.start.y (omega (arith, sy)), (decimal_plain t.goal.x (omega (arith, gx)), (decimal_plain t.goal.y (omega (arith, gy)), (zero_plain, tt)))))))))
+    (zero_token, (map_token, (decimal_token w (omega (arith, width)), (decimal_token h (omega (arith, height)), (decimal_token t.start.x (omega (arith, sx)), (decimal_token t.start.y (omega (arith, sy)), (decimal_token t.goal.x (omega (arith, gx)), (decimal_token t.goal.y (omega (arith, gy)), (zero_token, tt)))))))))
 
 line_words : (w h : ℕ) (t : Task) → AreSmall w h t → words (task_line w h t) ≡ task_words w h t
-line_words w h t s = words_tabbed (task_words w h t) (words_plain w h t s)
+line_words w h t s = words_join 9 (task_words w h t) refl (tokens w h t s)
 
 line_kept : (w h : ℕ) (t : Task) → AreSmall w h t → AreKept (task_line w h t)
-line_kept w h t s = kept_join (task_words w h t) (words_plain w h t s)
+line_kept w h t s = kept_join (task_words w h t) (tokens w h t s)
 
 line_spells : (w h : ℕ) (t : Task) → AreSmall w h t → SpellsTask (task_words w h t) w h t
 unfolding task_words

@@ -236,7 +236,7 @@ pub struct Fields {
 }
 
 /// The first two words of a line and the line after them, if it has so many.
-pub fn two_words(line: &[u8]) -> Option<(&[u8], &[u8], &[u8])>
+fn two_words(line: &[u8]) -> Option<(&[u8], &[u8], &[u8])>
     ensures { option_map (λ x. (x.0.now, x.1.now, words x.2.now)) result
         ≡ two_words (words line.now) }
 {
@@ -264,7 +264,7 @@ fn is_one_word(line: &[u8]) -> bool
 }
 
 /// The fields of a line, if it has nine words.
-pub fn fields_of(line: &[u8]) -> Option<Fields>
+fn fields_of(line: &[u8]) -> Option<Fields>
     ensures { result ≡ fields_of (words line.now) }
 {
     let (_bucket, _name, rest) = two_words(line)?;

@@ -1,6 +1,6 @@
 //! The writer of scenarios.
 
-ghost use Rattle.std.specs.Prelude.{◌≡◌, ◌≤◌, ◌<◌, ◌++◌, ◌∷◌, [], length, drop, decimal, IfOk, OnOk};
+ghost use Rattle.std.specs.Prelude.{◌≡◌, ◌++◌, ◌∷◌, [], IfOk, OnOk};
 ghost use Rattle.fleet_scen.specs.ScenWriting.{pair_text, task_line, scen_text};
 
 use fleet_model::{OutOfMemory, Task};

@@ -1,7 +1,8 @@
 -- How the pieces that a sink took join: those that came by way of a row, and the words of a line.
-use Rattle.std.proofs.Common.{◌≡◌, ℕ, ◌+◌, ◌-◌, ◌≤◌, List, [], ◌++◌, length, take, drop, None, Some, Option, Result, Ok, Err, IsErr, refl, arith, append_assoc, length-append, ◌∙◌, sym, subst, ap, append-nil, ◌<◌, ◌∷◌, get_or, map}
+use Rattle.std.proofs.Common.{◌≡◌, ℕ, ◌+◌, ◌-◌, ◌≤◌, List, [], ◌++◌, length, take, drop, Option, Result, Ok, Err, IsErr, refl, arith, append_assoc, length-append, ◌∙◌, sym, subst, ap, append-nil, ◌<◌, ◌∷◌, get_or, map}
 use Rattle.std.proofs.Math.Seq.{take-add, take-append-add}
 use Rattle.std.proofs.lemmas.List.{take-append-le, take_all, take_more, map-append, take-append-drop}
+use Rattle.std.proofs.KnownBytes.{Appends-nil, Appends-trans}
 use Rattle.std.specs.List.{flat_map}
 use Rattle.std.proofs.lemmas.Grind.{common_steps, flat_map-append}
 use Rattle.std.specs.Io.KnownBytes.{Appends}
@@ -9,14 +10,6 @@ use Rattle.fleet_text.specs.Sink.{SinkState, Takes, StopsWithin, TakesAll, IsWor
 use Rattle.fleet_text.specs.Row.{PassesOn, Gathers}
 use Rattle.fleet_text.specs.declared.writing.Word.{Word}
 use Rattle.fleet_text.specs.Words.{word_text, with_spaces, next_words}
-
--- one growth after another
-pub appends_more : (a b c : Option (List ℕ)) (xs ys : List ℕ) → Appends a b xs → Appends b c ys → Appends a c (xs ++ ys)
-appends_more None b c xs ys h k = tt
-appends_more (Some s) None c xs ys h k = absurd h
-appends_more (Some s) (Some t) None xs ys h k = k
-appends_more (Some s) (Some t) (Some u) xs ys h k =
-    let g : t ++ ys ≡ s ++ (xs ++ ys) = rw (h, append_assoc) refl in cc
 
 -- growth by equal bytes
 pub appends_same : (a b : Option (List ℕ)) (xs ys : List ℕ) → Appends a b xs → xs ≡ ys → Appends a b ys
@@ -30,7 +23,7 @@ appends_piece a b c bytes at n le h k short =
     let whole : take (length bytes - at) (drop at bytes) ≡ drop at bytes = grind (arith, common_steps) in
     let piece : take n (take (length bytes - at) (drop at bytes)) ≡ take n (drop at bytes) = rw whole refl in
     appends_same a c (take at bytes ++ take n (drop at bytes)) (take (at + n) bytes)
-    (appends_more a b c (take at bytes) (take n (drop at bytes)) h (appends_same b c _ _ k piece))
+    (Appends-trans a b c (take at bytes) (take n (drop at bytes)) h (appends_same b c _ _ k piece))
     (rw take-add refl)
 
 -- what failed within the first bytes, failed within all
@@ -56,14 +49,14 @@ stops_after a b c xs ys h then =
       taken = (
         length xs + n,
         (let e : length (xs ++ ys) ≡ length xs + length ys = length-append xs ys in omega (arith, below)),
-        appends_same a.taken c.taken (xs ++ take n ys) (take (length xs + n) (xs ++ ys)) (appends_more a.taken b.taken c.taken xs (take n ys) h.taken then.taken.2) (rw take-append-add refl),
+        appends_same a.taken c.taken (xs ++ take n ys) (take (length xs + n) (xs ++ ys)) (Appends-trans a.taken b.taken c.taken xs (take n ys) h.taken then.taken.2) (rw take-append-add refl),
       );
       failed = then.failed;
     }
 
 -- one taking after another
 pub takes_more : (a b c : SinkState) (xs ys : List ℕ) → Takes a b xs → Takes b c ys → Takes a c (xs ++ ys)
-takes_more a b c xs ys h k = record { taken = appends_more a.taken b.taken c.taken xs ys h.taken k.taken; working = k.working }
+takes_more a b c xs ys h k = record { taken = Appends-trans a.taken b.taken c.taken xs ys h.taken k.taken; working = k.working }
 
 -- what took the first bytes, and then takes or fails at the rest
 pub takes_then : {T E : Type 0} (a b c : SinkState) (r : Result T E) (xs ys : List ℕ) → Takes a b xs → TakesAll b c r ys → TakesAll a c r (xs ++ ys)
@@ -104,13 +97,9 @@ pub gathers_then :
 gathers_then a b c (Ok _) r s t xs ys h k = passes_more a b c r s t xs ys h k
 gathers_then a b c (Err _) r s t xs ys h k = stops_past a b c r s xs ys h k
 
-appends_none : (o : Option (List ℕ)) → Appends o o []
-appends_none None = tt
-appends_none (Some s) = sym (append-nil s)
-
 -- the bytes stay in the row
 pub kept_in_row : (a : SinkState) (r t xs : List ℕ) → IsWorking a → t ≡ r ++ xs → PassesOn a a r t xs
-kept_in_row a r t xs works e = record { handed = []; taken = record { taken = appends_none a.taken; working = works }; in_order = sym e }
+kept_in_row a r t xs works e = record { handed = []; taken = record { taken = Appends-nil a.taken; working = works }; in_order = sym e }
 
 -- an answer that is an error, if the sink failed within the bytes
 pub gathers_err : {T E : Type 0} (a c : SinkState) (res : Result T E) (r t xs : List ℕ) → IsErr res → StopsWithin a c (r ++ xs) → Gathers a c res r t xs

@@ -79,7 +79,7 @@ lines_none (b ∷ text) e = absurd (omega arith)
 
 -- ---- words
 
-words_blank : (b : ℕ) (line : Bytes) → is_blank b ≡ true → words (b ∷ line) ≡ words line
+pub words_blank : (b : ℕ) (line : Bytes) → is_blank b ≡ true → words (b ∷ line) ≡ words line
 unfolding words
 words_blank b line t = rw t refl
 

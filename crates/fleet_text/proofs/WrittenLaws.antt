@@ -1,5 +1,5 @@
 -- What is written word by word and line by line, and how written lines, words and numbers are read again.
-use Rattle.std.proofs.Common.{◌≡◌, ◌≢◌, ℕ, zero, suc, ◌+◌, ◌-◌, ◌*◌, ◌/◌, ◌%◌, ◌^◌, ◌≤◌, ◌<◌, Bool, true, false, eqb, List, [], ◌∷◌, ◌++◌, length, map, filter, take, get_or, Option, Some, None, refl, sym, ap, ◌∙◌, append_assoc, arith, inl, inr}
+use Rattle.std.proofs.Common.{◌≡◌, ◌≢◌, ℕ, zero, suc, ◌+◌, ◌-◌, ◌*◌, ◌/◌, ◌%◌, ◌^◌, ◌≤◌, ◌<◌, Bool, true, false, eqb, List, [], ◌∷◌, ◌++◌, length, map, filter, take, get_or, Option, Some, None, refl, sym, ap, subst, ◌∙◌, append_assoc, arith, inl, inr}
 use Rattle.std.specs.Prelude.{decimal}
 use Rattle.std.specs.List.{AllByRecursion, slice_split, flat_map, onto_first, join_with_byte}
 use Rattle.std.specs.Str.Lines.{strip_carriage_return}
@@ -156,21 +156,29 @@ pub word_some : (ds more : Bytes) → 1 ≤ length ds → is_word (ds ++ more) �
 word_some [] more some = absurd (omega arith)
 word_some (d ∷ ds) more some = refl
 
-words_join : (ws : List Bytes) → AllByRecursion IsToken ws → words (join_with_byte 32 ws) ≡ ws
+-- the digits of a number
+pub decimal_token : (n : ℕ) → n < 2 ^ 64 → IsToken (decimal n)
+decimal_token n lt = record {
+  some = subst (λ (w : Bytes). is_word w ≡ true) (append-nil (decimal n)) (word_some (decimal n) [] (spells n lt).some);
+  bytes = from_less 48 33 (decimal n) (omega arith) (decimal_from n lt);
+}
+
+-- with a blank between two
+pub words_join : (c : ℕ) (ws : List Bytes) → is_blank c ≡ true → AllByRecursion IsToken ws → words (join_with_byte c ws) ≡ ws
 unfolding words
-words_join [] h = refl
-words_join (w ∷ []) h = ap (filter is_word) (split_last is_blank w (no_blank w h.0.bytes)) ∙ rw h.0.some refl
-words_join (w ∷ v ∷ ws) h =
-    ap (filter is_word) (split_first is_blank w 32 (join_with_byte 32 (v ∷ ws)) (no_blank w h.0.bytes) refl) ∙ rw h.0.some (ap (λ (more : List Bytes). w ∷ more) (words_join (v ∷ ws) h.1))
+words_join c [] e h = refl
+words_join c (w ∷ []) e h = ap (filter is_word) (split_last is_blank w (no_blank w h.0.bytes)) ∙ rw h.0.some refl
+words_join c (w ∷ v ∷ ws) e h =
+    ap (filter is_word) (split_first is_blank w c (join_with_byte c (v ∷ ws)) (no_blank w h.0.bytes) e) ∙ rw h.0.some (ap (λ (more : List Bytes). w ∷ more) (words_join c (v ∷ ws) e h.1))
 
 pub front_join : (ws : List Bytes) → AllByRecursion IsToken ws → 1 ≤ length ws → words_from_front (join_with_byte 32 ws) ≡ ws
 front_join [] h some = absurd (omega arith)
-front_join (w ∷ []) h some = rw (front w h.0) (words_join (w ∷ []) h)
+front_join (w ∷ []) h some = rw (front w h.0) (words_join 32 (w ∷ []) refl h)
   where
     front : (w : Bytes) → IsToken w → starts_blank w ≡ false
     front [] t = refl
     front (b ∷ w) t = (no_blank (b ∷ w) t.bytes).0
-front_join (w ∷ v ∷ ws) h some = rw (front w h.0 (32 ∷ join_with_byte 32 (v ∷ ws))) (words_join (w ∷ v ∷ ws) h)
+front_join (w ∷ v ∷ ws) h some = rw (front w h.0 (32 ∷ join_with_byte 32 (v ∷ ws))) (words_join 32 (w ∷ v ∷ ws) refl h)
   where
     front : (w : Bytes) → IsToken w → (rest : Bytes) → starts_blank (w ++ rest) ≡ false
     front [] t rest = absurd (let e : false ≡ true = t.some in cc)
@@ -183,7 +191,7 @@ unfolding ended_lines
 ended_first [] rest h = refl
 ended_first (b ∷ l) rest h = rw (apart_from 32 b 10 (omega arith) h.0) (ap (onto_first b) (ended_first l rest h.1))
 
-at_from : (l : Bytes) (k : ℕ) → From 32 l → k < length l → 32 ≤ get_or l k 0
+pub at_from : (l : Bytes) (k : ℕ) → From 32 l → k < length l → 32 ≤ get_or l k 0
 at_from [] k h lt = absurd (omega arith)
 at_from (b ∷ l) zero h lt = h.0
 at_from (b ∷ l) (suc k) h lt = at_from l k h.1 (omega arith)
@@ -192,7 +200,7 @@ last_is_no_cr : (l : Bytes) → From 32 l → eqb (get_or l (length l - 1) 0) 13
 last_is_no_cr [] h = refl
 last_is_no_cr (b ∷ l) h = apart_from 32 (get_or (b ∷ l) (length (b ∷ l) - 1) 0) 13 (omega arith) (at_from (b ∷ l) (length (b ∷ l) - 1) h (omega arith))
 
-keeps_end : (l : Bytes) → From 32 l → strip_carriage_return l ≡ l
+pub keeps_end : (l : Bytes) → From 32 l → strip_carriage_return l ≡ l
 keeps_end l h = rw (last_is_no_cr l h) refl
 
 pub lines_written : (ls : List Bytes) → AllByRecursion (From 32) ls → lines (ended_text ls) ≡ ls

@@ -4,28 +4,28 @@ ghost use Rattle.std.specs.Prelude.{◌≡◌, ◌+◌, ◌%◌, ◌*◌, ◌<�
 ghost use Rattle.fleet_text.specs.Sink.{IsWorking};
 ghost use Rattle.fleet_text.specs.Row.{Gathers};
 ghost use Rattle.fleet_text.specs.declared.row.TheConstants.{ROOM};
-ghost use Rattle.fleet_text.specs.declared.numbered.TheConstants.{LIMIT};
+ghost use Rattle.fleet_text.specs.declared.numbered.TheConstants.{ELEVEN_DIGITS};
 ghost use Rattle.fleet_text.specs.Words.{next_words, next_front, numbered_words, tens_text};
 
 use crate::numbers::{write_byte, write_number};
 use crate::row::{NEXT_TWO, Row, TWO};
 use crate::sink::{OutFault, TraceOut};
 
-/// A number above each that is written here: it has more than ten digits.
-const LIMIT: u64 = 10_000_000_000;
+/// The least number of eleven digits, above each that is written here.
+const ELEVEN_DIGITS: u64 = 10_000_000_000;
 
-/// How many digits such a number has before its last one at most.
-const TENS: usize = 9;
+/// How many digits a lesser number has before its last one at most.
+const TENS_DIGITS: usize = 9;
 
 /// How many bytes ten words have at most, with a space before each.
-const TEN: usize = 10 * NEXT_TWO;
+const TEN_WORDS: usize = 10 * NEXT_TWO;
 
 /// Writes the digits of a number of so many tens, but for the last one, so that they end before `end`, and answers
 /// where they begin.
 #[inline(always)]
 fn write_tens(tens: u64, row: &mut [u8], end: usize) -> usize
-    requires few { 10 * tens < LIMIT }
-    requires room { TENS ≤ end }
+    requires few { 10 * tens < ELEVEN_DIGITS }
+    requires room { TENS_DIGITS ≤ end }
     requires within { end ≤ length row.old }
     ensures start { result + length (tens_text tens) ≡ end }
     ensures written { drop result row.new ≡ tens_text tens ++ drop end row.old }
@@ -39,7 +39,7 @@ fn write_tens(tens: u64, row: &mut [u8], end: usize) -> usize
 /// Writes a space and a word `a:n` but for its last digit so that they end before `TWO`, and answers where they begin.
 #[inline(always)]
 fn write_front(owner: u16, tens: u64, row: &mut [u8; 2 * TWO]) -> usize
-    requires { 10 * tens < LIMIT }
+    requires { 10 * tens < ELEVEN_DIGITS }
     ensures within { result ≤ TWO }
     ensures written { drop result row.new ≡ next_front owner tens ++ drop TWO row.old }
 {
@@ -53,9 +53,9 @@ fn write_front(owner: u16, tens: u64, row: &mut [u8; 2 * TWO]) -> usize
 /// There is room for ten.
 #[inline(always)]
 fn append_ten(row: &mut Row, owner: u16, number: u64, count: u64)
-    requires few { number < LIMIT }
+    requires few { number < ELEVEN_DIGITS }
     requires tens { number % 10 + count ≤ 10 }
-    requires room { length row.old + TEN ≤ ROOM }
+    requires room { length row.old + TEN_WORDS ≤ ROOM }
     ensures { row.new ≡ row.old ++ next_words (numbered_words owner number count) }
 {
     let mut word = [0; 2 * TWO];
@@ -74,12 +74,12 @@ fn add_ten<O: TraceOut>(
     count: u64,
 ) -> Result<(), OutFault>
     requires working { IsWorking (O.state out.old) }
-    requires few { number < LIMIT }
+    requires few { number < ELEVEN_DIGITS }
     requires tens { number % 10 + count ≤ 10 }
     ensures { Gathers (O.state out.old) (O.state out.new) result row.old row.new
         (next_words (numbered_words owner number count)) }
 {
-    row.make_room(out, TEN)?;
+    row.make_room(out, TEN_WORDS)?;
     append_ten(row, owner, number, count);
     Ok(())
 }

@@ -173,24 +173,21 @@ impl Row {
     }
 
     /// Adds a byte for which there is room.
-    pub(crate) fn append_byte(&mut self, byte: u8)
+    fn append_byte(&mut self, byte: u8)
         requires { length self.old + 1 ≤ ROOM }
         ensures { self.new ≡ self.old ++ byte ∷ [] }
     {
-        self.bytes[self.len] = byte;
-        self.len += 1;
+        self.len = copy_byte(&mut self.bytes, self.len, byte);
     }
 
-    /// Adds so many of the first bytes of a piece. All `TWO` of them are copied, for which there is room: that takes no
-    /// loop.
-    pub(crate) fn append_front(&mut self, piece: &[u8], count: usize)
+    /// Adds so many of the first bytes of a piece. There is room for all `TWO`.
+    fn append_front(&mut self, piece: &[u8], count: usize)
         requires piece { length piece.now ≡ TWO }
         requires count { count ≤ TWO }
         requires room { length self.old + TWO ≤ ROOM }
         ensures { self.new ≡ self.old ++ take count piece.now }
     {
-        self.bytes[self.len..self.len + TWO].copy_from_slice(piece);
-        self.len += count;
+        self.len = copy_front(&mut self.bytes, self.len, piece, count);
     }
 
     /// Adds so many of the first bytes of a piece and a digit behind them, for each of so many digits, from this one

@@ -3,7 +3,7 @@ use Rattle.std.specs.Prelude.{Vec, filter}
 use Rattle.std.specs.declared.alloc.Global.{Global}
 use Rattle.std.proofs.lemmas.Fn.{filter_same}
 use Rattle.std.proofs.lemmas.List.{with_items_is}
-use Rattle.fleet_grid.specs.Lists.{list_in}
+use Rattle.fleet_grid.specs.Table.{items_at}
 use Rattle.fleet_grid.proofs.ListLaws.{changed-more, changed-all}
 use Rattle.fleet_grid.proofs.lists.retain_in.Goals as goal
 
@@ -16,4 +16,4 @@ returns-clause-kept g c = λ test h k.
     let row = c.args.lists.now in
     let now = c.loop-list.list-items in
     let n : length now ≡ row.len = omega (arith, c.loop-list.auto.list-items, ap length c.deref_mut-list-items.ensures.value, row.ok.0) in
-    ap (λ z. list_in z k) (with_items_is row now n) ∙ changed-all (filter test) c.deref_mut-list-items.result.now now c.loop-list.list-index (c.loop-list.invariant test h) (omega (arith, c.loop-list.auto.list-items)) refl k ∙ ap (λ z. filter test (list_in z k)) c.deref_mut-list-items.ensures.value
+    ap (λ z. items_at z k) (with_items_is row now n) ∙ changed-all (filter test) c.deref_mut-list-items.result.now now c.loop-list.list-index (c.loop-list.invariant test h) (omega (arith, c.loop-list.auto.list-items)) refl k ∙ ap (λ z. filter test (items_at z k)) c.deref_mut-list-items.ensures.value

@@ -8,7 +8,7 @@ overflow_sub-digit c =
     let n = c.in-Some-Some.n in
     let is_old : c.args.old ≡ pos m = search rules in
     let is_new : c.args.new ≡ pos n = search rules in
-    digit_room c.args.old c.args.new m n c.from.result is_old is_new c.requires.close (c.from.ensures ∙ c.requires.digit m is_old c.in-Some-Some.ensures.1)
+    digit_room c.args.old c.args.new m n c.from.result is_old is_new c.requires.close (c.from.ensures ∙ c.requires.digit m is_old c.in-Some-Some.ensures.some.1)
 
 pub returns-clause-patched : goal.returns-clause-patched
 returns-clause-patched c =
@@ -17,5 +17,5 @@ returns-clause-patched c =
     let n = c.in-Some-Some.n in
     let is_old : c.args.old ≡ pos m = search rules in
     let is_new : c.args.new ≡ pos n = search rules in
-    digit_over c.args.old c.args.new m n c.from.result is_old is_new c.requires.close (c.from.ensures ∙ c.requires.digit m is_old c.in-Some-Some.ensures.1)
-    c.args.at c.args.row.now c.in-Some-Some.ensures.1 c.in-Some-Some.ensures'.1 (c.is_digit.ensures c.if-not-is_digit.false)
+    digit_over c.args.old c.args.new m n c.from.result is_old is_new c.requires.close (c.from.ensures ∙ c.requires.digit m is_old c.in-Some-Some.ensures.some.1)
+    c.args.at c.args.row.now c.in-Some-Some.ensures.some.1 c.in-Some-Some.ensures'.some.1 (c.is_digit.ensures.0 c.if-not-is_digit.false)

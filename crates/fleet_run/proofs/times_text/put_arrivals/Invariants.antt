@@ -1,10 +1,10 @@
 use Rattle.std.proofs.Common.{slice_index}
 use Rattle.fleet_text.specs.Sink.{Takes}
 use Rattle.fleet_run.specs.Listing.{texts_below}
-use Rattle.fleet_run.specs.TimesText.{agent_line}
+use Rattle.fleet_run.specs.TimesText.{label_line}
 use Rattle.fleet_run.proofs.times_text.put_arrivals.Given as goal
 
 abbrev pub invariant-loop-i : goal.invariant-loop-i
 invariant-loop-i g l = record {
-  written : Takes (g.O.TraceOut.state l.fn.out) (g.O.TraceOut.state l.out) (texts_below (λ i. agent_line i (slice_index l.arrivals i)) l.i);
+  written : Takes (g.O.TraceOut.state l.fn.out) (g.O.TraceOut.state l.out) (texts_below (λ i. label_line i (slice_index l.arrivals i)) l.i);
 }

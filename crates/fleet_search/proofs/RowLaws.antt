@@ -3,8 +3,8 @@ use Rattle.std.proofs.Common.{◌≡◌, ◌≢◌, ℕ, ◌<◌, ◌≤◌, ◌
 use Rattle.std.specs.Prelude.{Vec, set, MatchOption, IfSome, IfNone}
 use Rattle.std.specs.declared.alloc.Global.{Global}
 use Rattle.std.proofs.lemmas.Bool.{cases_eq, eqb-true, eq-eqb, false_from_ne_true}
-use Rattle.fleet_grid.specs.Table.{page_in}
-use Rattle.fleet_grid.proofs.Pages.{page-read, page-set, page-other}
+use Rattle.fleet_grid.specs.Table.{items_at}
+use Rattle.fleet_grid.proofs.Pages.{items-read, items-set, items-other}
 use Rattle.std.proofs.lemmas.List.{get_or_past, length-map}
 use Rattle.fleet_search.specs.Rows.{bucket_of, lists_of, bucket_in, IsPut}
 
@@ -14,17 +14,17 @@ row-past bs k h = get_or_past (lists_of bs) k [] (omega (arith, length-map bs (�
 
 pub row-read : (bs : List (Vec ℕ Global)) (k : ℕ) (v : Vec ℕ Global) → k < length bs → v ≡ get_or bs k v → bucket_in bs k ≡ v.items
 unfolding bucket_of
-row-read bs k v h e = page-read bs k v h e
+row-read bs k v h e = items-read bs k v h e
 
 pub row-set : (bs : List (Vec ℕ Global)) (k : ℕ) (v : Vec ℕ Global) → k < length bs → bucket_in (set bs k v) k ≡ v.items
 unfolding bucket_of
-row-set bs k v h = page-set bs k v h
+row-set bs k v h = items-set bs k v h
 
 pub row-other : (bs : List (Vec ℕ Global)) (i k : ℕ) (v : Vec ℕ Global) → k ≢ i → bucket_in (set bs i v) k ≡ bucket_in bs k
 unfolding bucket_of
-row-other bs i k v ne = page-other bs i k v ne
+row-other bs i k v ne = items-other bs i k v ne
 
-pub same-rows : (old new : List (Vec ℕ Global)) → ((k : ℕ) → page_in new k ≡ page_in old k) → (k : ℕ) → bucket_in new k ≡ bucket_in old k
+pub same-rows : (old new : List (Vec ℕ Global)) → ((k : ℕ) → items_at new k ≡ items_at old k) → (k : ℕ) → bucket_in new k ≡ bucket_in old k
 unfolding bucket_of
 same-rows old new same = same
 

@@ -7,6 +7,8 @@ ghost use Rattle.fleet_run.specs.Text.{line_of};
 ghost use Rattle.fleet_run.specs.Line.{IsLineKept, places_of};
 ghost use Rattle.fleet_text.specs.Sink.{IsWorking, TakesAll};
 ghost use Rattle.fleet_run.specs.Source.{HasNotFailed, AreFlagsOf};
+ghost use Rattle.fleet_run.specs.declared.trace.TheConstants.{LINE};
+ghost use Rattle.fleet_model.specs.declared.limits.TheConstants.{MAX_AGENTS};
 ghost use Rattle.fleet_run.specs.Outcome.{run_end, fault_of, AsksNext, AsksUnlessOver, PassesTime, RunsLines};
 
 use crate::line::{copy_places, write_moved, write_places, write_time};
@@ -245,6 +247,65 @@ fn tick_row<P: ProgramView>(
     tick.ready_held
 }
 
+/// What a run keeps from tick to tick: the bytes of the line of the time, and where each place begins in them; and of
+/// each agent whether it is held, and its place.
+struct Rows<'r> {
+    row: &'r mut [u8],
+    begins: &'r mut [usize],
+    flags: &'r mut [bool],
+    places: &'r mut [Place],
+}
+
+/// Runs a program from its start, and writes the line of each time. What is in the rows before does not matter.
+fn run_in<P: ProgramView, S: HoldSource, O: TraceOut>(
+    program: &P,
+    machine: &mut Machine,
+    source: &mut S,
+    out: &mut O,
+    rows: Rows<'_>,
+) -> Result<Ran, RunFault>
+    requires runs { Runs (P.program program.now) machine.old }
+    requires opening { machine.old.configuration ≡ opening (P.program program.now) }
+    requires source { HasNotFailed (S.state source.old) }
+    requires sink { IsWorking (O.state out.old) }
+    requires room { length rows.row.now ≡ LINE }
+    requires begins { length rows.begins.now ≡ MAX_AGENTS + 1 }
+    requires flags { length rows.flags.now ≡ length (P.program program.now) }
+    requires places { length rows.places.now ≡ length (P.program program.now) }
+    ensures runs { Runs (P.program program.now) machine.new }
+    ensures looked { machine.old.looked ≤ machine.new.looked }
+    ensures lines { RunsLines (P.program program.now) (S.state source.old) (S.state source.new)
+        (O.state out.old) (O.state out.new)
+        machine.new.configuration result }
+{
+    let Rows {
+        row,
+        begins,
+        flags,
+        places,
+    } = rows;
+    write_places(machine.agents(), row, begins);
+    copy_places(machine.agents(), places);
+    let mut counts = Counts { ticks: 0, held: 0 };
+    let mut source_ended = false;
+    'ticks: loop {
+        let Counts { ticks, held } = counts;
+        let end = end_at(program, machine);
+        let time = Time {
+            ticks,
+            source_ended,
+            end,
+        };
+        let more = pass_time(source, out, time, row, begins, flags)?;
+        if let Some(end) = end {
+            return Ok(Ran { ticks, held, end });
+        }
+        let ready_held = tick_row(program, machine, flags, row, begins, places);
+        counts = counts.after(ready_held);
+        source_ended = !more;
+    }
+}
+
 /// Runs a program from its start, and writes the line of each time. Takes no memory.
 pub fn run_lines<P: ProgramView, S: HoldSource, O: TraceOut>(
     program: &P,
@@ -266,26 +327,13 @@ pub fn run_lines<P: ProgramView, S: HoldSource, O: TraceOut>(
     let flags = &mut flags[..program.agents() as usize];
     let mut row = [0; LINE];
     let mut begins = [0; MAX_AGENTS + 1];
-    write_places(machine.agents(), &mut row, &mut begins);
     let mut places = [Place { x: 0, y: 0 }; MAX_AGENTS];
     let places = &mut places[..program.agents() as usize];
-    copy_places(machine.agents(), places);
-    let mut counts = Counts { ticks: 0, held: 0 };
-    let mut source_ended = false;
-    'ticks: loop {
-        let Counts { ticks, held } = counts;
-        let end = end_at(program, machine);
-        let time = Time {
-            ticks,
-            source_ended,
-            end,
-        };
-        let more = pass_time(source, out, time, &mut row, &begins, flags)?;
-        if let Some(end) = end {
-            return Ok(Ran { ticks, held, end });
-        }
-        let ready_held = tick_row(program, machine, flags, &mut row, &mut begins, places);
-        counts = counts.after(ready_held);
-        source_ended = !more;
-    }
+    let rows = Rows {
+        row: &mut row,
+        begins: &mut begins,
+        flags,
+        places,
+    };
+    run_in(program, machine, source, out, rows)
 }

@@ -45,23 +45,19 @@ fn distance(tables: &mut Alone<'_>, start: Cell, goal: Cell) -> Result<u32, Sear
     Ok(path.steps())
 }
 
-/// The sum of the distances from the agents' starts to their goals, each alone on the map, in steps: no plan has a
-/// lesser sum of costs. It takes the time of a search for each agent.
+/// The sum of the distances from the agents' starts to their goals. The tables are those of agents alone on the map.
 #[tactic(auto, using(crate::proofs::AloneLaws::bound_none))]
-pub fn bound(alloc: Global, checked: &Checked<'_>) -> Result<u32, OutOfMemory>
+fn sum_of_distances(tables: &mut Alone<'_>, checked: &Checked<'_>) -> Result<u32, OutOfMemory>
+    requires nobody { tables.old.nobody ≡ [] }
+    requires grid { tables.old.distances.grid ≡ checked.now.grid }
     ensures { IfOk result (IsBound (is_passable checked.now.grid) checked.now.instance) }
 {
     let instance = checked.instance();
     // The plan that is read shows that its paths are not too long.
     let _plan = checked.plan();
-    let mut tables = Alone {
-        nobody: Reservations::new(alloc),
-        distances: Distances::new(alloc, checked.grid())?,
-        frontier: Frontier::new(alloc),
-    };
     let mut sum = 0;
     for agent in 0..instance.agents() {
-        match distance(&mut tables, instance.start(agent), instance.goal(agent)) {
+        match distance(tables, instance.start(agent), instance.goal(agent)) {
             Ok(moves) => sum += moves,
             Err(SearchFault::OutOfMemory) => return Err(OutOfMemory),
             // The path of the plan leads there.
@@ -69,4 +65,17 @@ pub fn bound(alloc: Global, checked: &Checked<'_>) -> Result<u32, OutOfMemory>
         }
     }
     Ok(sum)
+}
+
+/// The sum of the distances from the agents' starts to their goals, each alone on the map, in steps: no plan has a
+/// lesser sum of costs. It takes the time of a search for each agent.
+pub fn bound(alloc: Global, checked: &Checked<'_>) -> Result<u32, OutOfMemory>
+    ensures { IfOk result (IsBound (is_passable checked.now.grid) checked.now.instance) }
+{
+    let mut tables = Alone {
+        nobody: Reservations::new(alloc),
+        distances: Distances::new(alloc, checked.grid())?,
+        frontier: Frontier::new(alloc),
+    };
+    sum_of_distances(&mut tables, checked)
 }

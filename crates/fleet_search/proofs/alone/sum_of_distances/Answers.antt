@@ -1,6 +1,6 @@
 use Rattle.std.proofs.Common.{◌∙◌, ◌<◌, length, ap, arith}
 use Rattle.fleet_search.proofs.AloneLaws.{bound_step, not_cut_off}
-use Rattle.fleet_search.proofs.alone.bound.Goals as goal
+use Rattle.fleet_search.proofs.alone.sum_of_distances.Goals as goal
 
 pub unreachable-requires : goal.unreachable-requires
 unreachable-requires c =

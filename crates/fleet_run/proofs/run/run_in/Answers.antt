@@ -3,7 +3,7 @@ use Rattle.std.proofs.lemmas.Result.{err_from_is_err_and}
 use Rattle.fleet_run.proofs.Ending.{not_over}
 use Rattle.fleet_run.proofs.Passing.{stops_in_time, goes_in_time, written_in_time}
 use Rattle.fleet_run.proofs.UnderWay.{few_held, few_ticks, falls, one_tick_on, unset_after}
-use Rattle.fleet_run.proofs.run.run_lines.Goals as goal
+use Rattle.fleet_run.proofs.run.run_in.Goals as goal
 
 pub returns-in_err-more-clause-lines : goal.returns-in_err-more-clause-lines
 returns-in_err-more-clause-lines g c =

@@ -6,7 +6,7 @@ use Rattle.fleet_text.specs.Sink.{Takes}
 use Rattle.fleet_run.specs.Source.{HasNotFailed, AreFlagsOf}
 use Rattle.fleet_run.proofs.Progress.{all_left}
 use Rattle.fleet_run.proofs.UnderWay.{IsUnderWay}
-use Rattle.fleet_run.proofs.run.run_lines.Given as goal
+use Rattle.fleet_run.proofs.run.run_in.Given as goal
 
 abbrev pub invariant-ticks : goal.invariant-ticks
 invariant-ticks g l =

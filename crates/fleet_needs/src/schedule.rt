@@ -151,11 +151,27 @@ fn wanted_of<P: ProgramView>(
         return Ok(Vec::new(alloc));
     }
     let mut wanted = vec![in alloc; false; total_moves(program) as usize]?;
+    flag_lasts(program, places, questions, &mut wanted);
+    Ok(wanted)
+}
+
+/// Flags, among all actions by their places, those with which questions end.
+fn flag_lasts<P: ProgramView>(
+    program: &P,
+    places: &ActionPlaces,
+    questions: &[Question],
+    wanted: &mut [bool],
+)
+    requires places { ArePlacesOf (P.program program.now) places.now }
+    requires questions { All (IsQuestion (P.program program.now)) questions.now }
+    requires all { length wanted.old ≡ total_moves (P.program program.now) }
+    ensures { (k : ℕ) (q : Question) → slice_get questions.now k ≡ Some q
+        → IsWanted places.now wanted.new q.last }
+{
     for question in questions {
         let place = place_of(program, places, question.last);
         wanted[place] = true;
     }
-    Ok(wanted)
 }
 
 /// The place of an action of the program.

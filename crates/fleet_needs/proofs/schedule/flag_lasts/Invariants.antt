@@ -3,10 +3,10 @@ use Rattle.std.specs.Prelude.{slice_get, Some}
 use Rattle.fleet_model.specs.Program.{total_moves}
 use Rattle.fleet_needs.specs.Joins.{IsWanted}
 use Rattle.fleet_needs.specs.declared.questions.Question.{Question}
-use Rattle.fleet_needs.proofs.schedule.wanted_of.Given as goal
+use Rattle.fleet_needs.proofs.schedule.flag_lasts.Given as goal
 
 abbrev pub invariant-loop-question : goal.invariant-loop-question
 invariant-loop-question g l = record {
-  all : length l.wanted.items ≡ total_moves (g.P.ProgramView.program l.program);
-  wanted : (k : ℕ) (q : Question) → k < l.question-index → slice_get l.questions k ≡ Some q → IsWanted l.places l.wanted.items q.last;
+  all : length l.wanted ≡ total_moves (g.P.ProgramView.program l.program);
+  wanted : (k : ℕ) (q : Question) → k < l.question-index → slice_get l.questions k ≡ Some q → IsWanted l.places l.wanted q.last;
 }

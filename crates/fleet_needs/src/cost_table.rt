@@ -45,6 +45,7 @@ impl CostTable {
     }
 
     /// Makes each cost eight bytes long if this one does not fit four.
+    #[inline(always)]
     pub(crate) fn make_room_for(&mut self, alloc: Global, cost: u64) -> Result<(), OutOfMemory>
         ensures same { OnOk result (costs_of self.new ≡ costs_of self.old) }
         ensures room { OnOk result (HasRoomFor self.new cost) }
@@ -63,6 +64,7 @@ impl CostTable {
 }
 
 /// The same costs, in eight bytes each.
+#[inline(never)]
 fn widened(alloc: Global, costs: &[u32]) -> Result<Vec<u64>, OutOfMemory>
     ensures { IfOk result (λ wide. wide.items ≡ costs.now) }
 {

@@ -1,6 +1,6 @@
 -- A line that is read as a report is the line of that report, and no line's end is in it.
-use Rattle.std.proofs.Common.{◌≡◌, ◌∙◌, ℕ, zero, suc, ◌+◌, ◌-◌, ◌<◌, ◌≤◌, ◌&&◌, true, cond, List, [], ◌∷◌, ◌++◌, length, map, get_or, take, drop, Option, None, Some, nat_le, nat_lt, refl, sym, ap, subst, inl, inr, arith, eqb-true, ltb-true, append_assoc, append-nil, decimal, ltb, add-one, length-append}
-use Rattle.std.specs.Prelude.{codes, option_map, option_and_then, position}
+use Rattle.std.proofs.Common.{◌≡◌, ◌∙◌, ℕ, suc, ◌+◌, ◌-◌, ◌<◌, ◌&&◌, cond, List, [], ◌∷◌, ◌++◌, length, map, get_or, take, drop, Option, None, Some, nat_le, nat_lt, refl, sym, ap, subst, inl, inr, arith, eqb-true, ltb-true, append_assoc, append-nil, decimal, ltb, add-one, length-append}
+use Rattle.std.specs.Prelude.{option_map, option_and_then, position}
 use Rattle.std.specs.List.{slice_split, join_with_byte, AllByRecursion, position_or_len}
 use Rattle.std.specs.Str.Lines.{strip_carriage_return}
 use Rattle.std.proofs.lemmas.Bool.{cases_Bool, ltb-false}
@@ -12,12 +12,10 @@ use Rattle.std.proofs.lemmas.List.{take-append-drop, take_more}
 use Rattle.std.proofs.lemmas.List.Quantifiers.{position-Some}
 use Rattle.std.proofs.lemmas.List.Splits.{join_with_byte-slice_split, length-slice_split}
 use Rattle.fleet_model.specs.declared.limits.TheConstants.{MAX_AGENTS}
-use Rattle.fleet_text.specs.Text.{Bytes, is_lf, lines}
-use Rattle.fleet_text.specs.Words.{ended_text}
-use Rattle.fleet_text.proofs.TextLaws.{lines_first}
-use Rattle.fleet_text.proofs.WrittenLaws.{From, from_less, from_append, from_join, decimal_from, apart_from, lines_written}
+use Rattle.fleet_text.specs.Text.{Bytes, is_lf}
+use Rattle.fleet_text.proofs.WrittenLaws.{From, from_less, from_append, from_join, decimal_from, apart_from, at_from, keeps_end}
 use Rattle.fleet_run.specs.HoldText.{is_space, is_dash, plain_number}
-use Rattle.fleet_run.proofs.HoldLaws.{plain_is_decimal}
+use Rattle.fleet_run.proofs.HoldLaws.{dash_is, plain_is_decimal}
 use Rattle.fleet_dispatch.specs.declared.form.ReportForm.{ReportForm}
 use Rattle.fleet_dispatch.specs.declared.form.ReportForm.TheVariants.{Numbered, Unnumbered}
 use Rattle.fleet_text.specs.declared.numbers.TheConstants.{TOO_LONG}
@@ -133,11 +131,6 @@ pub record IsLineOf (line : Bytes) (words : Words) : Type 0 where
   pub same : line ≡ report_line words
   pub from : From 32 (report_line words)
 
-dash_is : (line : Bytes) → is_dash line ≡ true → line ≡ codes "-"
-dash_is [] e = absurd cc
-dash_is (b ∷ []) e = ap (λ (x : ℕ). x ∷ []) (eqb-true b 45 e)
-dash_is (b ∷ c ∷ bs) e = absurd cc
-
 line_spelled : (line : Bytes) (words : Words) → AreSpelled (slice_split is_space line) words → IsLineOf line words
 line_spelled line [] h = absurd (let none = ap length h.same in omega (arith, none, length-slice_split is_space line))
 line_spelled line (w ∷ words) h = record {
@@ -172,11 +165,6 @@ reads_again form line words e = ap (line_of form) (sym (line_is form line words 
 
 -- ---- the first line of a log
 
-at_from : (line : Bytes) (k : ℕ) → From 32 line → k < length line → 32 ≤ get_or line k 0
-at_from [] k h l = absurd (omega arith)
-at_from (b ∷ line) zero h l = h.0
-at_from (b ∷ line) (suc k) h l = at_from line k h.1 (omega arith)
-
 ends_there : (line rest : Bytes) → From 32 line → position is_lf (line ++ 10 ∷ rest) ≡ Some (length line)
 ends_there line rest h =
     let text : Bytes = line ++ 10 ∷ rest in
@@ -199,17 +187,6 @@ drops_past (c ∷ line) rest b = drops_past line rest b
 
 drops_line : (line rest : Bytes) (b : ℕ) → drop (length line + 1) (line ++ b ∷ rest) ≡ rest
 drops_line line rest b = ap (λ (n : ℕ). drop n (line ++ b ∷ rest)) (add-one (length line)) ∙ drops_past line rest b
-
-keeps_end : (line : Bytes) → From 32 line → strip_carriage_return line ≡ line
-keeps_end line h =
-    let text : Bytes = line ++ 10 ∷ [] in
-    let one : ended_text (line ∷ []) ≡ text = append-nil text in
-    let all : strip_carriage_return (take (length line) text) ∷ lines (drop (length line + 1) text) ≡ line ∷ [] =
-    sym (lines_first text (length line) (ends_there line [] h)) ∙ ap lines (sym one) ∙ lines_written (line ∷ []) (h, tt) in
-    ap strip_carriage_return (sym (takes_line line (10 ∷ []))) ∙ first _ _ _ _ all
-  where
-    first : (a b : Bytes) (xs ys : List Bytes) → a ∷ xs ≡ b ∷ ys → a ≡ b
-    first a b xs ys e = cc
 
 pub first_of_log : (words : Words) (rest : Bytes) → From 32 (report_line words) → HasLine (log_line words ++ rest) (report_line words) rest
 first_of_log words rest h =

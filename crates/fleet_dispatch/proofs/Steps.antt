@@ -1,10 +1,10 @@
 -- How progress goes on: agents are told more, and carry out more.
-use Rattle.std.proofs.Common.{◌≡◌, ◌≢◌, ℕ, zero, suc, ◌+◌, ◌<◌, ◌≤◌, Bool, true, false, not, List, [], ◌∷◌, length, get_or, set, take, replicate, All, Option, Some, None, Contains, refl, ap, sym, ◌∙◌, subst, arith, inl, inr, eq-eqb, leb-true, get_or-set_same, get_or-set_other, length-set}
+use Rattle.std.proofs.Common.{◌≡◌, ◌≢◌, ℕ, zero, suc, ◌+◌, ◌<◌, ◌≤◌, Bool, true, false, not, List, [], ◌∷◌, length, get_or, set, take, All, Option, Some, None, Contains, refl, ap, sym, ◌∙◌, subst, arith, inl, inr, eq-eqb, leb-true, get_or-set_same, get_or-set_other, length-set}
 use Rattle.std.specs.Prelude.{nat_lt, nat_le, min, is_some, IfSome, IfNone, slice_get, MatchOption, MatchBool, ◌==◌}
 use Rattle.std.specs.Option.{option_map_or}
 use Rattle.std.specs.List.{count_by}
-use Rattle.std.proofs.lemmas.Bool.{cases_lt, cases_eq, ne_eqb, le-leb, leb-false, ltb-false, ltb-true}
-use Rattle.std.proofs.lemmas.List.{ext_get_or, take_more, take_all, get_or-replicate, get_or_past, length-replicate}
+use Rattle.std.proofs.lemmas.Bool.{cases_lt, cases_eq, ne_eqb, le-leb, lt-leb, leb-false, ltb-false, ltb-true}
+use Rattle.std.proofs.lemmas.List.{ext_get_or, take_more, take_all}
 use Rattle.std.proofs.lemmas.List.Elements.{All-append}
 use Rattle.std.proofs.lemmas.Option.{slice_get-get_or}
 use Rattle.std.proofs.lemmas.List.FromFn.{get_or-map-range_with_len, length-map-range_with_len, length-range_with_len, get_or-range_with_len}
@@ -376,13 +376,6 @@ module _ (p : Program) (k : ℕ) (s : ProgressState) (leads : Leads p k s) where
       let off : nat_lt (count_of s.done j) (moves p j) ≡ false = sym (leads.left j a) ∙ none j (omega arith) in
       subst (λ x. nat_le (moves p x) (count_of s.done x) ≡ true) (sym at) (le-leb _ _ (ltb-false _ _ off)))
 
-  not_le : (a b : ℕ) → b < a → nat_le a b ≡ false
-  not_le a b l = go (nat_le a b) refl
-    where
-      go : (x : Bool) → nat_le a b ≡ x → nat_le a b ≡ false
-      go false e = e
-      go true e = absurd (let le = leb-true _ _ e in omega (arith, le))
-
   not_finished : (i : ℕ) → IsNextFrom s.left 0 i → is_all_done p s.done ≡ false
   not_finished i next =
       let a : i < length p = omega (arith, next.agent, leads.rows.left) in
@@ -390,7 +383,7 @@ module _ (p : Program) (k : ℕ) (s : ProgressState) (leads : Leads p k s) where
       let less : count_of s.done i < moves p i = ltb-true _ _ on in
       let at : get_or (indices (length p)) i 0 ≡ i = get_or-range_with_len 0 (length p) i 0 a ∙ omega arith in
       list_all_at (λ j. nat_le (moves p j) (count_of s.done j)) (indices (length p)) i 0 (omega (arith, length-range_with_len 0 (length p)))
-      (subst (λ x. nat_le (moves p x) (count_of s.done x) ≡ false) (sym at) (not_le _ _ less))
+      (subst (λ x. nat_le (moves p x) (count_of s.done x) ≡ false) (sym at) (lt-leb _ _ less))
 
   pub finished_is : (first : Option ℕ) (now : Bool) → MatchOption first (AreNoneFrom s.left 0) (IsNextFrom s.left 0) → is_some first ≡ not now → now ≡ is_all_done p s.done
   finished_is None true none is = sym (all_finished none)
@@ -527,9 +520,3 @@ started p k s counts rows told places nowhere due left = record {
   settled = λ i a is free. absurd (let on : flag_of s.due i ≡ true = due i a in cc);
   left = left;
 }
-
-pub nowhere_at : (n i : ℕ) → home_of (replicate n None) i ≡ None
-nowhere_at n i = elim (cases_lt i n) [
-  | inl l ↦ get_or-replicate n i None None l
-  | inr le ↦ get_or_past (replicate {A = Option ℕ} n None) i None (omega (arith, length-replicate {A = Option ℕ} n None))
-]

@@ -9,6 +9,7 @@ use Rattle.fleet_model.specs.declared.program.Await.{Await}
 use Rattle.fleet_model.specs.declared.standing.Standing.{Standing}
 use Rattle.fleet_model.specs.Program.{Program, moves, awaits_of, path}
 use Rattle.fleet_model.specs.Machine.{Configuration, standing_at, count_at, is_ready, tick, opening, indices, IsReached}
+use Rattle.fleet_model.proofs.Chains.{bound_below}
 use Rattle.fleet_model.proofs.Tick.{length-run, standing_at_tick, standing_at_opening, free_moves, other_stays, unready_waits}
 use Rattle.fleet_verify.proofs.RunCounts.{start_reached, tick_reached}
 use Rattle.fleet_verify.proofs.UnderWay.{on_path}
@@ -102,21 +103,9 @@ module _ (p : Program) (a b : ℕ → ℕ) (past : (i : ℕ) → length p ≤ i 
   after zero s = begins s
   after (suc d) s = further d (after d s)
 
-  -- a number that none of these exceeds
-  most : (f : ℕ → ℕ) (n : ℕ) → (m : ℕ) × ((i : ℕ) → i < n → f i ≤ m)
-  most f zero = (0, λ i h. absurd (omega arith))
-  most f (suc n) =
-      let r = most f n in (
-        r.0 + f n,
-        λ i h. elim (cases_lt i n) [
-          | inl less ↦ omega (arith, r.1 i less)
-          | inr le ↦ (let same : f i ≡ f n = ap f (omega arith) in omega (arith, same))
-        ],
-      )
-
   gets_there : Stands p a → Stands p b
   gets_there s =
-      let m = most b (length p) in
+      let m = bound_below b (length p) in
       let t = after m.0 s in
       record {
         at = t.at;

@@ -32,8 +32,8 @@ fn note_breaks<P: ProgramView>(program: &P, words: &[Reported], breaks: &mut Vec
         × (breaks.new.items ≡ breaks_from breaks.old.items words.now))
         (NameActions (P.program program.now) words.now → ⊥) }
 {
-    for k in 0..words.len() {
-        let Reported { agent, number } = words[k];
+    for word in words {
+        let Reported { agent, number } = *word;
         let number = number.unwrap_or(0);
         if !is_action(program, agent, number) {
             return false;

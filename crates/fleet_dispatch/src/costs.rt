@@ -1,9 +1,8 @@
 //! What the actions of a program cost, by the lines of a text.
 
-ghost use Rattle.std.specs.Prelude.{◌≡◌, [], ◌+◌, ◌<◌, ◌≤◌, ◌^◌, ℕ, length, map, replicate, position, get_or, IfOk, IfErr, IfSome, List};
+ghost use Rattle.std.specs.Prelude.{◌≡◌, [], ◌+◌, ◌<◌, ◌≤◌, ◌^◌, ℕ, length, map, replicate, get_or, IfOk, IfErr, IfSome, List};
 ghost use Rattle.fleet_model.specs.declared.program.ActionId.{ActionId};
 ghost use Rattle.fleet_text.specs.Text.{lines};
-ghost use Rattle.fleet_run.specs.HoldText.{is_space};
 ghost use Rattle.fleet_dispatch.specs.Breaks.{named_action};
 ghost use Rattle.fleet_dispatch.specs.Costs.{whose_of, cost_of, cost_line_of, is_of, cost_line_in, AreCostsOf, IsCostsFault, entry, cost_in, AreLow, AreRowsOf, no_rows, noted, noted_by, lists_of, IsCostOf, with_rows};
 
@@ -12,6 +11,7 @@ use crate::report::Reported;
 use crate::report_text::{numbered, unnumbered};
 use crate::times_fault::TimesFault;
 use fleet_model::{ActionId, OutOfMemory, ProgramView};
+use fleet_run::space_in;
 use fleet_text::Cursor;
 use fleet_verify::{ActionCosts, MAX_COST};
 use std::alloc::Global;
@@ -44,13 +44,6 @@ fn cost_of(word: &[u8]) -> Option<u32>
     } else {
         None
     }
-}
-
-/// Where the first space is.
-fn space_in(line: &[u8]) -> Option<usize>
-    ensures { result ≡ position is_space line.now }
-{
-    line.iter().position(|b| *b == b' ')
 }
 
 /// What a line says.

@@ -15,7 +15,7 @@ const WORD: usize = 22;
 pub const LOG_LINE: usize = MAX_AGENTS * WORD + 1;
 
 /// Writes a word of a report so that it ends before `end`, and answers where it begins.
-fn write_word(word: Reported, row: &mut [u8], end: usize) -> usize
+pub(crate) fn write_word(word: Reported, row: &mut [u8], end: usize) -> usize
     requires room { 21 ≤ end }
     requires within { end ≤ length row.old }
     ensures low { end ≤ result + 21 }

@@ -2,16 +2,32 @@
 
 ghost use Rattle.std.specs.Prelude.{◌≡◌, ◌+◌, ◌<◌, ◌≤◌, ◌++◌, length, drop, take};
 ghost use Rattle.fleet_dispatch.specs.Orders.{name_text, order_text, closing};
+ghost use Rattle.fleet_dispatch.specs.ReportText.{word_text};
 ghost use Rattle.fleet_dispatch.specs.Talk.{Tells};
 
 use crate::floor::Floor;
 use crate::form::ReportForm;
+use crate::log_text::write_word;
+use crate::report::Reported;
 use fleet_model::Place;
-use fleet_run::{PLACE, write_bytes, write_count, write_number_line, write_place};
+use fleet_run::{PLACE, write_bytes, write_number_line, write_place};
 use fleet_text::{OutFault, write_byte};
 
 /// How many bytes the longest order has: two places, the agent and the number, between a word and a line's end.
 pub const ORDER: usize = 2 * PLACE + 25;
+
+/// The word of a report by which an order names action `n` of agent `i`.
+#[inline(always)]
+fn word_for(form: ReportForm, i: u16, n: u32) -> Reported
+    ensures { word_text result ≡ name_text form i n }
+{
+    let agent = i as u32;
+    let number = match form {
+        ReportForm::Numbered => Some(n),
+        ReportForm::Unnumbered => None,
+    };
+    Reported { agent, number }
+}
 
 /// Writes how an order names action `n` of agent `i`, so that it ends before `end`, and answers where it begins.
 fn write_name(form: ReportForm, i: u16, n: u32, row: &mut [u8], end: usize) -> usize
@@ -21,14 +37,7 @@ fn write_name(form: ReportForm, i: u16, n: u32, row: &mut [u8], end: usize) -> u
     ensures high { result ≤ end }
     ensures written { drop result row.new ≡ name_text form i n ++ drop end row.old }
 {
-    match form {
-        ReportForm::Numbered => {
-            let at = write_count(n, row, end);
-            let at = write_byte(b':', row, at);
-            write_count(i as u32, row, at)
-        }
-        ReportForm::Unnumbered => write_count(i as u32, row, end),
-    }
+    write_word(word_for(form, i, n), row, end)
 }
 
 /// An action that an agent is told: its number, and from where it leads to where.

@@ -8,8 +8,7 @@ use crate::hearing::hear_line;
 use crate::report::Report;
 use crate::report_text::LineKind;
 use crate::window::Window;
-use fleet_run::{Flush, OutFault};
-use fleet_text::deliver;
+use fleet_text::{Flush, OutFault, deliver};
 use std::io::Read;
 
 /// An input by which robots report, beside the output over which they are told and a log. What is told over the one,

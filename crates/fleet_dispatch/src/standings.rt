@@ -39,32 +39,32 @@ fn write_waits(waits: Option<Await>, row: &mut [u8], end: usize) -> usize
 }
 
 /// Writes the line of an agent so that it ends with the row, and answers where it begins.
-fn write_standing(standing: Whereabouts, row: &mut [u8]) -> usize
+fn write_standing(whereabouts: Whereabouts, row: &mut [u8]) -> usize
     requires room { length row.old ≡ STANDING }
     ensures high { result ≤ STANDING }
     ensures written { drop result row.new ≡ standing_text
-        standing.agent standing.place standing.done standing.moves standing.waits }
+        whereabouts.agent whereabouts.place whereabouts.done whereabouts.moves whereabouts.waits }
 {
     let at = write_byte(b'\n', row, STANDING);
-    let at = write_waits(standing.waits, row, at);
-    let at = write_count(standing.moves, row, at);
+    let at = write_waits(whereabouts.waits, row, at);
+    let at = write_count(whereabouts.moves, row, at);
     let at = write_bytes(b" of ", row, at);
-    let at = write_count(standing.done, row, at);
+    let at = write_count(whereabouts.done, row, at);
     let at = write_bytes(b" done ", row, at);
-    let at = write_place(standing.place, row, at);
-    let at = write_count(standing.agent as u32, row, at);
+    let at = write_place(whereabouts.place, row, at);
+    let at = write_count(whereabouts.agent as u32, row, at);
     write_bytes(b"at ", row, at)
 }
 
 /// Writes the line of an agent behind those that end at `at`, and answers where it ends.
-pub fn add_standing(standing: Whereabouts, row: &mut [u8], at: usize) -> usize
+pub fn add_standing(whereabouts: Whereabouts, row: &mut [u8], at: usize) -> usize
     requires room { at + STANDING ≤ length row.old }
     ensures high { result ≤ at + STANDING }
     ensures written { take result row.new ≡ take at row.old ++ standing_text
-        standing.agent standing.place standing.done standing.moves standing.waits }
+        whereabouts.agent whereabouts.place whereabouts.done whereabouts.moves whereabouts.waits }
 {
     let mut text = [0; STANDING];
-    let begin = write_standing(standing, &mut text);
+    let begin = write_standing(whereabouts, &mut text);
     let end = at + (STANDING - begin);
     row[at..end].copy_from_slice(&text[begin..]);
     end

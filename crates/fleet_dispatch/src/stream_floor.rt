@@ -19,7 +19,7 @@ use crate::reports_to::ReportsTo;
 use crate::run::DispatchReport;
 use crate::window::Window;
 use fleet_model::ProgramView;
-use fleet_run::{Flush, OutFault};
+use fleet_text::{Flush, OutFault};
 use fleet_verify::Accepted;
 use std::alloc::Global;
 

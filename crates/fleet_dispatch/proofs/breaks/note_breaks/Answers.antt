@@ -13,26 +13,26 @@ pub returns-then-not-is_action : goal.returns-then-not-is_action
 returns-then-not-is_action g c = λ named.
     let p = g.P.ProgramView.program c.args.program.now in
     let nobody : Reported = record { agent = 0; number = None } in
-    let w : Reported = slice_index_or c.args.words.now c.loop-k.k nobody in
-    let act : IsAction p (named_action w) = named c.loop-k.k w (slice_get-get_or c.args.words.now c.loop-k.k nobody c.loop-k-test.true) in
+    let w : Reported = slice_index_or c.args.words.now c.loop-word.word-index nobody in
+    let act : IsAction p (named_action w) = named c.loop-word.word-index w (slice_get-get_or c.args.words.now c.loop-word.word-index nobody c.loop-word-test.true) in
     let here = subst (λ (n : ℕ). IsAction p (record { agent = w.agent; number = n })) (sym c.unwrap_or-number.ensures) act in
     false≢true (sym c.if-not-is_action.true ∙ c.is_action.ensures.1 here)
 
-pub loop-k-preserved : goal.loop-k-preserved
-loop-k-preserved g c =
+pub loop-word-preserved : goal.loop-word-preserved
+loop-word-preserved g c =
     let p = g.P.ProgramView.program c.args.program.now in
     let nobody : Reported = record { agent = 0; number = None } in
-    let w : Reported = slice_index_or c.args.words.now c.loop-k.k nobody in
-    let at = slice_get-get_or c.args.words.now c.loop-k.k nobody c.loop-k-test.true in
+    let w : Reported = slice_index_or c.args.words.now c.loop-word.word-index nobody in
+    let at = slice_get-get_or c.args.words.now c.loop-word.word-index nobody c.loop-word-test.true in
     let act = c.is_action.ensures.0 c.if-not-is_action.false in
     record {
-      all = length-set c.loop-k.breaks.items w.agent c.unwrap_or-number.result ∙ c.loop-k.invariant.all;
-      noted = breaks_more c.args.breaks.now.items c.args.words.now c.loop-k.k w at c.loop-k.breaks.items c.loop-k.invariant.noted _ (ap (λ (n : ℕ). set c.loop-k.breaks.items w.agent n) c.unwrap_or-number.ensures);
-      actions = name_more p c.args.words.now c.loop-k.k w c.loop-k.invariant.actions at (subst (λ (n : ℕ). IsAction p (record { agent = w.agent; number = n })) c.unwrap_or-number.ensures act);
+      all = length-set c.loop-word.breaks.items w.agent c.unwrap_or-number.result ∙ c.loop-word.invariant.all;
+      noted = breaks_more c.args.breaks.now.items c.args.words.now c.loop-word.word-index w at c.loop-word.breaks.items c.loop-word.invariant.noted _ (ap (λ (n : ℕ). set c.loop-word.breaks.items w.agent n) c.unwrap_or-number.ensures);
+      actions = name_more p c.args.words.now c.loop-word.word-index w c.loop-word.invariant.actions at (subst (λ (n : ℕ). IsAction p (record { agent = w.agent; number = n })) c.unwrap_or-number.ensures act);
     }
 
 pub returns : goal.returns
 returns g c =
     let p = g.P.ProgramView.program c.args.program.now in
-    let all : length c.args.words.now ≡ c.loop-k.k = omega (arith, c.loop-k-test.false, c.loop-k.auto.k-end) in
-    (name_all p c.args.words.now c.loop-k.k c.loop-k.invariant.actions all, c.loop-k.invariant.noted ∙ ap (breaks_from c.args.breaks.now.items) (take_all c.loop-k.k c.args.words.now (omega (arith, all))))
+    let all : length c.args.words.now ≡ c.loop-word.word-index = omega (arith, c.loop-word-test.false, c.loop-word.auto.word-index-end) in
+    (name_all p c.args.words.now c.loop-word.word-index c.loop-word.invariant.actions all, c.loop-word.invariant.noted ∙ ap (breaks_from c.args.breaks.now.items) (take_all c.loop-word.word-index c.args.words.now (omega (arith, all))))

@@ -1,9 +1,10 @@
 use Rattle.std.proofs.Common.{◌≡◌, ◌∙◌, ap, sym, subst, get_or}
 use Rattle.fleet_model.specs.Program.{path}
 use Rattle.fleet_machine.specs.WaitLists.{home_of, WaitState}
+use Rattle.fleet_machine.proofs.Opened.{home_of_nobody}
 use Rattle.fleet_dispatch.specs.Report.{Counts, count_of}
 use Rattle.fleet_dispatch.specs.Progress.{ProgressState, AreCounts}
-use Rattle.fleet_dispatch.proofs.Steps.{started, nowhere_at}
+use Rattle.fleet_dispatch.proofs.Steps.{started}
 use Rattle.fleet_dispatch.proofs.progress.Progress.start.Goals as goal
 
 pub returns-clause-told : goal.returns-clause-told
@@ -17,5 +18,5 @@ returns-clause-leads g c = λ k.
     let told : s.told ≡ c.args.done.now = ap (λ (x : ProgressState). x.told) c.mark_all.ensures.same ∙ c.in_ok-told.ensures in
     started p k s (subst (AreCounts p) (sym done) c.requires.counts) c.mark_all.ensures.rows (told ∙ sym done)
     (λ i q a. ap (λ (x : ProgressState). get_or x.places i q) c.mark_all.ensures.same ∙ c.in_ok-places.ensures.places i q a ∙ ap (λ (x : Counts). path p i (count_of x i)) (sym done))
-    (λ i. ap (λ (x : ProgressState). home_of x.waiting.homes i) c.mark_all.ensures.same ∙ ap (λ (x : WaitState). home_of x.homes i) c.in_ok-waiting.ensures ∙ nowhere_at c.agents-agents.result i)
+    (λ i. ap (λ (x : ProgressState). home_of x.waiting.homes i) c.mark_all.ensures.same ∙ ap (λ (x : WaitState). home_of x.homes i) c.in_ok-waiting.ensures ∙ home_of_nobody c.agents-agents.result i)
     c.mark_all.ensures.due c.mark_all.ensures.left

@@ -1,5 +1,5 @@
 -- Rows of levels that climb.
-use Rattle.std.proofs.Common.{◌≡◌, ◌≢◌, ℕ, zero, suc, ◌+◌, ◌-◌, ◌<◌, ◌≤◌, List, [], ◌∷◌, ◌++◌, length, get_or, set, slice_index, refl, sym, ap, ◌∙◌, subst, arith}
+use Rattle.std.proofs.Common.{◌≡◌, ◌≢◌, ℕ, zero, suc, ◌+◌, ◌-◌, ◌<◌, ◌≤◌, List, [], ◌∷◌, ◌++◌, length, get_or, set, slice_index, refl, sym, ap, ◌∙◌, subst, arith, inl, inr}
 use Rattle.std.specs.Prelude.{All}
 use Rattle.std.proofs.lemmas.List.{get_or-set_same, get_or-set_other, set-get_or, length-set, length-append, get_or_default}
 use Rattle.std.proofs.Math.Seq.{get_or-append_seam}
@@ -12,6 +12,10 @@ use Rattle.fleet_model.specs.declared.geometry.Cell.{Cell}
 use Rattle.fleet_model.specs.declared.geometry.Place.{Place}
 use Rattle.fleet_model.specs.Geometry.{place_of, stepped}
 use Rattle.fleet_model.specs.Program.{Program, moves, path}
+use Rattle.fleet_model.specs.declared.limits.TheConstants.{MAX_COORDINATE}
+use Rattle.std.proofs.lemmas.Bool.{cases_lt, false≢true}
+use Rattle.fleet_grid.specs.Ground.{Ground, IsGround, is_passable}
+use Rattle.fleet_grid.proofs.StoredLaws.{off_map}
 use Rattle.fleet_verify.specs.declared.ahead.Ahead.{Ahead}
 use Rattle.fleet_verify.specs.declared.ahead.Needs.{Needs}
 use Rattle.fleet_verify.specs.declared.ahead.Runner.{Runner}
@@ -199,12 +203,26 @@ module _ {passable : Place → Bool} {p : Program} {offset : (i finished k : ℕ
       let count = runner_count h in
       subst (λ (q : Place). IsTrue (passable q)) (sym (runner_place h)) (h.ahead.begun.on_ground i r.finished h.agent (omega (arith, count)))
 
-  pub arrival_by : {needs : Needs} → r.finished < moves p i → AreNeeds p offset (climbed_in a.rows.items i r.finished) i r.finished needs → (cell : Cell) → place_of cell ≡ stepped (place_of (stand r)) needs.step
-      → IsArrival p (record { visit = record { agent = i; position = r.finished + 1 }; cell = cell }) needs
-  arrival_by {needs = needs} left n cell to = record {
+  pub arrival_by : {needs : Needs} → r.finished < moves p i → AreNeeds p offset (climbed_in a.rows.items i r.finished) i r.finished needs → IsArrival p (record { agent = i; position = r.finished + 1 }) needs
+  arrival_by {needs = needs} left n = record {
     first = omega arith;
     last = omega (arith, left);
-    here = to ∙ leads_on p i r.finished needs.step (place_of (stand r)) n.step (runner_place h);
     step = n.step;
     latest = n.latest;
   }
+
+  pub arrival_here : {needs : Needs} → AreNeeds p offset (climbed_in a.rows.items i r.finished) i r.finished needs → (cell : Cell) → place_of cell ≡ stepped (place_of (stand r)) needs.step → place_of cell ≡ path p i (r.finished + 1)
+  arrival_here {needs = needs} n cell to = to ∙ leads_on p i r.finished needs.step (place_of (stand r)) n.step (runner_place h)
+
+-- passable ground ends before the numbers of a cell do
+pub within_numbers : (g : Ground) → IsGround g → (c : Cell) → IsTrue (is_passable g (place_of c)) → (c.x < MAX_COORDINATE) × (c.y < MAX_COORDINATE)
+within_numbers g sizes c ground = (
+  elim (cases_lt c.x g.width) [
+    | inl lt ↦ omega (arith, lt, sizes.width.few)
+    | inr ge ↦ absurd (false≢true (sym (off_map g c.x c.y sizes (inl ge)) ∙ ground))
+  ],
+  elim (cases_lt c.y g.height) [
+    | inl lt ↦ omega (arith, lt, sizes.height.few)
+    | inr ge ↦ absurd (false≢true (sym (off_map g c.x c.y sizes (inr ge)) ∙ ground))
+  ],
+)

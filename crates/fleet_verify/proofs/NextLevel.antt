@@ -101,14 +101,14 @@ pub next_level_some : {p : Program} {rows : List (List ℕ)} {i l : ℕ} → IsN
 next_level_some h = elim h.least [ inl one ↦ omega (arith, one) | inr q ↦ (let is = q.3 in omega (arith, is)) ]
 
 -- the action begins a visit if its step is a move
-pub enters_by : (p : Program) (s : PlacedVisit) (needs : Needs) → IsArrival p s needs → is_entry p s.visit.agent s.visit.position ≡ is_move needs.step
-enters_by p s needs h =
-    let number : s.visit.position - 1 + 1 ≡ s.visit.position = omega (arith, h.first) in
-    subst (λ (m : ℕ). is_entry p s.visit.agent m ≡ is_move needs.step) number
-    (entry_by p s.visit.agent (s.visit.position - 1) needs.step (subst (λ (m : ℕ). step_of p s.visit.agent m ≡ Some needs.step) (sym number) h.step))
+pub enters_by : (p : Program) (v : Visit) (needs : Needs) → IsArrival p v needs → is_entry p v.agent v.position ≡ is_move needs.step
+enters_by p v needs h =
+    let number : v.position - 1 + 1 ≡ v.position = omega (arith, h.first) in
+    subst (λ (m : ℕ). is_entry p v.agent m ≡ is_move needs.step) number
+    (entry_by p v.agent (v.position - 1) needs.step (subst (λ (m : ℕ). step_of p v.agent m ≡ Some needs.step) (sym number) h.step))
 
-pub visit_by : (p : Program) (s : PlacedVisit) (needs : Needs) → s.visit.agent < length p → IsArrival p s needs → is_move needs.step ≡ true → IsVisit p s.visit
-visit_by p s needs agent h moves = record { agent = agent; position = h.last; entered = enters_by p s needs h ∙ moves }
+pub visit_by : (p : Program) (v : Visit) (needs : Needs) → v.agent < length p → IsArrival p v needs → is_move needs.step ≡ true → IsVisit p v
+visit_by p v needs agent h moves = record { agent = agent; position = h.last; entered = enters_by p v needs h ∙ moves }
 
 -- the next action of the agent, which is on this cell, finished
 pub ahead_more : (passable : Place → Bool) (p : Program) (rows new : List (List ℕ)) (cells : List Cell) (last later : Cell → Option Visit) (pairs more : List OpenPair) (i n l : ℕ) (from cell : Cell)

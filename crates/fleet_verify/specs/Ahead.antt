@@ -15,7 +15,7 @@ use Rattle.fleet_model.specs.Chain.{IsAction, DirectlyNeeds}
 use Rattle.fleet_model.specs.declared.task.Task.{Task}
 use Rattle.fleet_verify.specs.Faults.{StandsRight, EndsRight}
 use Rattle.fleet_verify.specs.LastVisits.{kept_at}
-use Rattle.fleet_verify.specs.Order.{AreAddedBy}
+use Rattle.fleet_verify.specs.Order.{AreAddedBy, numbered_cell}
 use Rattle.fleet_verify.specs.Rows.{IsCountedUp}
 use Rattle.fleet_verify.specs.declared.order.OpenPair.{OpenPair}
 use Rattle.fleet_verify.specs.declared.order.PlacedVisit.{PlacedVisit}
@@ -100,7 +100,7 @@ IsAhead passable p a = IsAheadBy passable p a.rows.items a.cells.items (kept_at 
 
 -- the cell that the runner is on
 abbrev pub stand : Runner → Cell
-stand r = record { x = r.x; y = r.y }
+stand r = numbered_cell r.number
 
 -- the rows, of which that of agent i has climbed to so many levels
 abbrev pub climbed_in : List (List ℕ) → ℕ → ℕ → List (List ℕ)
@@ -133,13 +133,12 @@ pub record AreNeeds (p : Program) (offset : (i finished k : ℕ) → ℕ) (rows 
   pub step : step_of p i (finished + 1) ≡ Some needs.step
   pub after : needs.after ≡ offset i (finished + 1) 0
 
--- an agent comes to a cell by an action whose step and last await are these
-pub record IsArrival (p : Program) (s : PlacedVisit) (needs : Needs) : Type 0 where
-  pub first : 1 ≤ s.visit.position
-  pub last : s.visit.position ≤ moves p s.visit.agent
-  pub here : place_of s.cell ≡ path p s.visit.agent s.visit.position
-  pub step : step_of p s.visit.agent s.visit.position ≡ Some needs.step
-  pub latest : IsAwaitOrOwn p s.visit.agent s.visit.position needs.latest
+-- the visit is entered, if by a move, by an action whose step and last await are these
+pub record IsArrival (p : Program) (v : Visit) (needs : Needs) : Type 0 where
+  pub first : 1 ≤ v.position
+  pub last : v.position ≤ moves p v.agent
+  pub step : step_of p v.agent v.position ≡ Some needs.step
+  pub latest : IsAwaitOrOwn p v.agent v.position needs.latest
 
 -- ---- the ends
 

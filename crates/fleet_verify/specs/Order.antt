@@ -1,5 +1,5 @@
 -- The visits of a place among all visits in their order, and the first neighbours that break a rule.
-use Rattle.std.specs.Prelude.{◌≡◌, ℕ, ◌+◌, ◌*◌, ◌<◌, ◌≤◌, nat_eq, List, map, slice_get, filter, Option, Some, None, All, Contains, ◌⊎◌, [], ◌∷◌, ◌++◌}
+use Rattle.std.specs.Prelude.{◌≡◌, ℕ, ◌+◌, ◌*◌, ◌<◌, ◌≤◌, nat_eq, List, map, slice_get, filter, Option, Some, None, All, Contains, ◌⊎◌, [], ◌∷◌, ◌++◌, ◌/◌, ◌%◌}
 use Rattle.std.specs.List.{AllPairs}
 use Rattle.fleet_model.specs.declared.limits.TheConstants.{MAX_COORDINATE}
 use Rattle.fleet_model.specs.declared.geometry.Cell.{Cell}
@@ -20,6 +20,10 @@ use Rattle.indexmap.specs.IndexMap.{get}
 -- the number of a cell, which no other cell has
 abbrev pub number_of : Cell → ℕ
 number_of c = c.y * (MAX_COORDINATE + 1) + c.x
+
+-- the cell with this number
+abbrev pub numbered_cell : ℕ → Cell
+numbered_cell n = record { x = n % (MAX_COORDINATE + 1); y = n / (MAX_COORDINATE + 1) }
 
 -- the visits of the place
 unfoldable pub visits_of : Place → List PlacedVisit → List Visit

@@ -4,7 +4,7 @@ ghost use Rattle.std.specs.Prelude.{◌≡◌, ◌≢◌, ◌<◌, ◌≤◌, �
 ghost use Rattle.fleet_model.specs.declared.geometry.Cell.{Cell};
 ghost use Rattle.fleet_model.specs.declared.program.Visit.{Visit};
 ghost use Rattle.fleet_model.specs.Geometry.{place_of};
-ghost use Rattle.fleet_verify.specs.Order.{AreAddedBy, IsOpenNext};
+ghost use Rattle.fleet_verify.specs.Order.{AreAddedBy, IsOpenNext, numbered_cell};
 ghost use Rattle.fleet_model.specs.Program.{Program, start_of, moves, path, IsCell};
 ghost use Rattle.fleet_model.specs.Visit.{IsVisit, ComesAfterByAwait, leaving};
 ghost use Rattle.fleet_grid.specs.Ground.{is_passable};
@@ -19,8 +19,8 @@ use crate::agents::ends_right;
 use crate::chained::{Answers, unless_chained};
 use crate::last_visits::LastVisits;
 use crate::level_row::{LevelRow, row_of};
-use crate::order::{OpenPair, PlacedVisit, begins_visit, is_left_by, open_unless_after};
-use crate::path::next_cell;
+use crate::order::{OpenPair, PlacedVisit, begins_visit, is_left_by, number_of, open_unless_after};
+use crate::path::{next_number, numbered_cell};
 use crate::queue::Queue;
 use crate::unheld_run::Stop;
 use fleet_grid::Grid;
@@ -62,9 +62,8 @@ pub struct Runner {
     pub at: usize,
     /// The level of its last action, or 0.
     pub level: u32,
-    /// The column and the row of the cell that it is on. They are apart, so that each stays in a register of its own.
-    pub x: u16,
-    pub y: u16,
+    /// The number of the cell that it is on. A step is one sum so.
+    pub number: u32,
 }
 
 /// What an action says whose awaits are all met.
@@ -167,16 +166,14 @@ fn finish_next<P: ProgramView>(
     ensures finished { IfOk result (λ r. r.finished ≡ runner.finished + 1) }
 {
     let _agents = program.agents();
-    let cell = arrive(program, grid, ahead, agent, runner, needs)?;
+    let number = arrive(program, grid, ahead, agent, runner, needs)?;
     let finished = runner.finished + 1;
     raise(&mut ahead.rows, agent, runner, needs.level)?;
-    let Cell { x, y } = cell;
     Ok(Runner {
         finished,
         at: needs.after,
         level: needs.level,
-        x,
-        y,
+        number,
     })
 }
 
@@ -222,7 +219,8 @@ fn jump(row: &mut LevelRow, finished: u32, last: u32, level: u32) -> Result<(), 
     Ok(())
 }
 
-/// The cell to which the agent comes by its next action, if that is passable ground. If it moves, the visit is kept.
+/// The number of the cell to which the agent comes by its next action, if that is passable ground. If it moves, the
+/// visit is kept.
 #[inline(always)]
 fn arrive<P: ProgramView>(
     program: &P,
@@ -231,7 +229,7 @@ fn arrive<P: ProgramView>(
     agent: u16,
     runner: Runner,
     needs: Needs,
-) -> Result<Cell, Stop>
+) -> Result<u32, Stop>
     requires runner { IsRunner (is_passable grid.now) (P.program program.now) (P.offset program.now)
         ahead.old agent runner }
     requires left { runner.finished < moves (P.program program.now) agent }
@@ -239,9 +237,10 @@ fn arrive<P: ProgramView>(
         (climbed_in ahead.old.rows.items agent runner.finished) agent runner.finished needs }
     ensures rows { OnOk result (ahead.new.rows.items ≡ ahead.old.rows.items) }
     ensures cells { OnOk result (ahead.new.cells.items ≡ ahead.old.cells.items) }
-    ensures here { IfOk result (λ cell. place_of cell
+    ensures here { IfOk result (λ number. place_of (numbered_cell number)
         ≡ path (P.program program.now) agent (runner.finished + 1)) }
-    ensures ground { IfOk result (λ cell. IsTrue (is_passable grid.now (place_of cell))) }
+    ensures ground { IfOk result (λ number.
+        IsTrue (is_passable grid.now (place_of (numbered_cell number)))) }
     ensures added { OnOk result ((visits : List Visit)
         → AreAddedBy (P.program program.now) visits (kept_at ahead.old.last)
         ahead.old.pairs.items
@@ -249,17 +248,22 @@ fn arrive<P: ProgramView>(
         (visits ++ record { agent = agent; position = runner.finished + 1 } ∷ [])
         (kept_at ahead.new.last) ahead.new.pairs.items) }
 {
+    // What these calls ensure is known: a well-formed program, and a map that ends before the numbers of a cell do.
     let _agents = program.agents();
-    let Runner { finished, x, y, .. } = runner;
-    let Some(cell) = next_cell(Cell { x, y }, needs.step) else {
-        return Err(Stop::OffGround);
-    };
+    let _width = grid.width();
+    let Runner {
+        finished,
+        number,
+        ..
+    } = runner;
+    let next = next_number(number, needs.step);
     match needs.step {
         Step::Go(_) => {
             let visit = Visit {
                 agent,
                 position: finished + 1,
             };
+            let cell = numbered_cell(next);
             let placed = PlacedVisit { visit, cell };
             enter(
                 program,
@@ -269,9 +273,9 @@ fn arrive<P: ProgramView>(
                 placed,
                 needs.latest,
             )?;
-            Ok(cell)
+            Ok(next)
         }
-        Step::Dwell => Ok(cell),
+        Step::Dwell => Ok(number),
     }
 }
 
@@ -527,15 +531,13 @@ fn copy_of(runner: Runner) -> Runner
         finished,
         at,
         level,
-        x,
-        y,
+        number,
     } = runner;
     Runner {
         finished,
         at,
         level,
-        x,
-        y,
+        number,
     }
 }
 
@@ -615,13 +617,11 @@ fn runner_of<P: ProgramView>(program: &P, ahead: &Ahead, agent: u16) -> Runner
 {
     let row = row_of(&ahead.rows, agent);
     let finished = row.count();
-    let Cell { x, y } = ahead.cells[usize::from(agent)];
     Runner {
         finished,
         at: program.offset(agent, finished, 0),
         level: row.last(),
-        x,
-        y,
+        number: number_of(ahead.cells[usize::from(agent)]),
     }
 }
 
@@ -640,11 +640,10 @@ fn stop_at(ahead: &mut Ahead, agent: u16, runner: Runner)
     let Runner {
         finished,
         level,
-        x,
-        y,
+        number,
         ..
     } = runner;
-    ahead.cells[usize::from(agent)] = Cell { x, y };
+    ahead.cells[usize::from(agent)] = numbered_cell(number);
     ahead.rows[usize::from(agent)].climb(finished, level);
 }
 

@@ -6,9 +6,10 @@ ghost use Rattle.fleet_model.specs.Program.{moves, IsWellFormed};
 ghost use Rattle.fleet_grid.specs.Ground.{is_passable};
 ghost use Rattle.fleet_verify.specs.Faults.{AwaitsRight};
 ghost use Rattle.fleet_verify.specs.Path.{AnswersFirst, IsPosition, IsPathJudged};
+ghost use Rattle.fleet_verify.specs.Order.{numbered_cell};
 
 use fleet_grid::Grid;
-use fleet_model::{Cell, MAX_COORDINATE, Place, ProgramView, Step};
+use fleet_model::{Cell, Place, ProgramView, Step};
 
 /// The judgement of an agent's path.
 #[derive(Clone, Copy)]
@@ -116,23 +117,36 @@ pub fn cell_after(grid: &Grid, cell: Cell, step: Step) -> Option<Cell>
     }
 }
 
-/// How far a coordinate of a cell reaches.
-const FARTHEST: i32 = MAX_COORDINATE as i32;
+/// How far apart the numbers of two cells are, one right below the other.
+const ROW: u32 = 65_536;
 
-/// The cell after a step, if cells reach so far, on this map or a larger one.
+/// What a move adds to the number of a cell, by how many quarter turns from the north: the number wraps.
+static LEADS: [u32; 4] = [u32::MAX - (ROW - 1), 1, ROW, u32::MAX];
+
+/// The cell with this number, of which `number_of` answers it.
 #[inline(always)]
-pub fn next_cell(cell: Cell, step: Step) -> Option<Cell>
-    ensures some { IfSome result (λ next. place_of next ≡ stepped (place_of cell) step) }
+pub fn numbered_cell(number: u32) -> Cell
+    ensures { result ≡ numbered_cell number }
 {
-    let Place { x, y } = Place::from(cell).after(step);
-    let is_outside = x < 0 || x > FARTHEST || y < 0 || y > FARTHEST;
-    if is_outside {
-        return None;
+    Cell {
+        x: (number % ROW) as u16,
+        y: (number / ROW) as u16,
     }
-    Some(Cell {
-        x: x as u16,
-        y: y as u16,
-    })
+}
+
+/// The number of the cell after a step. West of the first column it is one of column 65,535, and north of the first row
+/// one of row 65,535, which no map has.
+#[inline(always)]
+pub fn next_number(number: u32, step: Step) -> u32
+    requires column { (numbered_cell number).x < u16.MAX }
+    requires row { (numbered_cell number).y < u16.MAX }
+    ensures { (numbered_cell result).x < u16.MAX → (numbered_cell result).y < u16.MAX
+        → place_of (numbered_cell result) ≡ stepped (place_of (numbered_cell number)) step }
+{
+    match step {
+        Step::Go(dir) => number.wrapping_add(LEADS[dir as usize]),
+        Step::Dwell => number,
+    }
 }
 
 /// The cell at a place, if it is on the map.

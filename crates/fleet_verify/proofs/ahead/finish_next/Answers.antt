@@ -4,6 +4,7 @@ use Rattle.fleet_model.specs.declared.geometry.Cell.{Cell}
 use Rattle.fleet_grid.specs.Ground.{is_passable}
 use Rattle.fleet_verify.specs.Ahead.{IsAheadBy, AddsLevel, climbed_in, stand}
 use Rattle.fleet_verify.specs.LastVisits.{kept_at}
+use Rattle.fleet_verify.specs.Order.{numbered_cell}
 use Rattle.fleet_verify.specs.Rising.{climbed}
 use Rattle.fleet_verify.proofs.NextLevel.{ahead_more, next_level_some}
 use Rattle.fleet_verify.proofs.Climbing.{runner_there, runner_count, runner_rows, raised_last}
@@ -12,7 +13,7 @@ use Rattle.fleet_verify.proofs.ahead.finish_next.Goals as goal
 pub raise-requires-clause-agent : goal.raise-requires-clause-agent
 raise-requires-clause-agent g c =
     let there = runner_there c.requires.runner in
-    let same = ap (λ (rs : List (List ℕ)). length rs) c.in_ok-cell.ensures.rows in
+    let same = ap (λ (rs : List (List ℕ)). length rs) c.in_ok-number.ensures.rows in
     omega (arith, there, same)
 
 pub raise-requires-clause-some : goal.raise-requires-clause-some
@@ -24,7 +25,7 @@ returns-clause-runner g c =
     let r = c.args.runner in
     let i = c.args.agent in
     let old = c.args.ahead.now in
-    let come = c.in_ok-cell.ensures in
+    let come = c.in_ok-number.ensures in
     let raised = c.in_ok-raise.ensures in
     let there = runner_there c.requires.runner in
     let many = ap (λ (rs : List (List ℕ)). length rs) come.rows in
@@ -37,8 +38,8 @@ returns-clause-runner g c =
       begun = raised.begun;
       level = raised_last (climbed_in old.rows.items i r.finished) c.raise.new.rows.items i (r.finished + 1) c.args.needs.level (omega (arith, there, raised.rows, many)) adds;
       at = c.requires.needs.after;
-      ahead = subst (λ (cs : List Cell). IsAheadBy (is_passable c.args.grid.now) p (climbed_in c.raise.new.rows.items i (r.finished + 1)) (set cs i c.in_ok-cell.cell) (kept_at c.arrive.new.ahead.last) c.arrive.new.ahead.pairs.items) (sym come.cells)
+      ahead = subst (λ (cs : List Cell). IsAheadBy (is_passable c.args.grid.now) p (climbed_in c.raise.new.rows.items i (r.finished + 1)) (set cs i (numbered_cell c.in_ok-number.number)) (kept_at c.arrive.new.ahead.last) c.arrive.new.ahead.pairs.items) (sym come.cells)
           (ahead_more (is_passable c.args.grid.now) p (climbed_in old.rows.items i r.finished) (climbed_in c.raise.new.rows.items i (r.finished + 1)) old.cells.items (kept_at old.last) (kept_at c.arrive.new.ahead.last)
-          old.pairs.items c.arrive.new.ahead.pairs.items i (r.finished + 1) c.args.needs.level (stand r) c.in_ok-cell.cell c.requires.runner.ahead c.requires.runner.agent
+          old.pairs.items c.arrive.new.ahead.pairs.items i (r.finished + 1) c.args.needs.level (stand r) (numbered_cell c.in_ok-number.number) c.requires.runner.ahead c.requires.runner.agent
           (omega (arith, runner_count c.requires.runner)) (omega (arith, c.requires.left)) c.requires.needs.level long adds come.added come.here come.ground);
     }

@@ -2,8 +2,8 @@
 
 use crate::due::due_bytes;
 use crate::fleets::{
-    HELD_TEXT, HELD_TRACE, LATE_HEX, PAIR_BYTES, PAIR_HEX, PAIR_MAP, PAIR_SCEN, STAYING_HEX,
-    TRAIN_MAP, train_scen,
+    HELD_TEXT, HELD_TRACE, PAIR_BYTES, PAIR_HEX, PAIR_MAP, PAIR_SCEN, STAYING_HEX, TRAIN_MAP,
+    VAIN_HEX, train_scen,
 };
 use fleet_adg::compile;
 use fleet_cli::{AutoFault, Files, MemFiles, auto_run};
@@ -129,7 +129,7 @@ enum Call {
     Auto,
     List,
     Encode,
-    EncodeLate,
+    EncodeVain,
     EncodeStaying,
     Plan,
     Holds,
@@ -143,7 +143,7 @@ fn answer_of(alloc: Global, call: Call) -> Option<Vec<u8>> {
         Call::Auto => auto_answer(alloc),
         Call::List => list_answer(alloc),
         Call::Encode => encode_answer(alloc, PAIR_HEX),
-        Call::EncodeLate => encode_answer(alloc, LATE_HEX),
+        Call::EncodeVain => encode_answer(alloc, VAIN_HEX),
         Call::EncodeStaying => encode_answer(alloc, STAYING_HEX),
         Call::Plan => plan_answer(alloc),
         Call::Holds => holds_answer(alloc),
@@ -157,7 +157,7 @@ const CALLS: [(Call, &[u8]); 9] = [
     (Call::Auto, HELD_TRACE),
     (Call::List, HELD_TEXT),
     (Call::Encode, PAIR_BYTES),
-    (Call::EncodeLate, b"too long"),
+    (Call::EncodeVain, b"too long"),
     (Call::EncodeStaying, b"dwell"),
     (
         Call::Plan,

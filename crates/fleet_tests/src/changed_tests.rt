@@ -1,9 +1,10 @@
 //! Texts and program bytes that differ in one byte from those of the pair: how many are read, and how many are refused
 //! with each number. The counts were made by plain readers in another language, written from the formats alone.
 
+use crate::code_calls::load_number;
 use crate::due::due_numbers;
 use crate::fleets::{PAIR_HEX, PAIR_MAP, PAIR_PLAN, PAIR_SCEN};
-use fleet_code::{HexFault, LoadFault, read_hex, view};
+use fleet_code::{HexFault, read_hex, view};
 use fleet_grid::{MapFault, read_map};
 use fleet_plan::{TextFault, read_plan};
 use fleet_run::{HoldSource, HoldText};
@@ -69,16 +70,7 @@ fn plan_number(alloc: Global, text: &[u8]) -> usize {
 fn program_number(alloc: Global, bytes: &[u8]) -> usize {
     match view(alloc, bytes) {
         Ok(_) => 0,
-        Err(LoadFault::OutOfMemory) => 1,
-        Err(LoadFault::Magic) => 2,
-        Err(LoadFault::Truncated) => 3,
-        Err(LoadFault::AgentCount) => 4,
-        Err(LoadFault::Total) => 5,
-        Err(LoadFault::Opcode { .. }) => 6,
-        Err(LoadFault::AwaitAgent { .. }) => 7,
-        Err(LoadFault::AwaitOrder { .. }) => 8,
-        Err(LoadFault::AwaitCount { .. }) => 9,
-        Err(LoadFault::Trailing { .. }) => 10,
+        Err(fault) => usize::from(load_number(fault).0),
     }
 }
 

@@ -3,11 +3,12 @@
 ghost use Rattle.std.specs.Prelude.{◌<◌};
 
 use crate::due::{Ended, due_bytes, due_end};
-use crate::ends::{FailingFiles, Given};
+use crate::ends::FailingFiles;
 use crate::fleets::{
     HELD_TRACE, PAIR_BYTES, PAIR_BYTES_2, PAIR_HEX, PAIR_MAP, PAIR_PLAN, PAIR_SCEN, PAIR_TEXT,
     PAIR_TRACE, SQUARE_MAP, SQUARE_SCEN,
 };
+use crate::streams::given;
 use fleet_adg::Deps;
 use fleet_cli::{
     AutoFault, AutoRequest, Best, CheckRequest, CompileRequest, Disk, Fault, FileFault, Files,
@@ -62,7 +63,7 @@ fn command_answer<F: Files>(alloc: Global, line: &str, files: &mut F) -> Result<
     let words = words_of(alloc, line)?;
     let mut out = VecOut::new(alloc);
     let mut err = VecOut::new(alloc);
-    let mut input = Given { rest: PAIR_HEX };
+    let mut input = given(PAIR_HEX);
     let status = run_command(alloc, &words, &mut input, files, &mut out, &mut err);
     Ok((status, out, err))
 }
@@ -234,7 +235,7 @@ const REQUESTS: [Asked; 10] = [
 fn due_request(rt: &impl Abort, alloc: Global, row: &Asked, files: &mut impl Files) {
     let mut out = VecOut::new(alloc);
     let mut err = VecOut::new(alloc);
-    let mut input = Given { rest: b"" };
+    let mut input = given(b"");
     let status = run_request(alloc, &row.0, &mut input, files, &mut out, &mut err);
     due_end(
         rt,
@@ -298,7 +299,7 @@ fn hexadecimal_is_run(rt: HostRuntime) -> Result<(), Fail> {
     ] {
         let mut out = VecOut::new(alloc);
         let mut err = VecOut::new(alloc);
-        let done = run_hex(alloc, &mut Given { rest }, &mut out, &mut err);
+        let done = run_hex(alloc, &mut given(rest), &mut out, &mut err);
         due_end(
             &rt,
             "hexadecimal",

@@ -34,7 +34,7 @@ fn programs_are_read_and_written(rt: HostRuntime) -> Result<(), Fail> {
 }
 
 /// The number of a refusal, with the offset that it names, or 0.
-fn number_of(fault: LoadFault) -> (u8, u64) {
+pub fn load_number(fault: LoadFault) -> (u8, u64) {
     match fault {
         LoadFault::OutOfMemory => (1, 0),
         LoadFault::Magic => (2, 0),
@@ -55,9 +55,9 @@ fn answer_to(alloc: Global, bytes: &[u8]) -> Result<(u8, u64), Fail> {
     let viewed = match viewed {
         Ok(viewed) => viewed,
         Err(fault) => {
-            let answer = number_of(fault);
+            let answer = load_number(fault);
             return match loaded {
-                Err(other) if number_of(other) == answer => Ok(answer),
+                Err(other) if load_number(other) == answer => Ok(answer),
                 _ => Err(Fail::from("one is loaded, or refused otherwise")),
             };
         }

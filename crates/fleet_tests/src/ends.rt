@@ -1,29 +1,9 @@
-//! The ends of commands and runs: a reader and a writer, and files that fail at a call.
+//! The ends of commands and runs: a writer, and files that fail at a call.
 
 use fleet_cli::{FileFault, Files, MemFiles};
 use std::alloc::Global;
 use std::io;
-use std::io::{Read, Write};
-
-/// A reader of these bytes.
-#[derive(Drop)]
-pub struct Given<'a> {
-    pub rest: &'a [u8],
-}
-
-impl<'a> Read for Given<'a> {
-    fn read(&mut self, buf: &mut [u8]) -> io::Result<usize> {
-        let Some((byte, rest)) = self.rest.split_first() else {
-            return Ok(0);
-        };
-        let Some(place) = buf.first_mut() else {
-            return Ok(0);
-        };
-        *place = *byte;
-        self.rest = rest;
-        Ok(1)
-    }
-}
+use std::io::Write;
 
 /// A writer that takes all and counts it.
 #[derive(Drop)]
@@ -49,40 +29,39 @@ pub struct FailingFiles {
     pub calls: u8,
 }
 
+impl FailingFiles {
+    /// Counts a call that is done, if one more is.
+    fn count(&mut self) -> Result<(), FileFault> {
+        if self.calls == 0 {
+            return Err(FileFault::Failed);
+        }
+        self.calls -= 1;
+        Ok(())
+    }
+}
+
 impl Files for FailingFiles {
     ghost use Rattle.std.specs.Prelude.{None};
 
     ghost contents = { λ _. None };
 
     fn read(&mut self, alloc: Global, name: &str) -> Result<Vec<u8>, FileFault> {
-        if self.calls == 0 {
-            return Err(FileFault::Failed);
-        }
-        self.calls -= 1;
+        self.count()?;
         self.files.read(alloc, name)
     }
 
     fn write(&mut self, name: &str, bytes: &[u8]) -> Result<(), FileFault> {
-        if self.calls == 0 {
-            return Err(FileFault::Failed);
-        }
-        self.calls -= 1;
+        self.count()?;
         self.files.write(name, bytes)
     }
 
     fn cut_to_lines(&mut self, alloc: Global, name: &str) -> Result<(), FileFault> {
-        if self.calls == 0 {
-            return Err(FileFault::Failed);
-        }
-        self.calls -= 1;
+        self.count()?;
         self.files.cut_to_lines(alloc, name)
     }
 
     fn append(&mut self, name: &str, bytes: &[u8]) -> Result<(), FileFault> {
-        if self.calls == 0 {
-            return Err(FileFault::Failed);
-        }
-        self.calls -= 1;
+        self.count()?;
         self.files.append(name, bytes)
     }
 }

@@ -36,11 +36,11 @@ pub const STAYING_BYTES: &[u8] = b"MPF2\0\x02\0\x01\0\0\0\x03\0\0\0\0\0\x04\x01\
 \0\0\0\0\0\x02\0\0\0\0\0\x04\x10\0\0\0\0\0\x01\x01\x10\0\0\0\0\0\x02\x01\x04\x04";
 
 /// Each agent awaits the other.
-pub const RING_BYTES: &[u8] = b"MPF1\0\x02\0\x01\0\0\0\x03\0\0\0\x02\x10\0\x01\0\x01\x01\x01\
+pub const DEADLOCK_BYTES: &[u8] = b"MPF1\0\x02\0\x01\0\0\0\x03\0\0\0\x02\x10\0\x01\0\x01\x01\x01\
 \0\0\0\0\0\x02\0\0\0\x02\x10\0\0\0\x01\x01\x01";
 
 /// The pair in version 2, with a last action of agent 1 that awaits more actions than any agent has.
-pub const LATE_HEX: &[u8] = b"4D504632 0002 0001 0000 0003 0000 00000002 01 01
+pub const VAIN_HEX: &[u8] = b"4D504632 0002 0001 0000 0003 0000 00000002 01 01
     0000 0000 0002 0000 00000002 10 0000 00000001 01 10 0000 FFFFFFFF 01";
 
 /// The pair in version 2, with two stays of each agent after its moves.
@@ -114,6 +114,9 @@ pub const SQUARE_MAP: &[u8] = b"type octile\nheight 2\nwidth 2\nmap\n..\n..\n";
 
 pub const SQUARE_SCEN: &[u8] =
     b"version 1\n0 m 2 2 0 0 1 0 1\n0 m 2 2 1 0 1 1 1\n0 m 2 2 1 1 0 1 1\n0 m 2 2 0 1 0 0 1\n";
+
+/// A row of two cells.
+pub const TWO_MAP: &[u8] = b"type t\nheight 1\nwidth 2\nmap\n..\n";
 
 /// A row of 256 cells. Each agent of the train is behind the one before it, and all go 128 cells east.
 pub const TRAIN_MAP: &[u8] = b"type octile

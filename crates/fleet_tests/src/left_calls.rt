@@ -9,7 +9,7 @@ use fleet_dispatch::{
     DispatchFault, TimesFault, breaks_of, costs_of, dead_robot_of, standings_after,
 };
 use fleet_grid::{read_map, write_map};
-use fleet_model::{ActionId, Cell, Place, Task};
+use fleet_model::{ActionId, Cell};
 use fleet_scen::write_scen;
 use fleet_verify::ActionCosts;
 use std::alloc::Global;

@@ -16,7 +16,7 @@
 //! other value, by both readers), `verify_calls` verifies, `kernel_calls` joins and compares rows, `run_calls` ticks,
 //! drives and rehearses (up to the most ticks of holds, and 1,024 agents of which one moves), `left_calls` goes on
 //! after a log and writes maps and scenarios, and `cli_calls` does whole commands over files in memory. `ends` has
-//! their reader, their writer and the files that fail at a call, `due` what compares.
+//! their writer and the files that fail at a call, `due` what compares.
 #![tactic(auto)]
 
 #[cfg(test)]

@@ -7,8 +7,8 @@ ghost use Rattle.fleet_run.specs.Source.{HasNotFailed};
 use crate::due::due_bytes;
 use crate::ends::Counter;
 use crate::fleets::{
-    HELD_TRACE, PAIR_BYTES, PAIR_TEXT, PAIR_TRACE, RING_BYTES, accepted_of, pair, pair_fleet,
-    problem, started,
+    DEADLOCK_BYTES, HELD_TRACE, PAIR_BYTES, PAIR_TEXT, PAIR_TRACE, TWO_MAP, accepted_of, pair,
+    pair_fleet, problem, started,
 };
 use fleet_adg::rest;
 use fleet_code::{encode, view};
@@ -245,8 +245,6 @@ fn counted_on(
 }
 
 /// One agent that goes one step east.
-const STEP_MAP: &[u8] = b"type t\nheight 1\nwidth 2\nmap\n..\n";
-
 const STEP_SCEN: &[u8] = b"version 1\n0 m 2 1 0 0 1 0 1\n";
 
 const STEP_BYTES: &[u8] = b"MPF1\0\x01\0\0\0\0\0\x01\0\0\0\x01\x01";
@@ -263,7 +261,7 @@ fn most_holds(alloc: Global) -> Result<Vec<u8>, AllocError> {
 
 /// Why the agent's run under these holds stopped, or its report, and how many actions it has finished.
 fn step_answer(alloc: Global, holds: &[u8]) -> Result<(Result<Report, RunFault>, u32), Fail> {
-    let (ran, _, count, _) = counted_run(alloc, STEP_MAP, STEP_SCEN, STEP_BYTES, holds)?;
+    let (ran, _, count, _) = counted_run(alloc, TWO_MAP, STEP_SCEN, STEP_BYTES, holds)?;
     Ok((ran, count))
 }
 
@@ -457,7 +455,7 @@ fn programs_are_rehearsed(rt: HostRuntime) -> Result<(), Fail> {
             })
         )
     );
-    let (out, rehearsal, _) = rehearse_answer(alloc, RING_BYTES, b"0 1\n")?;
+    let (out, rehearsal, _) = rehearse_answer(alloc, DEADLOCK_BYTES, b"0 1\n")?;
     due_bytes(
         &rt,
         out.bytes(),

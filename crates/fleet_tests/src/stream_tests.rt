@@ -7,12 +7,11 @@ ghost use Rattle.fleet_text.specs.Sink.{IsWorking};
 
 use crate::due::due_bytes;
 use crate::fleets::{PAIR_BYTES, PAIR_TEXT, PAIR_TRACE, accepted_pair, pair, pair_fleet};
-use crate::streams::{FailingSource, ShortReader, ShortWriter};
+use crate::streams::{FailingSource, ShortReader, ShortWriter, given};
 use fleet_cli::{FileFault, read_whole};
 use fleet_code::load;
 use fleet_dispatch::{
-    DispatchFault, DispatchReport, NoLog, Outset, Pace, ReportForm, ReportLog, SinkLog,
-    dispatch_logged,
+    DispatchFault, NoLog, Outset, Pace, ReportForm, ReportLog, SinkLog, dispatch_logged,
 };
 use fleet_model::{Place, ProgramView};
 use fleet_run::{
@@ -276,10 +275,7 @@ reports 3
 /// goes to its end.
 fn is_cut(alloc: Global, room: usize, flushes: usize) -> Result<bool, Fail> {
     let mut output = writer(alloc, room, flushes, None);
-    let input = ShortReader {
-        rest: REPORTS,
-        failing: None,
-    };
+    let input = given(REPORTS);
     let is_told = match dispatch_answer(alloc, input, &mut output)? {
         None => room == ORDERS.len() && flushes == 4,
         Some(DispatchFault::Write) => room < ORDERS.len() || flushes < 4,
@@ -314,10 +310,7 @@ fn told_before(line: u64) -> usize {
 fn is_unlogged(alloc: Global, room: usize, flushes: usize) -> Result<bool, Fail> {
     let mut output = writer(alloc, ORDERS.len(), 4, None);
     let mut kept = writer(alloc, room, flushes, None);
-    let input = ShortReader {
-        rest: REPORTS,
-        failing: None,
-    };
+    let input = given(REPORTS);
     let mut log = SinkLog {
         sink: WriteOut::new(&mut kept),
     };
@@ -378,10 +371,7 @@ fn inputs_fail_after_some_bytes(rt: HostRuntime) -> Result<(), Fail> {
             assert!(rt; is_unheard(rt.alloc(), rest, failing)?, "{len}");
         }
     }
-    let mut input = ShortReader {
-        rest: REPORTS,
-        failing: None,
-    };
-    due_bytes(&rt, &read_whole(rt.alloc(), &mut input)?, REPORTS);
+    let whole = read_whole(rt.alloc(), &mut given(REPORTS))?;
+    due_bytes(&rt, &whole, REPORTS);
     Ok(())
 }

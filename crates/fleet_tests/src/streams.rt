@@ -77,6 +77,14 @@ pub struct ShortReader<'a> {
     pub failing: Option<ErrorKind>,
 }
 
+/// A reader that gives these bytes, and then ends.
+pub fn given(rest: &[u8]) -> ShortReader<'_> {
+    ShortReader {
+        rest,
+        failing: None,
+    }
+}
+
 impl<'a> Read for ShortReader<'a> {
     fn read(&mut self, buf: &mut [u8]) -> io::Result<usize> {
         let Some((byte, rest)) = self.rest.split_first() else {

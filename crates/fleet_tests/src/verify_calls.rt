@@ -5,7 +5,9 @@ ghost use Rattle.fleet_verify.specs.Broken.{MeetUnordered, IsBrokenBy};
 ghost use Rattle.std.specs.Prelude.{◌≡◌, ◌==◌, if◌then◌else◌, length};
 
 use crate::due::{due_bytes, due_numbers};
-use crate::fleets::{PAIR_BYTES, PAIR_MAP, PAIR_SCEN, RING_BYTES, accepted_pair, pair, problem};
+use crate::fleets::{
+    DEADLOCK_BYTES, PAIR_BYTES, PAIR_MAP, PAIR_SCEN, TWO_MAP, accepted_pair, pair, problem,
+};
 use fleet_cli::Fault;
 use fleet_code::{encode, load, view};
 use fleet_model::{ActionId, Program, ProgramView, Visit};
@@ -99,24 +101,22 @@ fn refusal_of(alloc: Global, map: &[u8], scen: &[u8], bytes: &[u8]) -> Result<Ve
 type Refusal = (&'static [u8], &'static [u8], &'static [u8], &'static [u8]);
 
 /// Agent 0 stands where agent 1 goes through.
-const STANDING_SCEN: &[u8] = b"version 1\n0 m 4 1 1 0 1 0 0\n0 m 4 1 0 0 2 0 2\n";
+const BLOCKED_SCEN: &[u8] = b"version 1\n0 m 4 1 1 0 1 0 0\n0 m 4 1 0 0 2 0 2\n";
 
-const STANDING_BYTES: &[u8] = b"MPF1\0\x02\0\x01\0\0\0\x01\0\0\0\0\0\0\0\0\0\x02\0\0\0\x02\x01\x01";
+const BLOCKED_BYTES: &[u8] = b"MPF1\0\x02\0\x01\0\0\0\x01\0\0\0\0\0\0\0\0\0\x02\0\0\0\x02\x01\x01";
 
 /// Agent 1 of the pair does not wait until agent 0 has left its start.
-const SOON_BYTES: &[u8] = b"MPF1\0\x02\0\x01\0\0\0\x03\0\0\0\x02\x01\x01\
+const RASH_BYTES: &[u8] = b"MPF1\0\x02\0\x01\0\0\0\x03\0\0\0\x02\x01\x01\
 \0\0\0\0\0\x02\0\0\0\x02\x01\x10\0\0\0\x02\x01";
 
 /// It does not wait for the second action of agent 0.
-const HASTY_BYTES: &[u8] = b"MPF1\0\x02\0\x01\0\0\0\x03\0\0\0\x02\x01\x01\
+const EARLY_BYTES: &[u8] = b"MPF1\0\x02\0\x01\0\0\0\x03\0\0\0\x02\x01\x01\
 \0\0\0\0\0\x02\0\0\0\x02\x10\0\0\0\x01\x01\x10\0\0\0\x01\x01";
 
 /// One agent that stands on 0,0, and one that goes off the map.
 const CELL_BYTES: &[u8] = b"MPF1\0\x01\0\0\0\0\0\0\0\0\0\0";
 
 const OFF_BYTES: &[u8] = b"MPF1\0\x01\0\0\0\0\0\0\0\0\0\x02\x03\x01";
-
-const TWO_MAP: &[u8] = b"type t\nheight 1\nwidth 2\nmap\n..\n";
 
 const TWO_SCEN: &[u8] = b"version 1\n0 m 2 1 0 0 0 0 0\n";
 
@@ -125,7 +125,7 @@ const REFUSALS: [Refusal; 7] = [
     (
         PAIR_MAP,
         PAIR_SCEN,
-        STANDING_BYTES,
+        BLOCKED_BYTES,
         b"verify 4 Goal agent 0\n",
     ),
     (
@@ -137,25 +137,25 @@ const REFUSALS: [Refusal; 7] = [
     (
         PAIR_MAP,
         PAIR_SCEN,
-        RING_BYTES,
+        DEADLOCK_BYTES,
         b"verify 7 Cyclic 0:1 1:1\n",
     ),
     (
         PAIR_MAP,
         PAIR_SCEN,
-        SOON_BYTES,
+        RASH_BYTES,
         b"0\nverify 8 Unordered cell 1,0 first 0:0 second 1:1\n",
     ),
     (
         PAIR_MAP,
-        STANDING_SCEN,
-        STANDING_BYTES,
+        BLOCKED_SCEN,
+        BLOCKED_BYTES,
         b"-\nverify 8 Unordered cell 1,0 first 0:0 second 1:1\n",
     ),
     (
         PAIR_MAP,
         PAIR_SCEN,
-        HASTY_BYTES,
+        EARLY_BYTES,
         b"-\n0\n0\nverify 8 Unordered cell 2,0 first 0:1 second 1:2\n",
     ),
 ];

@@ -6,7 +6,7 @@ use Rattle.std.proofs.lemmas.Bool.{cases_lt, cases_eq, false≢true}
 use Rattle.std.proofs.lemmas.Option.{slice_get_within, get_or_from_slice_get, same_Some}
 use Rattle.fleet_model.specs.declared.program.ActionId.{ActionId}
 use Rattle.fleet_model.specs.declared.program.Await.{Await}
-use Rattle.fleet_model.specs.Program.{Program, awaits_of, total_awaits, AreInRange, IsWellFormed}
+use Rattle.fleet_model.specs.Program.{Program, awaits_of, AreInRange, IsWellFormed}
 use Rattle.fleet_model.specs.Chain.{IsAction}
 use Rattle.fleet_needs.specs.Block.{HasColumn}
 use Rattle.fleet_needs.specs.Columns.{AreColumns, BlocksLeft, IsNextBlock}
@@ -219,13 +219,13 @@ flagged_if_none p asked flags none settled a is k w at = elim (settled a is is k
 -- ---- block by block
 
 -- before the first block
-pub flags_first : (p : Program) (s : Schedule) (asked : List Bool) (m : ImpliedAwaits) → AreAwaitPlaces p m.places → length m.flags.items ≡ total_awaits p → AreSettled p asked m.flags.items → HasRowOr (AreSet p m.flags.items) p s.joins.items (IsAction p)
+pub flags_first : (p : Program) (s : Schedule) (asked : List Bool) (m : ImpliedAwaits) → AreFlags p m → AreSettled p asked m.flags.items → HasRowOr (AreSet p m.flags.items) p s.joins.items (IsAction p)
     → AreFlaggedTo p s asked 0 m
-flags_first p s asked m places all settled passed = record { places = places; all = all; settled = settled; passed = passed; flagged = λ a is k w at l. absurd (omega arith) }
+flags_first p s asked m flags settled passed = record { flags = flags; settled = settled; passed = passed; flagged = λ a is k w at l. absurd (omega arith) }
 
 -- .. and before the first row of each
 pub flags_begun : (p : Program) (s : Schedule) (asked : List Bool) (from : ℕ) (columns : Columns) (m : ImpliedAwaits) → AreFlaggedTo p s asked from m → AreAwaitFlags p s columns 0 m
-flags_begun p s asked from columns m h = record { places = h.places; all = h.all; flagged = flagged_none p s columns m.flags.items }
+flags_begun p s asked from columns m h = record { flags = h.flags; flagged = flagged_none p s columns m.flags.items }
 
 -- one block more
 flags_on : (p : Program) (s : Schedule) (asked : List Bool) (from : ℕ) (columns : Columns) (old new : ImpliedAwaits) → IsSchedule p s → AreColumns asked from columns → AreFlaggedTo p s asked from old
@@ -233,8 +233,7 @@ flags_on : (p : Program) (s : Schedule) (asked : List Bool) (from : ℕ) (column
 flags_on p s asked from columns old new schedule chosen was made left =
     let all = flagged_all p s columns new.flags.items (passed_told p s asked columns old.flags.items new.flags.items was.settled left was.passed) made.flagged in
     record {
-      places = made.places;
-      all = made.all;
+      flags = made.flags;
       settled = settled_after p asked columns old.flags.items new.flags.items all left was.settled;
       passed = passed_on p s asked columns old.flags.items new.flags.items was.settled left was.passed;
       flagged = flagged_to p asked from columns chosen old.flags.items new.flags.items all left was.settled was.flagged;
@@ -248,8 +247,7 @@ flags_after p s now after columns next old new schedule was made left =
 -- after the last block
 pub flags_end : (p : Program) → AreInRange p → (s : Schedule) (asked : List Bool) (from : ℕ) (m : ImpliedAwaits) → length p ≤ from → AreFlaggedTo p s asked from m → AreImplied p m
 flags_end p range s asked from m end h = record {
-  places = h.places;
-  all = h.all;
+  flags = h.flags;
   flagged = λ a is k w at. (let there = awaited_action p range a.agent a.number k w at in h.flagged a is k w at (omega (arith, there.agent, end)));
 }
 

@@ -1,6 +1,6 @@
 -- The run without holds, and the ticks that finish its actions.
-use Rattle.std.proofs.Common.{◌≡◌, ℕ, zero, suc, ◌+◌, ◌<◌, ◌≤◌, Bool, true, false, List, [], ◌∷◌, length, Contains, refl, ap, subst, ◌∙◌, arith, inl, inr, ◌⊎◌, ◌≢◌, replicate, take, get_or, sym, add-one, ◌&&◌, not, leb-true}
-use Rattle.std.proofs.lemmas.Bool.{cases_lt, cases_eq}
+use Rattle.std.proofs.Common.{◌≡◌, ℕ, zero, suc, ◌+◌, ◌<◌, ◌≤◌, Bool, true, false, List, [], ◌∷◌, length, Contains, refl, ap, subst, ◌∙◌, arith, inl, inr, ◌⊎◌, replicate, take, get_or, sym, add-one, ◌&&◌, not, leb-true}
+use Rattle.std.proofs.lemmas.Bool.{cases_lt}
 use Rattle.fleet_model.specs.declared.program.ActionId.{ActionId}
 use Rattle.fleet_model.specs.declared.standing.Standing.{Standing}
 use Rattle.fleet_model.specs.Program.{Program, moves, awaits_of, AreInRange}
@@ -234,17 +234,6 @@ module _ (p : Program) (m : MachineState) (t : ℕ) (h : IsTicked p m t) (from :
   none_ready none j l agent = sym (h.moved j agent) ∙ none j l
 
 module _ (p : Program) (t from : ℕ) where
-  -- where nobody from there on was ready, all that is finished was finished before or is of an agent before
-  pub none_more : AreNoneReady p t from → (a : ActionId) → IsAction p a → a.number ≤ count p (t + 1) a.agent
-      → (a.number ≤ count p t a.agent) ⊎ ((a.agent < from) × (a.number ≤ count p (t + 1) a.agent))
-  none_more none a k done = elim (cases_lt a.agent from) [
-    | inl low ↦ inr (low, done)
-    | inr high ↦
-        let still : count p (suc t) a.agent ≡ count p t a.agent = stays p t a.agent k.agent (none a.agent high k.agent) in
-        let e : count p (t + 1) a.agent ≡ count p (suc t) a.agent = ap (λ (n : ℕ). count p n a.agent) (add-one t) in
-        inl (omega (arith, still, e, done))
-  ]
-
   module _ (i : ℕ) (next : IsNextReady p t from i) (n : ℕ) (number : n ≡ count p t i + 1) where
     abbrev here : ActionId
     here = record { agent = i; number = n }
@@ -254,36 +243,3 @@ module _ (p : Program) (t from : ℕ) where
 
     pub next_action : IsAction p here
     next_action = record { agent = next.agent; first = omega arith; last = (let l : count p t i < moves p i = ready_left p (run p [] t) i next.ready in omega arith) }
-
-    -- an action that is finished after the tick, of an agent up to this one, was finished before it, or is its next
-    -- one, or is of an agent before the others
-    pub one_more : (a : ActionId) → IsAction p a → (a.number ≤ count p t a.agent) ⊎ ((a.agent < i + 1) × (a.number ≤ count p (t + 1) a.agent))
-        → ((a.number ≤ count p t a.agent) ⊎ ((a.agent < from) × (a.number ≤ count p (t + 1) a.agent))) ⊎ (a ≡ here)
-    one_more a k (inl done) = inl (inl done)
-    one_more a k (inr (l, done)) = elim (cases_lt a.agent from) [
-      | inl low ↦ inl (inr (low, done))
-      | inr high ↦ elim (cases_eq a.agent i) [
-        | inr ne ↦
-            let still : count p (suc t) a.agent ≡ count p t a.agent = stays p t a.agent k.agent (next.between a.agent high (omega arith)) in
-            let e : count p (t + 1) a.agent ≡ count p (suc t) a.agent = ap (λ (s : ℕ). count p s a.agent) (add-one t) in
-            inl (inl (omega (arith, still, e, done)))
-        | inl e ↦ elim (cases_lt (count p t a.agent) a.number) [
-          | inr g ↦ inl (inl g)
-          | inl more ↦
-              let at : count p t a.agent ≡ count p t i = ap (count p t) e in
-              let to : count p (t + 1) a.agent ≡ count p (t + 1) i = ap (count p (t + 1)) e in
-              let same : a.number ≡ n = omega (arith, moved, at, to, done, more, number) in
-              inr (λ s. record { agent = e s; number = same s })
-        ]
-      ]
-    ]
-
-    pub apart : (a : ActionId) → (a.number ≤ count p t a.agent) ⊎ ((a.agent < from) × (a.number ≤ count p (t + 1) a.agent)) → a ≢ here
-    apart a (inl l) e =
-        let same : a.number ≡ n = ap (λ x. x.number) e in
-        let at : count p t a.agent ≡ count p t i = ap (λ x. count p t x.agent) e in
-        omega arith
-    apart a (inr (l, d)) e =
-        let agent : a.agent ≡ i = ap (λ x. x.agent) e in
-        let later : from ≤ i = next.later in
-        omega arith

@@ -183,6 +183,12 @@ awaited_action p range i n k w e =
     let known = range i n w (k, slice_get_within (awaits_of p i n) k w e, get_or_from_slice_get (awaits_of p i n) k w w e) in
     record { agent = known.agent; first = known.first; last = known.last }
 
+-- the action before one of the program
+pub is_before : (p : Program) (a b : ActionId) → IsAction p a → 1 < a.number → b.agent ≡ a.agent → b.number + 1 ≡ a.number → IsAction p b
+is_before p a b is some agent number =
+    let last : b.number ≤ moves p a.agent = (let l : a.number ≤ moves p a.agent = is.last in omega arith) in
+    record { agent = omega (arith, is.agent, agent); first = omega arith; last = subst (λ (i : ℕ). b.number ≤ moves p i) (sym agent) last }
+
 -- ---- chains found from their ends
 
 pub own_first : (p : Program) (first last : ActionId) → 1 ≤ first.number → IsAction p last → last.agent ≡ first.agent → first.number ≤ last.number → Reaches p first last

@@ -17,6 +17,7 @@ pub mod LatestPiece
 pub mod AwaitOrder
 mod Settling
 mod Ticking
+mod Finishing
 pub mod RowFlags
 pub mod Flagged
 pub mod JoinLaws

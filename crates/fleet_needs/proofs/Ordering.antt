@@ -116,16 +116,3 @@ order_on p o n from end h begun none ends all = record {
       next = begun.next;
       none = subst (AreNoneReady p (length o.ends - 1)) begun.place none;
     }
-
--- ---- the next agent of a tick
-
-pub tick_next : (p : Program) (o : Finishes) (t k b e i : ℕ) → IsOrder p o → t + 1 < length o.ends → b ≡ slice_index o.ends t → e ≡ slice_index o.ends (t + 1) → b ≤ k → k < e
-    → i ≡ slice_index o.agents k → IsNextReady p t (after_place o.agents (slice_index o.ends t) k) i
-tick_next p o t k b e i h l begin end low high at = subst (IsNextReady p t (after_place o.agents (slice_index o.ends t) k)) (sym at) ((h.each t l).next k (omega arith) (omega arith))
-
-pub tick_none : (p : Program) (o : Finishes) (t k b e : ℕ) → IsOrder p o → t + 1 < length o.ends → b ≡ slice_index o.ends t → e ≡ slice_index o.ends (t + 1) → (b ≤ e → k ≤ e) → e ≤ k
-    → AreNoneReady p t (after_place o.agents (slice_index o.ends t) k)
-tick_none p o t k b e h l begin end low high =
-    let up : slice_index o.ends t ≤ slice_index o.ends (t + 1) = (h.each t l).rising in
-    let at : k ≡ slice_index o.ends (t + 1) = (let m : k ≤ e = low (omega arith) in omega arith) in
-    subst (λ (n : ℕ). AreNoneReady p t (after_place o.agents (slice_index o.ends t) n)) (sym at) (h.each t l).none

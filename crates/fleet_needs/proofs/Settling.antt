@@ -1,6 +1,6 @@
 -- What is reached, and what is not, by the ticks of actions and by what they directly need.
 use Rattle.std.proofs.Common.{◌≡◌, ◌≢◌, ℕ, ◌+◌, ◌<◌, ◌≤◌, Bool, true, false, List, length, get_or, set, refl, sym, ap, subst, ◌∙◌, arith, inl, inr, ◌⊎◌}
-use Rattle.std.specs.Prelude.{Contains, slice_get, Some, Option}
+use Rattle.std.specs.Prelude.{Contains, slice_get, Some, None, Option, ◌↔◌}
 use Rattle.std.proofs.lemmas.Bool.{cases_lt, cases_eq, cases_order, false≢true, true≢false}
 use Rattle.std.proofs.lemmas.List.{get_or-set_same, get_or-set_other, get_or_past}
 use Rattle.std.proofs.lemmas.Option.{slice_get-get_or, slice_get_within, get_or_from_slice_get, same_Some}
@@ -145,11 +145,6 @@ needed_by p range first a k w is last at same more =
 
 -- ---- awaits settled one after another
 
--- what is known of an await that others imply, or do not
-pub told_by : (p : Program) (a : ActionId) (w : Await) (known : Option Bool) (flag : Bool) → known ≡ Some flag → (known ≡ Some true → IsImplied p a w) → (known ≡ Some false → IsImplied p a w → ⊥) → IsImpliedFlag p a w flag
-told_by p a w known true e is isnt = ((λ f. is e), (λ i. refl))
-told_by p a w known false e is isnt = ((λ f. absurd (false≢true f)), (λ i. absurd (isnt e i)))
-
 module _ (p : Program) (a : ActionId) (first k : ℕ) (oldAsked newAsked old new : List Bool) (more : AreMoreAsked oldAsked newAsked) (others : (n : ℕ) → n ≢ first + k → get_or new n false ≡ get_or old n false) where
   still_settled : (w : Await) (x : ℕ) → x ≢ first + k → IsSettled p oldAsked a w (get_or old x false) → IsSettled p newAsked a w (get_or new x false)
   still_settled w x ne (inl set) = inl (more w.agent set.0, (λ f. set.1 (sym (others x ne) ∙ f)))
@@ -164,6 +159,22 @@ module _ (p : Program) (a : ActionId) (first k : ℕ) (oldAsked newAsked old new
         let e : k ≡ m = omega arith in
         subst (λ (n : ℕ). IsSettled p newAsked a w (get_or new (first + n) false)) e (here w (subst (λ (n : ℕ). slice_get (awaits_of p a.agent a.number) n ≡ Some w) (sym e) there))
   ]
+
+-- one await more, by what is known of it
+pub settled_next : (p : Program) (a : ActionId) (first k : ℕ) (was asked flags : List Bool) (known : Option Bool) (flag : Bool) → first + k < length flags → AreMoreAsked was asked → (flag ≡ true) ↔ (known ≡ Some true)
+    → (known ≡ None → (w : Await) → slice_get (awaits_of p a.agent a.number) k ≡ Some w → get_or asked w.agent false ≡ true)
+    → ((w : Await) → slice_get (awaits_of p a.agent a.number) k ≡ Some w → known ≡ Some true → IsImplied p a w)
+    → ((w : Await) → slice_get (awaits_of p a.agent a.number) k ≡ Some w → known ≡ Some false → IsImplied p a w → ⊥)
+    → ((m : ℕ) (w : Await) → m < k → slice_get (awaits_of p a.agent a.number) m ≡ Some w → IsSettled p was a w (get_or flags (first + m) false))
+    → (m : ℕ) (w : Await) → m < k + 1 → slice_get (awaits_of p a.agent a.number) m ≡ Some w → IsSettled p asked a w (get_or (set flags (first + k) flag) (first + m) false)
+settled_next p a first k was asked flags known flag within more sure asks implied unimplied =
+    settled_more p a first k was asked flags (set flags (first + k) flag) more (λ n ne. get_or-set_other flags (first + k) n flag false ne)
+    (λ w at. subst (IsSettled p asked a w) (sym (get_or-set_same flags (first + k) flag false within)) (by known sure (λ e. asks e w at) (implied w at) (unimplied w at)))
+  where
+    by : {w : Await} → (answer : Option Bool) → (flag ≡ true) ↔ (answer ≡ Some true) → (answer ≡ None → get_or asked w.agent false ≡ true) → (answer ≡ Some true → IsImplied p a w) → (answer ≡ Some false → IsImplied p a w → ⊥) → IsSettled p asked a w flag
+    by None is left so not_so = inl (left refl, (λ f. so (is.0 f)))
+    by (Some true) is left so not_so = inr ((λ f. so refl), (λ i. is.1 refl))
+    by (Some false) is left so not_so = inr ((λ f. so (is.0 f)), (λ i. absurd (not_so refl i)))
 
 -- the actions of an agent, one after another
 pub settled_on : (p : Program) (These Next : ActionId → Type 0) (a : ActionId) (oldAsked newAsked old new : List Bool) → IsAction p a → ((b : ActionId) → IsAction p b → Next b → These b ⊎ (b ≡ a))

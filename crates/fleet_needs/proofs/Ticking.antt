@@ -1,30 +1,22 @@
--- Entries for actions, noted in the ticks that finish these if nobody is held; and these ticks, which rise along
+-- Entries for actions, noted one after another; and the ticks that finish them if nobody is held, which rise along
 -- chains.
-use Rattle.std.proofs.Common.{◌≡◌, ◌≢◌, ℕ, zero, suc, ◌+◌, ◌-◌, ◌<◌, ◌≤◌, true, List, [], length, set, slice_index, refl, sym, ap, subst, ◌∙◌, arith, inl, inr, ◌⊎◌}
+use Rattle.std.proofs.Common.{◌≡◌, ◌≢◌, ℕ, zero, suc, ◌+◌, ◌-◌, ◌<◌, ◌≤◌, List, length, replicate, set, slice_index, refl, sym, ap, subst, ◌∙◌, arith, inl, inr, ◌⊎◌}
 use Rattle.std.proofs.lemmas.Bool.{cases_lt}
 use Rattle.std.proofs.lemmas.List.{get_or-set_same, get_or-set_other}
 use Rattle.fleet_model.specs.declared.program.ActionId.{ActionId}
 use Rattle.fleet_model.specs.Program.{Program, total_moves}
-use Rattle.fleet_model.specs.Machine.{run, is_finished}
 use Rattle.fleet_model.specs.Chain.{IsAction, DirectlyNeeds, IsNumbering}
 use Rattle.fleet_needs.specs.Places.{ArePlacesOf, action_place, place_of_action}
 use Rattle.fleet_needs.specs.declared.await_places.ActionPlaces.{ActionPlaces}
-use Rattle.fleet_needs.specs.Order.{IsNextReady, AreNoneReady}
-use Rattle.fleet_needs.specs.Settled.{IsFinishedBy, IsDoneMid, IsFinishTick, AreFinishTicks}
-use Rattle.fleet_needs.proofs.Free.{count, grows, needs_done, moved, next_action, one_more, apart, none_more, none_started, all_finished}
+use Rattle.fleet_needs.specs.Order.{IsNextReady, IsCounted, IsNextAction}
+use Rattle.fleet_needs.specs.Settled.{IsFinishTick, AreFinishTicks}
+use Rattle.fleet_needs.proofs.Counting.{counted_back, counted_apart, none_counted}
+use Rattle.fleet_needs.proofs.Free.{count, grows, needs_done, moved}
 use Rattle.fleet_needs.proofs.Placed.{place_apart, place_within}
 
 -- the entries of these actions are so
 abbrev pub AreEntries : Program → ActionPlaces → (ActionId → ℕ → Type 0) → (ActionId → Type 0) → List ℕ → Type 0
 AreEntries p places Is These entries = (a : ActionId) → IsAction p a → These a → Is a (slice_index entries (place_of_action places a))
-
-pub noted_none : (p : Program) (places : ActionPlaces) (Is : ActionId → ℕ → Type 0) (entries : List ℕ) → AreEntries p places Is (IsFinishedBy p 0) entries
-noted_none p places Is entries a k done = absurd (none_started p a k done)
-
--- before the first agent of a tick
-pub noted_mid : (p : Program) (places : ActionPlaces) (Is : ActionId → ℕ → Type 0) (t : ℕ) (entries : List ℕ) → AreEntries p places Is (IsFinishedBy p t) entries → AreEntries p places Is (IsDoneMid p t 0) entries
-noted_mid p places Is t entries h a k (inl done) = h a k done
-noted_mid p places Is t entries h a k (inr (l, done)) = absurd (omega arith)
 
 module _ (p : Program) (places : ActionPlaces) (right : ArePlacesOf p places) (Is : ActionId → ℕ → Type 0) where
   abbrev firsts : List ℕ
@@ -49,17 +41,16 @@ module _ (p : Program) (places : ActionPlaces) (right : ArePlacesOf p places) (I
       within : x < length old
       within = (let l = place_within p firsts right here is in omega (arith, l, all, place))
 
-module _ (p : Program) (places : ActionPlaces) (right : ArePlacesOf p places) (Is : ActionId → ℕ → Type 0) (t from : ℕ) where
-  -- an action that the tick has finished
-  pub noted_on : (i : ℕ) → IsNextReady p t from i → (n : ℕ) → n ≡ count p t i + 1 → (x : ℕ) → x + 1 ≡ slice_index places i + n → (old : List ℕ) → length old ≡ total_moves p
-      → (v : ℕ) → Is (record { agent = i; number = n }) v → AreEntries p places Is (IsDoneMid p t from) old → AreEntries p places Is (IsDoneMid p t (i + 1)) (set old x v)
-  noted_on i next n number =
-      noted_more p places right Is (IsDoneMid p t from) (IsDoneMid p t (i + 1)) (record { agent = i; number = n }) (next_action p t from i next n number)
-      (λ a k done. one_more p t from i next n number a k done) (λ was. apart p t from i next n number (record { agent = i; number = n }) was refl)
+-- ---- the ticks, one action after another
 
-  -- where nobody else was ready
-  pub noted_all : AreNoneReady p t from → (entries : List ℕ) → AreEntries p places Is (IsDoneMid p t from) entries → AreEntries p places Is (IsFinishedBy p (t + 1)) entries
-  noted_all none entries before a k done = before a k (none_more p t from none a k done)
+pub ticks_none : (p : Program) (places : ActionPlaces) (n : ℕ) (entries : List ℕ) → AreFinishTicks p places (IsCounted (replicate n 0)) entries
+ticks_none p places n entries a is done = absurd (none_counted n a is.first done)
+
+pub ticks_more : (p : Program) (places : ActionPlaces) → ArePlacesOf p places → (counts : List ℕ) (here : ActionId) → IsAction p here → IsNextAction p counts here → (t : ℕ) → IsFinishTick p here t → (old : List ℕ) → length old ≡ total_moves p
+    → AreFinishTicks p places (IsCounted counts) old → (x : ℕ) → x ≡ place_of_action places here → AreFinishTicks p places (IsCounted (set counts here.agent here.number)) (set old x t)
+ticks_more p places right counts here is next t finished old all before x place =
+    noted_more p places right (IsFinishTick p) (IsCounted counts) (IsCounted (set counts here.agent here.number)) here is (λ a k done. counted_back counts here next.agent next.number a done)
+    (λ was. counted_apart counts here next.agent next.number here was refl) x (omega (arith, place, is.first)) old all t finished before
 
 -- the tick that finishes an action comes after those before it
 pub finished_here : (p : Program) (t from i : ℕ) → IsNextReady p t from i → (n : ℕ) → n ≡ count p t i + 1 → IsFinishTick p (record { agent = i; number = n }) (t + 1)
@@ -90,8 +81,8 @@ module _ (p : Program) where
         absurd (f.not_yet (omega (arith, needed, grows_to (t - 1) (s - 1) b.agent m.agent (omega arith))))
   ]
 
-  pub ticks_rise : (places : ActionPlaces) (ticks : List ℕ) (t : ℕ) → is_finished p (run p [] t) ≡ true → AreFinishTicks p places (IsFinishedBy p t) ticks → IsNumbering p (λ a. slice_index ticks (place_of_action places a))
-  ticks_rise places ticks t finished h = record {
-    positive = λ a k. (h a k (all_finished p t finished a k)).some;
-    rising = λ a b k m needs. finishes_later a b _ _ k m (h a k (all_finished p t finished a k)) (h b m (all_finished p t finished b m)) needs;
+  pub ticks_rise : (places : ActionPlaces) (ticks : List ℕ) → AreFinishTicks p places (IsAction p) ticks → IsNumbering p (λ a. slice_index ticks (place_of_action places a))
+  ticks_rise places ticks h = record {
+    positive = λ a k. (h a k k).some;
+    rising = λ a b k m needs. finishes_later a b _ _ k m (h a k k) (h b m m) needs;
   }

@@ -95,21 +95,18 @@ AreAllFlagged p flags =
 
 -- of each await of the program it is known whether it is implied
 pub record AreImplied (p : Program) (m : ImpliedAwaits) : Type 0 where
-  pub places : AreAwaitPlaces p m.places
-  pub all : length m.flags.items ≡ total_awaits p
-  pub flagged : AreAllFlagged p m.flags.items
+  pub flags : AreFlags p m
+  pub flagged : AreAllFlagged p (flags_of m)
 
 -- the state of the flags once so many rows of the schedule were used
 pub record AreAwaitFlags (p : Program) (s : Schedule) (columns : Columns) (n : ℕ) (m : ImpliedAwaits) : Type 0 where
-  pub places : AreAwaitPlaces p m.places
-  pub all : length (flags_of m) ≡ total_awaits p
+  pub flags : AreFlags p m
   pub flagged : AreFlaggedFor p columns (IsMade s n) (flags_of m)
 
 -- the flags of awaits of agents below this one say whether they are implied, and so do those of awaits of agents who
 -- are not asked for, and of actions without a row
 pub record AreFlaggedTo (p : Program) (s : Schedule) (asked : List Bool) (from : ℕ) (m : ImpliedAwaits) : Type 0 where
-  pub places : AreAwaitPlaces p m.places
-  pub all : length (flags_of m) ≡ total_awaits p
+  pub flags : AreFlags p m
   pub settled : AreSettled p asked (flags_of m)
   pub passed : HasRowOr (AreSet p (flags_of m)) p s.joins.items (IsAction p)
   pub flagged : (a : ActionId) → IsAction p a → (k : ℕ) (w : Await) → slice_get (awaits_of p a.agent a.number) k ≡ Some w → w.agent < from → IsImpliedFlag p a w (get_or (flags_of m) (first_await p a + k) false)

@@ -11,6 +11,7 @@ pub mod Pieces
 pub mod Gather
 pub mod Implied
 pub mod Settled
+pub mod Finishing
 pub mod Flags
 pub mod Joins
 pub mod Slots

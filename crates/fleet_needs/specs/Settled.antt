@@ -16,10 +16,6 @@ use Rattle.fleet_needs.specs.Implied.{IsImplied, IsImpliedFlag, first_await}
 abbrev pub IsFinishedBy : Program → ℕ → ActionId → Type 0
 IsFinishedBy p t a = a.number ≤ count_at (run p [] t) a.agent
 
--- so many ticks finish the action, or one more if its agent is below this one
-abbrev pub IsDoneMid : Program → ℕ → ℕ → ActionId → Type 0
-IsDoneMid p t from a = IsFinishedBy p t a ⊎ ((a.agent < from) × IsFinishedBy p (t + 1) a)
-
 -- so many ticks finish the action, and one less do not
 pub record IsFinishTick (p : Program) (a : ActionId) (t : ℕ) : Type 0 where
   pub some : 1 ≤ t

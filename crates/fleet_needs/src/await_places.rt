@@ -1,9 +1,10 @@
 //! Where the actions of a program, and their awaits, stand in rows of all.
 
 ghost use Rattle.std.specs.Prelude.{◌≡◌, ◌+◌, ◌<◌, ◌≤◌, length, slice_index, IfOk};
+ghost use Rattle.fleet_model.specs.Program.{awaits_of, total_awaits, total_moves};
 ghost use Rattle.fleet_model.specs.Chain.{IsAction};
 ghost use Rattle.fleet_needs.specs.Implied.{AreAwaitPlaces, first_await};
-ghost use Rattle.fleet_needs.specs.Places.{ArePlacesOf};
+ghost use Rattle.fleet_needs.specs.Places.{ArePlacesOf, place_of_action};
 
 use fleet_model::{ActionId, OutOfMemory, ProgramView, agent_awaits};
 use std::alloc::Global;
@@ -42,7 +43,9 @@ impl AwaitPlaces {
     pub fn first<P: ProgramView>(&self, program: &P, action: ActionId) -> usize
         requires places { AreAwaitPlaces (P.program program.now) self.now }
         requires action { IsAction (P.program program.now) action }
-        ensures { result ≡ first_await (P.program program.now) action }
+        ensures place { result ≡ first_await (P.program program.now) action }
+        ensures within { result + length (awaits_of (P.program program.now) action.agent action.number)
+            ≤ total_awaits (P.program program.now) }
     {
         let before = program.awaits_before(action.agent, action.number - 1);
         self.firsts[usize::from(action.agent)] as usize + before as usize
@@ -85,5 +88,16 @@ impl ActionPlaces {
         ensures { result + 1 ≡ slice_index self.now agent + number }
     {
         self.firsts[usize::from(agent)] as usize + number as usize - 1
+    }
+
+    /// The place of an action of the program.
+    pub(crate) fn place_of<P: ProgramView>(&self, program: &P, action: ActionId) -> usize
+        requires places { ArePlacesOf (P.program program.now) self.now }
+        requires action { IsAction (P.program program.now) action }
+        ensures within { result < total_moves (P.program program.now) }
+        ensures place { result ≡ place_of_action self.now action }
+    {
+        let _ = program.agents();
+        self.place(action.agent, action.number)
     }
 }

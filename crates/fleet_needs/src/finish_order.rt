@@ -1,13 +1,12 @@
 //! The order in which actions finish if nobody is held, and the tick that finishes each of them.
 
-ghost use Rattle.std.specs.Prelude.{◌≡◌, ◌+◌, ◌-◌, ◌<◌, ◌≤◌, length, slice_index, IfOk, OnOk, []};
-ghost use Rattle.fleet_model.specs.Program.{Program, AreInRange, total_moves};
-ghost use Rattle.fleet_needs.specs.Order.{IsTicked, IsOrder, IsNextReady, AreMid, after_place};
+ghost use Rattle.std.specs.Prelude.{◌≡◌, ◌+◌, ◌-◌, ◌<◌, ◌≤◌, true, false, length, replicate, slice_index, IfOk, OnOk, MatchOption, []};
+ghost use Rattle.fleet_model.specs.Program.{Program, AreInRange};
+ghost use Rattle.fleet_needs.specs.Order.{IsTicked, IsOrder, IsWholeOrder, AreAllCounted};
+ghost use Rattle.fleet_needs.specs.Finishing.{IsFinishing, IsUnderWay, HasSameCome, IsNextFinish, come_in};
 ghost use Rattle.fleet_model.specs.Machine.{IsFinish};
 ghost use Rattle.fleet_model.specs.Chain.{IsAction};
-ghost use Rattle.fleet_needs.specs.Places.{ArePlacesOf};
-ghost use Rattle.fleet_needs.specs.declared.finish_order.TheConstants.{MAX_TICKS};
-ghost use Rattle.fleet_needs.specs.Settled.{IsFinishedBy, AreFinishTicks, AreTicks, finish_tick};
+ghost use Rattle.fleet_needs.specs.Settled.{AreTicks, finish_tick};
 
 use crate::await_places::ActionPlaces;
 use fleet_machine::Machine;
@@ -44,15 +43,15 @@ impl FinishOrder {
         Ok(FinishOrder { agents, ends })
     }
 
-    /// The order of a program, for so many ticks.
+    /// The order of a program that so many ticks finish.
     pub(crate) fn of<P: ProgramView>(
         alloc: Global,
         program: &P,
         ticks: u32,
     ) -> Result<FinishOrder, OutOfMemory>
-        requires { AreInRange (P.program program.now) }
-        ensures order { IfOk result (IsOrder (P.program program.now)) }
-        ensures ends { IfOk result (λ order. length order.ends ≡ ticks + 1) }
+        requires range { AreInRange (P.program program.now) }
+        requires finish { IsFinish (P.program program.now) [] ticks }
+        ensures { IfOk result (IsWholeOrder (P.program program.now)) }
     {
         let mut order = FinishOrder::new(alloc, total_moves(program) as usize, ticks)?;
         let mut machine = Machine::start(alloc, program)?;
@@ -91,8 +90,16 @@ impl FinishOrder {
         Ok(())
     }
 
+    /// After how many ticks all actions are finished.
+    fn ticks(&self) -> usize
+        requires { 1 ≤ length self.now.ends }
+        ensures { result + 1 ≡ length self.now.ends }
+    {
+        self.ends.len() - 1
+    }
+
     /// The place at which the agents of the tick after so many ticks begin.
-    pub(crate) fn begin(&self, ticks: usize) -> usize
+    fn begin(&self, ticks: usize) -> usize
         requires { ticks < length self.now.ends }
         ensures { result ≡ slice_index self.now.ends ticks }
     {
@@ -100,39 +107,89 @@ impl FinishOrder {
     }
 
     /// The agent at a place.
-    pub(crate) fn agent(&self, place: usize) -> u16
+    fn agent(&self, place: usize) -> u16
         requires { place < length self.now.agents }
         ensures { result ≡ slice_index self.now.agents place }
     {
         self.agents[place]
     }
+}
 
-    /// The action that stands at a place of the order, the next one of its agent, which the tick after so many
-    /// finishes.
-    pub(crate) fn action_at<P: ProgramView>(
-        &self,
+/// An action, and the tick that finishes it if nobody is held.
+#[derive(Clone, Copy)]
+pub(crate) struct Finish {
+    pub(crate) action: ActionId,
+    pub(crate) tick: u32,
+}
+
+/// The actions of a program one after another, in the order in which they finish.
+#[derive(Drop)]
+pub(crate) struct Finishing<'a> {
+    order: &'a FinishOrder,
+    /// How many actions of each agent have come.
+    counts: Vec<u32>,
+    /// How many ticks are over.
+    ticks: u32,
+    /// How many actions have come.
+    place: usize,
+}
+
+impl<'a> Finishing<'a> {
+    /// None has come yet.
+    pub(crate) fn of<P: ProgramView>(
+        alloc: Global,
         program: &P,
-        ticks: u32,
-        counts: &[u32],
-        k: usize,
-    ) -> ActionId
-        requires order { IsOrder (P.program program.now) self.now }
-        requires tick { ticks + 1 < length self.now.ends }
-        requires begin { slice_index self.now.ends ticks ≤ k }
-        requires end { k < slice_index self.now.ends (ticks + 1) }
-        requires counts { AreMid (P.program program.now) ticks
-            (after_place self.now.agents (slice_index self.now.ends ticks) k)
-            counts.now }
-        ensures agent { result.agent ≡ slice_index self.now.agents k }
-        ensures ready { IsNextReady (P.program program.now) ticks
-            (after_place self.now.agents (slice_index self.now.ends ticks) k)
-            result.agent }
-        ensures number { result.number ≡ slice_index counts.now result.agent + 1 }
+        order: &'a FinishOrder,
+    ) -> Result<Finishing<'a>, OutOfMemory>
+        requires { IsWholeOrder (P.program program.now) order.now }
+        ensures state { IfOk result (IsFinishing (P.program program.now)) }
+        ensures none { IfOk result (λ f. come_in f
+            ≡ replicate (length (P.program program.now)) 0) }
+    {
+        Ok(Finishing {
+            order,
+            counts: vec![in alloc; 0; usize::from(program.agents())]?,
+            ticks: 0,
+            place: order.begin(0),
+        })
+    }
+
+    /// The next action that finishes, or `None` if all have come.
+    pub(crate) fn next<P: ProgramView>(&mut self, program: &P) -> Option<Finish>
+        requires { IsFinishing (P.program program.now) self.old }
+        ensures { MatchOption result (AreAllCounted (P.program program.now) (come_in self.old))
+            (IsNextFinish (P.program program.now) self.old self.new) }
     {
         let _ = program.agents();
-        let agent = self.agent(k);
-        let number = counts[usize::from(agent)] + 1;
-        ActionId { agent, number }
+        if !self.is_under_way(program) {
+            return None;
+        }
+        let agent = self.order.agent(self.place);
+        let number = self.counts[usize::from(agent)] + 1;
+        self.counts[usize::from(agent)] = number;
+        self.place += 1;
+        Some(Finish {
+            action: ActionId { agent, number },
+            tick: self.ticks + 1,
+        })
+    }
+
+    /// Goes on to the next tick that finishes an action, and answers whether there is one.
+    fn is_under_way<P: ProgramView>(&mut self, program: &P) -> bool
+        requires { IsFinishing (P.program program.now) self.old }
+        ensures same { HasSameCome self.old self.new }
+        ensures state { IsFinishing (P.program program.now) self.new }
+        ensures some { result ≡ true → IsUnderWay self.new }
+        ensures fits { result ≡ true → self.new.place < usize.MAX }
+        ensures none { result ≡ false → AreAllCounted (P.program program.now) (come_in self.new) }
+    {
+        while (self.ticks as usize) < self.order.ticks() {
+            if self.place < self.order.begin(self.ticks as usize + 1) {
+                return true;
+            }
+            self.ticks += 1;
+        }
+        false
     }
 }
 
@@ -167,25 +224,25 @@ const LESS_LOOKS: usize = 4;
 const COUNTS_A_LOOK: usize = 128;
 
 impl FinishTicks {
-    /// The ticks of a program that so many ticks finish.
+    /// The ticks of a program.
     pub(crate) fn of<P: ProgramView>(
         alloc: Global,
         program: &P,
         order: &FinishOrder,
-        ticks: u32,
     ) -> Result<FinishTicks, OutOfMemory>
-        requires range { AreInRange (P.program program.now) }
-        requires order { IsOrder (P.program program.now) order.now }
-        requires ends { length order.now.ends ≡ ticks + 1 }
-        requires finish { IsFinish (P.program program.now) [] ticks }
+        requires { IsWholeOrder (P.program program.now) order.now }
         ensures { IfOk result (AreTicks (P.program program.now)) }
     {
         let places = ActionPlaces::of(alloc, program)?;
-        let mut entries = vec![in alloc; 0; total_moves(program) as usize]?;
-        note_ticks(alloc, program, &places, order, ticks, &mut entries)?;
+        let mut ticks = vec![in alloc; 0; total_moves(program) as usize]?;
+        let mut finishing = Finishing::of(alloc, program, order)?;
+        while let Some(finish) = finishing.next(program) {
+            let place = places.place_of(program, finish.action);
+            ticks[place] = finish.tick;
+        }
         Ok(FinishTicks {
             places,
-            ticks: entries,
+            ticks,
             looks: LOOKS,
         })
     }
@@ -213,59 +270,6 @@ impl FinishTicks {
         ensures { result ≡ finish_tick self.now action }
     {
         let _ = program.agents();
-        self.ticks[self.places.place(action.agent, action.number)]
-    }
-}
-
-/// Notes the tick of each action that so many ticks finish.
-fn note_ticks<P: ProgramView>(
-    alloc: Global,
-    program: &P,
-    places: &ActionPlaces,
-    order: &FinishOrder,
-    ticks: u32,
-    entries: &mut [u32],
-) -> Result<(), OutOfMemory>
-    requires places { ArePlacesOf (P.program program.now) places.now }
-    requires order { IsOrder (P.program program.now) order.now }
-    requires ends { length order.now.ends ≡ ticks + 1 }
-    requires all { length entries.old ≡ total_moves (P.program program.now) }
-    ensures { OnOk result (AreFinishTicks (P.program program.now) places.now
-        (IsFinishedBy (P.program program.now) ticks) entries.new) }
-{
-    let mut counts = vec![in alloc; 0; usize::from(program.agents())]?;
-    for t in 0..ticks {
-        note_tick(program, places, order, t, &mut counts, entries);
-    }
-    Ok(())
-}
-
-/// Notes the tick of the actions that the tick after so many finishes.
-fn note_tick<P: ProgramView>(
-    program: &P,
-    places: &ActionPlaces,
-    order: &FinishOrder,
-    ticks: u32,
-    counts: &mut [u32],
-    entries: &mut [u32],
-)
-    requires places { ArePlacesOf (P.program program.now) places.now }
-    requires order { IsOrder (P.program program.now) order.now }
-    requires tick { ticks + 1 < length order.now.ends }
-    requires few { ticks < MAX_TICKS }
-    requires all { length entries.old ≡ total_moves (P.program program.now) }
-    requires counts { AreMid (P.program program.now) ticks 0 counts.old }
-    requires noted { AreFinishTicks (P.program program.now) places.now
-        (IsFinishedBy (P.program program.now) ticks) entries.old }
-    ensures counts { AreMid (P.program program.now) (ticks + 1) 0 counts.new }
-    ensures noted { AreFinishTicks (P.program program.now) places.now
-        (IsFinishedBy (P.program program.now) (ticks + 1)) entries.new }
-{
-    let _ = program.agents();
-    for k in order.begin(ticks as usize)..order.begin(ticks as usize + 1) {
-        let action = order.action_at(program, ticks, counts, k);
-        let place = places.place(action.agent, action.number);
-        entries[place] = ticks + 1;
-        counts[usize::from(action.agent)] = action.number;
+        self.ticks[self.places.place_of(program, action)]
     }
 }

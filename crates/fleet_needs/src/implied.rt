@@ -100,23 +100,15 @@ fn flag_implied<P: ProgramView>(
 ) -> Result<(), OutOfMemory>
     requires range { AreInRange (P.program program.now) }
     requires finish { IsFinish (P.program program.now) [] ticks }
-    requires places { AreAwaitPlaces (P.program program.now) implied.old.places }
-    requires flags { length (flags_of implied.old) ≡ total_awaits (P.program program.now) }
+    requires flags { AreFlags (P.program program.now) implied.old }
     ensures { OnOk result (AreImplied (P.program program.now) implied.new) }
 {
     let order = FinishOrder::of(alloc, program, ticks)?;
-    let asked = settle_all(
-        alloc,
-        program,
-        &order,
-        ticks,
-        &implied.places,
-        &mut implied.flags,
-    )?;
+    let asked = settle_all(alloc, program, &order, implied)?;
     if !is_any(&asked) {
         return Ok(());
     }
-    let schedule = Schedule::of(alloc, program, &order, ticks, &[], Some(implied))?;
+    let schedule = Schedule::of(alloc, program, &order, &[], Some(implied))?;
     // The rows need its room.
     drop(order);
     flag_all(alloc, program, &schedule, &asked, implied)
@@ -133,8 +125,7 @@ fn flag_all<P: ProgramView>(
 ) -> Result<(), OutOfMemory>
     requires range { AreInRange (P.program program.now) }
     requires schedule { IsSchedule (P.program program.now) schedule.now }
-    requires places { AreAwaitPlaces (P.program program.now) implied.old.places }
-    requires flags { length (flags_of implied.old) ≡ total_awaits (P.program program.now) }
+    requires flags { AreFlags (P.program program.now) implied.old }
     requires asked { length asked.now ≡ length (P.program program.now) }
     requires settled { AreSettled (P.program program.now) asked.now (flags_of implied.old) }
     requires passed { HasRowOr (AreSet (P.program program.now) (flags_of implied.old))

@@ -3,16 +3,16 @@
 
 ghost use Rattle.std.specs.Prelude.{◌≡◌, ◌↔◌, ◌+◌, ◌-◌, ◌<◌, ◌≤◌, Bool, true, false, [], length, get_or, set, IfOk, OnOk};
 ghost use Rattle.fleet_model.specs.Program.{AreInRange, awaits_of, total_moves};
-ghost use Rattle.fleet_model.specs.Machine.{IsFinish};
 ghost use Rattle.fleet_model.specs.Chain.{IsAction};
 ghost use Rattle.fleet_needs.specs.Places.{ArePlacesOf, place_of_action};
-ghost use Rattle.fleet_needs.specs.Order.{IsOrder, AreMid, IsCounted};
+ghost use Rattle.fleet_needs.specs.Order.{IsWholeOrder};
 ghost use Rattle.fleet_needs.specs.Flags.{AreSureIf, IsPassed, IsFirstSet, NeedsRow};
-ghost use Rattle.fleet_needs.specs.Joins.{AddsNone, AreJoinsOf, AreJoinsEnd, CanJoin, AreTaken, HasJoined, IsAdded, AreRaised, rows_made, lasts_known, last_of, needs_listed, room_for, StandsIn};
+ghost use Rattle.fleet_needs.specs.Joins.{AddsNone, AreJoinsEnd, CanJoin, AreTaken, HasJoined, IsAdded, AreRaised, rows_made, lasts_known, last_of, needs_listed, room_for, row_of, StandsIn};
 
 use crate::await_places::ActionPlaces;
-use crate::finish_order::FinishOrder;
+use crate::finish_order::{FinishOrder, Finishing};
 use crate::implied::ImpliedAwaits;
+use crate::settled::before;
 use fleet_model::{ActionId, Await, OutOfMemory, ProgramView, total_awaits, total_moves};
 use std::alloc::Global;
 
@@ -56,18 +56,15 @@ pub(crate) struct Course<'a> {
     pub(crate) implied: Option<&'a ImpliedAwaits>,
 }
 
-/// The joins of a program that so many ticks finish.
+/// The joins of a program.
 pub(crate) fn joins_of<P: ProgramView>(
     alloc: Global,
     program: &P,
     course: &Course<'_>,
-    ticks: u32,
 ) -> Result<Joins, OutOfMemory>
     requires range { AreInRange (P.program program.now) }
     requires places { ArePlacesOf (P.program program.now) course.now.places.now }
-    requires order { IsOrder (P.program program.now) course.now.order.now }
-    requires ends { length course.now.order.now.ends ≡ ticks + 1 }
-    requires finish { IsFinish (P.program program.now) [] ticks }
+    requires order { IsWholeOrder (P.program program.now) course.now.order.now }
     requires sure { AreSureIf (P.program program.now) course.now.implied }
     ensures { IfOk result (AreJoinsEnd (P.program program.now) course.now.places.now
         course.now.wanted.now (IsPassed (P.program program.now) course.now.implied)) }
@@ -79,9 +76,10 @@ pub(crate) fn joins_of<P: ProgramView>(
         rows,
         total_awaits(program),
     )?;
-    let mut counts = vec![in alloc; 0; usize::from(program.agents())]?;
-    for t in 0..ticks {
-        join_tick(program, course, t, &mut counts, &mut joins)?;
+    let mut finishing = Finishing::of(alloc, program, course.order)?;
+    while let Some(finish) = finishing.next(program) {
+        let is_made = needs_row(program, course, finish.action);
+        joins.add_action(program, course.places, finish.action, is_made)?;
     }
     Ok(joins)
 }
@@ -93,38 +91,6 @@ fn most_rows<P: ProgramView>(program: &P, wanted: &[bool]) -> u32 {
         rows = rows.saturating_add(u32::from(is_wanted));
     }
     rows.min(total_moves(program))
-}
-
-/// Adds the actions that the tick after so many finishes.
-fn join_tick<P: ProgramView>(
-    program: &P,
-    course: &Course<'_>,
-    ticks: u32,
-    counts: &mut [u32],
-    joins: &mut Joins,
-) -> Result<(), OutOfMemory>
-    requires range { AreInRange (P.program program.now) }
-    requires order { IsOrder (P.program program.now) course.now.order.now }
-    requires tick { ticks + 1 < length course.now.order.now.ends }
-    requires counts { AreMid (P.program program.now) ticks 0 counts.old }
-    requires sure { AreSureIf (P.program program.now) course.now.implied }
-    requires joins { AreJoinsOf (P.program program.now) course.now.places.now
-        course.now.wanted.now (IsPassed (P.program program.now) course.now.implied)
-        (IsCounted counts.old) joins.old }
-    ensures counts { OnOk result (AreMid (P.program program.now) (ticks + 1) 0 counts.new) }
-    ensures joins { OnOk result (AreJoinsOf (P.program program.now) course.now.places.now
-        course.now.wanted.now (IsPassed (P.program program.now) course.now.implied)
-        (IsCounted counts.new) joins.new) }
-{
-    let _ = program.agents();
-    let order = course.order;
-    for k in order.begin(ticks as usize)..order.begin(ticks as usize + 1) {
-        let action = order.action_at(program, ticks, counts, k);
-        let is_made = needs_row(program, course, action);
-        joins.add_action(program, course.places, action, is_made)?;
-        counts[usize::from(action.agent)] = action.number;
-    }
-    Ok(())
 }
 
 /// Whether the action is to have a row though it may await nothing.
@@ -238,12 +204,21 @@ impl Joins {
         ensures stands { StandsIn (P.program program.now) self.now
             result action.agent (action.number - 1) }
     {
-        let _ = program.agents();
         let is_first = action.number <= 1;
         if is_first {
             return 0;
         }
-        self.standing[places.place(action.agent, action.number - 1)]
+        self.row_of(program, places, before(action))
+    }
+
+    /// The row that is noted for an action.
+    fn row_of<P: ProgramView>(&self, program: &P, places: &ActionPlaces, action: ActionId) -> u32
+        requires room { room_for self.now ≡ total_moves (P.program program.now) }
+        requires places { ArePlacesOf (P.program program.now) places.now }
+        requires action { IsAction (P.program program.now) action }
+        ensures { result ≡ row_of places.now self.now action }
+    {
+        self.standing[places.place_of(program, action)]
     }
 
     /// Adds a row for an action, after the row that stands for the agent's action before, and answers which it is.
@@ -297,7 +272,11 @@ impl Joins {
         let _ = program.agents();
         for k in 0..program.await_count(action.agent, action.number) {
             let wait = program.await_at(action.agent, action.number, k);
-            let taken = self.standing[places.place(wait.agent, wait.count)];
+            let awaited = ActionId {
+                agent: wait.agent,
+                number: wait.count,
+            };
+            let taken = self.row_of(program, places, awaited);
             self.needs.push(Need { row: taken, wait })?;
             self.raise(taken, row);
         }
@@ -334,8 +313,7 @@ impl Joins {
         ensures noted { self.new.standing.items ≡ set
             self.old.standing.items (place_of_action places.now action) row }
     {
-        let _ = program.agents();
-        self.standing[places.place(action.agent, action.number)] = row;
+        self.standing[places.place_of(program, action)] = row;
     }
 }
 

@@ -14,7 +14,6 @@ ghost use Rattle.fleet_needs.specs.Counts.{counts_of};
 ghost use Rattle.fleet_needs.specs.Joins.{AreOwn};
 
 use crate::counts::Counts;
-use crate::finish_order::FinishOrder;
 use crate::join_pass::{JoinRow, JoinUse, use_joins};
 use crate::schedule::{Blocks, Columns, Schedule};
 use fleet_model::{ActionId, OutOfMemory, ProgramView};
@@ -47,31 +46,8 @@ pub fn answer_questions<P: ProgramView>(
     if !is_any(&asked) {
         return Ok(flags);
     }
-    answer_rest(alloc, program, ticks, questions, &asked, flags)
-}
-
-/// The answers to the questions, by rows for the asked agents.
-fn answer_rest<P: ProgramView>(
-    alloc: Global,
-    program: &P,
-    ticks: u32,
-    questions: &[Question],
-    asked: &[bool],
-    flags: Vec<bool>,
-) -> Result<Vec<bool>, OutOfMemory>
-    requires range { AreInRange (P.program program.now) }
-    requires finish { IsFinish (P.program program.now) [] ticks }
-    requires questions { AreQuestions (P.program program.now) questions.now }
-    requires asked { length asked.now ≡ length (P.program program.now) }
-    requires known { AreKnown (P.program program.now) asked.now questions.now flags.items }
-    requires flags { length flags.items ≡ length questions.now }
-    ensures { IfOk result (λ flags. AreAnswers (P.program program.now) questions.now flags.items) }
-{
-    let order = FinishOrder::of(alloc, program, ticks)?;
-    let schedule = Schedule::of(alloc, program, &order, ticks, questions, None)?;
-    // The rows need its room.
-    drop(order);
-    answer_all(alloc, program, &schedule, questions, asked, flags)
+    let schedule = Schedule::for_questions(alloc, program, ticks, questions)?;
+    answer_all(alloc, program, &schedule, questions, &asked, flags)
 }
 
 /// Whether some agent is flagged.

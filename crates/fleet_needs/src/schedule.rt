@@ -5,12 +5,12 @@ ghost use Rattle.std.specs.Prelude.{◌≡◌, ◌+◌, ◌<◌, ◌≤◌, ℕ,
 ghost use Rattle.fleet_model.specs.declared.limits.TheConstants.{MAX_AGENTS};
 ghost use Rattle.fleet_model.specs.Program.{AreInRange, moves, total_moves};
 ghost use Rattle.fleet_model.specs.Chain.{IsAction};
-ghost use Rattle.fleet_model.specs.Machine.{IsFinish};
 ghost use Rattle.fleet_needs.specs.Asked.{IsQuestion};
 ghost use Rattle.fleet_needs.specs.Joins.{HasRowOr, IsWanted, need_of};
 ghost use Rattle.fleet_needs.specs.Flags.{AreSureIf, IsPassed};
-ghost use Rattle.fleet_needs.specs.Order.{IsOrder};
-ghost use Rattle.fleet_needs.specs.Places.{ArePlacesOf, place_of_action};
+ghost use Rattle.fleet_model.specs.Machine.{IsFinish};
+ghost use Rattle.fleet_needs.specs.Order.{IsWholeOrder};
+ghost use Rattle.fleet_needs.specs.Places.{ArePlacesOf};
 ghost use Rattle.fleet_needs.specs.Schedule.{IsSchedule, HasRows, IsNext, joins_in};
 ghost use Rattle.fleet_needs.specs.Slots.{AreSlotted, IsTaken};
 ghost use Rattle.fleet_needs.specs.Columns.{AreColumns, IsNextBlock, agents_in, column_of};
@@ -20,7 +20,7 @@ use crate::finish_order::FinishOrder;
 use crate::implied::ImpliedAwaits;
 use crate::joins::{Course, Join, Joins, Need, joins_of};
 use crate::questions::Question;
-use fleet_model::{ActionId, MAX_AGENTS, OutOfMemory, ProgramView, total_moves};
+use fleet_model::{MAX_AGENTS, OutOfMemory, ProgramView, total_moves};
 use std::alloc::Global;
 use std::marker::Model;
 
@@ -48,20 +48,17 @@ pub struct Schedule {
 }
 
 impl Schedule {
-    /// The schedule of a program that so many ticks finish if nobody is held, in which the last actions of these
-    /// questions have rows too, but an action of one await alone has none if that is known to be implied.
+    /// The schedule of a program, in which the last actions of these questions have rows too, but an action of one await
+    /// alone has none if that is known to be implied.
     pub(crate) fn of<P: ProgramView>(
         alloc: Global,
         program: &P,
         order: &FinishOrder,
-        ticks: u32,
         questions: &[Question],
         implied: Option<&ImpliedAwaits>,
     ) -> Result<Schedule, OutOfMemory>
         requires range { AreInRange (P.program program.now) }
-        requires order { IsOrder (P.program program.now) order.now }
-        requires ends { length order.now.ends ≡ ticks + 1 }
-        requires finish { IsFinish (P.program program.now) [] ticks }
+        requires order { IsWholeOrder (P.program program.now) order.now }
         requires questions { All (IsQuestion (P.program program.now)) questions.now }
         requires sure { AreSureIf (P.program program.now) implied }
         ensures schedule { IfOk result (IsSchedule (P.program program.now)) }
@@ -77,7 +74,7 @@ impl Schedule {
             wanted: &wanted,
             implied,
         };
-        let joins = joins_of(alloc, program, &course, ticks)?;
+        let joins = joins_of(alloc, program, &course)?;
         let slots = slots_of(alloc, &joins)?;
         let count = slots.count();
         Ok(Schedule {
@@ -87,6 +84,24 @@ impl Schedule {
             slots: count,
             is_narrow: is_narrow(program),
         })
+    }
+
+    /// The schedule of a program that so many ticks finish if nobody is held, in which the last actions of these
+    /// questions have rows too.
+    pub(crate) fn for_questions<P: ProgramView>(
+        alloc: Global,
+        program: &P,
+        ticks: u32,
+        questions: &[Question],
+    ) -> Result<Schedule, OutOfMemory>
+        requires range { AreInRange (P.program program.now) }
+        requires finish { IsFinish (P.program program.now) [] ticks }
+        requires questions { All (IsQuestion (P.program program.now)) questions.now }
+        ensures schedule { IfOk result (IsSchedule (P.program program.now)) }
+        ensures asked { IfOk result (λ s. HasRows s questions.now) }
+    {
+        let order = FinishOrder::of(alloc, program, ticks)?;
+        Schedule::of(alloc, program, &order, questions, None)
     }
 
     /// The join after n others.
@@ -169,20 +184,9 @@ fn flag_lasts<P: ProgramView>(
         → IsWanted places.now wanted.new q.last }
 {
     for question in questions {
-        let place = place_of(program, places, question.last);
+        let place = places.place_of(program, question.last);
         wanted[place] = true;
     }
-}
-
-/// The place of an action of the program.
-fn place_of<P: ProgramView>(program: &P, places: &ActionPlaces, action: ActionId) -> usize
-    requires places { ArePlacesOf (P.program program.now) places.now }
-    requires action { IsAction (P.program program.now) action }
-    ensures within { result < total_moves (P.program program.now) }
-    ensures place { result ≡ place_of_action places.now action }
-{
-    let _ = program.agents();
-    places.place(action.agent, action.number)
 }
 
 /// The slots of the first rows, and who has each slot.

@@ -1,16 +1,16 @@
 //! Awaits for which a few steps back from their action show whether others imply them.
 
-ghost use Rattle.std.specs.Prelude.{◌≡◌, ◌+◌, ◌<◌, ◌≤◌, [], true, false, length, slice_get, Some, IfOk, IsTrue};
-ghost use Rattle.fleet_model.specs.Program.{AreInRange, awaits_of, moves, total_awaits};
+ghost use Rattle.std.specs.Prelude.{◌≡◌, ◌↔◌, ◌+◌, ◌<◌, ◌≤◌, [], true, false, length, get_or, slice_get, None, Some, IfOk, OnOk, IsTrue};
+ghost use Rattle.fleet_model.specs.Program.{AreInRange, awaits_of, moves};
 ghost use Rattle.fleet_model.specs.declared.program.Await.{Await};
-ghost use Rattle.fleet_model.specs.Machine.{IsFinish};
 ghost use Rattle.fleet_model.specs.Chain.{IsAction, Reaches};
-ghost use Rattle.fleet_needs.specs.Implied.{IsImplied, AreAwaitPlaces};
-ghost use Rattle.fleet_needs.specs.Order.{IsOrder};
-ghost use Rattle.fleet_needs.specs.Settled.{AreTicks, AreSettled, AreSettledOf, IsActionSettled, IsUpTo};
+ghost use Rattle.fleet_needs.specs.Implied.{IsImplied};
+ghost use Rattle.fleet_needs.specs.Flags.{AreFlags, flags_of};
+ghost use Rattle.fleet_needs.specs.Order.{IsWholeOrder};
+ghost use Rattle.fleet_needs.specs.Settled.{AreTicks, AreSettled, AreSettledOf, AreMoreAsked, IsActionSettled, IsUpTo};
 
-use crate::await_places::AwaitPlaces;
 use crate::finish_order::{FinishOrder, FinishTicks};
+use crate::implied::ImpliedAwaits;
 use fleet_model::{ActionId, OutOfMemory, ProgramView};
 use std::alloc::Global;
 
@@ -18,31 +18,26 @@ use std::alloc::Global;
 const AWAITS: u16 = 16;
 
 /// Flags the awaits that others imply, as far as a few steps back show it, and answers a flag for each agent: whether
-/// an await of one of its actions is left open. `flags` has a flag for each await of the program, by its place. The
-/// program finishes after so many ticks if nobody is held.
+/// an await of one of its actions is left open.
 pub fn settle_all<P: ProgramView>(
     alloc: Global,
     program: &P,
     order: &FinishOrder,
-    ticks: u32,
-    places: &AwaitPlaces,
-    flags: &mut [bool],
+    implied: &mut ImpliedAwaits,
 ) -> Result<Vec<bool>, OutOfMemory>
     requires range { AreInRange (P.program program.now) }
-    requires order { IsOrder (P.program program.now) order.now }
-    requires ends { length order.now.ends ≡ ticks + 1 }
-    requires finish { IsFinish (P.program program.now) [] ticks }
-    requires places { AreAwaitPlaces (P.program program.now) places.now }
-    requires flags { length flags.old ≡ total_awaits (P.program program.now) }
+    requires order { IsWholeOrder (P.program program.now) order.now }
+    requires flags { AreFlags (P.program program.now) implied.old }
+    ensures flags { OnOk result (AreFlags (P.program program.now) implied.new) }
     ensures all { IfOk result (λ asked. length asked.items ≡ length (P.program program.now)) }
     ensures settled { IfOk result (λ asked. AreSettled
-        (P.program program.now) asked.items flags.new) }
+        (P.program program.now) asked.items (flags_of implied.new)) }
 {
-    let mut finish = FinishTicks::of(alloc, program, order, ticks)?;
+    let mut finish = FinishTicks::of(alloc, program, order)?;
     let agents = program.agents();
     let mut asked = vec![in alloc; false; usize::from(agents)]?;
     for agent in 0..agents {
-        settle_agent(program, &finish, places, agent, flags, &mut asked);
+        settle_agent(program, &finish, agent, implied, &mut asked);
         finish.look_less_if_most(&asked);
     }
     Ok(asked)
@@ -52,32 +47,24 @@ pub fn settle_all<P: ProgramView>(
 fn settle_agent<P: ProgramView>(
     program: &P,
     ticks: &FinishTicks,
-    places: &AwaitPlaces,
     agent: u16,
-    flags: &mut [bool],
+    implied: &mut ImpliedAwaits,
     asked: &mut [bool],
 )
     requires range { AreInRange (P.program program.now) }
     requires ticks { AreTicks (P.program program.now) ticks.now }
-    requires places { AreAwaitPlaces (P.program program.now) places.now }
     requires agent { agent < length (P.program program.now) }
-    requires flags { length flags.old ≡ total_awaits (P.program program.now) }
+    requires flags { AreFlags (P.program program.now) implied.old }
     requires asked { length asked.old ≡ length (P.program program.now) }
-    requires settled { AreSettledOf (P.program program.now) asked.old (IsUpTo agent 0) flags.old }
-    ensures { AreSettledOf (P.program program.now) asked.new
-        (IsUpTo agent (moves (P.program program.now) agent)) flags.new }
+    requires settled { AreSettledOf (P.program program.now) asked.old (IsUpTo agent 0)
+        (flags_of implied.old) }
+    ensures flags { AreFlags (P.program program.now) implied.new }
+    ensures settled { AreSettledOf (P.program program.now) asked.new
+        (IsUpTo agent (moves (P.program program.now) agent)) (flags_of implied.new) }
 {
-    let _ = program.agents();
     for finished in 0..program.moves(agent) {
         let number = finished + 1;
-        settle_action(
-            program,
-            ticks,
-            places,
-            ActionId { agent, number },
-            flags,
-            asked,
-        );
+        settle_action(program, ticks, ActionId { agent, number }, implied, asked);
     }
 }
 
@@ -86,37 +73,61 @@ fn settle_agent<P: ProgramView>(
 fn settle_action<P: ProgramView>(
     program: &P,
     ticks: &FinishTicks,
-    places: &AwaitPlaces,
     action: ActionId,
-    flags: &mut [bool],
+    implied: &mut ImpliedAwaits,
     asked: &mut [bool],
 )
     requires range { AreInRange (P.program program.now) }
     requires ticks { AreTicks (P.program program.now) ticks.now }
-    requires places { AreAwaitPlaces (P.program program.now) places.now }
     requires action { IsAction (P.program program.now) action }
-    requires flags { length flags.old ≡ total_awaits (P.program program.now) }
+    requires flags { AreFlags (P.program program.now) implied.old }
     requires asked { length asked.old ≡ length (P.program program.now) }
-    ensures { IsActionSettled
-        (P.program program.now) action asked.old asked.new flags.old flags.new }
+    ensures flags { AreFlags (P.program program.now) implied.new }
+    ensures settled { IsActionSettled (P.program program.now) action asked.old asked.new
+        (flags_of implied.old) (flags_of implied.new) }
 {
     let _ = program.agents();
-    let is_quiet = program.await_count(action.agent, action.number) == 0;
-    if is_quiet {
+    let awaits = program.await_count(action.agent, action.number);
+    if awaits == 0 {
         return;
     }
-    let first = places.first(program, action);
+    let first = implied.places.first(program, action);
     let latest = latest_await(program, ticks, action);
     let mut from = 0;
-    for k in 0..program.await_count(action.agent, action.number) {
-        match is_implied(program, ticks, action, k, latest, &mut from) {
-            Some(flag) => flags[first + usize::from(k)] = flag,
-            None => {
-                flags[first + usize::from(k)] = false;
-                let awaited = program.await_at(action.agent, action.number, k);
-                asked[usize::from(awaited.agent)] = true;
-            }
-        }
+    for k in 0..awaits {
+        let known = is_implied(program, ticks, action, k, latest, &mut from);
+        implied.flags[first + usize::from(k)] = is_sure(known);
+        ask_if_open(program, action, k, known, asked);
+    }
+}
+
+/// Whether the answer is known, and is yes.
+fn is_sure(known: Option<bool>) -> bool
+    ensures { (result ≡ true) ↔ (known ≡ Some true) }
+{
+    known == Some(true)
+}
+
+/// Flags the agent of await `k` of the action, if nothing is known of the await.
+fn ask_if_open<P: ProgramView>(
+    program: &P,
+    action: ActionId,
+    k: u16,
+    known: Option<bool>,
+    asked: &mut [bool],
+)
+    requires range { AreInRange (P.program program.now) }
+    requires action { IsAction (P.program program.now) action }
+    requires place { k < length (awaits_of (P.program program.now) action.agent action.number) }
+    requires asked { length asked.old ≡ length (P.program program.now) }
+    ensures more { AreMoreAsked asked.old asked.new }
+    ensures open { known ≡ None → (w : Await)
+        → slice_get (awaits_of (P.program program.now) action.agent action.number) k ≡ Some w
+        → get_or asked.new w.agent false ≡ true }
+{
+    if known.is_none() {
+        let awaited = awaited_at(program, action, k);
+        asked[usize::from(awaited.agent)] = true;
     }
 }
 
@@ -317,7 +328,7 @@ fn reaches<P: ProgramView>(
 }
 
 /// The action of the same agent right before one that is not its first.
-fn before(action: ActionId) -> ActionId
+pub(crate) fn before(action: ActionId) -> ActionId
     requires { 1 < action.number }
     ensures agent { result.agent ≡ action.agent }
     ensures number { result.number + 1 ≡ action.number }

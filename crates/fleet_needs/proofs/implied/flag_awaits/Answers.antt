@@ -4,7 +4,6 @@ use Rattle.fleet_needs.specs.Counts.{counts_of}
 use Rattle.fleet_needs.specs.Flags.{flags_of}
 use Rattle.fleet_needs.specs.Implied.{IsImpliedFlag, first_await}
 use Rattle.fleet_needs.specs.declared.implied.ImpliedAwaits.{ImpliedAwaits}
-use Rattle.fleet_needs.proofs.AwaitOrder.{flag_within, flag_fits}
 use Rattle.fleet_needs.proofs.Flagged.{AreFlaggedFirst, flagged_begun, flagged_next, flagged_of, flagged_whole}
 use Rattle.fleet_needs.proofs.Joining.{awaited_action}
 use Rattle.fleet_needs.proofs.RowsMade.{row_action, row_count, row_awaits}
@@ -26,19 +25,13 @@ count_in-requires-clause-agent g c =
 
 pub flag_await-requires : goal.flag_await-requires
 flag_await-requires g c =
-    let p = g.P.ProgramView.program c.args.program.now in
-    let action = row_action p c.args.row.now c.requires.row c.join-join.result c.join-join.ensures in
-    let count = row_count p c.args.row.now c.requires.row c.join-join.result c.join-join.ensures in
-    let all = flag_within p c.args.row.now.action action in
-    omega (arith, c.loop-k-test.true, count, all, c.from.ensures, c.first-first.ensures, c.loop-k.invariant.first.flags.all)
+    let count = row_count (g.P.ProgramView.program c.args.program.now) c.args.row.now c.requires.row c.join-join.result c.join-join.ensures in
+    omega (arith, c.loop-k-test.true, count, c.from.ensures, c.first-first.ensures.place, c.first-first.ensures.within, c.loop-k.invariant.first.flags.all)
 
 pub overflow_add-first : goal.overflow_add-first
 overflow_add-first g c =
-    let p = g.P.ProgramView.program c.args.program.now in
-    let action = row_action p c.args.row.now c.requires.row c.join-join.result c.join-join.ensures in
-    let count = row_count p c.args.row.now c.requires.row c.join-join.result c.join-join.ensures in
-    let fits = flag_fits p c.agents.ensures.well_formed c.args.row.now.action action in
-    omega (arith, c.loop-k-test.true, count, fits, c.from.ensures, c.first-first.ensures)
+    let count = row_count (g.P.ProgramView.program c.args.program.now) c.args.row.now c.requires.row c.join-join.result c.join-join.ensures in
+    omega (arith, c.loop-k-test.true, count, c.from.ensures, c.first-first.ensures.place, c.first-first.ensures.within, c.loop-k.invariant.first.flags.all, c.loop-k.implied.flags.ok)
 
 pub loop-k-preserved : goal.loop-k-preserved
 loop-k-preserved g c =
@@ -55,7 +48,7 @@ loop-k-preserved g c =
     elim c.match-count_in.branch [
       | in-Some t ↦
           let new : ImpliedAwaits = t.flag_await.new.self in
-          let place : t.first-first.result + t.from.result ≡ first + k = omega (arith, t.first-first.ensures, t.from.ensures) in
+          let place : t.first-first.result + t.from.result ≡ first + k = omega (arith, t.first-first.ensures.place, t.from.ensures) in
           let others : (n : ℕ) → n ≢ first + k → get_or (flags_of new) n false ≡ get_or (flags_of c.loop-k.implied) n false = λ n ne. t.flag_await.ensures.others n (λ e. ne (e ∙ place)) in
           let flag : get_or (flags_of new) (first + k) false ≡ nat_le w.count t.in-Some.count = ap (λ (n : ℕ). get_or (flags_of new) n false) (sym place) ∙ t.flag_await.ensures.flagged in
           record {

@@ -1,24 +1,43 @@
-use Rattle.std.proofs.Common.{◌≡◌, ℕ, List, length, replicate, sym, subst, ap, ◌∙◌, arith}
-use Rattle.fleet_needs.specs.Order.{IsCounted, AreMid}
+use Rattle.std.proofs.Common.{ℕ, List, length, sym, subst, arith, inl}
+use Rattle.fleet_needs.specs.Order.{IsCounted}
+use Rattle.fleet_needs.specs.Finishing.{come_in}
 use Rattle.fleet_needs.specs.Flags.{IsPassed}
 use Rattle.fleet_needs.specs.Joins.{AreJoinsOf}
-use Rattle.fleet_needs.proofs.Counting.{mid_first}
-use Rattle.fleet_needs.proofs.JoinTick.{joins_none, joins_end}
+use Rattle.fleet_needs.proofs.JoinLaws.{joins_more}
+use Rattle.fleet_needs.proofs.JoinTick.{joins_none, joins_end, can_join}
 use Rattle.fleet_needs.proofs.joins.joins_of.Goals as goal
 
-pub loop-t-init : goal.loop-t-init
-loop-t-init g c =
+pub loop-finish-init : goal.loop-finish-init
+loop-finish-init g c =
     let p = g.P.ProgramView.program c.args.program.now in
-    let passed = IsPassed p c.args.course.now.implied in
-    let zeros : c.in_ok-counts.counts.items ≡ replicate (length p) 0 = c.in_ok-counts.ensures.items_if_clones_equal (λ y same. same) ∙ ap (λ (n : ℕ). replicate n 0) (c.from.ensures ∙ c.agents.ensures.count) in
+    let course = c.args.course.now in
     record {
-      counts = subst (AreMid p 0 0) (sym zeros) (mid_first p);
-      joins = subst (λ (xs : List ℕ). AreJoinsOf p c.args.course.now.places.now c.args.course.now.wanted.now passed (IsCounted xs) c.in_ok-joins.joins) (sym zeros)
-          (joins_none p c.args.course.now.places.now c.args.course.now.wanted.now passed c.in_ok-joins.joins (length p) c.requires.places c.in_ok-joins.ensures.joins c.in_ok-joins.ensures.lasts (omega (arith, c.in_ok-joins.ensures.standing, c.total_moves.ensures)));
+      state = c.in_ok-finishing.ensures.state;
+      joins = subst (λ (xs : List ℕ). AreJoinsOf p course.places.now course.wanted.now (IsPassed p course.implied) (IsCounted xs) c.in_ok-joins.joins) (sym c.in_ok-finishing.ensures.none)
+          (joins_none p course.places.now course.wanted.now (IsPassed p course.implied) c.in_ok-joins.joins (length p) c.requires.places c.in_ok-joins.ensures.joins c.in_ok-joins.ensures.lasts (omega (arith, c.in_ok-joins.ensures.standing, c.total_moves.ensures)));
+    }
+
+pub add_action-requires-clause-can : goal.add_action-requires-clause-can
+add_action-requires-clause-can g c =
+    let p = g.P.ProgramView.program c.args.program.now in
+    let course = c.args.course.now in
+    can_join p course.places.now course.wanted.now (IsPassed p course.implied) c.loop-finish.finishing c.next.new.self c.in-Some.finish c.in-Some.ensures c.loop-finish.invariant.state c.loop-finish.joins c.loop-finish.invariant.joins
+
+pub loop-finish-preserved : goal.loop-finish-preserved
+loop-finish-preserved g c =
+    let p = g.P.ProgramView.program c.args.program.now in
+    let course = c.args.course.now in
+    let next = c.in-Some.ensures in
+    let made = c.needs_row-is_made.ensures in
+    record {
+      state = next.state;
+      joins = subst (λ (xs : List ℕ). AreJoinsOf p course.places.now course.wanted.now (IsPassed p course.implied) (IsCounted xs) c.add_action.new.self) (sym next.come)
+          (joins_more p course.places.now course.wanted.now (IsPassed p course.implied) (come_in c.loop-finish.finishing) c.in-Some.finish.action next.action next.next c.loop-finish.joins c.add_action.new.self c.needs_row-is_made.result
+          made.none made.passed (λ w. made.needed.1 (inl w)) c.loop-finish.invariant.joins c.in_ok-add_action.ensures);
     }
 
 pub returns : goal.returns
 returns g c =
     let p = g.P.ProgramView.program c.args.program.now in
-    let e : c.loop-t.t ≡ c.args.ticks = omega arith in
-    joins_end p c.args.ticks c.loop-t.counts.items c.args.course.now.places.now c.args.course.now.wanted.now (IsPassed p c.args.course.now.implied) c.loop-t.joins c.requires.finish.holds (subst (λ (n : ℕ). AreMid p n 0 c.loop-t.counts.items) e c.loop-t.invariant.counts) c.loop-t.invariant.joins
+    let course = c.args.course.now in
+    joins_end p course.order.now (come_in c.loop-finish.finishing) course.places.now course.wanted.now (IsPassed p course.implied) c.loop-finish.joins c.requires.order c.in_default.ensures c.loop-finish.invariant.joins

@@ -3,8 +3,8 @@ use Rattle.std.proofs.lemmas.List.{length-replicate}
 use Rattle.fleet_needs.proofs.Answered.{near_answer, none_asked, none_flagged_at}
 use Rattle.fleet_needs.proofs.questions.answer_questions.Goals as goal
 
-pub answer_rest-requires-clause-known : goal.answer_rest-requires-clause-known
-answer_rest-requires-clause-known g c = λ k q e.
+pub answer_all-requires-clause-known : goal.answer_all-requires-clause-known
+answer_all-requires-clause-known g c = λ k q e.
     elim (c.in_ok-asked.ensures.flagged k q e) [
       | inl set ↦ inl (subst (λ (xs : List Bool). get_or xs q.first.agent false ≡ true) (sym c.deref-2.ensures.value) set)
       | inr near ↦ inr (near_answer (g.P.ProgramView.program c.args.program.now) q (get_or c.in_ok-flags.flags.items k false)

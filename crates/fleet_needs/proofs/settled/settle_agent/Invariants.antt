@@ -1,7 +1,9 @@
+use Rattle.fleet_needs.specs.Flags.{AreFlags, flags_of}
 use Rattle.fleet_needs.specs.Settled.{AreSettledOf, IsUpTo}
 use Rattle.fleet_needs.proofs.settled.settle_agent.Given as goal
 
 abbrev pub invariant-loop-finished : goal.invariant-loop-finished
 invariant-loop-finished g l = record {
-  settled : AreSettledOf (g.P.ProgramView.program l.program) l.asked (IsUpTo l.agent l.finished) l.flags;
+  flags : AreFlags (g.P.ProgramView.program l.program) l.implied;
+  settled : AreSettledOf (g.P.ProgramView.program l.program) l.asked (IsUpTo l.agent l.finished) (flags_of l.implied);
 }

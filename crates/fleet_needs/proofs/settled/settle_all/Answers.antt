@@ -1,6 +1,7 @@
 use Rattle.std.proofs.Common.{◌≡◌, ◌+◌, Bool, List, length, sym, subst, ◌∙◌, ap, arith}
 use Rattle.std.specs.Prelude.{drop}
 use Rattle.std.proofs.lemmas.List.{take_at}
+use Rattle.fleet_needs.specs.Flags.{flags_of}
 use Rattle.fleet_needs.specs.Settled.{AreTicks, AreSettledOf, IsUpTo}
 use Rattle.fleet_needs.proofs.Settling.{agent_up}
 use Rattle.fleet_needs.proofs.settled.settle_all.Goals as goal
@@ -13,6 +14,7 @@ loop-agent-preserved g c =
     let same = take_at new (drop (length new) c.loop-agent.asked.items) c.loop-agent.asked.len long in
     record {
       all = ap (λ (xs : List Bool). length xs) same ∙ c.settle_agent.auto.asked ∙ ap (λ (xs : List Bool). length xs) c.deref_mut.ensures.value ∙ c.loop-agent.invariant.all;
+      flags = c.settle_agent.ensures.flags;
       ticks = subst (AreTicks p) (sym c.look_less_if_most.ensures) c.loop-agent.invariant.ticks;
-      settled = subst (λ (xs : List Bool). AreSettledOf p xs (IsUpTo (c.loop-agent.agent + 1) 0) c.settle_agent.new.flags) (sym same) (agent_up p c.loop-agent.agent new c.settle_agent.new.flags c.settle_agent.ensures);
+      settled = subst (λ (xs : List Bool). AreSettledOf p xs (IsUpTo (c.loop-agent.agent + 1) 0) (flags_of c.settle_agent.new.implied)) (sym same) (agent_up p c.loop-agent.agent new (flags_of c.settle_agent.new.implied) c.settle_agent.ensures.settled);
     }

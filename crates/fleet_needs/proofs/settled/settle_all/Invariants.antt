@@ -1,10 +1,12 @@
 use Rattle.std.proofs.Common.{◌≡◌, length}
+use Rattle.fleet_needs.specs.Flags.{AreFlags, flags_of}
 use Rattle.fleet_needs.specs.Settled.{AreTicks, AreSettledOf, IsUpTo}
 use Rattle.fleet_needs.proofs.settled.settle_all.Given as goal
 
 abbrev pub invariant-loop-agent : goal.invariant-loop-agent
 invariant-loop-agent g l = record {
   all : length l.asked.items ≡ length (g.P.ProgramView.program l.program);
+  flags : AreFlags (g.P.ProgramView.program l.program) l.implied;
   ticks : AreTicks (g.P.ProgramView.program l.program) l.finish;
-  settled : AreSettledOf (g.P.ProgramView.program l.program) l.asked.items (IsUpTo l.agent 0) l.flags;
+  settled : AreSettledOf (g.P.ProgramView.program l.program) l.asked.items (IsUpTo l.agent 0) (flags_of l.implied);
 }

@@ -1,43 +1,28 @@
-use Rattle.std.proofs.Common.{◌≡◌, ◌-◌, refl, sym, subst, arith}
-use Rattle.fleet_model.specs.declared.program.ActionId.{ActionId}
-use Rattle.fleet_model.specs.Chain.{IsAction}
+use Rattle.std.proofs.Common.{◌-◌, ◌≡◌, ℕ, sym, subst, arith}
 use Rattle.fleet_needs.specs.Joins.{row_of, StandsFor}
-use Rattle.fleet_needs.specs.Places.{place_of_action}
-use Rattle.fleet_needs.proofs.Counting.{count_read}
-use Rattle.fleet_needs.proofs.Placed.{place_within, place_is}
+use Rattle.fleet_needs.proofs.Joining.{is_before}
 use Rattle.fleet_needs.proofs.joins.Joins.row_before.Goals as goal
-
-pub index-requires : goal.index-requires
-index-requires g c =
-    let p = g.P.ProgramView.program c.args.program.now in
-    let b : ActionId = record { agent = c.args.action.agent; number = c.args.action.number - 1 } in
-    let last = c.requires.can.action.last in
-    let is : IsAction p b = record { agent = c.requires.can.action.agent; first = omega (arith, c.if-is_first.false); last = omega arith } in
-    let l = place_within p c.args.places.now c.requires.can.sound.right b is in
-    omega (arith, l, place_is c.args.places.now b c.place.result c.place.ensures, c.requires.can.sound.room)
 
 pub returns-clause-within : goal.returns-clause-within
 returns-clause-within g c =
-    let p = g.P.ProgramView.program c.args.program.now in
-    let b : ActionId = record { agent = c.args.action.agent; number = c.args.action.number - 1 } in
-    let last = c.requires.can.action.last in
-    let is : IsAction p b = record { agent = c.requires.can.action.agent; first = omega (arith, c.if-is_first.false); last = omega arith } in
-    let l = place_within p c.args.places.now c.requires.can.sound.right b is in
-    let at : c.place.result ≡ place_of_action c.args.places.now b = place_is c.args.places.now b c.place.result c.place.ensures in
-    let read : c.index.result.now ≡ row_of c.args.places.now c.args.self.now b =
-    count_read c.args.self.now.standing.items c.place.result (place_of_action c.args.places.now b) c.index.result.now at (omega (arith, l, c.requires.can.sound.room)) c.index.ensures in
-    let st = c.requires.can.before b is refl (omega (arith, c.if-is_first.false)) in
-    omega (arith, read, st.within)
+    let b = c.before-2.result in
+    let is = is_before (g.P.ProgramView.program c.args.program.now) c.args.action b c.requires.can.action (omega (arith, c.if-is_first.false)) c.before-2.ensures.agent c.before-2.ensures.number in
+    let st = c.requires.can.before b is c.before-2.ensures.agent c.before-2.ensures.number in
+    omega (arith, c.row_of.ensures, st.within)
 
 pub returns-clause-stands : goal.returns-clause-stands
 returns-clause-stands g c =
     let p = g.P.ProgramView.program c.args.program.now in
-    let b : ActionId = record { agent = c.args.action.agent; number = c.args.action.number - 1 } in
-    let last = c.requires.can.action.last in
-    let is : IsAction p b = record { agent = c.requires.can.action.agent; first = omega (arith, c.if-is_first.false); last = omega arith } in
-    let l = place_within p c.args.places.now c.requires.can.sound.right b is in
-    let at : c.place.result ≡ place_of_action c.args.places.now b = place_is c.args.places.now b c.place.result c.place.ensures in
-    let read : c.index.result.now ≡ row_of c.args.places.now c.args.self.now b =
-    count_read c.args.self.now.standing.items c.place.result (place_of_action c.args.places.now b) c.index.result.now at (omega (arith, l, c.requires.can.sound.room)) c.index.ensures in
-    let st = c.requires.can.before b is refl (omega (arith, c.if-is_first.false)) in
-    subst (λ r. StandsFor p c.args.self.now.joins.items r c.args.action.agent (c.args.action.number - 1)) (sym read) st.stands
+    let a = c.args.action in
+    let b = c.before-2.result in
+    let joins = c.args.self.now.joins.items in
+    let is = is_before p a b c.requires.can.action (omega (arith, c.if-is_first.false)) c.before-2.ensures.agent c.before-2.ensures.number in
+    let st = c.requires.can.before b is c.before-2.ensures.agent c.before-2.ensures.number in
+    let row = row_of c.args.places.now c.args.self.now b in
+    let less : b.number ≡ a.number - 1 = omega (arith, c.before-2.ensures.number) in
+    subst (λ (r : ℕ). StandsFor p joins r a.agent (a.number - 1)) (sym c.row_of.ensures)
+    (subst (λ (i : ℕ). StandsFor p joins row i (a.number - 1)) c.before-2.ensures.agent (subst (λ (n : ℕ). StandsFor p joins row b.agent n) less st.stands))
+
+pub row_of-requires-clause-action : goal.row_of-requires-clause-action
+row_of-requires-clause-action g c =
+    is_before (g.P.ProgramView.program c.args.program.now) c.args.action c.before-2.result c.requires.can.action (omega (arith, c.if-is_first.false)) c.before-2.ensures.agent c.before-2.ensures.number

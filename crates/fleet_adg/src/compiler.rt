@@ -75,10 +75,8 @@ pub fn compile_dwell(
     // The plan that is read is free of conflict.
     let _plan = checked.plan();
     let compiled = compile_bytes(alloc, checked, deps, dwell)?;
-    match program_of(alloc, &compiled.bytes) {
-        Ok(program) => Ok(program),
-        Err(OutOfMemory) => Err(CompileFault::OutOfMemory),
-    }
+    let program = program_of(alloc, &compiled.bytes)?;
+    Ok(program)
 }
 
 /// What `encode_shortest` writes of the program of `compile_dwell`, made at once, and the numbers of that program.
@@ -112,13 +110,9 @@ pub fn compile_bytes(
     }
     programs_have_bytes();
     let version = version_for(dwell);
-    let Ok(actions) = actions_of(alloc, checked, version, deps) else {
-        return Err(CompileFault::OutOfMemory);
-    };
+    let actions = actions_of(alloc, checked, version, deps)?;
     let moves = actions_in(&actions, dwell);
-    let Ok(bytes) = join(alloc, plan, version, &actions, dwell) else {
-        return Err(CompileFault::OutOfMemory);
-    };
+    let bytes = join(alloc, plan, version, &actions, dwell)?;
     Ok(ProgramBytes::new(bytes, version, plan.agents(), moves))
 }
 

@@ -1,5 +1,6 @@
 //! Why a plan has no program.
 
+use fleet_model::OutOfMemory;
 use fleet_text::{OutFault, Refusal, TraceOut, put_memory, put_named};
 use thiserror::Error;
 
@@ -11,6 +12,17 @@ pub enum CompileFault {
     /// In the program an agent would have more than 1,000,000 actions, or all agents more than 4,194,304 together.
     #[error("an agent has more than 1000000 actions, or the agents have more than 4194304 together")]
     TooLong,
+}
+
+impl From<OutOfMemory> for CompileFault {
+    ghost use Rattle.std.specs.Prelude.{◌≡◌};
+    ghost use Rattle.fleet_adg.specs.declared.fault.CompileFault.TheVariants.{OutOfMemory};
+
+    ghost from_gives = { λ _ e. e ≡ OutOfMemory };
+
+    fn from(_e: OutOfMemory) -> CompileFault {
+        CompileFault::OutOfMemory
+    }
 }
 
 impl Refusal for CompileFault {

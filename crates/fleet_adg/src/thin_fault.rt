@@ -1,5 +1,6 @@
 //! Why a program was not thinned.
 
+use fleet_model::OutOfMemory;
 use thiserror::Error;
 
 /// Why a program was not thinned.
@@ -7,4 +8,15 @@ use thiserror::Error;
 pub enum ThinFault {
     #[error("out of memory")]
     OutOfMemory,
+}
+
+impl From<OutOfMemory> for ThinFault {
+    ghost use Rattle.std.specs.Prelude.{◌≡◌};
+    ghost use Rattle.fleet_adg.specs.declared.thin_fault.ThinFault.TheVariants.{OutOfMemory};
+
+    ghost from_gives = { λ _ e. e ≡ OutOfMemory };
+
+    fn from(_e: OutOfMemory) -> ThinFault {
+        ThinFault::OutOfMemory
+    }
 }

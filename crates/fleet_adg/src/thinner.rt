@@ -47,10 +47,8 @@ pub fn thin<P: ProgramView>(alloc: Global, accepted: &Accepted<'_, P>) -> Result
     // The program that is read is accepted.
     let _program = accepted.program();
     let thinned = thin_bytes(alloc, accepted)?;
-    match program_of(alloc, &thinned.bytes) {
-        Ok(program) => Ok(program),
-        Err(OutOfMemory) => Err(ThinFault::OutOfMemory),
-    }
+    let program = program_of(alloc, &thinned.bytes)?;
+    Ok(program)
 }
 
 /// What `encode_shortest` writes of the program of `thin`, made at once, and the numbers of that program.
@@ -64,13 +62,9 @@ pub fn thin_bytes<P: ProgramView>(
 {
     let program = accepted.program();
     programs_have_bytes();
-    let Ok(implied) = implied_awaits(alloc, program, accepted.chain()) else {
-        return Err(ThinFault::OutOfMemory);
-    };
+    let implied = implied_awaits(alloc, program, accepted.chain())?;
     let version = shortest_version(program);
-    let Ok(bytes) = thinned_bytes(alloc, program, &implied, version) else {
-        return Err(ThinFault::OutOfMemory);
-    };
+    let bytes = thinned_bytes(alloc, program, &implied, version)?;
     let moves = total_moves(program);
     Ok(ProgramBytes::new(bytes, version, program.agents(), moves))
 }

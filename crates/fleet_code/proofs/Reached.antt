@@ -11,7 +11,7 @@ use Rattle.std.proofs.lemmas.Option.{same_Some}
 use Rattle.fleet_model.specs.declared.program.Await.{Await}
 use Rattle.fleet_model.specs.declared.program.AgentProgram.{AgentProgram}
 use Rattle.fleet_model.specs.Program.{Program, IsAgent, total_moves}
-use Rattle.fleet_model.proofs.OnePass.{AgentsFrom}
+use Rattle.fleet_model.proofs.OnePass.{AgentsFrom, total_within}
 use Rattle.fleet_code.specs.declared.format.Version.{Version}
 use Rattle.fleet_code.specs.Spelling.{magic, two_bytes, count as count_of, cell, await, action, agent, IsSpellableAgent}
 use Rattle.fleet_code.specs.LoadFaults.{ReachesAgent, ReachesAction, ReachesOpcode}
@@ -37,13 +37,6 @@ from_each n i total (a ∷ p) h le =
       omega (arith, sum, le),
       from_each n (i + 1) (total + length a.actions) p (λ j b e. let same : i + suc j ≡ i + 1 + j = omega arith in rw same at (h (suc j) b e)) (omega (arith, sum, le)),
     )
-
-total_within : (n i total : ℕ) (p : Program) → AgentsFrom n i total p → total ≤ MAX_MOVES_IN_ALL → total + total_moves p ≤ MAX_MOVES_IN_ALL
-total_within n i total [] h le = omega (arith, le)
-total_within n i total (a ∷ p) h le =
-    let sum : total_moves (a ∷ p) ≡ length a.actions + total_moves p = sum_by-cons (λ (b : AgentProgram). length b.actions) a p in
-    let rest = total_within n (i + 1) (total + length a.actions) p h.2 h.1 in
-    omega (arith, sum, rest)
 
 pub total_from : (n : ℕ) (p : Program) → AgentsFrom n 0 0 p → total_moves p ≤ MAX_MOVES_IN_ALL
 total_from n p h = let all = total_within n 0 0 p h (omega arith) in omega (arith, all)

@@ -85,8 +85,8 @@ impl Version {
         ensures { result ≡ last_step self }
     {
         match self {
-            Version::One => 3,
-            Version::Two => 4,
+            Version::One => LAST_MOVE,
+            Version::Two => DWELL,
         }
     }
 
@@ -114,7 +114,7 @@ pub fn opcode_of(step: Step) -> u8
         Step::Go(Dir::East) => 1,
         Step::Go(Dir::South) => 2,
         Step::Go(Dir::West) => 3,
-        Step::Dwell => 4,
+        Step::Dwell => DWELL,
     }
 }
 

@@ -1,6 +1,6 @@
 //! Where the actions of an agent stand in the bytes.
 
-ghost use Rattle.std.specs.Prelude.{◌≡◌, ◌<◌, ◌≤◌, ◌+◌, ◌-◌, ◌/◌, ◌∷◌, [], min, replicate, true, length, vec_len, vec_capacity, IfOk, IfSome, Ok, List, ◌^◌, All, slice_index_or};
+ghost use Rattle.std.specs.Prelude.{◌≡◌, ◌<◌, ◌≤◌, ◌+◌, ◌-◌, ◌/◌, ◌∷◌, [], min, replicate, true, length, vec_len, vec_capacity, IfOk, IfSome, IsTrue, ◌↔◌, Ok, List, ◌^◌, All, slice_index_or};
 ghost use Rattle.fleet_model.specs.Answer.{IsDueUnless};
 ghost use Rattle.fleet_model.specs.declared.program.Action.{Action};
 ghost use Rattle.fleet_code.specs.Spelling.{action, agent};
@@ -154,7 +154,7 @@ fn actions_after(
 
 /// Whether each of the next `count` bytes is there and a step.
 fn are_bare(version: Version, count: u32, bytes: &[u8]) -> bool
-    ensures { result ≡ true → AreBare version count bytes.now }
+    ensures { IsTrue result ↔ AreBare version count bytes.now }
 {
     let last = version.last_step();
     match bytes.get(..count as usize) {

@@ -8,29 +8,29 @@ use Rattle.fleet_adg.specs.Compiled.{compiled_staying}
 use Rattle.fleet_adg.proofs.Staying.{short-accepted, stay_alike}
 use Rattle.fleet_adg.proofs.compiler.compile_dwell.Goals as goal
 
-pub returns-in-Ok-clause-program : goal.returns-in-Ok-clause-program
-returns-in-Ok-clause-program c =
+pub returns-clause-program : goal.returns-clause-program
+returns-clause-program c =
     let p = compiled_staying c.args.checked.now.plan c.args.deps c.args.dwell in
-    let is = c.in-Ok.ensures p (rw c.deref.ensures.value c.in_ok-compiled.ensures.spelled.spelled.spelled) in
+    let is = c.in_ok-program.ensures p (rw c.deref.ensures.value c.in_ok-compiled.ensures.spelled.spelled.spelled) in
     c.in_ok-compiled.ensures.due ∙ ap Ok (sym is)
 
-pub returns-in-Ok-clause-accepted : goal.returns-in-Ok-clause-accepted
-returns-in-Ok-clause-accepted c =
+pub returns-clause-accepted : goal.returns-clause-accepted
+returns-clause-accepted c =
     let p = compiled_staying c.args.checked.now.plan c.args.deps c.args.dwell in
-    let is = c.in-Ok.ensures p (rw c.deref.ensures.value c.in_ok-compiled.ensures.spelled.spelled.spelled) in
+    let is = c.in_ok-program.ensures p (rw c.deref.ensures.value c.in_ok-compiled.ensures.spelled.spelled.spelled) in
     subst (IsAccepted (is_passable c.args.checked.now.grid) c.args.checked.now.instance) (sym is) c.in_ok-compiled.ensures.accepted
 
-pub returns-in-Ok-clause-short : goal.returns-in-Ok-clause-short
-returns-in-Ok-clause-short c =
+pub returns-clause-short : goal.returns-clause-short
+returns-clause-short c =
     let p = compiled_staying c.args.checked.now.plan c.args.deps c.args.dwell in
-    let is = c.in-Ok.ensures p (rw c.deref.ensures.value c.in_ok-compiled.ensures.spelled.spelled.spelled) in
+    let is = c.in_ok-program.ensures p (rw c.deref.ensures.value c.in_ok-compiled.ensures.spelled.spelled.spelled) in
     let ground = is_passable c.args.checked.now.grid in
     let tasks = c.args.checked.now.instance in
-    short-accepted ground tasks c.in-Ok.program (subst (IsAccepted ground tasks) (sym is) c.in_ok-compiled.ensures.accepted)
+    short-accepted ground tasks c.in_ok-program.program (subst (IsAccepted ground tasks) (sym is) c.in_ok-compiled.ensures.accepted)
 
-pub returns-in-Ok-clause-equally : goal.returns-in-Ok-clause-equally
-returns-in-Ok-clause-equally c =
+pub returns-clause-equally : goal.returns-clause-equally
+returns-clause-equally c =
     let plan = c.args.checked.now.plan in
     let p = compiled_staying plan c.args.deps c.args.dwell in
-    let is = c.in-Ok.ensures p (rw c.deref.ensures.value c.in_ok-compiled.ensures.spelled.spelled.spelled) in
+    let is = c.in_ok-program.ensures p (rw c.deref.ensures.value c.in_ok-compiled.ensures.spelled.spelled.spelled) in
     subst (λ q. (other : Deps) → RunEqually q (compiled_staying plan other c.args.dwell)) (sym is) (λ other. stay_alike (is_passable c.args.checked.now.grid) c.args.checked.now.instance plan c.plan-plan.ensures.checked.free c.args.dwell c.args.deps other)

@@ -18,14 +18,14 @@ pub returns : goal.returns
 returns g c =
     let p = g.P.ProgramView.program c.program-program.result.now in
     let known = c.program-program.ensures.accepted in
-    let made = c.in-Ok-thinned_bytes.ensures in
+    let made = c.in_ok-bytes.ensures in
     let q : Program = made.0 in
     let h = made.1 in
     let is = made.2 in
     let laws = c.programs_have_bytes.ensures in
     let agents : c.agents.result ≡ length q = c.agents.ensures.count ∙ sym h.long in
     let moves : c.total_moves-moves.result ≡ total_moves q = c.total_moves-moves.ensures ∙ sym (total_same p q h) in
-    let spelled = thinned_shortest laws.first laws.second p q c.agents.ensures.well_formed known.accepted.right.in_range h c.shortest_version-version.result c.shortest_version-version.ensures.first c.in-Ok-thinned_bytes.bytes.items is in (
+    let spelled = thinned_shortest laws.first laws.second p q c.agents.ensures.well_formed known.accepted.right.in_range h c.shortest_version-version.result c.shortest_version-version.ensures.first c.in_ok-bytes.bytes.items is in (
       q,
       c.new.ensures.of q (sym agents) (sym moves) is spelled,
       subst (λ (x : Program). IsThinnedFor (is_passable c.args.accepted.now.grid) c.args.accepted.now.instance x c.args.accepted.now.chain q) (ap g.P.ProgramView.program c.program-program.ensures.program)

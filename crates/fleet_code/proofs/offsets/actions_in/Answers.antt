@@ -5,7 +5,7 @@ use Rattle.fleet_code.proofs.offsets.actions_in.Goals as goal
 
 pub returns-then-are_bare-clause-value : goal.returns-then-are_bare-clause-value
 returns-then-are_bare-clause-value c =
-    let bare = c.if-are_bare.ensures refl in
+    let bare = c.if-are_bare.ensures.0 refl in
     let found = bare_actions c.args.head.version c.args.count c.args.head.whole c.args.head.agents c.args.own 0 c.args.bytes.now bare.there bare.steps in
     ((found.0, drop c.args.count c.args.bytes.now), found.1, (c.bare.ensures ∙ bare_offsets c.args.count found.0 found.2, c.split_at.ensures.back))
 

@@ -11,7 +11,7 @@ returns-clause-value c =
     let head = c.args.head in
     let count = c.args.count in
     let first = c.in-Ok.ensures.value in
-    let bare = c.are_bare.ensures c.if-not-are_bare.false in
+    let bare = c.are_bare.ensures.0 c.if-not-are_bare.false in
     let more : count ≡ suc (count - 1) = omega (arith, c.if-count-eq0.false) in
     let found = bare_later head.version (count - 1) head.whole head.agents c.args.own c.args.bytes.now c.in-Ok.after.now first.0.0 (first.1 ∙ ap (λ (rest : List ℕ). Ok (first.0.0, rest)) (sym first.2.1)) bare.there bare.steps in (
       found.0,

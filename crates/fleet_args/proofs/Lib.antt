@@ -1,7 +1,5 @@
 mod CommandLemmas
-mod MatchedRows
-mod MatchedValues
-mod EnteredCommand
 mod RequestLemmas
-mod Requested
-mod AloneCommand
+mod NoCommand
+mod OwnCommand
+mod OwnValues

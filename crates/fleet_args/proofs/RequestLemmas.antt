@@ -5,21 +5,16 @@ use Rattle.std.specs.Option.{option_map_or}
 use Rattle.std.specs.Result.{result_ok}
 use Rattle.std.specs.Char.{digit_value}
 use Rattle.std.specs.Str.Parse.{AllDigits, IsNumeral, ParsesUnsigned, digits_value, without_leading_plus}
-use Rattle.std.specs.Prelude.{Box}
-use Rattle.std.specs.Box.{box_value}
 use Rattle.std.proofs.lemmas.Bool.{or_right}
-use Rattle.clap.specs.Words.{App, Row, Text, TriesOne, rows_of, first_of, one_of, first_value, one_text, fault_of, takes, is_simple, is_simple_and_free, IsAmong, HasMatchesOf, subcommand_of, subcommand_rows, subcommand_rows_of}
-use Rattle.clap.specs.declared.parser.ArgMatches.{ArgMatches}
-use Rattle.clap.specs.declared.parser.matches.SubCommand.{SubCommand}
-use Rattle.clap.specs.declared.parser.matches.ArgMatches.TheViews.{out-SubCommand}
+use Rattle.clap.specs.Words.{App, Row, Text, TriesOne, rows_of, first_of, one_of, first_value, one_text, fault_of, takes, is_simple_and_free, IsAmong}
 use Rattle.clap.specs.ValueTests.{is_numeral}
 use Rattle.clap.specs.declared.error.ErrorKind.{ErrorKind}
 use Rattle.clap.specs.declared.error.ErrorKind.TheVariants as kind
 use Rattle.clap.specs.declared.parser.matches.Found.{Found}
 use Rattle.clap.proofs.WalkLemmas.{both, first_value-rows, one_text-rows}
 use Rattle.fleet_args.specs.Values.{number_in, number_by, values_found, values_of}
-use Rattle.fleet_args.specs.Commands.{AsksCommand, has_values}
-use Rattle.fleet_args.specs.Request.{AsksBy, is_answered_by, is_help, IsStopOf, StopsFor}
+use Rattle.fleet_args.specs.Commands.{AsksCommand}
+use Rattle.fleet_args.specs.Request.{AsksBy, is_help, IsStopOf, StopsFor}
 use Rattle.fleet_args.specs.declared.commands.Request.{Request}
 use Rattle.fleet_args.specs.declared.request.WordStop.{WordStop}
 use Rattle.fleet_args.specs.declared.request.WordStop.TheVariants as stop
@@ -89,26 +84,7 @@ pub request_found : (f : Found) (name : Text) (found : Option (Text × List Row)
 request_found f name found request is h =
     subst (λ o. AsksBy o request) (sym is) (subst (λ values. AsksCommand name values request) (same_values f) h)
 
--- .. and what that command cannot do without is there
-pub values_there : (f : Found) (name : Text) (found : Option (Text × List Row)) → found ≡ Some (name, rows_of f)
-    → is_answered_by found ≡ true → has_values name (values_found f) ≡ true
-values_there f name found is h = ap (has_values name) (same_values f) ∙ ap is_answered_by (sym is) ∙ h
-
--- the name and the rows of the subcommand
-pub subcommand_pair :
-    {Z : Type 0} (s : Option (Box SubCommand Z)) (name : Text) (rows : List Row)
-    → Some name ≡ option_map (λ b. (out-SubCommand (box_value b)).name.now) s → Some rows ≡ option_map (λ p. p.1) (subcommand_rows s)
-    → subcommand_rows s ≡ Some (name, rows)
-subcommand_pair None name rows h k = cc
-subcommand_pair (Some b) name rows h k = cc
-
 -- ---- an answer
-
--- the command that the matches enter is the one that the words enter, by the command line that it is
-pub enters_same :
-    (built app : App) (words : List Text) (m : ArgMatches) → built ≡ app → is_simple app ≡ true → HasMatchesOf built words m
-    → subcommand_rows_of m ≡ subcommand_of app words
-enters_same built app words m is simple has = (has (ap is_simple is ∙ simple)).1 ∙ ap (λ x. subcommand_of x words) is
 
 -- the command line finds no fault in the words
 pub faultless : (built app : App) (words : List Text) → built ≡ app → is_simple_and_free app ≡ true

@@ -1,12 +1,12 @@
 -- The words and options of the commands, as what a parse reads of them.
 use Rattle.std.specs.Prelude.{◌≡◌, ℕ, Bool, true, false, List, [], ◌∷◌, Option, None, Some, codes, pos, map, option_map, if◌then◌else◌}
 use Rattle.std.specs.Option.{option_map_or}
-use Rattle.clap.specs.Words.{App, Shape, Rule, Text, app_of, new_app, new_rule, shape_of, rule_of}
+use Rattle.clap.specs.Words.{App, Shape, Rule, Text, app_of, new_app, new_rule, rule_of}
 use Rattle.clap.specs.declared.builder.Arg.{Arg}
 use Rattle.clap.specs.declared.builder.Command.TheViews.{out-Command as fields_of}
 use Rattle.clap.specs.declared.builder.Command.{Command}
 use Rattle.clap.specs.declared.builder.action.ArgAction.{ArgAction}
-use Rattle.clap.specs.declared.builder.action.ArgAction.TheVariants.{SetTrue}
+use Rattle.clap.specs.declared.builder.action.ArgAction.TheVariants.{Set, SetTrue}
 use Rattle.clap.specs.declared.builder.ValueParser.{ValueParser}
 use Rattle.clap.specs.declared.builder.ValueParser.TheVariants as parser
 use Rattle.fleet_model.specs.declared.limits.TheConstants.{MAX_MOVES, MAX_TRIES}
@@ -61,10 +61,10 @@ abbrev pub is_word : Form → Bool
 is_word form.Word = true
 is_word _ = false
 
--- what a flag does, and how many values another argument has
-abbrev pub action_for : Form → Option ArgAction
-action_for form.Flag = Some SetTrue
-action_for _ = None
+-- what a use of a flag does, and of another argument, which takes a value
+abbrev pub action_for : Form → ArgAction
+action_for form.Flag = SetTrue
+action_for _ = Set
 
 abbrev pub value_names_for : Form → ℕ
 value_names_for form.Flag = 0
@@ -82,7 +82,7 @@ abbrev pub plain_rule : Text → Form → Rule
 plain_rule name f = record (new_rule name) {
   required = is_word f;
   long = if is_word f then None else Some name;
-  action = action_for f;
+  action = Some (action_for f);
   value_names = value_names_for f;
 }
 
@@ -102,6 +102,14 @@ command name rules = record (new_app name).top { rules = rules }
 abbrev pub shape_for : OptionNames → CommandText → Shape
 shape_for names text = command text.name.now (map (rule_for names) text.arguments.now)
 
+-- a command of this shape, without subcommands
+abbrev pub alone : Shape → App
+alone shape = record { top = shape; subs = [] }
+
+-- .. by itself: its words begin after its name
+abbrev pub own : Shape → App
+own shape = alone (record shape { no_binary_name = true })
+
 -- the argument has this rule, and does not reach into other commands
 abbrev pub IsArg : Rule → Arg → Type 0
 IsArg rule arg = (rule_of arg ≡ rule) × (arg.global ≡ false)
@@ -113,7 +121,3 @@ IsLocal command = (fields_of command).has_globals ≡ false
 -- the command is this one, and has no argument that reaches into others
 abbrev pub IsApp : App → Command → Type 0
 IsApp app command = (app_of command ≡ app) × IsLocal command
-
--- the command has this shape, and no argument that reaches into others
-abbrev pub IsLeafCommand : Shape → Command → Type 0
-IsLeafCommand shape command = (shape_of command ≡ shape) × ((fields_of command).has_globals ≡ false)

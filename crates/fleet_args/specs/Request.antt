@@ -1,11 +1,10 @@
 -- The request that the words make, by the matches that `clap` defines for them.
-use Rattle.std.specs.Prelude.{◌≡◌, ◌≢◌, Bool, true, false, not, List, [], ◌∷◌, Option, Some, None, Result, MatchResult, ⊤}
+use Rattle.std.specs.Prelude.{◌≡◌, ◌≢◌, Bool, true, false, not, List, [], Option, Some, None, Result, MatchResult, ⊤}
 use Rattle.std.specs.List.{list_any}
-use Rattle.std.specs.Str.{bytes_eq}
 use Rattle.clap.specs.Words.{App, Row, Text, subcommand_of, takes, fault_of}
 use Rattle.clap.specs.declared.error.ErrorKind.{ErrorKind}
 use Rattle.clap.specs.declared.error.ErrorKind.TheVariants as kind
-use Rattle.fleet_args.specs.Commands.{OptionNames, AreNames, AsksCommand, commands, fleet, has_values}
+use Rattle.fleet_args.specs.Commands.{OptionNames, AreNames, AsksCommand, fleet}
 use Rattle.fleet_args.specs.Values.{values_of}
 use Rattle.fleet_args.specs.declared.commands.Request.{Request}
 use Rattle.fleet_args.specs.declared.request.WordStop.{WordStop}
@@ -15,11 +14,6 @@ use Rattle.fleet_args.specs.declared.request.WordStop.TheVariants as stop
 abbrev pub AsksBy : Option (Text × List Row) → Request → Type 0
 AsksBy None request = ⊥
 AsksBy (Some found) request = AsksCommand found.0 (values_of found.1) request
-
--- a command was found, and in its rows the arguments that it cannot do without have values
-abbrev pub is_answered_by : Option (Text × List Row) → Bool
-is_answered_by None = false
-is_answered_by (Some found) = has_values found.0 (values_of found.1)
 
 -- the words ask for help or for the version
 abbrev pub is_help : ErrorKind → Bool
@@ -47,16 +41,10 @@ StopsFor app words (stop.Help text) = Refuses is_help app words
 abbrev pub Asks : App → List Text → Request → Type 0
 Asks app words request = (fault_of app words ≡ []) × AsksBy (subcommand_of app words) request
 
--- the words begin with the name of a command
-abbrev pub begin_with_command : List Text → Bool
-begin_with_command [] = false
-begin_with_command (word ∷ words) = list_any (λ c. bytes_eq c.0 word) commands
-
--- the request that the words ask; or none, if they do not begin with the name of a command, or the command line finds a
--- fault in them
+-- the request that the words ask; or none, if the command line finds a fault in them
 abbrev pub AsksAlone : OptionNames → List Text → Option Request → Type 0
 AsksAlone names words (Some request) = Asks (fleet names) words request
-AsksAlone names words None = begin_with_command words ≡ true → fault_of (fleet names) words ≢ []
+AsksAlone names words None = fault_of (fleet names) words ≢ []
 
 -- the answer is the request that the words ask, or a stop for words that are not taken
 abbrev pub Reads : App → List Text → Result Request WordStop → Type 0

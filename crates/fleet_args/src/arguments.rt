@@ -2,7 +2,7 @@
 
 ghost use Rattle.std.specs.Prelude.{◌≡◌, IfOk, None, fold, map, true};
 ghost use Rattle.clap.specs.Words.{app_of, with_rule, found_of, one_text};
-ghost use Rattle.fleet_args.specs.Arguments.{IsArg, IsLeafCommand, IsApp, IsLocal, described, parser_for, plain_rule, rule_for, shape_for, told};
+ghost use Rattle.fleet_args.specs.Arguments.{IsArg, IsApp, IsLocal, alone, described, parser_for, plain_rule, rule_for, shape_for, told};
 ghost use Rattle.fleet_args.specs.declared.arguments.OptionNames.{OptionNames};
 ghost use Rattle.fleet_args.specs.Values.{IsBestIfUsed, IsFlag, IsKind, IsNumber, IsNumberIfUsed, IsText, best_in, deps_in, has_kind, has_number, has_text, number_by, reads_best, reads_number, values_in};
 
@@ -291,10 +291,13 @@ fn plain_arg<'a>(alloc: Global, text: &ArgumentText) -> Arg<'a>
     ensures { IsArg (plain_rule text.now.name.now text.now.form) result }
 {
     let named = Arg::new(alloc, text.name).help(text.help);
+    if let Form::Flag = text.form {
+        return named.action(ArgAction::SetTrue).long(text.name);
+    }
+    let valued = named.action(ArgAction::Set).value_name(text.value);
     match text.form {
-        Form::Word => named.value_name(text.value).required(true),
-        Form::Flag => named.action(ArgAction::SetTrue).long(text.name),
-        _ => named.value_name(text.value).long(text.name),
+        Form::Word => valued.required(true),
+        _ => valued.long(text.name),
     }
 }
 
@@ -348,7 +351,7 @@ pub(crate) fn command_of<'a>(
     names: OptionNames<'a>,
     text: &CommandText,
 ) -> Result<Command<'a>, AllocError>
-    ensures { IfOk result (IsLeafCommand (shape_for names.entry text.now)) }
+    ensures { IfOk result (IsApp (alone (shape_for names.entry text.now))) }
 {
     with_arguments(
         alloc,

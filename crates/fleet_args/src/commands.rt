@@ -314,7 +314,7 @@ pub(crate) static COMMANDS: [CommandText; 14] = [
 ];
 
 /// The tries that the matches of a command ask for.
-pub(crate) fn tries_in(matches: &ArgMatches<'_>) -> Tries
+fn tries_in(matches: &ArgMatches<'_>) -> Tries
     requires count { has_number 32 (values_in matches.now) (codes "tries") ≡ true }
     requires best { reads_best (values_in matches.now) (codes "best") ≡ true }
     ensures { AsksTries (values_in matches.now) result }

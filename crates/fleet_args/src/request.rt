@@ -1,17 +1,17 @@
 //! The command line, and the request that its words make.
 
-ghost use Rattle.std.specs.Prelude.{◌≡◌, map, string_bytes, true, IfOk, codes};
+ghost use Rattle.std.specs.Prelude.{◌≡◌, ◌≢◌, [], map, string_bytes, IfOk, codes};
 ghost use Rattle.std.specs.List.{position};
 ghost use Rattle.std.specs.Str.{bytes_eq};
-ghost use Rattle.clap.specs.Words.{subcommand_rows_of, kind_of, app_of, new_app, with_subcommand};
+ghost use Rattle.clap.specs.Words.{kind_of, app_of, fault_of, new_app, with_subcommand};
 ghost use Rattle.fleet_args.specs.Commands.{AreNames, fleet, fleet_top, with_shapes};
-ghost use Rattle.fleet_args.specs.Request.{AsksAlone, AsksBy, is_answered_by, IsStopOf, Reads, ReadsFleet};
-ghost use Rattle.fleet_args.specs.Arguments.{shape_for};
+ghost use Rattle.fleet_args.specs.Request.{AsksAlone, IsStopOf, ReadsFleet, StopsFor};
+ghost use Rattle.fleet_args.specs.Arguments.{IsApp, own, shape_for};
 
 use crate::arguments::{CommandText, OptionNames, command_of};
 use crate::commands::{COMMANDS, Request, request_by};
+use clap::Command;
 use clap::error::ErrorKind;
-use clap::{ArgMatches, Command};
 use std::alloc::{AllocError, Global};
 use thiserror::Error;
 
@@ -24,17 +24,6 @@ pub enum WordStop {
     Usage(String),
     #[error("{0}")]
     Help(String),
-}
-
-/// The request that the matches of the command line give.
-fn request_in<'a>(matches: &ArgMatches<'a>) -> Request<'a>
-    requires { is_answered_by (subcommand_rows_of matches.now) ≡ true }
-    ensures { AsksBy (subcommand_rows_of matches.now) result }
-{
-    match matches.subcommand() {
-        Some((name, matches)) => request_by(name, matches),
-        None => unreachable!(),
-    }
 }
 
 /// The text of an error, as usage or as help.
@@ -51,21 +40,17 @@ fn stop_of(alloc: Global, error: &clap::Error) -> WordStop
     }
 }
 
-/// Reads the words by the whole command line with these names.
-fn read_whole<'a>(
-    alloc: Global,
-    names: OptionNames<'a>,
-    words: &'a [String],
-) -> Result<Request<'a>, WordStop>
-    requires { AreNames names }
-    ensures { Reads (fleet names.entry) (map string_bytes words.entry.now) result }
+/// Why the whole command line with these names does not take the words, in which it finds a fault.
+fn stop_by_line<'a>(alloc: Global, names: OptionNames<'a>, words: &'a [String]) -> WordStop
+    requires { fault_of (fleet names) (map string_bytes words.now) ≢ [] }
+    ensures { StopsFor (fleet names.entry) (map string_bytes words.entry.now) result }
 {
     let Ok(command) = fleet_command(alloc, names) else {
-        return Err(WordStop::OutOfMemory);
+        return WordStop::OutOfMemory;
     };
     match command.try_get_matches_from(words) {
-        Ok(matches) => Ok(request_in(&matches)),
-        Err(error) => Err(stop_of(alloc, &error)),
+        Ok(_) => unreachable!(),
+        Err(error) => stop_of(alloc, &error),
     }
 }
 
@@ -76,20 +61,19 @@ fn place_of_command(texts: &[CommandText], name: &str) -> Option<usize>
     texts.iter().position(|text| text.name == name)
 }
 
-/// The command line with this command alone.
-fn alone_command<'a>(
+/// The command by itself, whose words begin after its name.
+fn own_command<'a>(
     alloc: Global,
     names: OptionNames<'a>,
     text: &CommandText,
 ) -> Result<Command<'a>, AllocError>
-    ensures { IfOk result (λ command. app_of command
-        ≡ with_subcommand fleet_top (shape_for names.entry text.now)) }
+    ensures { IfOk result (IsApp (own (shape_for names.entry text.now))) }
 {
-    with_command(alloc, without_commands(alloc)?, names, text)
+    Ok(command_of(alloc, names, text)?.no_binary_name(true))
 }
 
-/// Reads the words by the command alone with whose name they begin, if there is one and it takes them. The command line
-/// with all commands costs ten times as much to make.
+/// Reads the words by the command itself with whose name they begin, if there is one and it takes those after it. The
+/// command line with all commands costs ten times as much to make.
 fn read_alone<'a>(
     alloc: Global,
     names: OptionNames<'a>,
@@ -98,16 +82,17 @@ fn read_alone<'a>(
     requires { AreNames names }
     ensures { IfOk result (AsksAlone names.entry (map string_bytes words.entry.now)) }
 {
-    let [first, ..] = words else {
+    let [first, rest @ ..] = words else {
         return Ok(None);
     };
+    let name = first.as_str();
     let texts = COMMANDS.as_slice();
-    let Some(j) = place_of_command(texts, first) else {
+    let Some(j) = place_of_command(texts, name) else {
         return Ok(None);
     };
-    let command = alone_command(alloc, names, &texts[j])?;
-    match command.try_get_matches_from(words) {
-        Ok(matches) => Ok(Some(request_in(&matches))),
+    let command = own_command(alloc, names, &texts[j])?;
+    match command.try_get_matches_from(rest) {
+        Ok(matches) => Ok(Some(request_by(name, &matches))),
         Err(error) if error.kind() == ErrorKind::OutOfMemory => Err(AllocError),
         Err(_) => Ok(None),
     }
@@ -130,7 +115,7 @@ pub fn read_words<'a>(alloc: Global, words: &'a [String]) -> Result<Request<'a>,
     };
     match read_alone(alloc, names, words) {
         Ok(Some(request)) => Ok(request),
-        Ok(None) => read_whole(alloc, names, words),
+        Ok(None) => Err(stop_by_line(alloc, names, words)),
         Err(AllocError) => Err(WordStop::OutOfMemory),
     }
 }
@@ -192,10 +177,7 @@ fn with_commands<'a>(
 }
 
 /// The whole command line, with these names.
-pub(crate) fn fleet_command<'a>(
-    alloc: Global,
-    names: OptionNames<'a>,
-) -> Result<Command<'a>, AllocError>
+fn fleet_command<'a>(alloc: Global, names: OptionNames<'a>) -> Result<Command<'a>, AllocError>
     ensures { IfOk result (λ command. app_of command ≡ fleet names.entry) }
 {
     with_commands(alloc, without_commands(alloc)?, names, COMMANDS.as_slice())

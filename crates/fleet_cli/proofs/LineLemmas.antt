@@ -1,6 +1,7 @@
 -- The whole lines of a text.
 use Rattle.std.proofs.Common.{◌≡◌, ◌∙◌, ℕ, zero, suc, ◌-◌, ◌<◌, ◌≤◌, Bool, true, false, ◌||◌, cond, List, [], ◌∷◌, length, take, drop, get_or, refl, sym, ap, arith}
 use Rattle.std.specs.List.{list_any}
+use Rattle.std.proofs.lemmas.Bool.{or_right}
 use Rattle.fleet_text.specs.Text.{is_lf}
 use Rattle.fleet_cli.specs.Files.{whole_lines}
 
@@ -19,11 +20,7 @@ first_line b bytes any = ap (λ (any : Bool). cond any (b ∷ whole_lines bytes)
 among : (bytes : List ℕ) (n : ℕ) → n < length bytes → is_lf (get_or bytes n 0) ≡ true → list_any is_lf bytes ≡ true
 among [] n within here = absurd (omega arith)
 among (b ∷ bytes) zero within here = rw here refl
-among (b ∷ bytes) (suc n) within here = ap (λ (any : Bool). is_lf b || any) (among bytes n (omega arith) here) ∙ or_true (is_lf b)
-  where
-    or_true : (x : Bool) → x || true ≡ true
-    or_true true = refl
-    or_true false = refl
+among (b ∷ bytes) (suc n) within here = ap (λ (any : Bool). is_lf b || any) (among bytes n (omega arith) here) ∙ or_right (is_lf b) true refl
 
 -- the last LF, behind which there is none, ends them
 pub lines_to : (bytes : List ℕ) (n : ℕ) → n < length bytes → is_lf (get_or bytes n 0) ≡ true → list_any is_lf (drop (suc n) bytes) ≡ false → take (suc n) bytes ≡ whole_lines bytes

@@ -48,12 +48,14 @@ pub trait Files {
     fn cut_to_lines(&mut self, alloc: Global, name: &str) -> Result<(), FileFault>
         ensures cut { OnOk result
             (HoldsLines (contents self.old) (contents self.new) name.now) }
+        ensures refused { IfErr result (refuses_write self.old name.now) }
         ensures others { ChangesOnly (contents self.old) (contents self.new) name.now };
 
     /// Puts the bytes behind those of the file, and stores them before it answers; a file that is not there is begun.
     fn append(&mut self, name: &str, bytes: &[u8]) -> Result<(), FileFault>
         ensures grown { PutsBehind (contents self.old) (contents self.new) name.now result
             bytes.now }
+        ensures refused { IfErr result (refuses_write self.old name.now) }
         ensures others { ChangesOnly (contents self.old) (contents self.new) name.now };
 }
 

@@ -1,6 +1,6 @@
 //! The commands that print what they find: `instance`, `check`, `plan`, `verify` and `list`.
 
-ghost use Rattle.std.specs.Prelude.{◌<◌, ◌∷◌, [], length, List, ℕ, IfOk};
+ghost use Rattle.std.specs.Prelude.{length, IfOk};
 ghost use Rattle.fleet_text.specs.Sink.{IsWorking, TakesAll};
 ghost use Rattle.fleet_cli.specs.PrintCommands.{task_line, task_lines, map_line, instance_text, AnswersInstance, check_text, IsAskedBound, AnswersCheck, AnswersPlan, accepted_text, SpellsBreakingHolds, ReportsRefused, AnswersVerify, AnswersList};
 ghost use Rattle.fleet_model.specs.declared.geometry.Place.{Place};

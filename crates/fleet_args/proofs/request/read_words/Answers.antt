@@ -8,11 +8,14 @@ returns-in-Ok-Some c = (
   rw c.in-Ok-Some.field-0-is at c.in-Ok-Some.ensures,
 )
 
+pub stop_by_line-requires : goal.stop_by_line-requires
+stop_by_line-requires c = rw c.in-Ok-None.field-0-is at c.in-Ok-None.ensures
+
 pub returns-in-Ok-None : goal.returns-in-Ok-None
 returns-in-Ok-None c = (
   record { deps = c.as_slice.result; best = c.as_slice-2.result },
   record { deps = search rules; best = search rules },
-  c.read_whole.ensures,
+  c.stop_by_line.ensures,
 )
 
 pub returns-in-Err : goal.returns-in-Err

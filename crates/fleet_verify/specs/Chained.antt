@@ -1,10 +1,11 @@
 -- Open pairs as questions for chains, with the levels of the actions that enter their second visits.
-use Rattle.std.specs.Prelude.{◌≡◌, ℕ, ◌+◌, ◌*◌, ◌<◌, List, get_or, All, Contains}
+use Rattle.std.specs.Prelude.{◌≡◌, ℕ, ◌+◌, ◌*◌, ◌<◌, ◌≤◌, List, get_or, All, Contains}
+use Rattle.fleet_model.specs.declared.program.Visit.{Visit}
 use Rattle.fleet_model.specs.Program.{Program}
 use Rattle.fleet_model.specs.Chain.{Reaches}
 use Rattle.fleet_model.specs.Visit.{entering, leaving}
 use Rattle.fleet_needs.specs.Asked.{IsQuestion, AreAnswers}
-use Rattle.fleet_verify.specs.Ahead.{level_in}
+use Rattle.fleet_verify.specs.Ahead.{level_in, count_in}
 use Rattle.fleet_verify.specs.OpenPairs.{question_of}
 use Rattle.fleet_verify.specs.declared.chained.Answers.{Answers}
 use Rattle.fleet_verify.specs.declared.chained.LevelQuestion.{LevelQuestion}
@@ -22,6 +23,10 @@ AreKnown p known = AreAnswers p known.questions.items known.flags.items
 -- by the level of the last action, then by its agent
 abbrev pub key_of : LevelQuestion → ℕ
 key_of q = q.level * AGENTS + q.question.last.agent
+
+-- the visit begins with an action, which has no level in these rows, or none below this one
+abbrev pub BeginsLate : List (List ℕ) → Visit → ℕ → Type 0
+BeginsLate rows v level = (1 ≤ v.position) × (v.position ≤ count_in rows v.agent → level ≤ level_in rows (entering v))
 
 -- a question of the program, with the level that its last action has in these rows
 pub record IsAsked (p : Program) (rows : List (List ℕ)) (q : LevelQuestion) : Type 0 where

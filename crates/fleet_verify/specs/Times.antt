@@ -6,6 +6,8 @@ use Rattle.fleet_model.specs.Chain.{IsAction, DirectlyNeeds, ChainFrom, IsCritic
 use Rattle.fleet_model.specs.Machine.{indices}
 use Rattle.fleet_model.specs.Schedule.{Schedule, IsSchedule, HasBegunBy, HasEndedBy, EndInTime, NeedsNoStalled}
 use Rattle.fleet_needs.specs.Critical.{AreCriticalCosts}
+use Rattle.fleet_verify.specs.Stretch.{stretch_actions, stretch_between}
+use Rattle.fleet_verify.specs.declared.times.TheConstants.{LONGEST}
 use Rattle.fleet_needs.specs.declared.critical.CriticalCosts.{CriticalCosts}
 
 -- a program, and what its actions cost
@@ -64,6 +66,10 @@ pub record IsOwnUntil (p : Program) (cost : ActionId → ℕ) (b : ActionId) (t 
   pub some : 1 ≤ a.number
   pub critical : IsCriticalCost p cost a t
 
+-- the action ends then, and begins when a ends, the action of the same agent right before it
+abbrev pub FollowsOwn : Program → (ActionId → ℕ) → ActionId → ℕ → ActionId → Type 0
+FollowsOwn p cost b end a = (t : ℕ) × (t + cost b ≡ end) × IsOwnUntil p cost b t a
+
 -- the action directly needs a, which ends at this time
 pub record IsNeedUntil (p : Program) (cost : ActionId → ℕ) (b : ActionId) (t : ℕ) (a : ActionId) : Type 0 where
   pub needs : DirectlyNeeds p b a
@@ -84,6 +90,12 @@ pub record IsWayTo (p : Program) (cost : ActionId → ℕ) (last : ActionId) (to
   pub chain : ChainFrom p first rest last
   pub critical : IsCriticalCost p cost first end
   pub sum : total ≡ end + sum_by cost rest
+
+-- the actions of one agent from the first, which ends then, to this last one are such a path, and fit one stretch
+pub record IsStretchTo (p : Program) (cost : ActionId → ℕ) (last : ActionId) (total : ℕ) (first : ActionId) (end : ℕ) : Type 0 where
+  pub within : first.number ≤ last.number
+  pub few : last.number < first.number + LONGEST
+  pub way : IsWayTo p cost last total (stretch_actions (stretch_between first last)) first end
 
 -- a chain of this cost, or no action if the cost is nothing
 abbrev pub IsPathOfCost : Program → (ActionId → ℕ) → ℕ → List ActionId → Type 0

@@ -6,7 +6,7 @@ ghost use Rattle.fleet_model.specs.Program.{AreInRange};
 ghost use Rattle.fleet_model.specs.Machine.{IsFinish};
 ghost use Rattle.fleet_verify.specs.Ahead.{AreCountedUp, level_in};
 ghost use Rattle.fleet_verify.specs.OpenPairs.{AreVisits, question_of};
-ghost use Rattle.fleet_verify.specs.Chained.{AreKnown, IsChained, IsAskedOf, AreAsked, key_of};
+ghost use Rattle.fleet_verify.specs.Chained.{AreKnown, IsChained, IsAskedOf, AreAsked, BeginsLate, key_of};
 
 use crate::level_row::{LevelRow, row_of};
 use crate::order::{OpenPair, leaving};
@@ -241,6 +241,7 @@ fn ask<P: ProgramView>(program: &P, rows: &Vec<LevelRow>, pair: OpenPair) -> Opt
 /// Whether the visit does not begin at a level below this one.
 fn begins_late(rows: &Vec<LevelRow>, visit: Visit, level: u32) -> bool
     requires { visit.agent < length rows.now.items }
+    ensures { IsTrue result ↔ BeginsLate rows.now.items visit level }
 {
     if visit.position == 0 {
         return false;

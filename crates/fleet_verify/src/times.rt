@@ -5,12 +5,13 @@ ghost use Rattle.std.specs.Prelude.{◌≡◌, ℕ, ◌+◌, ◌<◌, ◌≤◌,
 ghost use Rattle.fleet_model.specs.declared.program.ActionId.{ActionId};
 ghost use Rattle.fleet_model.specs.Program.{moves, AreInRange};
 ghost use Rattle.fleet_model.specs.Chain.{IsAction, IsCriticalCost};
-ghost use Rattle.fleet_verify.specs.Times.{ArrivesAt, EachArrivesAt, HaveArrivedAt, IsCriticalPath, IsLatest, IsLater, LeadsBack, IsAwaitedUntil, IsOwnUntil, IsNeedUntil, IsFreeTo, IsWayTo};
-ghost use Rattle.fleet_verify.specs.Stretch.{first_of, stretch_actions, stretch_between, path_actions};
+ghost use Rattle.fleet_verify.specs.Times.{ArrivesAt, EachArrivesAt, HaveArrivedAt, IsCriticalPath, IsLatest, IsLater, LeadsBack, IsAwaitedUntil, IsOwnUntil, FollowsOwn, IsNeedUntil, IsFreeTo, IsWayTo, IsStretchTo};
+ghost use Rattle.fleet_verify.specs.declared.times.TheConstants.{LONGEST};
+ghost use Rattle.fleet_verify.specs.Stretch.{first_of, stretch_actions, path_actions};
 
 use crate::stretch::Stretch;
 use crate::verifier::Accepted;
-use fleet_model::{ActionId, OutOfMemory, ProgramView};
+use fleet_model::{ActionId, Instruction, OutOfMemory, ProgramView};
 use fleet_needs::{ActionCosts, CriticalCosts};
 use std::alloc::Global;
 use std::marker::Model;
@@ -207,7 +208,7 @@ impl<'a, P: ProgramView, C: ActionCosts> Times<'a, P, C> {
     }
 
     /// A stretch of a dearest chain that ends with this action, which ends then, and when its first action ends.
-    #[inline(never)]
+    #[inline(always)]
     fn stretch_to(&self, action: ActionId, end: u64) -> (Stretch, u64)
         requires action { IsAction (P.program self.now.program) action }
         requires end { IsCriticalCost (P.program self.now.program) (C.cost self.now.costs) action
@@ -230,13 +231,31 @@ impl<'a, P: ProgramView, C: ActionCosts> Times<'a, P, C> {
         requires action { IsAction (P.program self.now.program) action }
         requires end { IsCriticalCost (P.program self.now.program) (C.cost self.now.costs) action
             end }
-        ensures first { result.0.number ≤ action.number }
-        ensures few { action.number < result.0.number + u16.MAX }
-        ensures way { IsWayTo (P.program self.now.program) (C.cost self.now.costs) action end
-            (stretch_actions (stretch_between result.0 action)) result.0 result.1 }
+        ensures stretch { IsStretchTo (P.program self.now.program) (C.cost self.now.costs) action
+            end result.0 result.1 }
+        ensures whole { action.number + 1 < result.0.number + LONGEST → (a : ActionId)
+            → FollowsOwn (P.program self.now.program) (C.cost self.now.costs) result.0 result.1 a
+            → ⊥ }
+    {
+        match self.longer(action, end) {
+            Some(from) => self.way_on(action, end, from),
+            None => (action, end),
+        }
+    }
+
+    /// The same, if such a stretch begins with this action, which ends then.
+    #[inline(never)]
+    fn way_on(&self, action: ActionId, end: u64, from: (ActionId, u64)) -> (ActionId, u64)
+        requires { IsStretchTo (P.program self.now.program) (C.cost self.now.costs) action end
+            from.0 from.1 }
+        ensures stretch { IsStretchTo (P.program self.now.program) (C.cost self.now.costs) action
+            end result.0 result.1 }
+        ensures whole { action.number + 1 < result.0.number + LONGEST → (a : ActionId)
+            → FollowsOwn (P.program self.now.program) (C.cost self.now.costs) result.0 result.1 a
+            → ⊥ }
     {
         let least = action.number.saturating_sub(LONGEST - 1).max(1);
-        let mut way = (action, end);
+        let mut way = from;
         while way.0.number > least {
             let Some(longer) = self.longer(way.0, way.1) else {
                 return way;
@@ -259,6 +278,8 @@ impl<'a, P: ProgramView, C: ActionCosts> Times<'a, P, C> {
             (P.program self.now.program) (C.cost self.now.costs) action found.0) }
         ensures end { IfSome result (λ found. IsCriticalCost
             (P.program self.now.program) (C.cost self.now.costs) found.0 found.1) }
+        ensures none { IfNone result ((a : ActionId) → FollowsOwn
+            (P.program self.now.program) (C.cost self.now.costs) action end a → ⊥) }
     {
         let time = self.begin(action, end);
         let before = self.own_until(action, time)?;
@@ -341,17 +362,28 @@ impl<'a, P: ProgramView, C: ActionCosts> Times<'a, P, C> {
             (P.program self.now.program) (C.cost self.now.costs) action time a → ⊥) }
     {
         self.known();
-        for k in 0..self.program.await_count(action.agent, action.number) {
-            let one = self.program.await_at(action.agent, action.number, k);
-            let awaited = ActionId {
-                agent: one.agent,
-                number: one.count,
-            };
-            let end = self.end(awaited);
-            if end == time {
-                return Some(awaited);
+        let _agents = self.program.agents();
+        let ActionId { agent, number } = action;
+        let finished = number - 1;
+        let mut at = self.program.offset(agent, finished, 0);
+        let mut k = 0;
+        'instructions: loop {
+            let reading = self.program.read(agent, finished, k, at);
+            match reading.instruction {
+                Instruction::Await(one) => {
+                    let awaited = ActionId {
+                        agent: one.agent,
+                        number: one.count,
+                    };
+                    let end = self.end(awaited);
+                    if end == time {
+                        return Some(awaited);
+                    }
+                    at = reading.after;
+                    k += 1;
+                }
+                Instruction::Step(_) => return None,
             }
         }
-        None
     }
 }

@@ -1,9 +1,8 @@
 -- Answers of questions, one after another.
-use Rattle.std.proofs.Common.{◌≡◌, ◌≢◌, ℕ, ◌+◌, ◌-◌, ◌<◌, ◌≤◌, Bool, true, false, List, length, replicate, get_or, set, Some, refl, sym, ap, subst, ◌∙◌, arith, inl, inr, ◌⊎◌}
-use Rattle.std.specs.Prelude.{slice_get, slice_index, nat_lt, All, Option, None}
+use Rattle.std.proofs.Common.{◌≡◌, ◌≢◌, ℕ, ◌+◌, ◌-◌, ◌<◌, ◌≤◌, Bool, true, false, List, length, get_or, set, Some, refl, sym, ap, subst, ◌∙◌, arith, inl, inr, ◌⊎◌}
+use Rattle.std.specs.Prelude.{slice_get, slice_index, nat_lt, All, None}
 use Rattle.std.proofs.lemmas.Grind.{common_steps}
 use Rattle.std.proofs.lemmas.Option.{slice_get_within, get_or_from_slice_get, slice_get-get_or, same_Some}
-use Rattle.std.proofs.lemmas.List.{get_or-replicate, get_or_past, length-replicate}
 use Rattle.std.proofs.lemmas.Bool.{cases_lt, cases_eq, cases_order, ltb-true, lt-ltb, false≢true}
 use Rattle.fleet_model.specs.declared.program.ActionId.{ActionId}
 use Rattle.fleet_model.specs.Program.{Program}
@@ -21,6 +20,7 @@ use Rattle.fleet_needs.specs.declared.joins.Join.{Join}
 use Rattle.fleet_needs.specs.declared.questions.Question.{Question}
 use Rattle.fleet_needs.specs.declared.schedule.Schedule.{Schedule}
 use Rattle.fleet_needs.proofs.Joining.{own_column}
+use Rattle.fleet_needs.proofs.NextBlock.{column_cases}
 
 -- a count of the row that is below the number of the first action says that no chain begins with it
 pub answer_is : (p : Program) (q : Question) (n : ℕ) → 1 ≤ q.first.number → IsColumn p q.last q.first.agent n → IsAnswer p q (nat_lt n q.first.number)
@@ -40,12 +40,6 @@ answer_is p q n some col = (
 pub near_answer : (p : Program) (q : Question) (flag : Bool) → flag ≡ false → Reaches p q.first q.last → IsAnswer p q flag
 near_answer p q flag e r = ((λ set none. false≢true (sym e ∙ set)), (λ none. absurd (none r)))
 
-pub none_flagged_at : (n k : ℕ) → get_or (replicate n false) k false ≡ false
-none_flagged_at n k = elim (cases_lt k n) [
-  | inl l ↦ get_or-replicate n k false false l
-  | inr l ↦ get_or_past (replicate n false) k false (omega (arith, length-replicate n false))
-]
-
 -- if no agent's column is asked for, flags that are not set are the answers
 pub none_asked : (p : Program) (questions : List Question) (asked flags : List Bool) → ((k : ℕ) (q : Question) → slice_get questions k ≡ Some q → (get_or asked q.first.agent false ≡ true) ⊎ Reaches p q.first q.last)
     → ((k : ℕ) → get_or asked k false ≡ false) → length flags ≡ length questions → ((k : ℕ) → get_or flags k false ≡ false) → AreAnswers p questions flags
@@ -57,25 +51,26 @@ none_asked p questions asked flags h none long clear = record {
 -- a question whose agent is not asked for stays answered
 pub known_on : (p : Program) (asked : List Bool) (columns : Columns) (questions : List Question) (old new : List Bool) → AreAnswered p columns questions old new → AreKnown p asked questions old
     → AreKnown p asked questions new
-known_on p asked columns questions old new a known m q e = elim (known m q e) [ inl set ↦ inl set | inr before ↦ inr (go before (get_or columns.of_agent.items q.first.agent None) refl) ]
-  where
-    go : IsAnswer p q (get_or old m false) → (o : Option ℕ) → get_or columns.of_agent.items q.first.agent None ≡ o → IsAnswer p q (get_or new m false)
-    go before (Some k) f = a.answered m k q e f
-    go before None f = subst (λ (b : Bool). IsAnswer p q b) (sym (a.others m q e f)) before
+known_on p asked columns questions old new a known m q e = elim (known m q e) [
+  | inl set ↦ inl set
+  | inr before ↦ inr (elim (column_cases columns q.first.agent) [
+    | inl has ↦ a.answered m has.0 q e has.1
+    | inr none ↦ subst (λ (b : Bool). IsAnswer p q b) (sym (a.others m q e none)) before
+  ])
+]
 
 -- the answers of one block more
 pub answered_to : (p : Program) (asked : List Bool) (from : ℕ) (columns : Columns) → AreColumns asked from columns → (questions : List Question) (old new : List Bool)
     → AreAnswered p columns questions old new → AreKnown p asked questions old
     → ((m : ℕ) (q : Question) → slice_get questions m ≡ Some q → q.first.agent < from → IsAnswer p q (get_or old m false))
     → (m : ℕ) (q : Question) → slice_get questions m ≡ Some q → q.first.agent < columns.end → IsAnswer p q (get_or new m false)
-answered_to p asked from columns h questions old new a known before m q e l = go (get_or columns.of_agent.items q.first.agent None) refl
-  where
-    go : (o : Option ℕ) → get_or columns.of_agent.items q.first.agent None ≡ o → IsAnswer p q (get_or new m false)
-    go (Some k) f = a.answered m k q e f
-    go None f = subst (λ (b : Bool). IsAnswer p q b) (sym (a.others m q e f)) (elim (cases_lt q.first.agent from) [
-      | inl low ↦ before m q e low
-      | inr high ↦ elim (known m q e) [ inl set ↦ absurd (h.chosen q.first.agent high l set f) | inr is ↦ is ]
-    ])
+answered_to p asked from columns h questions old new a known before m q e l = elim (column_cases columns q.first.agent) [
+  | inl has ↦ a.answered m has.0 q e has.1
+  | inr none ↦ subst (λ (b : Bool). IsAnswer p q b) (sym (a.others m q e none)) (elim (cases_lt q.first.agent from) [
+    | inl low ↦ before m q e low
+    | inr high ↦ elim (known m q e) [ inl set ↦ absurd (h.chosen q.first.agent high l set none) | inr is ↦ is ]
+  ])
+]
 
 -- a question of a list of questions
 pub question_at : (p : Program) (questions : List Question) → All (IsQuestion p) questions → (k : ℕ) (q : Question) → slice_get questions k ≡ Some q → IsQuestion p q

@@ -1,19 +1,21 @@
 -- The order of awaits, among those of an action and among all.
-use Rattle.std.proofs.Common.{◌≡◌, ◌≢◌, ℕ, zero, suc, ◌+◌, ◌-◌, ◌<◌, ◌≤◌, List, length, take, get_or, map, sym, ap, subst, ◌∙◌, arith, inl, inr, ◌⊎◌}
+use Rattle.std.proofs.Common.{◌≡◌, ◌≢◌, ℕ, ◌+◌, ◌-◌, ◌<◌, ◌≤◌, List, length, take, get_or, map, sym, ap, subst, ◌∙◌, arith, inl, inr, ◌⊎◌}
 use Rattle.std.specs.Prelude.{slice_get, Some, sum_by}
 use Rattle.std.specs.List.Sorted.{IsStrictlyIncreasing}
 use Rattle.std.proofs.lemmas.Bool.{cases_order}
 use Rattle.std.proofs.lemmas.Option.{slice_get_within, get_or_from_slice_get}
-use Rattle.std.proofs.lemmas.List.{take_all, get_or-map, length-map}
+use Rattle.std.proofs.lemmas.List.{get_or-map, length-map}
 use Rattle.std.proofs.lemmas.List.Kept.{AllPairs-from_increasing}
 use Rattle.std.proofs.lemmas.List.Sums.{sum_by-take-le}
 use Rattle.fleet_model.specs.declared.program.ActionId.{ActionId}
 use Rattle.fleet_model.specs.declared.program.Action.{Action}
 use Rattle.fleet_model.specs.declared.program.Await.{Await}
-use Rattle.fleet_model.specs.Program.{Program, IsWellFormed, actions_of, awaits_of, agent_awaits, total_awaits}
+use Rattle.fleet_model.specs.declared.program.AgentProgram.{AgentProgram}
+use Rattle.fleet_model.specs.Program.{Program, actions_of, awaits_of, agent_awaits, total_awaits}
 use Rattle.fleet_model.specs.Chain.{IsAction}
-use Rattle.fleet_model.proofs.Totals.{awaits_more, actions_more, total_awaits_fit}
+use Rattle.fleet_model.proofs.Totals.{awaits_more, actions_more}
 use Rattle.fleet_needs.specs.Implied.{first_await}
+use Rattle.fleet_needs.proofs.Placed.{sums_rise}
 
 -- in a list in strictly rising order of agent each await is of a lower agent than all later ones
 pub await_below : (awaits : List Await) → IsStrictlyIncreasing (map (λ w. w.agent) awaits) → (k m : ℕ) (v w : Await) → slice_get awaits k ≡ Some v → slice_get awaits m ≡ Some w → k < m → v.agent < w.agent
@@ -32,28 +34,6 @@ await_below awaits rising k m v w at there l =
 abbrev pub own_awaits : Program → ℕ → ℕ → ℕ
 own_awaits p i n = sum_by (λ (s : Action). length s.awaits) (take n (actions_of p i))
 
-agents_rising : (p : Program) (i k : ℕ) → total_awaits (take i p) ≤ total_awaits (take (i + k) p)
-agents_rising p i zero = let e : i + zero ≡ i = omega arith in rw e (omega arith)
-agents_rising p i (suc k) =
-    let e : i + suc k ≡ i + k + 1 = omega arith in
-    let more = awaits_more p (i + k) in
-    let before = agents_rising p i k in
-    rw e (omega (arith, more, before))
-
-agents_rise : (p : Program) (i j : ℕ) → i ≤ j → total_awaits (take i p) ≤ total_awaits (take j p)
-agents_rise p i j l = let e : i + (j - i) ≡ j = omega arith in subst (λ (n : ℕ). total_awaits (take i p) ≤ total_awaits (take n p)) e (agents_rising p i (j - i))
-
-own_rising : (p : Program) (i n k : ℕ) → own_awaits p i n ≤ own_awaits p i (n + k)
-own_rising p i n zero = let e : n + zero ≡ n = omega arith in rw e (omega arith)
-own_rising p i n (suc k) =
-    let e : n + suc k ≡ n + k + 1 = omega arith in
-    let more = actions_more p i (n + k) in
-    let before = own_rising p i n k in
-    rw e (omega (arith, more, before))
-
-own_rise : (p : Program) (i n m : ℕ) → n ≤ m → own_awaits p i n ≤ own_awaits p i m
-own_rise p i n m l = let e : n + (m - n) ≡ m = omega arith in subst (λ (k : ℕ). own_awaits p i n ≤ own_awaits p i k) e (own_rising p i n (m - n))
-
 module _ (p : Program) where
   -- up to the awaits of the action, with them
   own_with : (a : ActionId) → IsAction p a → own_awaits p a.agent (a.number - 1) + length (awaits_of p a.agent a.number) ≡ own_awaits p a.agent a.number
@@ -69,20 +49,15 @@ module _ (p : Program) where
 
   pub flag_within : (a : ActionId) → IsAction p a → first_await p a + length (awaits_of p a.agent a.number) ≤ total_awaits p
   flag_within a k =
-      let up : total_awaits (take (a.agent + 1) p) ≤ total_awaits (take (length p) p) = agents_rise p (a.agent + 1) (length p) (let l : a.agent < length p = k.agent in omega arith) in
-      let e : total_awaits (take (length p) p) ≡ total_awaits p = ap total_awaits (take_all (length p) p (omega arith)) in
-      omega (arith, agent_end a k, up, e)
-
-  -- in a well-formed program 32 bits hold their places
-  pub flag_fits : IsWellFormed p → (a : ActionId) → IsAction p a → first_await p a + length (awaits_of p a.agent a.number) < 4294967296
-  flag_fits formed a k = omega (arith, flag_within a k, total_awaits_fit p formed)
+      let up : total_awaits (take (a.agent + 1) p) ≤ total_awaits p = sum_by-take-le (λ (x : AgentProgram). sum_by (λ (s : Action). length s.awaits) x.actions) p (a.agent + 1) in
+      omega (arith, agent_end a k, up)
 
   before : (a b : ActionId) → IsAction p a → IsAction p b → (a.agent < b.agent) ⊎ ((a.agent ≡ b.agent) × (a.number < b.number)) → first_await p a + length (awaits_of p a.agent a.number) ≤ first_await p b
   before a b k m (inl l) =
-      let up : total_awaits (take (a.agent + 1) p) ≤ total_awaits (take b.agent p) = agents_rise p (a.agent + 1) b.agent (omega arith) in
+      let up : total_awaits (take (a.agent + 1) p) ≤ total_awaits (take b.agent p) = sums_rise (λ (x : AgentProgram). sum_by (λ (s : Action). length s.awaits) x.actions) p (a.agent + 1) b.agent (omega arith) in
       omega (arith, agent_end a k, up)
   before a b k m (inr (e, l)) =
-      let up : own_awaits p a.agent a.number ≤ own_awaits p a.agent (b.number - 1) = own_rise p a.agent a.number (b.number - 1) (omega arith) in
+      let up : own_awaits p a.agent a.number ≤ own_awaits p a.agent (b.number - 1) = sums_rise (λ (s : Action). length s.awaits) (actions_of p a.agent) a.number (b.number - 1) (omega arith) in
       let same : own_awaits p a.agent (b.number - 1) ≡ own_awaits p b.agent (b.number - 1) = ap (λ (i : ℕ). own_awaits p i (b.number - 1)) e in
       let total : total_awaits (take a.agent p) ≡ total_awaits (take b.agent p) = ap (λ (i : ℕ). total_awaits (take i p)) e in
       omega (arith, own_with a k, up, same, total)

@@ -137,14 +137,14 @@ module _ (p : Program) (t from : ℕ) (counts : List ℕ) (mid : AreMid p t from
 
 -- ---- the first tick and the last
 
-pub none_at : (n i : ℕ) → slice_index (replicate n 0) i ≡ 0
-none_at n i = elim (cases_lt i n) [
-  | inl l ↦ get_or-replicate n i 0 0 l
-  | inr l ↦ get_or_past (replicate n nothing) i 0 (omega (arith, length-replicate n nothing))
+pub always_at : {X : Type 0} (x : X) (n i : ℕ) → get_or (replicate n x) i x ≡ x
+always_at x n i = elim (cases_lt i n) [
+  | inl l ↦ get_or-replicate n i x x l
+  | inr l ↦ get_or_past (replicate n x) i x (omega (arith, length-replicate n x))
 ]
-  where
-    nothing : ℕ
-    nothing = 0
+
+pub none_at : (n i : ℕ) → slice_index (replicate n 0) i ≡ 0
+none_at n i = always_at 0 n i
 
 pub none_counted : (n : ℕ) (a : ActionId) → 1 ≤ a.number → IsCounted (replicate n 0) a → ⊥
 none_counted n a first is = omega (arith, is, first, none_at n a.agent)

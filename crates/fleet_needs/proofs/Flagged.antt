@@ -15,6 +15,7 @@ use Rattle.fleet_needs.specs.Joins.{AddsNone, HasRowOr}
 use Rattle.fleet_needs.specs.declared.schedule.Columns.{Columns}
 use Rattle.fleet_needs.specs.declared.joins.Join.{Join}
 use Rattle.fleet_needs.specs.declared.schedule.Schedule.{Schedule}
+use Rattle.fleet_needs.proofs.NextBlock.{column_cases}
 use Rattle.fleet_needs.proofs.Passing.{same_or_not}
 use Rattle.fleet_needs.specs.Implied.{AreAwaitPlaces, IsImplied, IsImpliedFlag, first_await}
 use Rattle.fleet_needs.specs.Settled.{AreSettled, IsSettled}
@@ -125,12 +126,11 @@ set_on p columns a old new is h b kb k w at implied was = elim (same_or_not b a)
   | inl e ↦
       let there : slice_get (awaits_of p a.agent a.number) k ≡ Some w = subst (λ (x : ActionId). slice_get (awaits_of p x.agent x.number) k ≡ Some w) e at in
       subst (λ (x : ActionId). get_or new (first_await p x + k) false ≡ true) (sym e)
-      (here (get_or columns.of_agent.items w.agent None) refl there (subst (λ (x : ActionId). IsImplied p x w) e implied) (subst (λ (x : ActionId). get_or old (first_await p x + k) false ≡ true) e was))
+      (elim (column_cases columns w.agent) [
+        | inl has ↦ (h.flagged k has.0 w there has.1).1 (subst (λ (x : ActionId). IsImplied p x w) e implied)
+        | inr none ↦ h.none k w there none ∙ subst (λ (x : ActionId). get_or old (first_await p x + k) false ≡ true) e was
+      ])
 ]
-  where
-    here : (o : Option ℕ) → get_or columns.of_agent.items w.agent None ≡ o → slice_get (awaits_of p a.agent a.number) k ≡ Some w → IsImplied p a w → get_or old (first_await p a + k) false ≡ true → get_or new (first_await p a + k) false ≡ true
-    here (Some c) f there implied was = (h.flagged k c w there f).1 implied
-    here None f there implied was = h.none k w there f ∙ was
 
 pub left_on : (p : Program) (columns : Columns) (a : ActionId) (old new : List Bool) → IsAction p a → AreFlagged p columns a old new → AreLeft p columns old new
 left_on p columns a old new is h = record { others = left_here p columns a old new is h; set = set_on p columns a old new is h }
@@ -192,25 +192,23 @@ passed_told p s asked columns old new settled left rows a is these = elim (rows 
 pub settled_after : (p : Program) (asked : List Bool) (columns : Columns) (old new : List Bool)
     → ((a : ActionId) → IsAction p a → (k c : ℕ) (w : Await) → slice_get (awaits_of p a.agent a.number) k ≡ Some w → HasColumn columns w.agent c → IsImpliedFlag p a w (get_or new (first_await p a + k) false))
     → AreLeft p columns old new → AreSettled p asked old → AreSettled p asked new
-settled_after p asked columns old new here left before a is too k w at = go (get_or columns.of_agent.items w.agent None) refl
-  where
-    go : (o : Option ℕ) → get_or columns.of_agent.items w.agent None ≡ o → IsSettled p asked a w (get_or new (first_await p a + k) false)
-    go (Some c) f = inr (here a is k c w at f)
-    go None f = subst (IsSettled p asked a w) (sym (left.others a is k w at f)) (before a is too k w at)
+settled_after p asked columns old new here left before a is too k w at = elim (column_cases columns w.agent) [
+  | inl has ↦ inr (here a is k has.0 w at has.1)
+  | inr none ↦ subst (IsSettled p asked a w) (sym (left.others a is k w at none)) (before a is too k w at)
+]
 
 pub flagged_to : (p : Program) (asked : List Bool) (from : ℕ) (columns : Columns) → AreColumns asked from columns → (old new : List Bool)
     → ((a : ActionId) → IsAction p a → (k c : ℕ) (w : Await) → slice_get (awaits_of p a.agent a.number) k ≡ Some w → HasColumn columns w.agent c → IsImpliedFlag p a w (get_or new (first_await p a + k) false))
     → AreLeft p columns old new → AreSettled p asked old
     → ((a : ActionId) → IsAction p a → (k : ℕ) (w : Await) → slice_get (awaits_of p a.agent a.number) k ≡ Some w → w.agent < from → IsImpliedFlag p a w (get_or old (first_await p a + k) false))
     → (a : ActionId) → IsAction p a → (k : ℕ) (w : Await) → slice_get (awaits_of p a.agent a.number) k ≡ Some w → w.agent < columns.end → IsImpliedFlag p a w (get_or new (first_await p a + k) false)
-flagged_to p asked from columns h old new here left settled before a is k w at l = go (get_or columns.of_agent.items w.agent None) refl
-  where
-    go : (o : Option ℕ) → get_or columns.of_agent.items w.agent None ≡ o → IsImpliedFlag p a w (get_or new (first_await p a + k) false)
-    go (Some c) f = here a is k c w at f
-    go None f = subst (IsImpliedFlag p a w) (sym (left.others a is k w at f)) (elim (cases_lt w.agent from) [
-      | inl low ↦ before a is k w at low
-      | inr high ↦ elim (settled a is is k w at) [ inl set ↦ absurd (h.chosen w.agent high l set.0 f) | inr was ↦ was ]
-    ])
+flagged_to p asked from columns h old new here left settled before a is k w at l = elim (column_cases columns w.agent) [
+  | inl has ↦ here a is k has.0 w at has.1
+  | inr none ↦ subst (IsImpliedFlag p a w) (sym (left.others a is k w at none)) (elim (cases_lt w.agent from) [
+    | inl low ↦ before a is k w at low
+    | inr high ↦ elim (settled a is is k w at) [ inl set ↦ absurd (h.chosen w.agent high l set.0 none) | inr was ↦ was ]
+  ])
+]
 
 -- if no agent is asked for, all flags say whether their await is implied
 pub flagged_if_none : (p : Program) (asked flags : List Bool) → ((j : ℕ) → get_or asked j false ≡ false) → AreSettled p asked flags → AreAllFlagged p flags

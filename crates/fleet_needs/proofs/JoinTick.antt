@@ -1,5 +1,5 @@
 -- Rows that are made in the order in which actions finish.
-use Rattle.std.proofs.Common.{◌≡◌, ℕ, ◌-◌, Bool, List, [], length, replicate, slice_index, ap, arith, inr}
+use Rattle.std.proofs.Common.{◌≡◌, ℕ, ◌-◌, Bool, List, length, replicate, slice_index, ap, arith, inr}
 use Rattle.std.proofs.lemmas.Option.{slice_get_within, get_or_from_slice_get}
 use Rattle.fleet_model.specs.declared.program.ActionId.{ActionId}
 use Rattle.fleet_model.specs.Program.{Program, awaits_of, total_moves}
@@ -17,9 +17,9 @@ use Rattle.fleet_needs.proofs.Free.{all_finished}
 use Rattle.fleet_needs.proofs.GatheredAll.{own_later}
 use Rattle.fleet_needs.proofs.Joining.{awaited_action}
 
-pub joins_none : (p : Program) (places : ActionPlaces) (wanted : List Bool) (Passed : ActionId → Type 0) (m : Joins) (n : ℕ) → ArePlacesOf p places → m.joins.items ≡ [] → length m.lasts.items ≡ 1 → length m.standing.items ≡ total_moves p
+pub joins_none : (p : Program) (places : ActionPlaces) (wanted : List Bool) (Passed : ActionId → Type 0) (m : Joins) (n : ℕ) → ArePlacesOf p places → length m.joins.items ≡ 0 → length m.lasts.items ≡ 1 → length m.standing.items ≡ total_moves p
     → AreJoinsOf p places wanted Passed (IsCounted (replicate n 0)) m
-joins_none p places wanted Passed m n right none one room = record {
+joins_none p places wanted Passed m n right empty one room = record {
   sound = record {
     right = right;
     joins = λ k j at. absurd (let l = slice_get_within m.joins.items k j at in omega (arith, l, empty));
@@ -35,9 +35,6 @@ joins_none p places wanted Passed m n right none one room = record {
   made = λ k j at. absurd (let w = slice_get_within m.joins.items k j at in omega (arith, w, empty));
   first = λ level levels x y k is done. absurd (none_counted n y is.first done);
 }
-  where
-    empty : length m.joins.items ≡ 0
-    empty = ap (λ xs. length xs) none
 
 pub joins_end : (p : Program) (o : Finishes) (counts : List ℕ) (places : ActionPlaces) (wanted : List Bool) (Passed : ActionId → Type 0) (m : Joins) → IsWholeOrder p o → AreAllCounted p counts → AreJoinsOf p places wanted Passed (IsCounted counts) m
     → AreJoinsEnd p places wanted Passed m

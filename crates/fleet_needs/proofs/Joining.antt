@@ -1,5 +1,5 @@
 -- The column of an action is made of those of the actions that it directly needs.
-use Rattle.std.proofs.Common.{◌≡◌, ◌≢◌, ℕ, ◌+◌, ◌-◌, ◌<◌, ◌≤◌, List, length, get_or, max, refl, sym, ap, subst, ◌∙◌, arith, inl, inr, ◌⊎◌}
+use Rattle.std.proofs.Common.{◌≡◌, ◌≢◌, ℕ, zero, suc, ◌+◌, ◌-◌, ◌<◌, ◌≤◌, List, length, get_or, max, refl, sym, ap, subst, ◌∙◌, arith, inl, inr, ◌⊎◌}
 use Rattle.std.specs.Prelude.{Contains, slice_get, Some}
 use Rattle.std.proofs.lemmas.Bool.{cases_lt}
 use Rattle.std.proofs.lemmas.Option.{slice_get-get_or, slice_get_within, get_or_from_slice_get, same_Some}
@@ -8,12 +8,15 @@ use Rattle.fleet_model.specs.declared.program.Await.{Await}
 use Rattle.fleet_model.specs.Program.{Program, moves, awaits_of, AreInRange}
 use Rattle.fleet_model.specs.Chain.{IsAction, DirectlyNeeds, Reaches, awaited}
 use Rattle.fleet_needs.specs.Implied.{IsImplied}
-use Rattle.fleet_needs.specs.Joins.{AddsNone}
+use Rattle.fleet_needs.specs.Joins.{AddsNone, AreQuiet}
 use Rattle.fleet_needs.specs.Rows.{IsColumn, ByOneOf, IsJoined, OfFirst}
 use Rattle.fleet_model.proofs.Chains.{own_reach, LastStep, chain_ends_by_step, Reaches-trans, Reaches-first, Reaches-last, Reaches-need}
 
 abbrev act : ℕ → ℕ → ActionId
 act j c = record { agent = j; number = c }
+
+same_action : (x y : ActionId) → x.agent ≡ y.agent → x.number ≡ y.number → x ≡ y
+same_action x y e g = λ t. record { agent = e t; number = g t }
 
 -- an action by its agent and its number
 pub numbered : (a : ActionId) (n : ℕ) → n ≡ a.number → record { agent = a.agent; number = n } ≡ a
@@ -93,9 +96,6 @@ part_all p i b j n k other h c = (into, out)
         }),
       )
     ]
-      where
-        same_action : (x y : ActionId) → x.agent ≡ y.agent → x.number ≡ y.number → x ≡ y
-        same_action x y e g = λ t. record { agent = e t; number = g t }
 
     into : Reaches p (act j c) a → (1 ≤ c) × (c ≤ n)
     into r = from (chain_ends_by_step p (act j c) r.0 a r.1) (Reaches-first p (act j c) a r).first
@@ -137,9 +137,6 @@ adds_none p i n awaits j c ne (cs, h) = elim (chain_ends_by_step p (act j c) cs 
     by b (inl (same, number, some)) r =
         let e : b ≡ act i (n - 1) = same_action b (act i (n - 1)) (sym same) (omega arith) in
         subst (Reaches p (act j c)) e r
-      where
-        same_action : (x y : ActionId) → x.agent ≡ y.agent → x.number ≡ y.number → x ≡ y
-        same_action x y e g = λ t. record { agent = e t; number = g t }
     by b (inr w) r = Reaches-trans p (act j c) b (act i (n - 1)) r (awaits (record { agent = b.agent; count = b.number }) w)
 
 -- if it awaits nothing
@@ -176,6 +173,18 @@ column_stays p i b j v is ne none h c = (
   where
     less : b + 1 - 1 ≡ b
     less = omega arith
+
+-- where none is added, what holds of an action's chains holds of later ones
+quiet_by : (p : Program) (i : ℕ) (P : ℕ → Type 0) → ((n : ℕ) → n + 1 ≤ moves p i → AddsNone p i (n + 1) → P n → P (n + 1)) → (q d : ℕ) → q + d ≤ moves p i → AreQuiet p i q (q + d) → P q → P (q + d)
+quiet_by p i P step q zero last quiet h = let e : q ≡ q + zero = omega arith in subst P e h
+quiet_by p i P step q (suc d) last quiet h =
+    let e : q + d + 1 ≡ q + suc d = omega arith in
+    subst P e (step (q + d) (omega arith) (quiet (q + d + 1) (omega arith) (omega arith)) (quiet_by p i P step q d (omega arith) (λ m from upto. quiet m from (omega arith)) h))
+
+pub quiet_on : (p : Program) (i : ℕ) (P : ℕ → Type 0) → ((n : ℕ) → n + 1 ≤ moves p i → AddsNone p i (n + 1) → P n → P (n + 1)) → (q n : ℕ) → q ≤ n → n ≤ moves p i → AreQuiet p i q n → P q → P n
+quiet_on p i P step q n upto last quiet h =
+    let e : q + (n - q) ≡ n = omega arith in
+    subst P e (quiet_by p i P step q (n - q) (omega arith) (λ m from to. quiet m from (omega arith)) h)
 
 -- an awaited action is one of the program
 pub awaited_action : (p : Program) → AreInRange p → (i n k : ℕ) (w : Await) → slice_get (awaits_of p i n) k ≡ Some w → IsAction p (awaited w)

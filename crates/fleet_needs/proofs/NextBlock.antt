@@ -1,7 +1,9 @@
 -- The blocks of columns, after one more.
-use Rattle.std.proofs.Common.{◌≡◌, ◌-◌, ◌<◌, ◌≤◌, Bool, List, length, ap, ◌∙◌, arith}
+use Rattle.std.proofs.Common.{◌≡◌, ◌-◌, ◌<◌, ◌≤◌, ◌⊎◌, ℕ, Bool, List, length, refl, ap, ◌∙◌, arith, inl, inr}
+use Rattle.std.specs.Prelude.{Option, Some, None}
 use Rattle.fleet_model.specs.Program.{Program}
-use Rattle.fleet_needs.specs.Columns.{BlocksLeft, IsNextBlock}
+use Rattle.fleet_needs.specs.Block.{HasColumn}
+use Rattle.fleet_needs.specs.Columns.{BlocksLeft, IsNextBlock, column_of}
 use Rattle.fleet_needs.specs.Schedule.{AreColumnsOf}
 use Rattle.fleet_needs.specs.declared.schedule.Columns.{Columns}
 
@@ -15,3 +17,11 @@ fewer_left old new columns h =
 -- the columns are of agents of the program
 pub columns_of : (p : Program) (old new : BlocksLeft) (columns : Columns) → length old.asked ≡ length p → IsNextBlock old new columns → AreColumnsOf p columns
 columns_of p old new columns all h = record { agents = h.chosen.agents ∙ all; within = h.chosen.within; apart = h.chosen.apart }
+
+-- an agent has a column or none
+pub column_cases : (columns : Columns) (j : ℕ) → ((k : ℕ) × HasColumn columns j k) ⊎ (column_of columns j ≡ None)
+column_cases columns j = go (column_of columns j) refl
+  where
+    go : (o : Option ℕ) → column_of columns j ≡ o → ((k : ℕ) × HasColumn columns j k) ⊎ (column_of columns j ≡ None)
+    go (Some k) e = inl (k, e)
+    go None e = inr e

@@ -1,25 +1,23 @@
 -- The places of actions, and of the counts of their rows.
-use Rattle.std.proofs.Common.{◌≡◌, ◌≢◌, ℕ, zero, suc, ◌+◌, ◌-◌, ◌*◌, ◌<◌, ◌≤◌, List, length, take, slice_index, ap, subst, arith, inl, inr, ◌⊎◌}
+use Rattle.std.proofs.Common.{◌≡◌, ◌≢◌, ℕ, ◌+◌, ◌*◌, ◌<◌, ◌≤◌, List, length, take, slice_index, ap, subst, arith, inl, inr, ◌⊎◌}
 use Rattle.std.proofs.lemmas.Bool.{cases_order}
 use Rattle.std.proofs.lemmas.Nat.{mul-le}
-use Rattle.std.proofs.lemmas.List.{take_all}
+use Rattle.std.specs.Prelude.{sum_by}
+use Rattle.std.proofs.lemmas.List.{take-take}
+use Rattle.std.proofs.lemmas.List.Sums.{sum_by-take-le}
 use Rattle.fleet_model.specs.declared.program.ActionId.{ActionId}
+use Rattle.fleet_model.specs.declared.program.AgentProgram.{AgentProgram}
 use Rattle.fleet_model.specs.Program.{Program, moves, total_moves}
 use Rattle.fleet_model.specs.Chain.{IsAction}
 use Rattle.fleet_model.proofs.Totals.{moves_more}
 use Rattle.fleet_needs.specs.Places.{ArePlaces, action_place}
 
--- more agents have as many actions or more
-firsts_rise : (p : Program) (i k : ℕ) → total_moves (take i p) ≤ total_moves (take (i + k) p)
-firsts_rise p i zero = let e : i + zero ≡ i = omega arith in rw e (omega arith)
-firsts_rise p i (suc k) =
-    let e : i + suc k ≡ i + k + 1 = omega arith in
-    let more = moves_more p (i + k) in
-    let before = firsts_rise p i k in
-    rw e (omega (arith, more, before))
+-- more of a list have as much together, or more
+pub sums_rise : {X : Type 0} (f : X → ℕ) (xs : List X) (i j : ℕ) → i ≤ j → sum_by f (take i xs) ≤ sum_by f (take j xs)
+sums_rise f xs i j l = subst (λ ys. sum_by f ys ≤ sum_by f (take j xs)) (take-take i j xs l) (sum_by-take-le f (take j xs) i)
 
 pub rising_to : (p : Program) (i j : ℕ) → i ≤ j → total_moves (take i p) ≤ total_moves (take j p)
-rising_to p i j l = let e : i + (j - i) ≡ j = omega arith in subst (λ (n : ℕ). total_moves (take i p) ≤ total_moves (take n p)) e (firsts_rise p i (j - i))
+rising_to p = sums_rise (λ (a : AgentProgram). length a.actions) p
 
 -- the actions of an agent stand before those of the next
 module _ (p : Program) (firsts : List ℕ) (h : ArePlaces p firsts) where
@@ -32,8 +30,7 @@ module _ (p : Program) (firsts : List ℕ) (h : ArePlaces p firsts) where
 
   pub place_within : (a : ActionId) → IsAction p a → action_place firsts a < total_moves p
   place_within a k =
-      let up : total_moves (take (a.agent + 1) p) ≤ total_moves (take (length p) p) = rising_to p (a.agent + 1) (length p) (let l : a.agent < length p = k.agent in omega arith) in
-      let e : total_moves (take (length p) p) ≡ total_moves p = ap total_moves (take_all (length p) p (omega arith)) in
+      let up : total_moves (take (a.agent + 1) p) ≤ total_moves p = sum_by-take-le (λ (x : AgentProgram). length x.actions) p (a.agent + 1) in
       omega (arith, before_next a k)
 
   sooner : (a b : ActionId) → IsAction p a → IsAction p b → a.agent < b.agent → action_place firsts a < action_place firsts b

@@ -1,5 +1,5 @@
 -- The counts of rows that are made of rows in their slots.
-use Rattle.std.proofs.Common.{◌≡◌, ◌≢◌, ℕ, zero, suc, ◌+◌, ◌-◌, ◌*◌, ◌<◌, ◌≤◌, List, length, get_or, max, slice_index, refl, sym, ap, subst, ◌∙◌, arith, inl, inr}
+use Rattle.std.proofs.Common.{◌≡◌, ◌≢◌, ℕ, ◌+◌, ◌-◌, ◌*◌, ◌<◌, ◌≤◌, List, length, get_or, max, slice_index, refl, sym, ap, subst, ◌∙◌, arith, inl, inr}
 use Rattle.std.specs.Prelude.{slice_get, Some}
 use Rattle.std.proofs.lemmas.Bool.{cases_lt, cases_eq}
 use Rattle.std.proofs.lemmas.Option.{slice_get_within, slice_get-get_or}
@@ -22,25 +22,15 @@ use Rattle.fleet_needs.specs.declared.schedule.Schedule.{Schedule}
 use Rattle.fleet_needs.specs.JoinPass.{AreOthers, IsOthersRow, IsWholeRow, IsJoinRow, HasOthers, HasWhole}
 use Rattle.fleet_needs.specs.declared.counts.Counts.{Counts}
 use Rattle.fleet_needs.proofs.Placed.{row_ends}
-use Rattle.fleet_needs.proofs.Joining.{column_stays, column_none, joined_none, part_all, own_column, awaited_action}
+use Rattle.fleet_needs.proofs.Joining.{quiet_on, column_stays, column_none, joined_none, part_all, own_column, awaited_action}
 use Rattle.fleet_needs.proofs.OthersJoined.{others_more, others_same, first_none, first_more, first_same, first_all}
 
 -- ---- actions that add no chain
 
-module _ (p : Program) (i j : ℕ) (agent : i < length p) (ne : j ≢ i) where
-  -- the counts of other agents stay as long as none is added
-  quiet_by : (q d v : ℕ) → q + d ≤ moves p i → AreQuiet p i q (q + d) → IsColumn p (record { agent = i; number = q }) j v → IsColumn p (record { agent = i; number = q + d }) j v
-  quiet_by q zero v last quiet h = let e : q ≡ q + zero = omega arith in subst (λ (n : ℕ). IsColumn p (record { agent = i; number = n }) j v) e h
-  quiet_by q (suc d) v last quiet h =
-      let e : q + d + 1 ≡ q + suc d = omega arith in
-      subst (λ (n : ℕ). IsColumn p (record { agent = i; number = n }) j v) e
-      (column_stays p i (q + d) j v (record { agent = agent; first = omega arith; last = omega arith }) ne (quiet (q + d + 1) (omega arith) (omega arith)) (quiet_by q d v (omega arith) (λ m from upto. quiet m from (omega arith)) h))
-
-  pub quiet_to : (q n v : ℕ) → q ≤ n → n ≤ moves p i → AreQuiet p i q n → IsColumn p (record { agent = i; number = q }) j v → IsColumn p (record { agent = i; number = n }) j v
-  quiet_to q n v upto last quiet h =
-      let e : q + (n - q) ≡ n = omega arith in
-      subst (λ (m : ℕ). IsColumn p (record { agent = i; number = m }) j v) e
-      (quiet_by q (n - q) v (omega arith) (λ m from to. quiet m from (omega arith)) h)
+-- the counts of other agents stay as long as none is added
+quiet_to : (p : Program) (i j : ℕ) → i < length p → j ≢ i → (q n v : ℕ) → q ≤ n → n ≤ moves p i → AreQuiet p i q n → IsColumn p (record { agent = i; number = q }) j v → IsColumn p (record { agent = i; number = n }) j v
+quiet_to p i j agent ne q n v =
+    quiet_on p i (λ m. IsColumn p (record { agent = i; number = m }) j v) (λ m last. column_stays p i m j v (record { agent = agent; first = omega arith; last = last }) ne) q n
 
 -- ---- what row r stands for
 

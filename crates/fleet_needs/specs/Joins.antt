@@ -111,6 +111,14 @@ lasts_known m = length m.lasts.items
 abbrev pub last_of : Joins → ℕ → ℕ
 last_of m r = slice_index m.lasts.items r
 
+-- .. for each of them
+abbrev pub lasts_in : Joins → List ℕ
+lasts_in m = m.lasts.items
+
+-- for each action, by its place, the row that stands for it
+abbrev pub standing_in : Joins → List ℕ
+standing_in m = m.standing.items
+
 -- how many needs are listed
 abbrev pub needs_listed : Joins → ℕ
 needs_listed m = length m.needs.items

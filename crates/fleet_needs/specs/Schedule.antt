@@ -11,6 +11,7 @@ use Rattle.fleet_needs.specs.Slots.{IsStill}
 use Rattle.fleet_needs.specs.declared.counts.Counts.{Counts}
 use Rattle.fleet_needs.specs.declared.schedule.Columns.{Columns}
 use Rattle.fleet_needs.specs.declared.joins.Join.{Join}
+use Rattle.fleet_needs.specs.declared.joins.Need.{Need}
 use Rattle.fleet_needs.specs.declared.questions.Question.{Question}
 use Rattle.fleet_needs.specs.declared.schedule.Schedule.{Schedule}
 use Rattle.fleet_needs.specs.declared.join_pass.SlotRows.{SlotRows}
@@ -26,6 +27,14 @@ pub record IsSchedule (p : Program) (s : Schedule) : Type 0 where
   pub rising : AreRising s.joins.items
   pub own : AreOwn p
   pub narrow : s.is_narrow ≡ true → (i : ℕ) → i < length p → moves p i ≤ 65535
+
+-- its joins, one after another
+abbrev pub joins_of : Schedule → List Join
+joins_of s = s.joins.items
+
+-- what they need
+abbrev pub needs_of : Schedule → List Need
+needs_of s = s.needs.items
 
 -- how many rows it has
 abbrev pub joins_in : Schedule → ℕ

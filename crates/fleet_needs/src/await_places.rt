@@ -97,7 +97,6 @@ impl ActionPlaces {
         ensures within { result < total_moves (P.program program.now) }
         ensures place { result ≡ place_of_action self.now action }
     {
-        let _ = program.agents();
         self.place(action.agent, action.number)
     }
 }

@@ -269,7 +269,6 @@ impl FinishTicks {
         requires action { IsAction (P.program program.now) action }
         ensures { result ≡ finish_tick self.now action }
     {
-        let _ = program.agents();
         self.ticks[self.places.place_of(program, action)]
     }
 }

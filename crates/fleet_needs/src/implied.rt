@@ -8,7 +8,7 @@ ghost use Rattle.fleet_model.specs.Chain.{IsAction};
 ghost use Rattle.fleet_needs.specs.Implied.{IsImpliedFlag, AreAwaitPlaces, first_await};
 ghost use Rattle.fleet_needs.specs.Joins.{HasRowOr};
 ghost use Rattle.fleet_needs.specs.Settled.{AreSettled};
-ghost use Rattle.fleet_needs.specs.Schedule.{IsSchedule};
+ghost use Rattle.fleet_needs.specs.Schedule.{IsSchedule, joins_of};
 ghost use Rattle.fleet_needs.specs.Flags.{AreImplied, AreSet, flags_of, AreFlags, AreFlagged};
 ghost use Rattle.fleet_needs.specs.Block.{HasColumn};
 ghost use Rattle.fleet_needs.specs.JoinPass.{IsJoinRow, HasOthers};
@@ -42,7 +42,6 @@ impl ImpliedAwaits {
         ensures { result ≡ get_or (flags_of self.now)
             (first_await (P.program program.now) action + k) false }
     {
-        let _ = program.agents();
         let place = self.places.first(program, action) + usize::from(k);
         self.flags[place]
     }
@@ -129,7 +128,7 @@ fn flag_all<P: ProgramView>(
     requires asked { length asked.now ≡ length (P.program program.now) }
     requires settled { AreSettled (P.program program.now) asked.now (flags_of implied.old) }
     requires passed { HasRowOr (AreSet (P.program program.now) (flags_of implied.old))
-        (P.program program.now) schedule.now.joins.items (IsAction (P.program program.now)) }
+        (P.program program.now) (joins_of schedule.now) (IsAction (P.program program.now)) }
     ensures { OnOk result (AreImplied (P.program program.now) implied.new) }
 {
     let mut blocks = Blocks::of(program, schedule, asked);

@@ -192,7 +192,6 @@ fn join_others<P: ProgramView>(program: &P, rows: &SlotRows<'_>, n: usize, row: 
     ensures others { IsOthersRow (P.program program.now)
         rows.now.schedule.now rows.now.columns n (counts_of row.new) }
 {
-    let _ = program.agents();
     let join = rows.schedule.join_after(n);
     let is_quiet = join.count == 0;
     if is_quiet {
@@ -219,7 +218,6 @@ fn raise_awaited<P: ProgramView>(program: &P, rows: &SlotRows<'_>, n: usize, row
     ensures made { IsWholeRow (P.program program.now)
         rows.now.schedule.now rows.now.columns n (counts_of row.new) }
 {
-    let _ = program.agents();
     let join = rows.schedule.join_after(n);
     for k in 0..join.count {
         let need = rows.schedule.need(&join, k);

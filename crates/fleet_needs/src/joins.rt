@@ -7,7 +7,7 @@ ghost use Rattle.fleet_model.specs.Chain.{IsAction};
 ghost use Rattle.fleet_needs.specs.Places.{ArePlacesOf, place_of_action};
 ghost use Rattle.fleet_needs.specs.Order.{IsWholeOrder};
 ghost use Rattle.fleet_needs.specs.Flags.{AreSureIf, IsPassed, IsFirstSet, NeedsRow};
-ghost use Rattle.fleet_needs.specs.Joins.{AddsNone, AreJoinsEnd, CanJoin, AreTaken, HasJoined, IsAdded, AreRaised, rows_made, lasts_known, last_of, needs_listed, room_for, row_of, StandsIn};
+ghost use Rattle.fleet_needs.specs.Joins.{AddsNone, AreJoinsEnd, CanJoin, AreTaken, HasJoined, IsAdded, AreRaised, rows_made, lasts_known, last_of, lasts_in, standing_in, needs_listed, room_for, row_of, StandsIn};
 
 use crate::await_places::ActionPlaces;
 use crate::finish_order::{FinishOrder, Finishing};
@@ -110,7 +110,7 @@ fn is_wanted(course: &Course<'_>, action: ActionId) -> bool
 impl Joins {
     /// No joins yet, of so many actions, with room for so many rows and awaits.
     fn new(alloc: Global, actions: usize, rows: u32, awaits: u32) -> Result<Joins, OutOfMemory>
-        ensures joins { IfOk result (λ m. m.joins.items ≡ []) }
+        ensures joins { IfOk result (λ m. rows_made m ≡ 0) }
         ensures lasts { IfOk result (λ m. lasts_known m ≡ 1) }
         ensures standing { IfOk result (λ m. room_for m ≡ actions) }
     {
@@ -269,7 +269,6 @@ impl Joins {
         ensures { OnOk result (AreTaken
             (P.program program.now) places.now action self.old self.new) }
     {
-        let _ = program.agents();
         for k in 0..program.await_count(action.agent, action.number) {
             let wait = program.await_at(action.agent, action.number, k);
             let awaited = ActionId {
@@ -289,7 +288,7 @@ impl Joins {
         ensures joins { self.new.joins ≡ self.old.joins }
         ensures needs { self.new.needs ≡ self.old.needs }
         ensures standing { self.new.standing ≡ self.old.standing }
-        ensures raised { AreRaised self.old.lasts.items self.new.lasts.items }
+        ensures raised { AreRaised (lasts_in self.old) (lasts_in self.new) }
         ensures noted { row ≤ last_of self.new taken }
     {
         let last = self.lasts[taken as usize];
@@ -310,8 +309,8 @@ impl Joins {
         ensures joins { self.new.joins ≡ self.old.joins }
         ensures needs { self.new.needs ≡ self.old.needs }
         ensures lasts { self.new.lasts ≡ self.old.lasts }
-        ensures noted { self.new.standing.items ≡ set
-            self.old.standing.items (place_of_action places.now action) row }
+        ensures noted { standing_in self.new
+            ≡ set (standing_in self.old) (place_of_action places.now action) row }
     {
         self.standing[places.place_of(program, action)] = row;
     }

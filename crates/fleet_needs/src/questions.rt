@@ -275,7 +275,6 @@ fn answer_one<P: ProgramView>(
     ensures none { column_of columns.now question.first.agent ≡ None
         → flag.new ≡ flag.old }
 {
-    let _ = program.agents();
     if let Some(k) = columns.of(question.first.agent) {
         let count = count_for(row, usize::from(k), question);
         *flag = count < question.first.number;

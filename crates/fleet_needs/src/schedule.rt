@@ -6,12 +6,12 @@ ghost use Rattle.fleet_model.specs.declared.limits.TheConstants.{MAX_AGENTS};
 ghost use Rattle.fleet_model.specs.Program.{AreInRange, moves, total_moves};
 ghost use Rattle.fleet_model.specs.Chain.{IsAction};
 ghost use Rattle.fleet_needs.specs.Asked.{IsQuestion};
-ghost use Rattle.fleet_needs.specs.Joins.{HasRowOr, IsWanted, need_of};
+ghost use Rattle.fleet_needs.specs.Joins.{HasRowOr, IsWanted, need_of, lasts_in, rows_made};
 ghost use Rattle.fleet_needs.specs.Flags.{AreSureIf, IsPassed};
 ghost use Rattle.fleet_model.specs.Machine.{IsFinish};
 ghost use Rattle.fleet_needs.specs.Order.{IsWholeOrder};
 ghost use Rattle.fleet_needs.specs.Places.{ArePlacesOf};
-ghost use Rattle.fleet_needs.specs.Schedule.{IsSchedule, HasRows, IsNext, joins_in};
+ghost use Rattle.fleet_needs.specs.Schedule.{IsSchedule, HasRows, IsNext, joins_of, needs_of, joins_in};
 ghost use Rattle.fleet_needs.specs.Slots.{AreSlotted, IsTaken};
 ghost use Rattle.fleet_needs.specs.Columns.{AreColumns, IsNextBlock, agents_in, column_of};
 
@@ -64,7 +64,7 @@ impl Schedule {
         ensures schedule { IfOk result (IsSchedule (P.program program.now)) }
         ensures asked { IfOk result (λ s. HasRows s questions.now) }
         ensures passed { IfOk result (λ s. HasRowOr (IsPassed (P.program program.now) implied.entry)
-            (P.program program.now) s.joins.items (IsAction (P.program program.now))) }
+            (P.program program.now) (joins_of s) (IsAction (P.program program.now))) }
     {
         let places = ActionPlaces::of(alloc, program)?;
         let wanted = wanted_of(alloc, program, &places, questions)?;
@@ -114,8 +114,8 @@ impl Schedule {
 
     /// Need `k` of a join.
     pub(crate) fn need(&self, join: &Join, k: u16) -> Need
-        requires { join.now.first + k < length self.now.needs.items }
-        ensures { result ≡ need_of self.now.needs.items join.now k }
+        requires { join.now.first + k < length (needs_of self.now) }
+        ensures { result ≡ need_of (needs_of self.now) join.now k }
     {
         self.needs[join.first as usize + usize::from(k)]
     }
@@ -210,8 +210,8 @@ impl Model for Slots {
 
 /// The slots of all rows.
 fn slots_of(alloc: Global, joins: &Joins) -> Result<Slots, OutOfMemory>
-    ensures slotted { IfOk result (AreSlotted joins.now.lasts.items) }
-    ensures all { IfOk result (λ m. length m.outs ≡ length joins.now.joins.items) }
+    ensures slotted { IfOk result (AreSlotted (lasts_in joins.now)) }
+    ensures all { IfOk result (λ m. length m.outs ≡ rows_made joins.now) }
 {
     let rows = joins.joins.len();
     let mut slots = Slots {

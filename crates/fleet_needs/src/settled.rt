@@ -86,7 +86,6 @@ fn settle_action<P: ProgramView>(
     ensures settled { IsActionSettled (P.program program.now) action asked.old asked.new
         (flags_of implied.old) (flags_of implied.new) }
 {
-    let _ = program.agents();
     let awaits = program.await_count(action.agent, action.number);
     if awaits == 0 {
         return;
@@ -139,7 +138,6 @@ fn latest_await<P: ProgramView>(program: &P, ticks: &FinishTicks, action: Action
     ensures { 1 ≤ length (awaits_of (P.program program.now) action.agent action.number)
         → result < length (awaits_of (P.program program.now) action.agent action.number) }
 {
-    let _ = program.agents();
     let is_one = program.await_count(action.agent, action.number) < 2;
     if is_one {
         return 0;
@@ -214,7 +212,6 @@ fn is_implied<P: ProgramView>(
 fn next_await<P: ProgramView>(program: &P, action: ActionId, agent: u16, from: u16) -> u16
     requires action { IsAction (P.program program.now) action }
 {
-    let _ = program.agents();
     let count = program.await_count(action.agent, action.number);
     let mut k = from;
     while k < count && program.await_at(action.agent, action.number, k).agent < agent {
@@ -230,7 +227,6 @@ fn is_needed<P: ProgramView>(program: &P, first: ActionId, action: ActionId, k: 
     requires action { IsAction (P.program program.now) action }
     ensures { IsTrue result → Reaches (P.program program.now) first action }
 {
-    let _ = program.agents();
     if k >= program.await_count(action.agent, action.number) {
         return false;
     }
@@ -298,7 +294,6 @@ fn reaches<P: ProgramView>(
     ensures no { result ≡ Some false → Reaches (P.program program.now) first last → ⊥ }
     ensures fewer { steps.new ≤ steps.old }
 {
-    let _ = program.agents();
     let is_own = last.agent == first.agent;
     if is_own {
         return Some(first.number <= last.number);

@@ -1,5 +1,5 @@
 -- A run at one time: what it wrote, and what it asked for.
-use Rattle.std.proofs.Common.{◌≡◌, ◌∙◌, ◌≢◌, ◌+◌, ℕ, Bool, true, None, Some, Option, Ok, Err, List, length, refl, sym, subst, Result}
+use Rattle.std.proofs.Common.{◌≡◌, ◌∙◌, ◌≢◌, ◌+◌, ℕ, Bool, true, None, Some, Option, Ok, Err, List, length, refl, sym, ap, subst, Result}
 use Rattle.fleet_model.specs.Program.{Program}
 use Rattle.fleet_model.specs.Machine.{Configuration}
 use Rattle.fleet_run.specs.declared.run.End.{End}
@@ -9,9 +9,9 @@ use Rattle.fleet_run.specs.declared.run.Time.{Time}
 use Rattle.fleet_run.specs.declared.run.TheConstants.{MAX_RUN_TICKS}
 use Rattle.fleet_run.specs.Source.{SourceState, HasNotFailed}
 use Rattle.fleet_run.specs.Text.{line_of, lines_below}
-use Rattle.fleet_run.specs.Outcome.{AsksNext, AsksUnless, AsksUnlessOver, PassesTime, RunsLines, run_end}
+use Rattle.fleet_run.specs.Outcome.{AsksNext, AsksUnless, AsksUnlessOver, IsAskedFor, PassesTime, RunsLines, run_end}
 use Rattle.fleet_run.proofs.Ending.{not_over}
-use Rattle.fleet_run.proofs.UnderWay.{IsUnderWay, IsNextTick, asked, line_added, stops_asking, stops_at_sink}
+use Rattle.fleet_run.proofs.UnderWay.{IsUnderWay, IsNextTick, asked, asked_so_far, line_added, stops_asking, stops_at_sink}
 use Rattle.fleet_text.specs.Sink.{SinkState, Takes}
 
 -- no answer of asking is that the sink failed, or want of memory
@@ -64,3 +64,21 @@ module _ (p : Program) (s now after : SourceState) (c : Configuration) (time : T
 
   pub written_in_time : (more : Bool) → PassesTime time now after mid last (line_of time.ticks c) (Ok more) flags → Takes first last (lines_below p s.ticks (time.ticks + 1))
   written_in_time more h = with_line h.0
+
+  -- the run ends at this time
+  pub ends_in_time : (more : Bool) (end : End) → time.end ≡ Some end → PassesTime time now after mid last (line_of time.ticks c) (Ok more) flags
+      → RunsLines p s after first last c (Ok (record { ticks = time.ticks; held = held; end = end }))
+  ends_in_time more end is h =
+      let over : AsksUnless (Some end) time.source_ended now after time.ticks (Ok more) flags =
+      subst (λ e. AsksUnless e time.source_ended now after time.ticks (Ok more) flags) is h.1 in
+      let took = with_line h.0 in (
+        before.here,
+        record {
+          needed = before.needed;
+          end = ap (run_end p) (sym before.here) ∙ sym end_is ∙ is;
+          held = before.held_is;
+          asked = subst (IsAskedFor time.ticks s) (sym over.1) (asked_so_far p s now c time.ticks held time.source_ended before working);
+          taken = took.taken;
+          working = took.working;
+        },
+      )

@@ -1,7 +1,7 @@
 use Rattle.std.proofs.Common.{◌∙◌, arith, sym}
 use Rattle.std.proofs.lemmas.Result.{err_from_is_err_and}
 use Rattle.fleet_run.proofs.Ending.{not_over}
-use Rattle.fleet_run.proofs.Passing.{stops_in_time, goes_in_time, written_in_time}
+use Rattle.fleet_run.proofs.Passing.{ends_in_time, stops_in_time, goes_in_time, written_in_time}
 use Rattle.fleet_run.proofs.UnderWay.{few_held, few_ticks, falls, one_tick_on, unset_after}
 use Rattle.fleet_run.proofs.run.run_in.Goals as goal
 
@@ -15,6 +15,16 @@ returns-in_err-more-clause-lines g c =
     (record { ticks = c.ticks.counts.ticks; source_ended = c.ticks.source_ended; end = c.end_at-end.result }) c.ticks.counts.held
     (g.O.TraceOut.state c.args.out.now) (g.O.TraceOut.state c.ticks.out) (g.O.TraceOut.state c.pass_time.new.out) c.pass_time.new.flags
     c.ticks.invariant.under_way c.ticks.invariant.source c.ticks.invariant.written c.end_at-end.ensures c.in_err-more.field-0.0 (c.pass_time.auto.flags ∙ c.ticks.invariant.flags) passes)
+
+pub returns-in-Some-clause-lines : goal.returns-in-Some-clause-lines
+returns-in-Some-clause-lines g c =
+    let p = g.P.ProgramView.program c.args.program.now in
+    let s = g.S.HoldSource.state c.args.source.now in
+    let passes = c.in_ok-more.ensures.passes c.ticks.machine.configuration c.ticks.invariant.kept in
+    ends_in_time p s (g.S.HoldSource.state c.ticks.source) (g.S.HoldSource.state c.pass_time.new.source) c.ticks.machine.configuration
+    (record { ticks = c.ticks.counts.ticks; source_ended = c.ticks.source_ended; end = c.end_at-end.result }) c.ticks.counts.held
+    (g.O.TraceOut.state c.args.out.now) (g.O.TraceOut.state c.ticks.out) (g.O.TraceOut.state c.pass_time.new.out) c.pass_time.new.flags
+    c.ticks.invariant.under_way c.ticks.invariant.source c.ticks.invariant.written c.end_at-end.ensures c.in_ok-more.more c.in-Some.end c.in-Some.is passes
 
 pub after-counts-requires-clause-held : goal.after-counts-requires-clause-held
 after-counts-requires-clause-held g c =

@@ -1,6 +1,6 @@
 //! Reports: which actions robots say that they have carried out.
 
-ghost use Rattle.std.specs.Prelude.{◌≡◌, ◌<◌, ◌≤◌, ◌++◌, ◌∷◌, [], length, IfOk, MatchBool};
+ghost use Rattle.std.specs.Prelude.{◌≡◌, ◌<◌, ◌≤◌, ◌++◌, ◌∷◌, ◌↔◌, [], length, IfOk, IsTrue, MatchBool};
 ghost use Rattle.fleet_dispatch.specs.Report.{IsBehind, IsRising};
 
 use fleet_model::MAX_AGENTS;
@@ -64,21 +64,36 @@ impl Report {
         &self.words[..self.count]
     }
 
+    /// Whether the agent of a word is behind those that are named, and there is room for it.
+    fn can_take(&self, word: Reported) -> bool
+        ensures { IsTrue result ↔ IsBehind self.now word }
+    {
+        let is_behind = match self.words().last() {
+            Some(last) => last.agent < word.agent,
+            None => true,
+        };
+        is_behind && self.count < MAX_AGENTS
+    }
+
+    /// Puts a word behind those that are there.
+    fn push(&mut self, word: Reported)
+        requires { IsBehind self.old word }
+        ensures { self.new ≡ self.old ++ word ∷ [] }
+    {
+        self.words[self.count] = word;
+        self.count += 1;
+    }
+
     /// Adds a word, if its agent is behind those that are named and there is room, and answers whether it did.
     pub fn add(&mut self, word: Reported) -> bool
         ensures { MatchBool result
             (IsBehind self.old word × (self.new ≡ self.old ++ word ∷ []))
             ((IsBehind self.old word → ⊥) × (self.new ≡ self.old)) }
     {
-        let is_behind = match self.words().last() {
-            Some(last) => last.agent < word.agent,
-            None => true,
-        };
-        if !is_behind || self.count >= MAX_AGENTS {
+        if !self.can_take(word) {
             return false;
         }
-        self.words[self.count] = word;
-        self.count += 1;
+        self.push(word);
         true
     }
 }

@@ -117,20 +117,20 @@ fn answer_request<'a, R: ReportsTo<O>, F: Files, O: Flush>(
         (O.state out.old) (O.state out.new) result }
 {
     match request {
-        Request::Instance(request) => do_instance(alloc, request, texts, out),
-        Request::Check(request) => do_check(alloc, request, texts, out),
+        Request::Instance(request) => do_instance(alloc, request, &texts, out),
+        Request::Check(request) => do_check(alloc, request, &texts, out),
         Request::Plan(request) => do_plan(alloc, request, texts, out),
         Request::Compile(request) => do_compile(alloc, request, texts, files, out),
-        Request::Verify(request) => do_verify(alloc, request, texts, out),
-        Request::Run(request) => do_run(alloc, request, texts, out),
-        Request::Rehearse(_) => do_rehearse(alloc, texts, out),
-        Request::Auto(request) => do_auto(alloc, request, texts, out),
-        Request::Thin(request) => do_thin(alloc, request, texts, files, out),
-        Request::Migrate(request) => do_migrate(alloc, request, texts, files, out),
-        Request::List(_) => do_list(alloc, texts, out),
-        Request::Dispatch(request) => do_dispatch(alloc, request, texts, input, files, out),
-        Request::Times(request) => do_times(alloc, request, texts, out),
-        Request::Rest(request) => do_rest(alloc, request, texts, files, out),
+        Request::Verify(request) => do_verify(alloc, request, &texts, out),
+        Request::Run(request) => do_run(alloc, request, &texts, out),
+        Request::Rehearse(_) => do_rehearse(alloc, &texts, out),
+        Request::Auto(request) => do_auto(alloc, request, &texts, out),
+        Request::Thin(request) => do_thin(alloc, request, &texts, files, out),
+        Request::Migrate(request) => do_migrate(alloc, request, &texts, files, out),
+        Request::List(_) => do_list(alloc, &texts, out),
+        Request::Dispatch(request) => do_dispatch(alloc, request, &texts, input, files, out),
+        Request::Times(request) => do_times(alloc, request, &texts, out),
+        Request::Rest(request) => do_rest(alloc, request, &texts, files, out),
     }
 }
 

@@ -76,18 +76,18 @@ fn dispatch_kept<P: ProgramView + Drop, R: ReportsTo<O>, F: Files, O: Flush>(
 pub(crate) fn do_dispatch<'a, R: ReportsTo<O>, F: Files, O: Flush>(
     alloc: Global,
     request: &DispatchRequest<'a>,
-    texts: FileTexts,
+    texts: &FileTexts,
     input: &mut R,
     files: &mut F,
     out: &mut O,
 ) -> Result<u8, Fault<'a>>
     requires { IsWorking (O.state out.old) }
-    ensures { AnswersDispatch (F.contents files.old) (F.contents files.new) request.now texts
+    ensures { AnswersDispatch (F.contents files.old) (F.contents files.new) request.now texts.now
         ((input.new ≡ input.old) × (out.new ≡ out.old))
         (IsLogged R.talks input.old out.old input.new out.new) result }
 {
-    let problem = read_problem(alloc, &texts, request.subject.tasks.agents)?;
-    let accepted = accept(alloc, &texts, &problem)?;
+    let problem = read_problem(alloc, texts, request.subject.tasks.agents)?;
+    let accepted = accept(alloc, texts, &problem)?;
     begin_log(alloc, files, request.log)?;
     let outset = Outset {
         pace: pace_of(request),

@@ -73,13 +73,13 @@ fn put_instance<O: TraceOut>(out: &mut O, grid: &Grid, instance: &Instance) -> R
 pub(crate) fn do_instance<'a, O: Flush>(
     alloc: Global,
     request: &Tasks<'a>,
-    texts: FileTexts,
+    texts: &FileTexts,
     out: &mut O,
 ) -> Result<u8, Fault<'a>>
     requires { IsWorking (O.state out.old) }
-    ensures { AnswersInstance request.now texts (O.state out.old) (O.state out.new) result }
+    ensures { AnswersInstance request.now texts.now (O.state out.old) (O.state out.new) result }
 {
-    let problem = read_problem(alloc, &texts, request.agents)?;
+    let problem = read_problem(alloc, texts, request.agents)?;
     let printed = put_instance(out, &problem.grid, &problem.instance);
     hand_on(out, printed)
 }
@@ -136,13 +136,13 @@ fn asked_bound(
 pub(crate) fn do_check<'a, O: Flush>(
     alloc: Global,
     request: &CheckRequest<'a>,
-    texts: FileTexts,
+    texts: &FileTexts,
     out: &mut O,
 ) -> Result<u8, Fault<'a>>
     requires { IsWorking (O.state out.old) }
-    ensures { AnswersCheck request.now texts (O.state out.old) (O.state out.new) result }
+    ensures { AnswersCheck request.now texts.now (O.state out.old) (O.state out.new) result }
 {
-    let problem = read_problem(alloc, &texts, request.tasks.agents)?;
+    let problem = read_problem(alloc, texts, request.tasks.agents)?;
     let plan = match read_plan(alloc, &texts.subject) {
         Ok(plan) => plan,
         Err(fault) => return Err(Fault::Text(fault)),
@@ -258,14 +258,14 @@ fn report_refused<'a, P: ProgramView + Drop, O: Flush>(
 pub(crate) fn do_verify<'a, O: Flush>(
     alloc: Global,
     request: &ProgramFor<'a>,
-    texts: FileTexts,
+    texts: &FileTexts,
     out: &mut O,
 ) -> Result<u8, Fault<'a>>
     requires { IsWorking (O.state out.old) }
-    ensures { AnswersVerify request.now texts (O.state out.old) (O.state out.new) result }
+    ensures { AnswersVerify request.now texts.now (O.state out.old) (O.state out.new) result }
 {
-    let problem = read_problem(alloc, &texts, request.tasks.agents)?;
-    let program = view_subject(alloc, &texts)?;
+    let problem = read_problem(alloc, texts, request.tasks.agents)?;
+    let program = view_subject(alloc, texts)?;
     let accepted = match verify(alloc, program, &problem.grid, &problem.instance) {
         Ok(accepted) => accepted,
         Err(refused) => return Err(report_refused(alloc, refused, out)),
@@ -278,13 +278,13 @@ pub(crate) fn do_verify<'a, O: Flush>(
 #[inline(never)]
 pub(crate) fn do_list<'a, O: Flush>(
     alloc: Global,
-    texts: FileTexts,
+    texts: &FileTexts,
     out: &mut O,
 ) -> Result<u8, Fault<'a>>
     requires { IsWorking (O.state out.old) }
-    ensures { AnswersList texts (O.state out.old) (O.state out.new) result }
+    ensures { AnswersList texts.now (O.state out.old) (O.state out.new) result }
 {
-    let program = view_subject(alloc, &texts)?;
+    let program = view_subject(alloc, texts)?;
     let printed = put_program(out, &program);
     hand_on(out, printed)
 }

@@ -229,14 +229,14 @@ fn write_rest<'a, F: Files, O: Flush>(
 pub(crate) fn do_rest<'a, F: Files, O: Flush>(
     alloc: Global,
     request: &RestRequest<'a>,
-    texts: FileTexts,
+    texts: &FileTexts,
     files: &mut F,
     out: &mut O,
 ) -> Result<u8, Fault<'a>>
     requires { IsWorking (O.state out.old) }
-    ensures { AnswersRest (F.contents files.old) (F.contents files.new) request.now texts
+    ensures { AnswersRest (F.contents files.old) (F.contents files.new) request.now texts.now
         (O.state out.old) (O.state out.new) result }
 {
-    let rest = rest_texts(alloc, request, &texts)?;
+    let rest = rest_texts(alloc, request, texts)?;
     write_rest(files, request, &rest, out)
 }

@@ -64,14 +64,14 @@ fn run_flushed<'a, P: ProgramView + Drop, O: Flush>(
 pub(crate) fn do_run<'a, O: Flush>(
     alloc: Global,
     request: &RunRequest<'a>,
-    texts: FileTexts,
+    texts: &FileTexts,
     out: &mut O,
 ) -> Result<u8, Fault<'a>>
     requires { IsWorking (O.state out.old) }
-    ensures { AnswersRun request.now texts (O.state out.old) (O.state out.new) result }
+    ensures { AnswersRun request.now texts.now (O.state out.old) (O.state out.new) result }
 {
-    let problem = read_problem(alloc, &texts, request.subject.tasks.agents)?;
-    let accepted = accept(alloc, &texts, &problem)?;
+    let problem = read_problem(alloc, texts, request.subject.tasks.agents)?;
+    let accepted = accept(alloc, texts, &problem)?;
     run_flushed(alloc, accepted, &texts.holds, out)
 }
 
@@ -141,14 +141,14 @@ fn tell_numbers<'a, O: Flush>(
 pub(crate) fn do_auto<'a, O: Flush>(
     alloc: Global,
     request: &AutoRequest<'a>,
-    texts: FileTexts,
+    texts: &FileTexts,
     out: &mut O,
 ) -> Result<u8, Fault<'a>>
     requires { IsWorking (O.state out.old) }
-    ensures { AnswersAuto request.now texts (O.state out.old) (O.state out.new) result }
+    ensures { AnswersAuto request.now texts.now (O.state out.old) (O.state out.new) result }
 {
     each_spelling_has_one_program();
-    let problem = read_problem(alloc, &texts, request.tasks.agents)?;
+    let problem = read_problem(alloc, texts, request.tasks.agents)?;
     let made = match made_bytes(
         alloc,
         &problem.grid,
@@ -202,13 +202,13 @@ fn rehearse_program<'a, P: ProgramView, O: Flush>(
 #[inline(never)]
 pub(crate) fn do_rehearse<'a, O: Flush>(
     alloc: Global,
-    texts: FileTexts,
+    texts: &FileTexts,
     out: &mut O,
 ) -> Result<u8, Fault<'a>>
     requires { IsWorking (O.state out.old) }
-    ensures { AnswersRehearse texts (O.state out.old) (O.state out.new) result }
+    ensures { AnswersRehearse texts.now (O.state out.old) (O.state out.new) result }
 {
-    let program = view_subject(alloc, &texts)?;
+    let program = view_subject(alloc, texts)?;
     rehearse_program(alloc, &program, &texts.holds, out)
 }
 

@@ -135,14 +135,14 @@ fn tell_reached<'a, P: ProgramView, O: Flush>(
 pub(crate) fn do_times<'a, O: Flush>(
     alloc: Global,
     request: &TimesRequest<'a>,
-    texts: FileTexts,
+    texts: &FileTexts,
     out: &mut O,
 ) -> Result<u8, Fault<'a>>
     requires { IsWorking (O.state out.old) }
-    ensures { AnswersTimes request.now texts (O.state out.old) (O.state out.new) result }
+    ensures { AnswersTimes request.now texts.now (O.state out.old) (O.state out.new) result }
 {
-    let problem = read_problem(alloc, &texts, request.subject.tasks.agents)?;
-    let accepted = accept(alloc, &texts, &problem)?;
+    let problem = read_problem(alloc, texts, request.subject.tasks.agents)?;
+    let accepted = accept(alloc, texts, &problem)?;
     match request.broken {
         None => tell_times(alloc, &accepted, request.costs, &texts.holds, out),
         Some(line) => tell_reached(alloc, &accepted, line.as_bytes(), out),

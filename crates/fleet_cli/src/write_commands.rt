@@ -86,14 +86,16 @@ struct Thinned {
 fn thin_texts<'a>(
     alloc: Global,
     request: &ThinRequest<'_>,
-    texts: FileTexts,
+    texts: &FileTexts,
 ) -> Result<Thinned, Fault<'a>>
-    ensures thinned { IfOk result
-        (λ t. ThinsTexts texts.map.items texts.scen.items request.now.subject.tasks.agents texts.subject.items t.before t.made.awaits t.made.bytes.items) }
-    ensures fault { IfErr result (IsTextsRefusal texts.map.items texts.scen.items request.now.subject.tasks.agents texts.subject.items) }
+    ensures thinned { IfOk result (λ t. ThinsTexts texts.now.map.items texts.now.scen.items
+        request.now.subject.tasks.agents texts.now.subject.items
+        t.before t.made.awaits t.made.bytes.items) }
+    ensures fault { IfErr result (IsTextsRefusal texts.now.map.items texts.now.scen.items
+        request.now.subject.tasks.agents texts.now.subject.items) }
 {
-    let problem = read_problem(alloc, &texts, request.subject.tasks.agents)?;
-    let accepted = accept(alloc, &texts, &problem)?;
+    let problem = read_problem(alloc, texts, request.subject.tasks.agents)?;
+    let accepted = accept(alloc, texts, &problem)?;
     let before = total_awaits(accepted.program());
     match thin_bytes(alloc, &accepted) {
         Ok(made) => Ok(Thinned { before, made }),
@@ -107,12 +109,12 @@ fn thin_texts<'a>(
 pub(crate) fn do_thin<'a, F: Files, O: Flush>(
     alloc: Global,
     request: &ThinRequest<'a>,
-    texts: FileTexts,
+    texts: &FileTexts,
     files: &mut F,
     out: &mut O,
 ) -> Result<u8, Fault<'a>>
     requires { IsWorking (O.state out.old) }
-    ensures { AnswersThin (F.contents files.old) (F.contents files.new) request.now texts
+    ensures { AnswersThin (F.contents files.old) (F.contents files.new) request.now texts.now
         (O.state out.old) (O.state out.new) result }
 {
     let thinned = thin_texts(alloc, request, texts)?;
@@ -149,12 +151,12 @@ fn migrate_bytes<'a>(alloc: Global, bytes: &[u8]) -> Result<Vec<u8>, Fault<'a>>
 pub(crate) fn do_migrate<'a, F: Files, O: Flush>(
     alloc: Global,
     request: &MigrateRequest<'a>,
-    texts: FileTexts,
+    texts: &FileTexts,
     files: &mut F,
     out: &mut O,
 ) -> Result<u8, Fault<'a>>
     requires { IsWorking (O.state out.old) }
-    ensures { AnswersMigrate (F.contents files.old) (F.contents files.new) request.now texts
+    ensures { AnswersMigrate (F.contents files.old) (F.contents files.new) request.now texts.now
         (O.state out.old) (O.state out.new) result }
 {
     let migrated = migrate_bytes(alloc, &texts.subject)?;

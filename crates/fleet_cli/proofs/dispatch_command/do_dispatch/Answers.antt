@@ -19,7 +19,7 @@ returns-in-Ok g c =
     let past = subst (λ (bytes : List ℕ). DispatchesAfter (first_course p c.pace_of.result) bytes (IsKeptAfter (log_in mid r.log) after r.log talks c.pace_of.result.form) (Ok c.in-Ok.field-0)) c.deref.ensures.value c.in-Ok.ensures.outcome in
     inl (
       record { ground = c.in_ok-problem.problem.grid; tasks = c.in_ok-problem.problem.instance; texts = c.in_ok-problem.ensures.read; program = p; chain = c.in_ok-accepted.accepted.chain; accepts = c.in_ok-accepted.ensures.accepted },
-      led files mid after r p c.args.texts.log.items _ talks (Ok c.in-Ok.field-0) (Ok 0) c.pace_of.result c.in_ok-begin_log.ensures.lines c.pace_of.ensures past refl,
+      led files mid after r p c.args.texts.now.log.items _ talks (Ok c.in-Ok.field-0) (Ok 0) c.pace_of.result c.in_ok-begin_log.ensures.lines c.pace_of.ensures past refl,
       others_on files mid after r.log c.in_ok-begin_log.ensures.others c.in-Ok.ensures.others,
     )
 
@@ -34,7 +34,7 @@ returns g c =
     let past = subst (λ (bytes : List ℕ). DispatchesAfter (first_course p c.pace_of.result) bytes (IsKeptAfter (log_in mid r.log) after r.log talks c.pace_of.result.form) (Err c.in-Err.fault)) c.deref.ensures.value c.in-Err.ensures.outcome in
     inl (
       record { ground = c.in_ok-problem.problem.grid; tasks = c.in_ok-problem.problem.instance; texts = c.in_ok-problem.ensures.read; program = p; chain = c.in_ok-accepted.accepted.chain; accepts = c.in_ok-accepted.ensures.accepted },
-      led files mid after r p c.args.texts.log.items _ talks (Err c.in-Err.fault) (Err (f.Dispatch c.in-Err.fault)) c.pace_of.result c.in_ok-begin_log.ensures.lines c.pace_of.ensures past refl,
+      led files mid after r p c.args.texts.now.log.items _ talks (Err c.in-Err.fault) (Err (f.Dispatch c.in-Err.fault)) c.pace_of.result c.in_ok-begin_log.ensures.lines c.pace_of.ensures past refl,
       others_on files mid after r.log c.in_ok-begin_log.ensures.others c.in-Err.ensures.others,
     )
 

@@ -12,7 +12,7 @@ returns g c =
         texts = c.in_ok-problem.ensures.read;
         program = c.in-Ok.accepted.program.program;
         chain = c.in-Ok.accepted.chain;
-        accepts = returned_accepts c.args.texts.subject.items c.in_ok-problem.problem.grid c.in_ok-problem.problem.instance _ c.in-Ok.accepted.program.program c.in-Ok.accepted.chain c.in_ok-program.ensures.spelled (ap (λ (w : Viewed). w.program) c.in-Ok.ensures.kept.0) c.in-Ok.ensures.accepted;
+        accepts = returned_accepts c.args.texts.now.subject.items c.in_ok-problem.problem.grid c.in_ok-problem.problem.instance _ c.in-Ok.accepted.program.program c.in-Ok.accepted.chain c.in_ok-program.ensures.spelled (ap (λ (w : Viewed). w.program) c.in-Ok.ensures.kept.0) c.in-Ok.ensures.accepted;
       },
       c.hand_on.ensures _ _ c.put_accepted-printed.ensures,
     ))

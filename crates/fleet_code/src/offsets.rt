@@ -1,6 +1,6 @@
 //! Where the actions of an agent stand in the bytes.
 
-ghost use Rattle.std.specs.Prelude.{◌≡◌, ◌<◌, ◌≤◌, ◌+◌, ◌-◌, ◌/◌, ◌∷◌, [], min, replicate, true, length, vec_len, vec_capacity, IfOk, IfSome, IsTrue, ◌↔◌, Ok, List, ◌^◌, All, slice_index_or};
+ghost use Rattle.std.specs.Prelude.{◌≡◌, ◌<◌, ◌≤◌, ◌+◌, ◌-◌, ◌/◌, ◌∷◌, [], min, replicate, true, length, take, vec_len, vec_capacity, IfOk, IfSome, IsTrue, ◌↔◌, Ok, List, ◌^◌, All, slice_index_or};
 ghost use Rattle.fleet_model.specs.Answer.{IsDueUnless};
 ghost use Rattle.fleet_model.specs.declared.program.Action.{Action};
 ghost use Rattle.fleet_code.specs.Spelling.{action, agent};
@@ -382,9 +382,7 @@ impl ActionOffsets {
         ensures { result ≡ offsets.items }
     {
         let (last, stride) = even_from(offsets.as_slice());
-        let mut kept = offsets;
-        kept.truncate(last + 1);
-        kept.shrink_to_fit();
+        let kept = front_of(offsets, last + 1);
         ActionOffsets {
             actions,
             kept,
@@ -416,6 +414,22 @@ impl ActionOffsets {
         let last = kept - 1;
         self.kept[last] + (n - last as u32) * self.stride
     }
+}
+
+/// So many of the first offsets. Memory is given back where that is a quarter or more of theirs.
+fn front_of(offsets: Vec<u32>, count: usize) -> Vec<u32>
+    requires { count ≤ length offsets.items }
+    ensures { result.items ≡ take count offsets.items }
+{
+    let all = offsets.len();
+    let mut kept = offsets;
+    kept.truncate(count);
+    let is_near_all = count > all - all / 4;
+    if is_near_all {
+        return kept;
+    }
+    kept.shrink_to_fit();
+    kept
 }
 
 /// The place of the first offset from which on all are equally far from the one before, and how far that is.

@@ -5,7 +5,7 @@ ghost use Rattle.fleet_scen.specs.RefusalWords.{scen_words};
 ghost use Rattle.fleet_scen.specs.Particulars.{particular_words};
 
 use fleet_text::{OutFault, Refusal, TraceOut, put_memory, put_named, put_named_at, put_named_by};
-use std::alloc::AllocFailed;
+use std::alloc::{AllocError, AllocFailed};
 use thiserror::Error;
 
 /// The first fault of a scenario text, from the front. Lines and fields count from 1, and empty lines count too.
@@ -52,6 +52,17 @@ impl<T: Drop> From<AllocFailed<T>> for ScenFault {
     ghost from_gives = { λ _ e. e ≡ OutOfMemory };
 
     fn from(_e: AllocFailed<T>) -> ScenFault {
+        ScenFault::OutOfMemory
+    }
+}
+
+impl From<AllocError> for ScenFault {
+    ghost use Rattle.std.specs.Prelude.{◌≡◌};
+    ghost use Rattle.fleet_scen.specs.declared.fault.ScenFault.TheVariants.{OutOfMemory};
+
+    ghost from_gives = { λ _ e. e ≡ OutOfMemory };
+
+    fn from(_e: AllocError) -> ScenFault {
         ScenFault::OutOfMemory
     }
 }

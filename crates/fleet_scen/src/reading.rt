@@ -121,6 +121,9 @@ fn lacks(asked: Option<u16>, count: usize) -> bool
     }
 }
 
+/// How many bytes most lines of an agent have at least. There is room for so many agents at first.
+const LINE_BYTES: usize = 32;
+
 /// The tasks of the lines that are left, before which `before` lines stand.
 fn tasks_of(
     alloc: Global,
@@ -133,9 +136,10 @@ fn tasks_of(
     ensures { IsDueUnless (λ v. v.items) result
         (tasks_at grid.now asked before [] lines.old) ScenFault.OutOfMemory }
 {
-    let mut tasks = Vec::new(alloc);
-    let mut starts = HashSet::new(alloc);
-    let mut goals = HashSet::new(alloc);
+    let likely = (lines.bytes_left() / LINE_BYTES).min(MAX_AGENTS);
+    let mut tasks = Vec::with_capacity(alloc, likely)?;
+    let mut starts = HashSet::with_capacity(alloc, likely)?;
+    let mut goals = HashSet::with_capacity(alloc, likely)?;
     let mut number = before;
     while lacks(asked, tasks.len()) {
         let Some(line) = lines.next_line() else {

@@ -40,7 +40,7 @@ returns-in_err-task c =
     let count_is : c.len.result ≡ length l.tasks.items = omega (arith, c.len.ensures) in
     let more : lacks c.args.asked (length l.tasks.items) ≡ true = rw count_is at (sym c.lacks.ensures ∙ c.loop-lines-test.true) in
     let few : length l.tasks.items < MAX_AGENTS = omega (arith, c.len-is_full.ensures, c.if-is_full.false) in
-    let p = err_from_is_err_and c.from_residual.result c.from_residual.ensures.1 in
+    let p = err_from_is_err_and c.from_residual-in_err-task.result c.from_residual-in_err-task.ensures.1 in
     rw (p.1, p.2) (λ other. fails c.args.grid.now c.args.asked l.number l.tasks.items l.lines _ l.invariant.so_far c.in-Some.line.now c.next_line.new.self more c.in-Some.ensures (sym c.is_filled.ensures ∙ c.if-not-is_filled.false) few c.in_err-task.field-0.0 (sym c.in_err-task.ensures))
 
 pub returns-then-not-branch : goal.returns-then-not-branch

@@ -19,7 +19,6 @@ use Rattle.fleet_verify.specs.Faults.{StandsRight}
 use Rattle.fleet_verify.specs.Order.{AreAddedBy}
 use Rattle.fleet_verify.specs.declared.order.OpenPair.{OpenPair}
 use Rattle.fleet_verify.specs.declared.ahead.Needs.{Needs}
-use Rattle.fleet_verify.specs.declared.order.PlacedVisit.{PlacedVisit}
 use Rattle.fleet_verify.proofs.Begin.{begun_more}
 use Rattle.fleet_verify.proofs.Leaving.{entry_by}
 use Rattle.fleet_verify.proofs.Members.{same_action}

@@ -18,7 +18,6 @@ use Rattle.fleet_verify.specs.LastVisits.{kept_at}
 use Rattle.fleet_verify.specs.Order.{AreAddedBy, numbered_cell}
 use Rattle.fleet_verify.specs.Rows.{IsCountedUp}
 use Rattle.fleet_verify.specs.declared.order.OpenPair.{OpenPair}
-use Rattle.fleet_verify.specs.declared.order.PlacedVisit.{PlacedVisit}
 use Rattle.fleet_verify.specs.declared.ahead.Ahead.{Ahead}
 
 -- ---- levels

@@ -1,4 +1,4 @@
-use Rattle.std.proofs.Common.{◌≡◌, ◌+◌, ◌∙◌, sym, ◌++◌, ◌∷◌, [], ap, subst, arith}
+use Rattle.std.proofs.Common.{◌+◌, ◌∙◌, sym, ◌++◌, ◌∷◌, [], ap, subst, arith}
 use Rattle.std.specs.Prelude.{IsTrue}
 use Rattle.std.proofs.lemmas.List.{map-append}
 use Rattle.std.proofs.lemmas.List.Elements.{All-push}

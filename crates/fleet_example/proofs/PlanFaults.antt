@@ -1,5 +1,6 @@
 -- The first faults of an exchange and of a ring of four: a swap, and a cycle.
 use Rattle.std.proofs.Common.{◌≡◌, ◌≢◌, ℕ, zero, suc, ◌+◌, ◌<◌, ◌≤◌, min, true, List, [], ◌∷◌, get_or, All, Option, Some, None, ◌⊎◌, inl, inr, refl, sym, ap, ◌∙◌, arith}
+use Rattle.std.specs.Prelude.{EachIndex}
 use Rattle.std.specs.List.{IsDistinct}
 use Rattle.std.proofs.lemmas.Option.{none-some}
 use Rattle.std.proofs.lemmas.Int.{ints}
@@ -14,7 +15,7 @@ use Rattle.fleet_model.specs.Conflict.{HasSwappingConflict, HasCycleConflict}
 use Rattle.fleet_plan.specs.declared.plan_fault.Conflict.{Conflict}
 use Rattle.fleet_plan.specs.declared.plan_fault.Conflict.TheVariants.{Vertex, Swapping, Cycle}
 use Rattle.fleet_plan.specs.Plan.{cell_at, cell_of, last_cell, motion_of, AreNeighbours}
-use Rattle.fleet_plan.specs.FirstFault.{AllAgents, StartsOnStart, EndsOnGoal, GoesOver, GoesRight, HasConflict, IsCycle, IsPairUpTo, IsConflictUpTo, HasStartsAndGoals, IsFirstPlanFault}
+use Rattle.fleet_plan.specs.FirstFault.{StartsOnStart, EndsOnGoal, GoesOver, GoesRight, HasConflict, IsCycle, IsPairUpTo, IsConflictUpTo, HasStartsAndGoals, IsFirstPlanFault}
 use Rattle.fleet_example.specs.Programs.{cell_xy}
 use Rattle.fleet_example.specs.Plans.{swap_plan, swap_tasks, swap_fault, ring_plan, ring_tasks, ring_fault}
 
@@ -50,17 +51,17 @@ swap_ends : HasStartsAndGoals swap_tasks swap_plan
 unfolding last_cell cell_of cell_at task_of
 swap_ends = record { agents = refl; starts = starts; goals = goals }
   where
-    starts : AllAgents swap_plan (StartsOnStart swap_tasks swap_plan)
+    starts : EachIndex swap_plan (StartsOnStart swap_tasks swap_plan)
     starts zero h t e = ap (λ o. (task_of o).start) e
     starts (suc zero) h t e = ap (λ o. (task_of o).start) e
     starts (suc (suc i)) h t e = absurd (none-some t e)
 
-    goals : AllAgents swap_plan (EndsOnGoal swap_tasks swap_plan)
+    goals : EachIndex swap_plan (EndsOnGoal swap_tasks swap_plan)
     goals zero h t e = ap (λ o. (task_of o).goal) e
     goals (suc zero) h t e = ap (λ o. (task_of o).goal) e
     goals (suc (suc i)) h t e = absurd (none-some t e)
 
-swap_steps : AllAgents swap_plan (GoesRight (λ q. true) swap_plan)
+swap_steps : EachIndex swap_plan (GoesRight (λ q. true) swap_plan)
 swap_steps zero h = two_cells (cell_xy 0 0) (cell_xy 1 0) East refl
 swap_steps (suc zero) h = two_cells (cell_xy 1 0) (cell_xy 0 0) West refl
 swap_steps (suc (suc i)) h = let g : suc (suc i) < 2 = h in absurd (omega arith)
@@ -94,21 +95,21 @@ ring_ends : HasStartsAndGoals ring_tasks ring_plan
 unfolding last_cell cell_of cell_at task_of
 ring_ends = record { agents = refl; starts = starts; goals = goals }
   where
-    starts : AllAgents ring_plan (StartsOnStart ring_tasks ring_plan)
+    starts : EachIndex ring_plan (StartsOnStart ring_tasks ring_plan)
     starts zero h t e = ap (λ o. (task_of o).start) e
     starts (suc zero) h t e = ap (λ o. (task_of o).start) e
     starts (suc (suc zero)) h t e = ap (λ o. (task_of o).start) e
     starts (suc (suc (suc zero))) h t e = ap (λ o. (task_of o).start) e
     starts (suc (suc (suc (suc i)))) h t e = absurd (none-some t e)
 
-    goals : AllAgents ring_plan (EndsOnGoal ring_tasks ring_plan)
+    goals : EachIndex ring_plan (EndsOnGoal ring_tasks ring_plan)
     goals zero h t e = ap (λ o. (task_of o).goal) e
     goals (suc zero) h t e = ap (λ o. (task_of o).goal) e
     goals (suc (suc zero)) h t e = ap (λ o. (task_of o).goal) e
     goals (suc (suc (suc zero))) h t e = ap (λ o. (task_of o).goal) e
     goals (suc (suc (suc (suc i)))) h t e = absurd (none-some t e)
 
-ring_steps : AllAgents ring_plan (GoesRight (λ q. true) ring_plan)
+ring_steps : EachIndex ring_plan (GoesRight (λ q. true) ring_plan)
 ring_steps zero h = two_cells (cell_xy 0 0) (cell_xy 1 0) East refl
 ring_steps (suc zero) h = two_cells (cell_xy 1 0) (cell_xy 1 1) South refl
 ring_steps (suc (suc zero)) h = two_cells (cell_xy 1 1) (cell_xy 0 1) West refl

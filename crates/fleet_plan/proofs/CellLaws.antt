@@ -7,6 +7,7 @@ use Rattle.std.proofs.lemmas.List.{append-nil}
 use Rattle.std.proofs.lemmas.Option.{none-some, same_Some}
 use Rattle.fleet_model.specs.declared.geometry.Cell.{Cell}
 use Rattle.fleet_text.specs.Text.{Bytes, is_blank, is_word, starts_blank, is_digit, words, digits_front, number_front, number_after, number, small, small_number, small_number_front}
+use Rattle.fleet_text.proofs.TextLaws.{words_blank}
 use Rattle.fleet_plan.specs.PlanText.{cell_of_parts, spelled_cell}
 use Rattle.fleet_plan.specs.PlanReading.{spelled_cells}
 use Rattle.fleet_plan.specs.CellReading.{after_comma, after_blanks, after_word, cell_front, begins_with_word}
@@ -34,10 +35,6 @@ split_front (b ∷ text) =
       | inl t ↦ rw t refl
       | inr t ↦ rw t (ap (onto_first b) (split_front text))
     ]
-
-words_blank : (b : ℕ) (text : Bytes) → is_blank b ≡ true → words (b ∷ text) ≡ words text
-unfolding words
-words_blank b text t = rw t refl
 
 others_are : (text : Bytes) → filter is_word (later_words text) ≡ words (rest_front text)
 unfolding words

@@ -1,5 +1,6 @@
 -- Whether a plan has a fault, and which one is the first, is decided: by search among finitely many agents and times.
 use Rattle.std.proofs.Common.{◌≡◌, ◌≢◌, ℕ, zero, suc, ◌+◌, ◌-◌, ◌<◌, ◌≤◌, min, Bool, List, [], ◌∷◌, length, get_or, map, slice_index, slice_get, Option, Some, None, ◌⊎◌, inl, inr, refl, sym, ap, ◌∙◌, subst, arith}
+use Rattle.std.specs.Prelude.{EachIndex}
 use Rattle.std.specs.Int.{abs_diff}
 use Rattle.std.proofs.lemmas.Bool.{cases_eq, cases_lt, cases_Bool}
 use Rattle.fleet_model.specs.declared.geometry.Cell.{Cell}
@@ -14,7 +15,7 @@ use Rattle.fleet_plan.specs.declared.plan_fault.Conflict.TheVariants.{Vertex, Sw
 use Rattle.fleet_plan.specs.declared.plan_fault.PlanFault.{PlanFault}
 use Rattle.fleet_plan.specs.declared.plan_fault.PlanFault.TheVariants as fault
 use Rattle.fleet_plan.specs.Plan.{Plan, Path, cell_at, cell_of, last_cell, steps, IsPath, IsWithinLimits, IsConflictFree}
-use Rattle.fleet_plan.specs.FirstFault.{AllAgents, IsFirstFaultyAgent, StartsOnStart, EndsOnGoal, IsRightAt, GoesOver, GoesRight, IsFirstTime, IsFirstStep, path_of, HasConflict, HasNoConflict, HasStartsAndGoals, time_of, IsFirstConflict, IsFirstPlanFault}
+use Rattle.fleet_plan.specs.FirstFault.{IsFirstFaultyAgent, StartsOnStart, EndsOnGoal, IsRightAt, GoesOver, GoesRight, IsFirstTime, IsFirstStep, path_of, HasConflict, HasNoConflict, HasStartsAndGoals, time_of, IsFirstConflict, IsFirstPlanFault}
 use Rattle.fleet_plan.specs.Rings.{ahead_of, Leads, IsOnRing, IsLeastOnRing}
 use Rattle.fleet_plan.specs.Sweep.{StandOnMap, StandOnPlaces, Meet, IsFirstMeeting, IsAhead, AreAhead, Exchange, IsFirstExchange, HasNoMeeting, IsFirstIn, IsFreeIn}
 use Rattle.fleet_plan.proofs.PathLaws.{beside_if, beside_only, right_at, not_on_ground, not_beside, right_all}
@@ -306,13 +307,13 @@ same_length plan tasks = cases_eq (length plan) (length tasks)
 abbrev HasFault : (Place → Bool) → List Task → Plan → Type 0
 HasFault passable tasks plan = (f : PlanFault) × IsFirstPlanFault passable tasks plan f
 
-agent_or : (plan : Plan) (P : ℕ → Type 0) → ((i : ℕ) → Decided (P i)) → AllAgents plan P ⊎ ((i : ℕ) × IsFirstFaultyAgent plan P i)
+agent_or : (plan : Plan) (P : ℕ → Type 0) → ((i : ℕ) → Decided (P i)) → EachIndex plan P ⊎ ((i : ℕ) × IsFirstFaultyAgent plan P i)
 agent_or plan P dec = elim (first_or_all P dec (length plan)) [
   | inl all ↦ inl all
   | inr f ↦ inr (f.0, record { agent = f.1; wrong = f.2; least = f.3 })
 ]
 
-goes_or : (passable : Place → Bool) (plan : Plan) → IsWithinLimits plan → AllAgents plan (GoesRight passable plan) ⊎ ((i t : ℕ) × IsFirstStep passable plan i t)
+goes_or : (passable : Place → Bool) (plan : Plan) → IsWithinLimits plan → EachIndex plan (GoesRight passable plan) ⊎ ((i t : ℕ) × IsFirstStep passable plan i t)
 goes_or passable plan limits = go (length plan) (omega arith)
   where
     some : (i : ℕ) → i < length plan → 1 ≤ length (path_of plan i)

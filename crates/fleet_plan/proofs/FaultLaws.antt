@@ -1,5 +1,6 @@
 -- Freedom of conflict, and first faults.
 use Rattle.std.proofs.Common.{◌≡◌, ℕ, zero, suc, ◌+◌, ◌<◌, ◌≤◌, Bool, List, [], ◌∷◌, length, get_or, All, Contains, ◌⊎◌, inl, inr, refl, sym, ap, subst, arith}
+use Rattle.std.specs.Prelude.{EachIndex}
 use Rattle.std.proofs.lemmas.Bool.{cases_lt, cases_order}
 use Rattle.std.proofs.lemmas.Option.{slice_get_within}
 use Rattle.fleet_model.specs.declared.geometry.Place.{Place}
@@ -10,7 +11,7 @@ use Rattle.fleet_plan.specs.declared.plan_fault.Conflict.TheVariants.{Vertex, Sw
 use Rattle.fleet_plan.specs.declared.plan_fault.PlanFault.{PlanFault}
 use Rattle.fleet_plan.specs.declared.plan_fault.PlanFault.TheVariants as fault
 use Rattle.fleet_plan.specs.Plan.{Plan, cell_at, cell_of, motion_of, AreNeighbours, IsConflictFree}
-use Rattle.fleet_plan.specs.FirstFault.{AllAgents, IsFirstFaultyAgent, StartsOnStart, EndsOnGoal, IsRightAt, GoesRight, IsFirstStep, HasNoConflict, HasStartsAndGoals, time_of, IsPairUpTo, IsKindUpTo, IsConflictUpTo, IsFirstConflict, IsFirstPlanFault, path_of}
+use Rattle.fleet_plan.specs.FirstFault.{IsFirstFaultyAgent, StartsOnStart, EndsOnGoal, IsRightAt, GoesRight, IsFirstStep, HasNoConflict, HasStartsAndGoals, time_of, IsPairUpTo, IsKindUpTo, IsConflictUpTo, IsFirstConflict, IsFirstPlanFault, path_of}
 
 -- the least of numbers
 abbrev HasLeast : List ℕ → Type 0
@@ -43,7 +44,7 @@ some_least [] l = absurd (omega arith)
 some_least (x ∷ xs) l = least_of x xs
 
 -- all is right, and nobody is in conflict
-pub free_from : (passable : Place → Bool) (tasks : List Task) (plan : Plan) → HasStartsAndGoals tasks plan → AllAgents plan (GoesRight passable plan) → HasNoConflict plan → IsConflictFree passable tasks plan
+pub free_from : (passable : Place → Bool) (tasks : List Task) (plan : Plan) → HasStartsAndGoals tasks plan → EachIndex plan (GoesRight passable plan) → HasNoConflict plan → IsConflictFree passable tasks plan
 unfolding cell_of
 free_from passable tasks plan ends goes none = record {
   agents = ends.agents;

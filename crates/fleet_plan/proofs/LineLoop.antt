@@ -73,7 +73,7 @@ no_path : (number : ℕ) (line : Bytes) → spelled_cells (words_from_front line
 unfolding path_at
 no_path number line e = rw e refl
 
-some_path : (path : Path) → 1 ≤ length path → some_cells path ≡ Some path
+pub some_path : (path : Path) → 1 ≤ length path → some_cells path ≡ Some path
 some_path [] some = absurd (omega arith)
 some_path (cell ∷ path) some = refl
 

@@ -13,6 +13,7 @@ use Rattle.fleet_model.specs.Geometry.{place_of, moved}
 use Rattle.fleet_model.specs.Program.{origin}
 use Rattle.fleet_model.proofs.Cells.{cell_from_parts}
 use Rattle.fleet_plan.specs.Plan.{Path, Plan, cell_at, cell_of, last_cell, AreNeighbours}
+use Rattle.fleet_plan.specs.Numbers.{end_of}
 use Rattle.fleet_plan.specs.FirstFault.{IsRightAt, GoesOver}
 
 -- ---- equal or neighbouring cells
@@ -89,11 +90,8 @@ module _ (passable : Place → Bool) (path : Path) where
 
 -- ---- the last cell
 
-pub last_is : (plan : Plan) (i : ℕ) (p : Path) (n : ℕ) → slice_get plan i ≡ Some p → n + 1 ≡ length p → cell_at p n ≡ last_cell plan i
+pub last_is : (plan : Plan) (i : ℕ) (p : Path) → slice_get plan i ≡ Some p → end_of p ≡ last_cell plan i
 unfolding last_cell cell_of
-last_is plan i p n e l =
-    let same : get_or plan i [] ≡ p = get_or_from_slice_get plan i p [] e in
-    let k : n ≡ length p - 1 = omega arith in
-    ap (cell_at p) k ∙ ap (λ (q : Path). cell_at q (length q - 1)) (sym same)
+last_is plan i p e = ap (λ (q : Path). cell_at q (length q - 1)) (sym (get_or_from_slice_get plan i p [] e))
 
 -- ---- tasks

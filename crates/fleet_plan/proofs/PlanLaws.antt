@@ -17,6 +17,7 @@ use Rattle.fleet_plan.specs.declared.text_fault.TextFault.TheVariants.{Form, Len
 use Rattle.fleet_plan.specs.PlanText.{cell_of_parts, spelled_cell, SpellsPath, StandsForPath, ArePlanLines}
 use Rattle.fleet_plan.specs.PlanReading.{spelled_cells, some_cells, path_at, enough_paths, paths_at}
 use Rattle.fleet_plan.specs.declared.reading.TheConstants.{MAX_CELLS}
+use Rattle.fleet_plan.proofs.LineLoop.{some_path}
 use Rattle.fleet_model.specs.declared.limits.TheConstants.{MAX_AGENTS}
 
 -- ---- the cells of words
@@ -55,11 +56,7 @@ abbrev pub path_in : Bytes → Option Path
 path_in line = option_and_then some_cells (spelled_cells (words_from_front line))
 
 pub spells_again : (line : Bytes) (path : Path) → SpellsPath line path → path_in line ≡ Some path
-spells_again line path s = ap (λ (o : Option Path). option_and_then some_cells o) (cells_again (words_from_front line) path s.cells) ∙ some_again path s.some
-  where
-    some_again : (path : Path) → 1 ≤ length path → some_cells path ≡ Some path
-    some_again [] some = absurd (omega arith)
-    some_again (c ∷ path) some = refl
+spells_again line path s = ap (λ (o : Option Path). option_and_then some_cells o) (cells_again (words_from_front line) path s.cells) ∙ some_path path s.some
 
 pub spells_is : (line : Bytes) (path : Path) → path_in line ≡ Some path → SpellsPath line path
 spells_is line path e = found (spelled_cells (words_from_front line)) refl

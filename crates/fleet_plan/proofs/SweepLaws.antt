@@ -1,5 +1,6 @@
 -- What the places of agents at two times say of the conflicts of their plan.
 use Rattle.std.proofs.Common.{◌≡◌, ◌≢◌, ℕ, zero, suc, ◌+◌, ◌<◌, ◌≤◌, Bool, true, false, IsTrue, List, [], ◌∷◌, length, get_or, slice_index, All, Option, Some, None, is_some, IfSome, IfNone, inl, inr, refl, sym, ap, ◌∙◌, subst, arith, map, ◌==◌}
+use Rattle.std.specs.Prelude.{EachIndex}
 use Rattle.std.specs.List.{IsDistinct, range_with_len}
 use Rattle.std.proofs.lemmas.Bool.{cases_eq, cases_lt, cases_order}
 use Rattle.std.proofs.lemmas.List.{get_or_past, get_or_default}
@@ -14,7 +15,7 @@ use Rattle.fleet_grid.specs.Ground.{Ground, IsGround, is_passable, cell_index, i
 use Rattle.fleet_plan.specs.declared.plan_fault.Conflict.{Conflict}
 use Rattle.fleet_plan.specs.declared.plan_fault.Conflict.TheVariants.{Vertex, Swapping, Cycle}
 use Rattle.fleet_plan.specs.Plan.{Plan, cell_of, motion_of, steps, IsPath}
-use Rattle.fleet_plan.specs.FirstFault.{AllAgents, GoesRight, path_of, HasConflict, HasNoConflict, time_of, IsKindUpTo, IsConflictUpTo, IsFirstConflict}
+use Rattle.fleet_plan.specs.FirstFault.{GoesRight, path_of, HasConflict, HasNoConflict, time_of, IsKindUpTo, IsConflictUpTo, IsFirstConflict}
 use Rattle.fleet_plan.specs.Rings.{NamesAgents, ahead_of, walk_of, Leads, IsOnRing, IsLeastOnRing}
 use Rattle.fleet_plan.specs.Sweep.{StandOnMap, StandOnPlaces, Meet, IsFirstMeeting, IsAhead, AreAhead, Exchange, IsFirstExchange, HasNoMeeting, HasNoExchange, IsFirstIn, IsFreeIn, IsEntered, IsAgentSettled, IsSweep, IsSwept, SweepRows, HasComeTo}
 use Rattle.fleet_plan.specs.UnderWay.{IsSoForOthers, Covers}
@@ -47,7 +48,7 @@ passable_on_map g sizes c p = (column, row)
           let z : true ≡ false = sym p ∙ e in absurd (cc)
     ]
 
-pub all_on_map : (g : Ground) → IsGround g → (plan : Plan) → AllAgents plan (GoesRight (is_passable g) plan) → StandOnMap g plan
+pub all_on_map : (g : Ground) → IsGround g → (plan : Plan) → EachIndex plan (GoesRight (is_passable g) plan) → StandOnMap g plan
 unfolding cell_of
 all_on_map g sizes plan goes i t l = passable_on_map g sizes (cell_of plan i t) (goes i l t).on_ground
 

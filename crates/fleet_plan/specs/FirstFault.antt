@@ -1,20 +1,16 @@
 -- The first fault of a plan: by kind in the order of the refusals, and within a kind as each says.
-use Rattle.std.specs.Prelude.{◌≡◌, ◌≢◌, ℕ, ◌+◌, ◌<◌, ◌≤◌, Bool, IsTrue, List, [], length, get_or, slice_get, Some, ◌⊎◌, All, Contains}
+use Rattle.std.specs.Prelude.{◌≡◌, ◌≢◌, ℕ, ◌+◌, ◌<◌, ◌≤◌, Bool, IsTrue, List, [], length, get_or, slice_get, Some, ◌⊎◌, All, Contains, EachIndex}
 use Rattle.fleet_model.specs.declared.geometry.Place.{Place}
 use Rattle.fleet_model.specs.declared.task.Task.{Task}
 use Rattle.fleet_model.specs.Geometry.{place_of}
 use Rattle.fleet_model.specs.Conflict.{HasVertexConflict, HasSwappingConflict, HasCycleConflict}
-use Rattle.fleet_plan.specs.Plan.{Path, Plan, cell_at, cell_of, last_cell, motion_of, AreNeighbours}
+use Rattle.fleet_plan.specs.Plan.{Path, Plan, cell_at, cell_of, last_cell, motion_of, AreBeside}
 use Rattle.fleet_plan.specs.declared.plan_fault.Conflict.{Conflict}
 use Rattle.fleet_plan.specs.declared.plan_fault.Conflict.TheVariants.{Vertex, Swapping, Cycle}
 use Rattle.fleet_plan.specs.declared.plan_fault.PlanFault.{PlanFault}
 use Rattle.fleet_plan.specs.declared.plan_fault.PlanFault.TheVariants as fault
 
 -- ---- agents
-
--- it is so for each agent of the plan
-abbrev pub AllAgents : Plan → (ℕ → Type 0) → Type 0
-AllAgents plan IsRight = (i : ℕ) → i < length plan → IsRight i
 
 -- the least agent for which it is not so
 pub record IsFirstFaultyAgent (plan : Plan) (IsRight : ℕ → Type 0) (i : ℕ) : Type 0 where
@@ -35,7 +31,7 @@ EndsOnGoal tasks plan i = (t : Task) → slice_get tasks i ≡ Some t → last_c
 -- the cell of the path at time t is passable, and it is the cell before or one of its neighbours
 pub record IsRightAt (passable : Place → Bool) (path : Path) (t : ℕ) : Type 0 where
   pub on_ground : IsTrue (passable (place_of (cell_at path t)))
-  pub successive : (s : ℕ) → t ≡ s + 1 → (cell_at path s ≡ cell_at path t) ⊎ AreNeighbours (cell_at path s) (cell_at path t)
+  pub successive : (s : ℕ) → t ≡ s + 1 → AreBeside (cell_at path s) (cell_at path t)
 
 -- the path is right at each time
 abbrev pub GoesOver : (Place → Bool) → Path → Type 0
@@ -115,14 +111,14 @@ HasNoConflict plan = (c : Conflict) → HasConflict plan c → ⊥
 -- there are as many agents as tasks, and each begins and ends as its task says
 pub record HasStartsAndGoals (tasks : List Task) (plan : Plan) : Type 0 where
   pub agents : length plan ≡ length tasks
-  pub starts : AllAgents plan (StartsOnStart tasks plan)
-  pub goals : AllAgents plan (EndsOnGoal tasks plan)
+  pub starts : EachIndex plan (StartsOnStart tasks plan)
+  pub goals : EachIndex plan (EndsOnGoal tasks plan)
 
 -- the fault is one of the plan, and all that is judged before it is right
 abbrev pub IsFirstPlanFault : (Place → Bool) → List Task → Plan → PlanFault → Type 0
 IsFirstPlanFault passable tasks plan fault.OutOfMemory = ⊥
 IsFirstPlanFault passable tasks plan fault.Agents = length plan ≢ length tasks
 IsFirstPlanFault passable tasks plan (fault.Start i) = (length plan ≡ length tasks) × IsFirstFaultyAgent plan (StartsOnStart tasks plan) i
-IsFirstPlanFault passable tasks plan (fault.Goal i) = (length plan ≡ length tasks) × AllAgents plan (StartsOnStart tasks plan) × IsFirstFaultyAgent plan (EndsOnGoal tasks plan) i
+IsFirstPlanFault passable tasks plan (fault.Goal i) = (length plan ≡ length tasks) × EachIndex plan (StartsOnStart tasks plan) × IsFirstFaultyAgent plan (EndsOnGoal tasks plan) i
 IsFirstPlanFault passable tasks plan (fault.Step i t) = HasStartsAndGoals tasks plan × IsFirstStep passable plan i t
-IsFirstPlanFault passable tasks plan (fault.Conflict c) = HasStartsAndGoals tasks plan × AllAgents plan (GoesRight passable plan) × IsFirstConflict plan c
+IsFirstPlanFault passable tasks plan (fault.Conflict c) = HasStartsAndGoals tasks plan × EachIndex plan (GoesRight passable plan) × IsFirstConflict plan c

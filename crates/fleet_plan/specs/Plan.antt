@@ -42,13 +42,17 @@ motion_of plan x i = place_of (cell_of plan i x)
 abbrev pub AreNeighbours : Cell → Cell → Type 0
 AreNeighbours c d = (e : Dir) × (place_of d ≡ moved (place_of c) e)
 
+-- d is c or one of its neighbours
+abbrev pub AreBeside : Cell → Cell → Type 0
+AreBeside c d = (c ≡ d) ⊎ AreNeighbours c d
+
 -- each path leads from start to goal over passable cells, by equal or neighbouring cells, and there is no vertex,
 -- swapping or cycle conflict. After its last cell an agent stays, and it may follow another
 pub record IsConflictFree (passable : Place → Bool) (tasks : List Task) (plan : Plan) : Type 0 where
   pub agents : length plan ≡ length tasks
   pub ends : (i : ℕ) (t : Task) → slice_get tasks i ≡ Some t → (cell_of plan i 0 ≡ t.start) × (last_cell plan i ≡ t.goal)
   pub on_ground : (i x : ℕ) → i < length plan → IsTrue (passable (place_of (cell_of plan i x)))
-  pub successive : (i x : ℕ) → i < length plan → (cell_of plan i x ≡ cell_of plan i (x + 1)) ⊎ AreNeighbours (cell_of plan i x) (cell_of plan i (x + 1))
+  pub successive : (i x : ℕ) → i < length plan → AreBeside (cell_of plan i x) (cell_of plan i (x + 1))
   pub vertex : (x i j : ℕ) → i < length plan → j < length plan → HasVertexConflict (motion_of plan) x i j → ⊥
   pub swapping : (x i j : ℕ) → i < length plan → j < length plan → HasSwappingConflict (motion_of plan) x i j → ⊥
   pub cycle : (x : ℕ) (ring : List ℕ) → All (λ i. i < length plan) ring → HasCycleConflict (motion_of plan) x ring → ⊥

@@ -85,7 +85,7 @@ HasNoMeeting places = (i j : ℕ) → Meet places i j → ⊥
 -- nobody meets another, and no two agents are ahead of each other
 pub record HasNoExchange (places : List ℕ) (ahead : List (Option ℕ)) : Type 0 where
   pub apart : HasNoMeeting places
-  pub none : (i j : ℕ) → Exchange ahead i j → ⊥
+  pub none : HasNone (Exchange ahead)
 
 -- the first conflict of the agents in these places at the time and the next one
 abbrev pub IsFirstIn : List ℕ → List ℕ → ℕ → Conflict → Type 0
@@ -134,7 +134,7 @@ pub record IsSweep (g : Ground) (plan : Plan) (places : List ℕ) (t : ℕ) : Ty
 pub record IsSwept (g : Ground) (plan : Plan) (table : Table ℕ) (places next : List ℕ) (ahead walks : List (Option ℕ)) (row : List ℕ) (t : ℕ) : Type 0 where
   pub sweep : IsSweep g plan places t
   pub entered : IsEntered table places
-  pub settled : (i : ℕ) → i < length next → IsAgentSettled places next ahead walks i
+  pub settled : AreAgentsSettled places next ahead walks
   pub covers : Covers plan t row
 
 -- what a sweep knows: the table, for each agent its place at the time and at the next one, who is ahead of it and whose

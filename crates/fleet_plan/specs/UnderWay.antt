@@ -1,5 +1,5 @@
 -- The agents whose paths go on, as a row that is looked at in place of all agents.
-use Rattle.std.specs.Prelude.{◌≡◌, ℕ, ◌+◌, ◌-◌, ◌<◌, ◌≤◌, nat_lt, Bool, List, [], length, get_or, slice_index, All, ◌⊎◌}
+use Rattle.std.specs.Prelude.{◌≡◌, ℕ, ◌+◌, ◌-◌, ◌<◌, ◌≤◌, nat_lt, Bool, List, length, slice_index, All, ◌⊎◌}
 use Rattle.fleet_model.specs.declared.limits.TheConstants.{MAX_AGENTS}
 use Rattle.fleet_plan.specs.Plan.{Plan}
 use Rattle.fleet_plan.specs.FirstFault.{path_of}
@@ -17,7 +17,7 @@ IsSoForOthers row n P = (i : ℕ) → i < n → IsComing row 0 i ⊎ P i
 
 -- the path of the agent goes on after time t
 abbrev pub is_under_way : Plan → ℕ → ℕ → Bool
-is_under_way plan t i = nat_lt t (length (get_or plan i []) - 1)
+is_under_way plan t i = nat_lt t (length (path_of plan i) - 1)
 
 -- all are agents of the plan, among them each one whose path goes on after time t
 pub record Covers (plan : Plan) (t : ℕ) (row : List ℕ) : Type 0 where

@@ -1,9 +1,9 @@
 //! Plans that were judged: those free of conflict, and the first fault of the others.
 
-ghost use Rattle.std.specs.Prelude.{◌≡◌, ◌≢◌, IfOk, IfErr, IfSome, IfNone, length};
+ghost use Rattle.std.specs.Prelude.{◌≡◌, ◌≢◌, IfOk, IfErr, IfSome, IfNone, length, EachIndex};
 ghost use Rattle.fleet_grid.specs.Ground.{is_passable};
 ghost use Rattle.fleet_plan.specs.Plan.{IsConflictFree};
-ghost use Rattle.fleet_plan.specs.FirstFault.{IsFirstPlanFault, StartsOnStart, EndsOnGoal, AllAgents, IsFirstFaultyAgent};
+ghost use Rattle.fleet_plan.specs.FirstFault.{IsFirstPlanFault, StartsOnStart, EndsOnGoal, IsFirstFaultyAgent};
 ghost use Rattle.fleet_plan.specs.Checked.{IsCheckedFor};
 
 use crate::plan::{Plan, first_wrong_step};
@@ -132,11 +132,11 @@ impl<'g> Checked<'g> {
 }
 
 /// The least agent that does not begin on its start.
-pub(crate) fn first_wrong_start(plan: &Plan, instance: &Instance) -> Option<u16>
+fn first_wrong_start(plan: &Plan, instance: &Instance) -> Option<u16>
     requires { length plan.now ≡ length instance.now }
     ensures some { IfSome result (IsFirstFaultyAgent plan.now
         (StartsOnStart instance.now plan.now)) }
-    ensures none { IfNone result (AllAgents plan.now (StartsOnStart instance.now plan.now)) }
+    ensures none { IfNone result (EachIndex plan.now (StartsOnStart instance.now plan.now)) }
 {
     for i in 0..plan.agents() {
         if plan.cell(i, 0) != instance.start(i) {
@@ -147,10 +147,10 @@ pub(crate) fn first_wrong_start(plan: &Plan, instance: &Instance) -> Option<u16>
 }
 
 /// The least agent that does not end on its goal.
-pub(crate) fn first_wrong_goal(plan: &Plan, instance: &Instance) -> Option<u16>
+fn first_wrong_goal(plan: &Plan, instance: &Instance) -> Option<u16>
     requires { length plan.now ≡ length instance.now }
     ensures some { IfSome result (IsFirstFaultyAgent plan.now (EndsOnGoal instance.now plan.now)) }
-    ensures none { IfNone result (AllAgents plan.now (EndsOnGoal instance.now plan.now)) }
+    ensures none { IfNone result (EachIndex plan.now (EndsOnGoal instance.now plan.now)) }
 {
     for i in 0..plan.agents() {
         if plan.last_cell(i) != instance.goal(i) {

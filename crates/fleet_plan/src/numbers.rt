@@ -27,9 +27,9 @@ impl Path {
         0
     }
 
-    /// The last cell.
+    /// The last cell, on which the agent stays.
     #[tactic(auto, using(crate::proofs::Counted::end_is))]
-    fn end(&self) -> Cell
+    pub(crate) fn end(&self) -> Cell
         ensures { result ≡ end_of self.now }
     {
         self.cell(self.steps())

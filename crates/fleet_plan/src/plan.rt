@@ -1,12 +1,12 @@
 //! Paths, plans, and the steps between their cells.
 
-ghost use Rattle.std.specs.Prelude.{◌≡◌, ◌+◌, ◌≤◌, ◌<◌, length, min, slice_get, filter, All, Some, IfSome, IfNone, IsTrue, ◌↔◌, ◌⊎◌};
+ghost use Rattle.std.specs.Prelude.{◌≡◌, ◌+◌, ◌≤◌, ◌<◌, length, min, slice_get, filter, All, Some, IfSome, IfNone, IsTrue, ◌↔◌, EachIndex};
 ghost use Rattle.fleet_model.specs.declared.limits.TheConstants.{MAX_HORIZON};
 ghost use Rattle.fleet_model.specs.Program.{IsCell};
-ghost use Rattle.fleet_plan.specs.Plan.{IsPath, IsFleet, IsWithinLimits, cell_at, cell_of, last_cell, steps, AreNeighbours};
+ghost use Rattle.fleet_plan.specs.Plan.{IsPath, IsFleet, IsWithinLimits, cell_at, cell_of, last_cell, steps, AreBeside};
 ghost use Rattle.fleet_plan.specs.UnderWay.{is_under_way};
 ghost use Rattle.fleet_grid.specs.Ground.{is_passable};
-ghost use Rattle.fleet_plan.specs.FirstFault.{IsFirstTime, GoesOver, GoesRight, AllAgents, IsFirstStep};
+ghost use Rattle.fleet_plan.specs.FirstFault.{IsFirstTime, GoesOver, GoesRight, IsFirstStep};
 
 use fleet_grid::Grid;
 use fleet_model::Cell;
@@ -166,8 +166,7 @@ impl Plan {
         requires { i < length self.now }
         ensures { result ≡ last_cell self.now i }
     {
-        let path = self.path(i);
-        path.cell(path.steps())
+        self.path(i).end()
     }
 
     /// Keeps those of the agents whose paths go on after `time`, in their order.
@@ -197,7 +196,7 @@ fn is_near(a: u16, b: u16) -> bool
 
 /// Whether the second cell is the first one or one of its four neighbours.
 fn is_beside(from: Cell, to: Cell) -> bool
-    ensures { IsTrue result ↔ ((from ≡ to) ⊎ AreNeighbours from to) }
+    ensures { IsTrue result ↔ AreBeside from to }
 {
     let is_in_column = from.x == to.x;
     let is_in_row = from.y == to.y;
@@ -228,7 +227,7 @@ fn first_wrong_time(path: &Path, grid: &Grid) -> Option<u32>
 pub(crate) fn first_wrong_step(plan: &Plan, grid: &Grid) -> Option<(u16, u32)>
     ensures some { IfSome result (λ step. IsFirstStep
         (is_passable grid.now) plan.now step.0 step.1) }
-    ensures none { IfNone result (AllAgents plan.now (GoesRight (is_passable grid.now) plan.now)) }
+    ensures none { IfNone result (EachIndex plan.now (GoesRight (is_passable grid.now) plan.now)) }
 {
     for i in 0..plan.agents() {
         if let Some(time) = first_wrong_time(plan.path(i), grid) {

@@ -1,10 +1,10 @@
 //! The sweep over time for conflicts, with a table of cells in which each agent enters itself. Each step looks at the
 //! agents under way alone: one that has come to its last cell stays entered there, and is not visited again.
 
-ghost use Rattle.std.specs.Prelude.{◌≡◌, ◌≢◌, ℕ, ◌+◌, ◌<◌, ◌≤◌, ◌⊎◌, ◌↔◌, IfOk, IfSome, IfNone, length, slice_index, Some, None, All, IsTrue, false};
+ghost use Rattle.std.specs.Prelude.{◌≡◌, ◌≢◌, ℕ, ◌+◌, ◌<◌, ◌≤◌, ◌⊎◌, ◌↔◌, IfOk, IfSome, IfNone, length, slice_index, Some, None, All, IsTrue, false, EachIndex};
 ghost use Rattle.fleet_grid.specs.Ground.{is_passable};
 ghost use Rattle.fleet_model.specs.declared.limits.TheConstants.{MAX_AGENTS};
-ghost use Rattle.fleet_plan.specs.FirstFault.{AllAgents, GoesRight, IsFirstConflict, HasNoConflict};
+ghost use Rattle.fleet_plan.specs.FirstFault.{GoesRight, IsFirstConflict, HasNoConflict};
 ghost use Rattle.fleet_plan.specs.Rings.{NamesAgents, ahead_of, walk_of};
 ghost use Rattle.fleet_plan.specs.Sweep.{StandOnMap, StandOnPlaces, IsFirstMeeting, IsEntered, IsAhead, AreAhead, Exchange, IsFirstExchange, HasNone, IsFirstAhead, IsFreeAhead, OthersStandAt, HasIn, Stays, IsUnblocked, AreAgentsSettled, AreOtherAgentsSettled, AreFresh, HasComeTo};
 ghost use Rattle.fleet_plan.specs.UnderWay.{IsSoForOthers, Covers};
@@ -158,7 +158,7 @@ fn first_exchange(ahead: &[Option<u16>]) -> Option<(u16, u16)>
     requires agents { NamesAgents ahead.now }
     requires few { length ahead.now ≤ MAX_AGENTS }
     ensures some { IfSome result (λ pair. IsFirstExchange ahead.now pair.0 pair.1) }
-    ensures none { IfNone result ((i j : ℕ) → Exchange ahead.now i j → ⊥) }
+    ensures none { IfNone result (HasNone (Exchange ahead.now)) }
 {
     for (i, next) in ahead.iter().enumerate() {
         if let Some(j) = *next {
@@ -434,7 +434,7 @@ pub(crate) fn first_conflict(
     plan: &Plan,
     grid: &Grid,
 ) -> Result<Option<Conflict>, AllocError>
-    requires { AllAgents plan.now (GoesRight (is_passable grid.now) plan.now) }
+    requires { EachIndex plan.now (GoesRight (is_passable grid.now) plan.now) }
     ensures some { IfOk result (λ found. IfSome found (IsFirstConflict plan.now)) }
     ensures none { IfOk result (λ found. IfNone found (HasNoConflict plan.now)) }
 {

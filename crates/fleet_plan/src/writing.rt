@@ -1,6 +1,6 @@
 //! The writer of plans.
 
-ghost use Rattle.std.specs.Prelude.{◌≡◌, ◌<◌, ◌++◌, ◌∷◌, [], IfOk, OnOk};
+ghost use Rattle.std.specs.Prelude.{◌≡◌, ◌++◌, ◌∷◌, [], IfOk, OnOk};
 ghost use Rattle.fleet_plan.specs.PlanText.{cell_text, path_text, plan_text};
 
 use crate::plan::{Path, Plan};

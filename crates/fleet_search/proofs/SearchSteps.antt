@@ -21,8 +21,9 @@ use Rattle.fleet_search.specs.Reserved.{IsUnoccupied, IsFreeOn}
 use Rattle.fleet_search.specs.Intervals.{IsInInterval, IsEarliestWithin}
 use Rattle.fleet_search.specs.Links.{place_in}
 use Rattle.fleet_search.specs.Rows.{bucket_of, IsPut}
+use Rattle.fleet_plan.specs.Plan.{AreBeside}
 use Rattle.fleet_search.specs.Labels.{Times, earliest_in, IsLabelSet, IsSeen}
-use Rattle.fleet_search.specs.Search.{heuristic_of, occupancies_on, IsMeasured, AreBeside, IsStep, least_arrival, IsBucket, IsGoalState, no_node, state_in, parent_in, IsKnown, IsMove, IsReachedFrom, IsSoundNode, IsCovered, IsExpanded, IsSuperseded, IsStateSettled, earliest_of, IsFrontier, IsPosed, IsFrontierOf, WasOpen, IsExpansion, Grows, ExpandsOn, IsFreeUntil, IsFoundAt, IsFoundIn, IsFoundFrom}
+use Rattle.fleet_search.specs.Search.{heuristic_of, occupancies_on, IsMeasured, IsStep, least_arrival, IsBucket, IsGoalState, no_node, state_in, parent_in, IsKnown, IsMove, IsReachedFrom, IsSoundNode, IsCovered, IsExpanded, IsSuperseded, IsStateSettled, earliest_of, IsFrontier, IsPosed, IsFrontierOf, WasOpen, IsExpansion, Grows, ExpandsOn, IsFreeUntil, IsFoundAt, IsFoundIn, IsFoundFrom}
 use Rattle.fleet_search.proofs.Spread.{AreNeighbours-sym, one_place}
 use Rattle.fleet_search.proofs.Chase.{step_ok-alone}
 use Rattle.fleet_search.proofs.IntervalLaws.{occupancies-apart, one_gap, interval-free_on, interval-since}

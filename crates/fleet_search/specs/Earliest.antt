@@ -1,9 +1,9 @@
 -- The earliest paths of one agent past reserved ones.
-use Rattle.std.specs.Prelude.{◌≡◌, ℕ, ◌+◌, ◌≤◌, Bool, IsTrue, List, length, ◌⊎◌}
+use Rattle.std.specs.Prelude.{◌≡◌, ℕ, ◌+◌, ◌≤◌, Bool, IsTrue, List, length}
 use Rattle.fleet_model.specs.declared.geometry.Cell.{Cell}
 use Rattle.fleet_model.specs.declared.geometry.Place.{Place}
 use Rattle.fleet_model.specs.Geometry.{place_of}
-use Rattle.fleet_plan.specs.Plan.{Plan, cell_at, AreNeighbours}
+use Rattle.fleet_plan.specs.Plan.{Plan, cell_at, AreBeside}
 use Rattle.fleet_search.specs.Way.{Fits, arrival}
 
 -- a path from start to goal over passable cells, by equal or neighbouring cells, that fits the reserved ones and stays
@@ -13,7 +13,7 @@ pub record IsFeasiblePath (passable : Place → Bool) (reserved : Plan) (start g
   pub starts : cell_at path 0 ≡ start
   pub ends : cell_at path (arrival path) ≡ goal
   pub on_ground : (t : ℕ) → IsTrue (passable (place_of (cell_at path t)))
-  pub successive : (t : ℕ) → (cell_at path t ≡ cell_at path (t + 1)) ⊎ AreNeighbours (cell_at path t) (cell_at path (t + 1))
+  pub successive : (t : ℕ) → AreBeside (cell_at path t) (cell_at path (t + 1))
   pub fits : Fits reserved path
 
 -- a feasible path that arrives by the horizon, and none arrives sooner

@@ -4,9 +4,10 @@ use Rattle.fleet_model.specs.declared.geometry.Cell.{Cell}
 use Rattle.fleet_model.specs.declared.geometry.Place.{Place}
 use Rattle.fleet_model.specs.Geometry.{place_of}
 use Rattle.fleet_model.specs.declared.limits.TheConstants.{MAX_HORIZON}
-use Rattle.fleet_plan.specs.Plan.{Plan, AreNeighbours, cell_at}
+use Rattle.fleet_plan.specs.Plan.{Plan, AreNeighbours, AreBeside, cell_at}
 use Rattle.fleet_search.specs.declared.frontier.State.{State}
 use Rattle.fleet_search.specs.declared.intervals.Occupancy.{Occupancy}
+use Rattle.fleet_search.specs.declared.intervals.TheConstants.{FOREVER}
 use Rattle.fleet_search.specs.declared.frontier.Query.{Query}
 use Rattle.fleet_search.specs.declared.frontier.Node.{Node}
 use Rattle.fleet_search.specs.declared.frontier.Expansion.{Expansion}
@@ -36,10 +37,6 @@ occupancies_on q c = occupancies_of q.table.now c
 pub record IsMeasured (q : Query) : Type 0 where
   pub heuristic : AreDistances q.grid.now q.distances.now q.goal
   pub occupancies : HaveOccupancies q.reserved.now q.table.now
-
--- d is c or one of its neighbours
-abbrev pub AreBeside : Cell → Cell → Type 0
-AreBeside c d = (c ≡ d) ⊎ AreNeighbours c d
 
 -- a step to an equal or neighbouring cell that is passable, past the reserved agents
 pub record IsStep (q : Query) (t : ℕ) (from to : Cell) : Type 0 where
@@ -141,7 +138,7 @@ IsFrontierOf q f left s = IsFrontier q f left s.nodes (earliest_in s.labels) s.o
 
 -- the state may be left by moves that begin before this time, and by no later ones
 abbrev pub IsFreeUntil : Query → State → ℕ → Type 0
-IsFreeUntil q m until = ((t : ℕ) → m.time ≤ t → t < until → IsUnoccupied q.reserved.now t m.cell) × ((t : ℕ) → t < 4294967295 → IsFreeOn q.reserved.now m.cell m.time t → t < until)
+IsFreeUntil q m until = ((t : ℕ) → m.time ≤ t → t < until → IsUnoccupied q.reserved.now t m.cell) × ((t : ℕ) → t < FOREVER → IsFreeOn q.reserved.now m.cell m.time t → t < until)
 
 -- the state that is expanded was reached, and waited in this bucket
 pub record WasOpen (q : Query) (f : ℕ) (s : Exploration) (place : ℕ) (m : State) : Type 0 where

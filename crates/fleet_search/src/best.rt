@@ -45,15 +45,14 @@ struct Turn {
     kept: Vec<Path>,
 }
 
-/// The first paths, so many of them.
+/// The same paths.
 #[tactic(auto, using(crate::proofs::BestLaws::copied_more))]
-fn copy_paths(alloc: Global, paths: &[Path], count: usize) -> Result<Vec<Path>, OutOfMemory>
-    requires { count ≤ length paths.now }
-    ensures { IfOk result (λ copy. copy.items ≡ take count paths.now) }
+fn copy_paths(alloc: Global, paths: &[Path]) -> Result<Vec<Path>, OutOfMemory>
+    ensures { IfOk result (λ copy. copy.items ≡ paths.now) }
 {
     let mut copy = Vec::new(alloc);
-    for i in 0..count {
-        copy.push(copy_path(alloc, &paths[i])?)?;
+    for path in paths {
+        copy.push(copy_path(alloc, path)?)?;
     }
     Ok(copy)
 }
@@ -69,7 +68,7 @@ fn all_but_last(
     ensures long { IfOk result (λ kept. length kept.items ≡ length order.now - 1) }
     ensures made { IfOk result (λ kept. IsMadeBefore problem.now order.now kept.items) }
 {
-    copy_paths(problem.alloc, paths, paths.len() - 1)
+    copy_paths(problem.alloc, &paths[..paths.len() - 1])
 }
 
 /// It is the turn of the order in which the agent at this place comes first; the paths are those of the agents before
@@ -108,9 +107,7 @@ fn note_made<'g, M: Measure>(
 {
     let last = turn.order.len() - 1;
     let kept = all_but_last(problem, turn.order.as_slice(), paths.as_slice())?;
-    let Ok(checked) = checked_of(problem, turn.order.as_slice(), paths) else {
-        return Err(OutOfMemory);
-    };
+    let checked = checked_of(problem, turn.order.as_slice(), paths)?;
     let value = measure.measure(&checked)?;
     advance(problem, turn, last, kept)?;
     Ok(Measured {

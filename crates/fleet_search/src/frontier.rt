@@ -20,7 +20,7 @@ ghost use Rattle.fleet_search.specs.Links.{place_in};
 
 use crate::distances::Distances;
 use crate::intervals::{
-    Occupancy, SafeInterval, begins_after, count_begun, earliest_after, interval_after,
+    FOREVER, Occupancy, SafeInterval, begins_after, count_begun, earliest_after, interval_after,
 };
 use crate::labels::Arrivals;
 use crate::reservation_table::ReservationTable;
@@ -84,7 +84,7 @@ impl Query<'_> {
 
     /// Whether the step to the cell that begins at the time fits, if nobody is on the cell at its end.
     fn fits(&self, left: Expansion, cell: Cell, begin: u32) -> bool
-        requires few { begin < 4294967295 }
+        requires few { begin < FOREVER }
         requires until { IsFreeUntil self.now left.state left.until }
         requires waits { left.state.time ≤ begin }
         requires free { IsUnoccupied self.now.reserved.now (begin + 1) cell }
@@ -535,7 +535,7 @@ impl Link {
 }
 
 /// Puts the number last in the row. A refusal changes no row.
-pub fn put_in_row(
+fn put_in_row(
     alloc: Global,
     rows: &mut Vec<Vec<u32>>,
     key: u32,
@@ -553,7 +553,7 @@ pub fn put_in_row(
 }
 
 /// Takes off the last number of the row, if it has one.
-pub fn take_from_row(rows: &mut Vec<Vec<u32>>, key: u32) -> Option<u32>
+fn take_from_row(rows: &mut Vec<Vec<u32>>, key: u32) -> Option<u32>
     ensures some { IfSome result (λ m. bucket_in rows.old.items key
         ≡ bucket_in rows.new.items key ++ m ∷ []) }
     ensures none { IfNone result (bucket_in rows.new.items key ≡ []) }
@@ -572,7 +572,7 @@ pub fn take_from_row(rows: &mut Vec<Vec<u32>>, key: u32) -> Option<u32>
 const KEPT_ROWS: usize = 8_192;
 
 /// Takes all numbers out of the rows, and drops the rows after the first `KEPT_ROWS`.
-pub fn clear_rows(rows: &mut Vec<Vec<u32>>)
+fn clear_rows(rows: &mut Vec<Vec<u32>>)
     ensures { (k : ℕ) → bucket_in rows.new.items k ≡ [] }
 {
     rows.truncate(KEPT_ROWS);

@@ -1,10 +1,9 @@
 //! Labels of safe intervals: when a search has come there at the earliest.
 
-ghost use Rattle.std.specs.Prelude.{◌≡◌, ◌≢◌, ◌<◌, ◌↔◌, ℕ, IsTrue, suc, OnOk, None, get_or};
-ghost use Rattle.fleet_grid.specs.Table.{value_in};
+ghost use Rattle.std.specs.Prelude.{◌≡◌, ◌<◌, ◌↔◌, ℕ, IsTrue, suc, OnOk, None, get_or};
 ghost use Rattle.fleet_search.specs.Labels.{no_interval_label, interval_label, earliest_in, AreLabels, IsLabelPut, IsLabelSet, IsSeen};
 
-use fleet_grid::{Key, Lists, Table};
+use fleet_grid::{Key, Lists, Table, set_in};
 use fleet_model::OutOfMemory;
 use std::alloc::Global;
 
@@ -122,7 +121,7 @@ impl Labels {
     {
         let key = Key::of_number(cell);
         self.later
-            .change(key, |labels| set_in(labels, place, label))?
+            .change(key, |labels| set_in(labels, place, label, NONE))?
     }
 
     /// Begins a search: no interval has a label of its number. After the greatest number all labels are taken off.
@@ -147,24 +146,6 @@ fn label_at(row: &[IntervalLabel], place: usize) -> IntervalLabel
         Some(label) => *label,
         None => NONE,
     }
-}
-
-/// Sets the label at a place of the row.
-fn set_in(
-    row: &mut Vec<IntervalLabel>,
-    place: usize,
-    label: IntervalLabel,
-) -> Result<(), OutOfMemory>
-    requires { place < 4294967295 }
-    ensures set { OnOk result (get_or row.new.items place no_interval_label ≡ label) }
-    ensures others { OnOk result ((n : ℕ) → n ≢ place
-        → get_or row.new.items n no_interval_label ≡ get_or row.old.items n no_interval_label) }
-{
-    if row.len() <= place {
-        row.resize(place + 1, NONE)?;
-    }
-    row[place] = label;
-    Ok(())
 }
 
 /// For each safe interval of each cell the earliest time at which the latest search has come there.

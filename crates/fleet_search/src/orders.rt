@@ -154,11 +154,11 @@ fn add_path_again(
 fn keep_paths(reserved: &mut Reservations, paths: &[Path]) -> Result<usize, OutOfMemory>
     ensures { IfOk result (ArePathsKept reserved.old reserved.new paths.now) }
 {
-    for kept in 0..paths.len() {
-        if !reserved.fits(&paths[kept]) {
+    for (kept, path) in paths.iter().enumerate() {
+        if !reserved.fits(path) {
             return Ok(kept);
         }
-        reserved.reserve(&paths[kept])?;
+        reserved.reserve(path)?;
     }
     Ok(paths.len())
 }
@@ -337,33 +337,32 @@ pub(crate) fn is_last_try(place: usize, failed: u32, tries: u32) -> bool
 }
 
 /// The plan of the paths of an order.
-fn plan_by_number(problem: &Problem<'_>, order: &[u16], paths: Vec<Path>) -> Result<Plan, PlanStop>
+fn plan_by_number(
+    problem: &Problem<'_>,
+    order: &[u16],
+    paths: Vec<Path>,
+) -> Result<Plan, OutOfMemory>
     requires order { IsOrderOf problem.now order.now }
     requires paths { length paths.items ≡ length order.now }
     ensures plan { IfOk result (λ plan. (length plan ≡ length problem.now.instance.now)
         × (paths_by order.now plan ≡ paths.items)) }
-    ensures memory { IfErr result (λ e. e ≡ PlanStop.OutOfMemory) }
 {
     // An instance has 1 to 1,024 agents.
     let _agents = problem.instance.agents();
-    match by_number(problem, order, paths) {
-        Ok(plan) => Ok(Plan::new(plan)),
-        Err(OutOfMemory) => Err(PlanStop::OutOfMemory),
-    }
+    Ok(Plan::new(by_number(problem, order, paths)?))
 }
 
 /// A plan that is free of conflict, as checked.
-fn checked<'g>(problem: &Problem<'g>, plan: Plan) -> Result<Checked<'g>, PlanStop>
+fn checked<'g>(problem: &Problem<'g>, plan: Plan) -> Result<Checked<'g>, OutOfMemory>
     requires { IsConflictFree (is_passable problem.now.grid.now) problem.now.instance.now plan }
     ensures plan { IfOk result (λ checked. checked.plan ≡ plan) }
     ensures grid { IfOk result (λ checked. checked.grid ≡ problem.now.grid.now) }
     ensures instance { IfOk result (λ checked. checked.instance ≡ problem.now.instance.now) }
-    ensures memory { IfErr result (λ e. e ≡ PlanStop.OutOfMemory) }
 {
     match check(problem.alloc, plan, problem.grid, problem.instance) {
         Ok(checked) => Ok(checked),
         Err(refusal) => match refusal.fault {
-            PlanFault::OutOfMemory => Err(PlanStop::OutOfMemory),
+            PlanFault::OutOfMemory => Err(OutOfMemory),
             // The plan is right and free of conflict.
             _ => unreachable!(),
         },
@@ -375,7 +374,7 @@ pub(crate) fn checked_of<'g>(
     problem: &Problem<'g>,
     order: &[u16],
     paths: Vec<Path>,
-) -> Result<Checked<'g>, PlanStop>
+) -> Result<Checked<'g>, OutOfMemory>
     requires order { IsOrderOf problem.now order.now }
     requires paths { AreReservedInOrder problem.now order.now paths.items true }
     ensures agents { IfOk result (λ checked.
@@ -384,7 +383,6 @@ pub(crate) fn checked_of<'g>(
         problem.now.instance.now problem.now.horizon order.now checked.plan) }
     ensures grid { IfOk result (λ checked. checked.grid ≡ problem.now.grid.now) }
     ensures instance { IfOk result (λ checked. checked.instance ≡ problem.now.instance.now) }
-    ensures memory { IfErr result (λ e. e ≡ PlanStop.OutOfMemory) }
 {
     let plan = plan_by_number(problem, order, paths)?;
     checked(problem, plan)

@@ -83,7 +83,7 @@ impl Reservations {
 
     /// Whether the agents that make room in the step, one for the other, end at the one that leaves `from` for `to`.
     fn leads_back(&self, time: u32, from: Cell, to: Cell) -> bool
-        requires { time < 4294967295 }
+        requires { time < FOREVER }
         ensures { IsTrue result ↔ LeadsBack self.now time from to }
     {
         let mut cell = to;
@@ -108,7 +108,7 @@ impl Reservations {
 
     /// Whether an agent may go from the one cell to the other in the step that begins at the time.
     pub fn step_fits(&self, time: u32, from: Cell, to: Cell) -> bool
-        requires { time < 4294967295 }
+        requires { time < FOREVER }
         ensures { IsTrue result ↔ StepFits self.now time from to }
     {
         if self.occupant(time + 1, to).is_some() {

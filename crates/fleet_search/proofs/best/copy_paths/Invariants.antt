@@ -1,5 +1,5 @@
 use Rattle.std.proofs.Common.{◌≡◌, take}
 use Rattle.fleet_search.proofs.best.copy_paths.Given as goal
 
-abbrev pub invariant-loop-i : goal.invariant-loop-i
-invariant-loop-i l = l.copy.items ≡ take l.i l.paths
+abbrev pub invariant-loop-path : goal.invariant-loop-path
+invariant-loop-path l = l.copy.items ≡ take l.path-index l.paths

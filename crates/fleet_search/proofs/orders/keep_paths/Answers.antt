@@ -12,8 +12,8 @@ loop-kept-preserved c =
     let kept = c.loop-kept.kept in
     let i = c.loop-kept.invariant in
     let l : kept < length paths = omega arith in
-    let path = c.index-paths-kept-in-loop-kept.result in
-    let is : path ≡ get_or paths kept [] = c.index-paths-kept-in-loop-kept.is ∙ get_or_default paths kept path [] l in
+    let path = c.index-paths-kept.result in
+    let is : path ≡ get_or paths kept [] = c.index-paths-kept.is ∙ get_or_default paths kept path [] l in
     let is' : c.index-paths-kept.result ≡ get_or paths kept [] = c.index-paths-kept.is ∙ get_or_default paths kept c.index-paths-kept.result [] l in
     let fits : Fits c.loop-kept.reserved c.index-paths-kept.result = c.fits.ensures.0 c.if-not-fits.false in
     record {

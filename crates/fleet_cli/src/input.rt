@@ -19,7 +19,7 @@ pub enum FileFault {
 /// The greatest number of bytes of a file or an input that is read.
 pub const MAX_BYTES: usize = 268_435_456;
 
-/// How many bytes are asked for at a time. The C library copies 4,096 or more by one instruction, byte by byte.
+/// How many bytes are asked for at a time.
 pub(crate) const CHUNK: usize = 4_000;
 
 /// Why an input was not read to its end.

@@ -1,32 +1,26 @@
 use Rattle.std.proofs.Common.{◌≡◌, ◌⊎◌, ℕ, ◌+◌, ◌<◌, Bool, true, false, List, length, get_or, set, sym, subst, ap, ◌∙◌, arith, inl, inr}
 use Rattle.std.specs.Prelude.{slice_get, Some}
-use Rattle.std.proofs.lemmas.Bool.{cases_lt, cases_eq}
-use Rattle.std.proofs.lemmas.List.{length-set, get_or-set_same, get_or-set_other}
+use Rattle.std.proofs.lemmas.Bool.{cases_lt}
+use Rattle.std.proofs.lemmas.List.{length-set, get_or-set_same}
 use Rattle.std.proofs.lemmas.Option.{slice_get_within, get_or_from_slice_get}
 use Rattle.fleet_model.specs.Program.{Program}
 use Rattle.fleet_model.specs.Chain.{Reaches}
 use Rattle.fleet_needs.specs.declared.questions.Question.{Question}
+use Rattle.fleet_needs.proofs.Settling.{asked_more}
 use Rattle.fleet_needs.proofs.questions.asked_agents.Goals.{then-not-is_near, else-not-is_near}
 use Rattle.fleet_needs.proofs.questions.asked_agents.Goals as goal
 
 -- one question more: its agent is flagged, or a chain is found
-asked_more : (p : Program) (questions : List Question) (n : ℕ) (d : Question) (old new : List Bool) → ((j : ℕ) → get_or old j false ≡ true → get_or new j false ≡ true)
+question_more : (p : Program) (questions : List Question) (n : ℕ) (d : Question) (old new : List Bool) → ((j : ℕ) → get_or old j false ≡ true → get_or new j false ≡ true)
     → (get_or new (get_or questions n d).first.agent false ≡ true) ⊎ Reaches p (get_or questions n d).first (get_or questions n d).last
     → ((k : ℕ) (q : Question) → k < n → slice_get questions k ≡ Some q → (get_or old q.first.agent false ≡ true) ⊎ Reaches p q.first q.last)
     → (k : ℕ) (q : Question) → k < n + 1 → slice_get questions k ≡ Some q → (get_or new q.first.agent false ≡ true) ⊎ Reaches p q.first q.last
-asked_more p questions n d old new more here before k q l e = elim (cases_lt k n) [
+question_more p questions n d old new more here before k q l e = elim (cases_lt k n) [
   | inl low ↦ elim (before k q low e) [ inl flagged ↦ inl (more q.first.agent flagged) | inr near ↦ inr near ]
   | inr high ↦
       let last : k ≡ n = omega (arith, l, high) in
       let same : get_or questions n d ≡ q = ap (λ (m : ℕ). get_or questions m d) (sym last) ∙ get_or_from_slice_get questions k q d e in
       subst (λ (x : Question). (get_or new x.first.agent false ≡ true) ⊎ Reaches p x.first x.last) same here
-]
-
--- who was flagged still is
-still_flagged : (old : List Bool) (i j : ℕ) → i < length old → get_or old j false ≡ true → get_or (set old i true) j false ≡ true
-still_flagged old i j l flagged = elim (cases_eq j i) [
-  | inl same ↦ ap (λ (m : ℕ). get_or (set old i true) m false) same ∙ get_or-set_same old i true false l
-  | inr apart ↦ get_or-set_other old i j true false apart ∙ flagged
 ]
 
 pub loop-question-init : goal.loop-question-init
@@ -53,14 +47,14 @@ loop-question-preserved g c =
           record {
             all = ap (λ (xs : List Bool). length xs) items ∙ length-set old i true ∙ invariant.all;
             flagged = λ k q l e. subst (λ (xs : List Bool). (get_or xs q.first.agent false ≡ true) ⊎ Reaches p q.first q.last) (sym items)
-                (asked_more p questions n d old (set old i true) (λ j. still_flagged old i j within) (inl (ap (λ (j : ℕ). get_or (set old i true) j false) (sym agent) ∙ get_or-set_same old i true false within)) invariant.flagged k q l e);
+                (question_more p questions n d old (set old i true) (λ j. asked_more old i j) (inl (ap (λ (j : ℕ). get_or (set old i true) j false) (sym agent) ∙ get_or-set_same old i true false within)) invariant.flagged k q l e);
           })
       | else-not-is_near w ↦ (
           let items : c.if-not-is_near.asked.items ≡ old = ap (λ v. v.items) w.asked-is in
           record {
             all = ap (λ (xs : List Bool). length xs) items ∙ invariant.all;
             flagged = λ k q l e. subst (λ (xs : List Bool). (get_or xs q.first.agent false ≡ true) ⊎ Reaches p q.first q.last) (sym items)
-                (asked_more p questions n d old old (λ j is. is) (inr (c.is_near.ensures w.if-not-is_near.false)) invariant.flagged k q l e);
+                (question_more p questions n d old old (λ j is. is) (inr (c.is_near.ensures w.if-not-is_near.false)) invariant.flagged k q l e);
           })
     ]
 

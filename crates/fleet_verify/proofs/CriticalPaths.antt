@@ -17,7 +17,7 @@ use Rattle.fleet_model.specs.Schedule.{Schedule, IsSchedule, HasBegunBy, HasEnde
 use Rattle.fleet_model.proofs.Chains.{chain_first, chain_last, chain_join, own_reach, Reaches-trans, ends_dearer, need_action, Reaches-need, Reaches-refl}
 use Rattle.fleet_needs.proofs.Costing.{but_last, one_cost, own_cost}
 use Rattle.fleet_verify.proofs.Timed.{ends_in_time, needs_unended, by_or_not}
-use Rattle.fleet_verify.specs.Times.{HaveArrivedAt, IsLatest, IsLater, IsAwaitedUntil, IsNeedUntil, LeadsBack, IsWayTo, IsStretchTo, IsPathOfCost, IsCriticalPath, IsFreeTo, AreReached, StopsOthers, is_broken, broken_cost, last_action}
+use Rattle.fleet_verify.specs.Times.{HaveArrivedAt, IsLatest, IsLater, IsAwaitedUntil, IsNeedUntil, LeadsBack, IsWayTo, IsStretchTo, of_agent, IsPathOfCost, IsCriticalPath, IsFreeTo, AreReached, StopsOthers, is_broken, broken_cost, last_action}
 use Rattle.fleet_verify.specs.Stretch.{first_of, stretch_actions, stretch_between, path_actions}
 use Rattle.fleet_verify.specs.declared.stretch.Stretch.{Stretch}
 use Rattle.fleet_verify.specs.declared.times.TheConstants.{LONGEST}
@@ -281,19 +281,22 @@ stretch_alone a =
     ap (λ n. map (λ k. record { agent = a.agent; number = k }) (range_with_len a.number n)) one
 
 -- .. which is a path
-pub stretch_begins : (p : Program) (cost : ActionId → ℕ) (b : ActionId) (m : ℕ) → IsAction p b → IsCriticalCost p cost b m → IsStretchTo p cost b m b m
+pub stretch_begins : (p : Program) (cost : ActionId → ℕ) (b : ActionId) (m : ℕ) → IsAction p b → IsCriticalCost p cost b m → IsStretchTo p cost b m b.number m
 stretch_begins p cost b m act critical = record { within = omega arith; few = omega arith; way = way_begins p cost b m act critical _ (stretch_alone b) }
 
 -- .. and a path with the action before it
-pub stretch_on : (p : Program) (cost : ActionId → ℕ) (last : ActionId) (total : ℕ) (first : ActionId) (end : ℕ) → IsStretchTo p cost last total first end → last.number + 1 < first.number + LONGEST
-    → (before : ActionId) → before.agent ≡ first.agent → before.number + 1 ≡ first.number → LeadsBack p cost first before → (e : ℕ) → IsCriticalCost p cost before e → IsStretchTo p cost last total before e
+pub stretch_on : (p : Program) (cost : ActionId → ℕ) (last : ActionId) (total first end : ℕ) → IsStretchTo p cost last total first end → last.number + 1 < first + LONGEST
+    → (before : ActionId) → before.agent ≡ last.agent → before.number + 1 ≡ first → LeadsBack p cost (of_agent last first) before → (e : ℕ) → IsCriticalCost p cost before e → IsStretchTo p cost last total before.number e
 stretch_on p cost last total first end h room before agent number leads e critical =
-    let count : last.number - before.number + 1 ≡ last.number - first.number + 1 + 1 = omega (arith, number, h.within) in
+    let here : ActionId = of_agent last before.number in
+    let same : before ≡ here = same_action before here agent refl in
+    let count : last.number - before.number + 1 ≡ last.number - first + 1 + 1 = omega (arith, number, h.within) in
     record {
       within = omega (arith, number, h.within);
       few = omega (arith, number, room);
-      way = way_longer p cost last total (stretch_actions (stretch_between first last)) first end h.way before leads e critical (stretch_actions (stretch_between before last))
-          (stretch_longer (stretch_between first last) (stretch_between before last) agent number count);
+      way = way_longer p cost last total (stretch_actions (stretch_between (of_agent last first) last)) (of_agent last first) end h.way here (subst (LeadsBack p cost (of_agent last first)) same leads) e
+          (subst (λ x. IsCriticalCost p cost x e) same critical) (stretch_actions (stretch_between here last))
+          (stretch_longer (stretch_between (of_agent last first) last) (stretch_between here last) refl number count);
     }
 
 -- the actions of stretches that were found one before the other

@@ -91,11 +91,19 @@ pub record IsWayTo (p : Program) (cost : ActionId → ℕ) (last : ActionId) (to
   pub critical : IsCriticalCost p cost first end
   pub sum : total ≡ end + sum_by cost rest
 
--- the actions of one agent from the first, which ends then, to this last one are such a path, and fit one stretch
-pub record IsStretchTo (p : Program) (cost : ActionId → ℕ) (last : ActionId) (total : ℕ) (first : ActionId) (end : ℕ) : Type 0 where
-  pub within : first.number ≤ last.number
-  pub few : last.number < first.number + LONGEST
-  pub way : IsWayTo p cost last total (stretch_actions (stretch_between first last)) first end
+-- the action of this number, of the agent of another one
+abbrev pub of_agent : ActionId → ℕ → ActionId
+of_agent a n = record { agent = a.agent; number = n }
+
+-- the actions of the last one's agent from the first on, which ends then, are such a path, and fit one stretch
+pub record IsStretchTo (p : Program) (cost : ActionId → ℕ) (last : ActionId) (total first end : ℕ) : Type 0 where
+  pub within : first ≤ last.number
+  pub few : last.number < first + LONGEST
+  pub way : IsWayTo p cost last total (stretch_actions (stretch_between (of_agent last first) last)) (of_agent last first) end
+
+-- the stretch has no room for one action more, or its first action does not follow the one before
+abbrev pub IsWholeTo : Program → (ActionId → ℕ) → ActionId → (first end : ℕ) → Type 0
+IsWholeTo p cost last first end = last.number + 1 < first + LONGEST → (a : ActionId) → FollowsOwn p cost (of_agent last first) end a → ⊥
 
 -- a chain of this cost, or no action if the cost is nothing
 abbrev pub IsPathOfCost : Program → (ActionId → ℕ) → ℕ → List ActionId → Type 0

@@ -5,8 +5,7 @@ ghost use Rattle.std.specs.Prelude.{◌≡◌, ℕ, ◌+◌, ◌<◌, ◌≤◌,
 ghost use Rattle.fleet_model.specs.declared.program.ActionId.{ActionId};
 ghost use Rattle.fleet_model.specs.Program.{moves, AreInRange};
 ghost use Rattle.fleet_model.specs.Chain.{IsAction, IsCriticalCost};
-ghost use Rattle.fleet_verify.specs.Times.{ArrivesAt, EachArrivesAt, HaveArrivedAt, IsCriticalPath, IsLatest, IsLater, LeadsBack, IsAwaitedUntil, IsOwnUntil, FollowsOwn, IsNeedUntil, IsFreeTo, IsWayTo, IsStretchTo};
-ghost use Rattle.fleet_verify.specs.declared.times.TheConstants.{LONGEST};
+ghost use Rattle.fleet_verify.specs.Times.{ArrivesAt, EachArrivesAt, HaveArrivedAt, IsCriticalPath, IsLatest, IsLater, LeadsBack, IsAwaitedUntil, IsOwnUntil, FollowsOwn, IsNeedUntil, IsFreeTo, IsWayTo, IsStretchTo, IsWholeTo};
 ghost use Rattle.fleet_verify.specs.Stretch.{first_of, stretch_actions, path_actions};
 
 use crate::stretch::Stretch;
@@ -218,51 +217,56 @@ impl<'a, P: ProgramView, C: ActionCosts> Times<'a, P, C> {
     {
         let (first, time) = self.way_to(action, end);
         let stretch = Stretch {
-            agent: first.agent,
-            count: (action.number - first.number + 1) as u16,
-            first: first.number,
+            agent: action.agent,
+            count: (action.number - first + 1) as u16,
+            first,
         };
         (stretch, time)
     }
 
-    /// The first action of such a stretch, and when it ends.
+    /// The number of the first action of such a stretch, and when that action ends.
     #[inline(always)]
-    fn way_to(&self, action: ActionId, end: u64) -> (ActionId, u64)
+    fn way_to(&self, action: ActionId, end: u64) -> (u32, u64)
         requires action { IsAction (P.program self.now.program) action }
         requires end { IsCriticalCost (P.program self.now.program) (C.cost self.now.costs) action
             end }
         ensures stretch { IsStretchTo (P.program self.now.program) (C.cost self.now.costs) action
             end result.0 result.1 }
-        ensures whole { action.number + 1 < result.0.number + LONGEST → (a : ActionId)
-            → FollowsOwn (P.program self.now.program) (C.cost self.now.costs) result.0 result.1 a
-            → ⊥ }
+        ensures whole { IsWholeTo (P.program self.now.program) (C.cost self.now.costs) action
+            result.0 result.1 }
     {
         match self.longer(action, end) {
-            Some(from) => self.way_on(action, end, from),
-            None => (action, end),
+            Some((before, time)) => self.way_on(action, end, before.number, time),
+            None => (action.number, end),
         }
     }
 
-    /// The same, if such a stretch begins with this action, which ends then.
+    /// The same, if such a stretch begins with the action of this number, which ends then.
     #[inline(never)]
-    fn way_on(&self, action: ActionId, end: u64, from: (ActionId, u64)) -> (ActionId, u64)
+    fn way_on(&self, action: ActionId, end: u64, number: u32, time: u64) -> (u32, u64)
         requires { IsStretchTo (P.program self.now.program) (C.cost self.now.costs) action end
-            from.0 from.1 }
+            number time }
         ensures stretch { IsStretchTo (P.program self.now.program) (C.cost self.now.costs) action
             end result.0 result.1 }
-        ensures whole { action.number + 1 < result.0.number + LONGEST → (a : ActionId)
-            → FollowsOwn (P.program self.now.program) (C.cost self.now.costs) result.0 result.1 a
-            → ⊥ }
+        ensures whole { IsWholeTo (P.program self.now.program) (C.cost self.now.costs) action
+            result.0 result.1 }
     {
         let least = action.number.saturating_sub(LONGEST - 1).max(1);
-        let mut way = from;
-        while way.0.number > least {
-            let Some(longer) = self.longer(way.0, way.1) else {
-                return way;
+        let agent = action.agent;
+        let mut first = number;
+        let mut time = time;
+        while first > least {
+            let here = ActionId {
+                agent,
+                number: first,
             };
-            way = longer;
+            let Some((before, begun)) = self.longer(here, time) else {
+                return (first, time);
+            };
+            first = before.number;
+            time = begun;
         }
-        way
+        (first, time)
     }
 
     /// The action of the same agent before this one, which ends then, and when that one ends, if this one begins as it

@@ -1,8 +1,8 @@
 use Rattle.fleet_verify.specs.Times.{IsStretchTo}
 use Rattle.fleet_verify.proofs.times.Times.way_on.Given as goal
 
-abbrev pub invariant-loop-way : goal.invariant-loop-way
-invariant-loop-way g l = IsStretchTo (g.P.ProgramView.program l.self.program) (g.C.ActionCosts.cost l.self.costs) l.fn.action l.fn.end l.way.0 l.way.1
+abbrev pub invariant-loop-first : goal.invariant-loop-first
+invariant-loop-first g l = IsStretchTo (g.P.ProgramView.program l.self.program) (g.C.ActionCosts.cost l.self.costs) l.fn.action l.fn.end l.first l.time
 
-abbrev pub decreases-loop-way : goal.decreases-loop-way
-decreases-loop-way g l = l.way.0.number
+abbrev pub decreases-loop-first : goal.decreases-loop-first
+decreases-loop-first g l = l.first

@@ -245,12 +245,17 @@ fn due_request(rt: &impl Abort, alloc: Global, row: &Asked, files: &mut impl Fil
     );
 }
 
+/// Each request writes what is due of it.
+fn due_requests(rt: &impl Abort, alloc: Global, files: &mut impl Files) {
+    for row in &REQUESTS {
+        due_request(rt, alloc, row, files);
+    }
+}
+
 #[test]
 fn requests_are_done(rt: HostRuntime) -> Result<(), Fail> {
     let mut files = some_files(rt.alloc())?;
-    for row in &REQUESTS {
-        due_request(&rt, rt.alloc(), row, &mut files);
-    }
+    due_requests(&rt, rt.alloc(), &mut files);
     due_bytes(&rt, files.get("out").unwrap_or(b"none"), PAIR_BYTES_2);
     Ok(())
 }

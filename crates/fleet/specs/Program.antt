@@ -10,12 +10,10 @@ use Rattle.std.specs.declared.string.String.{String}
 use Rattle.std.specs.declared.vec.Vec.{Vec}
 use Rattle.std.specs.declared.vec.IntoIter.{IntoIter}
 use Rattle.fleet_text.specs.Sink.{Receives}
-use Rattle.fleet_cli.specs.Files.{Store, AreUnchanged}
+use Rattle.fleet_cli.specs.Files.{AreUnchanged}
 use Rattle.fleet_text.specs.Sink.{SinkState, IsUnwritten}
 use Rattle.fleet_cli.specs.Output.{IsRefusalWritten}
-use Rattle.fleet_cli.specs.Command.{RunsCommand}
-use Rattle.fleet_dispatch.specs.Talk.{Talk}
-use Rattle.fleet_dispatch.specs.declared.form.ReportForm.{ReportForm}
+use Rattle.fleet_cli.specs.Command.{Around, RunsCommand}
 use Rattle.fleet_cli.specs.declared.fault.Fault.TheVariants as f
 
 -- the line that is reported if a word is no text
@@ -36,8 +34,8 @@ pub record ReportsNoWords (kind : ErrorKind) (err err' : SinkState) (status : �
 
 -- the command that the words after the first ask for was done; or there was no memory for the words, or they cannot be
 -- had, and then that alone was reported
-abbrev pub RunsProgram : Result (IntoIter (String Global) Global) Error → Option (List ℕ) → (files after : Option Store) → (unread unwritten : Type 0) → ((log log' : SinkState) → ReportForm → Talk → Type 0) → (out out' err err' : SinkState) → ℕ → Type 0
-RunsProgram (Ok args) input files after unread unwritten talks out out' err err' status =
-    RunsCommand (map string_bytes (drop 1 (into_iter_items args))) input files after unread unwritten talks out out' err err' status
-    ⊎ (ReportsNoWords OutOfMemory err err' status × IsUnwritten out out' × AreUnchanged files after × unread)
-RunsProgram (Err error) input files after unread unwritten talks out out' err err' status = ReportsNoWords (error_kind error) err err' status × IsUnwritten out out' × AreUnchanged files after × unread
+abbrev pub RunsProgram : Result (IntoIter (String Global) Global) Error → Option (List ℕ) → Around → (out out' err err' : SinkState) → ℕ → Type 0
+RunsProgram (Ok args) input w out out' err err' status =
+    RunsCommand (map string_bytes (drop 1 (into_iter_items args))) input w out out' err err' status
+    ⊎ (ReportsNoWords OutOfMemory err err' status × IsUnwritten out out' × AreUnchanged w.files w.after × w.unread)
+RunsProgram (Err error) input w out out' err err' status = ReportsNoWords (error_kind error) err err' status × IsUnwritten out out' × AreUnchanged w.files w.after × w.unread

@@ -6,6 +6,7 @@ ghost use Rattle.fleet_text.specs.Sink.{IsWorking};
 ghost use Rattle.std.specs.IoError.{error_kind};
 ghost use Rattle.std.specs.Process.{exit_status};
 ghost use Rattle.fleet_dispatch.specs.Talk.{IsLogged};
+ghost use Rattle.fleet_cli.specs.Command.{around};
 ghost use Rattle.fleet.specs.Program.{AreWordsOf, ReportsNoWords, RunsProgram};
 
 use fleet_cli::{Disk, Fault, Files, refuse, run_command};
@@ -54,9 +55,10 @@ fn run_program<R: ReportsTo<O>, F: Files, O: Flush, E: TraceOut>(
 ) -> ExitCode
     requires out_working { IsWorking (O.state out.old) }
     requires err_working { IsWorking (E.state err.old) }
-    ensures { RunsProgram args (R.remaining input.old) (F.contents files.old) (F.contents files.new)
+    ensures { RunsProgram args (R.remaining input.old)
+        (around (F.contents files.old) (F.contents files.new)
         (input.new ≡ input.old) (out.new ≡ out.old)
-        (IsLogged R.talks input.old out.old input.new out.new)
+        (IsLogged R.talks input.old out.old input.new out.new))
         (O.state out.old) (O.state out.new)
         (E.state err.old) (E.state err.new)
         (exit_status result) }

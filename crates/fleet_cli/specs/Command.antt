@@ -60,39 +60,58 @@ names_of (r.Dispatch q) = record (names_of_program q.subject) { log = q.resume }
 names_of (r.Times q) = record (names_of_program q.subject) { holds = q.costs }
 names_of (r.Rest q) = record (names_of_program q.subject) { log = Some q.reports }
 
--- What each command answers for the texts of its files: all but `compile`, `thin`, `migrate`, `dispatch` and `rest`
--- leave every file as before, and all but `dispatch` leave the input unread; `dispatch` tells robots over the output,
--- hears them by the input, and logs what they report
-abbrev pub AnswersRequest : (files after : Option Store) → (unread unwritten : Type 0) → ((log log' : SinkState) → ReportForm → Talk → Type 0) → Request → FileTexts → (out out' : SinkState) → Result ℕ Fault → Type 0
-AnswersRequest files after unread unwritten talks (r.Instance q) texts out out' result = AnswersInstance q texts out out' result × AreUnchanged files after × unread
-AnswersRequest files after unread unwritten talks (r.Check q) texts out out' result = AnswersCheck q texts out out' result × AreUnchanged files after × unread
-AnswersRequest files after unread unwritten talks (r.Plan q) texts out out' result = AnswersPlan q texts out out' result × AreUnchanged files after × unread
-AnswersRequest files after unread unwritten talks (r.Compile q) texts out out' result = AnswersCompile files after q texts out out' result × unread
-AnswersRequest files after unread unwritten talks (r.Verify q) texts out out' result = AnswersVerify q texts out out' result × AreUnchanged files after × unread
-AnswersRequest files after unread unwritten talks (r.Run q) texts out out' result = AnswersRun q texts out out' result × AreUnchanged files after × unread
-AnswersRequest files after unread unwritten talks (r.Rehearse q) texts out out' result = AnswersRehearse texts out out' result × AreUnchanged files after × unread
-AnswersRequest files after unread unwritten talks (r.Auto q) texts out out' result = AnswersAuto q texts out out' result × AreUnchanged files after × unread
-AnswersRequest files after unread unwritten talks (r.Thin q) texts out out' result = AnswersThin files after q texts out out' result × unread
-AnswersRequest files after unread unwritten talks (r.Migrate q) texts out out' result = AnswersMigrate files after q texts out out' result × unread
-AnswersRequest files after unread unwritten talks (r.List q) texts out out' result = AnswersList texts out out' result × AreUnchanged files after × unread
-AnswersRequest files after unread unwritten talks (r.Dispatch q) texts out out' result = AnswersDispatch files after q texts (unread × unwritten) talks result
-AnswersRequest files after unread unwritten talks (r.Times q) texts out out' result = AnswersTimes q texts out out' result × AreUnchanged files after × unread
-AnswersRequest files after unread unwritten talks (r.Rest q) texts out out' result = AnswersRest files after q texts out out' result × unread
+-- what a request finds and leaves: the files before it and after it; that nothing was read of the input, and that nothing
+-- was written; and what robots were told, what they reported, and what was logged of that
+pub record Around : Type 1 where
+  pub files : Option Store
+  pub after : Option Store
+  pub unread : Type 0
+  pub unwritten : Type 0
+  pub talks : (log log' : SinkState) → ReportForm → Talk → Type 0
+
+-- .. these
+abbrev pub around : (files after : Option Store) → (unread unwritten : Type 0) → ((log log' : SinkState) → ReportForm → Talk → Type 0) → Around
+around files after unread unwritten talks = record { files = files; after = after; unread = unread; unwritten = unwritten; talks = talks }
+
+-- a command answers so, and leaves every file as before and the input unread
+abbrev pub Looks : Around → ((out out' : SinkState) → Result ℕ Fault → Type 0) → (out out' : SinkState) → Result ℕ Fault → Type 0
+Looks w Answers out out' result = Answers out out' result × AreUnchanged w.files w.after × w.unread
+
+-- a command that writes files answers so, and leaves the input unread
+abbrev pub Writes : Around → ((files after : Option Store) → (out out' : SinkState) → Result ℕ Fault → Type 0) → (out out' : SinkState) → Result ℕ Fault → Type 0
+Writes w Answers out out' result = Answers w.files w.after out out' result × w.unread
+
+-- what each command answers for the texts of its files; `dispatch` tells robots over the output, hears them by the
+-- input, and logs what they report
+abbrev pub AnswersRequest : Around → Request → FileTexts → (out out' : SinkState) → Result ℕ Fault → Type 0
+AnswersRequest w (r.Instance q) texts = Looks w (AnswersInstance q texts)
+AnswersRequest w (r.Check q) texts = Looks w (AnswersCheck q texts)
+AnswersRequest w (r.Plan q) texts = Looks w (AnswersPlan q texts)
+AnswersRequest w (r.Compile q) texts = Writes w (λ files after. AnswersCompile files after q texts)
+AnswersRequest w (r.Verify q) texts = Looks w (AnswersVerify q texts)
+AnswersRequest w (r.Run q) texts = Looks w (AnswersRun q texts)
+AnswersRequest w (r.Rehearse q) texts = Looks w (AnswersRehearse texts)
+AnswersRequest w (r.Auto q) texts = Looks w (AnswersAuto q texts)
+AnswersRequest w (r.Thin q) texts = Writes w (λ files after. AnswersThin files after q texts)
+AnswersRequest w (r.Migrate q) texts = Writes w (λ files after. AnswersMigrate files after q texts)
+AnswersRequest w (r.List q) texts = Looks w (AnswersList texts)
+AnswersRequest w (r.Dispatch q) texts = λ out out' result. AnswersDispatch w.files w.after q texts (w.unread × w.unwritten) w.talks result
+AnswersRequest w (r.Times q) texts = Looks w (AnswersTimes q texts)
+AnswersRequest w (r.Rest q) texts = Writes w (λ files after. AnswersRest files after q texts)
 
 -- What a request is answered. Its files were read, which leaves every file as before, and this is the answer for their
 -- texts; or one of them was not read, which is the refusal, and nothing was written, and the input not read
-abbrev pub DoesRequest : (files after : Option Store) → (unread unwritten : Type 0) → ((log log' : SinkState) → ReportForm → Talk → Type 0) → Request → (out out' : SinkState) → Result ℕ Fault → Type 0
-DoesRequest files after unread unwritten talks request out out' result =
-    ((texts : FileTexts) × (read : Option Store) × AreTexts files (names_of request) texts × AreUnchanged files read
-    × AnswersRequest read after unread unwritten talks request texts out out' result)
-    ⊎ ((fault : Fault) × (result ≡ Err fault) × IsUnread files (given_names (names_of request)) fault × AreUnchanged files after × IsUnwritten out out'
-    × unread × unwritten)
+abbrev pub DoesRequest : Around → Request → (out out' : SinkState) → Result ℕ Fault → Type 0
+DoesRequest w request out out' result =
+    ((texts : FileTexts) × (read : Option Store) × AreTexts w.files (names_of request) texts × AreUnchanged w.files read
+    × AnswersRequest (record w { files = read }) request texts out out' result)
+    ⊎ ((fault : Fault) × (result ≡ Err fault) × IsUnread w.files (given_names (names_of request)) fault × AreUnchanged w.files w.after × IsUnwritten out out'
+    × w.unread × w.unwritten)
 
 -- the request was done, and its status is answered; or a refusal was reported, and the refusal's status is answered:
 -- the other output took that one line, or failed within it
-abbrev pub RunsRequest : (files after : Option Store) → (unread unwritten : Type 0) → ((log log' : SinkState) → ReportForm → Talk → Type 0) → Request → (out out' err err' : SinkState) → ℕ → Type 0
-RunsRequest files after unread unwritten talks request out out' err err' status =
-    (done : Result ℕ Fault) × DoesRequest files after unread unwritten talks request out out' done × Finishes done err err' status
+abbrev pub RunsRequest : Around → Request → (out out' err err' : SinkState) → ℕ → Type 0
+RunsRequest w request out out' err err' status = (done : Result ℕ Fault) × DoesRequest w request out out' done × Finishes done err err' status
 
 -- it was reported why the words are no request: by help on the output, by usage on the other
 abbrev pub StopsAtWords : WordStop → (out out' err err' : SinkState) → ℕ → Type 0
@@ -106,8 +125,8 @@ StopsAtWords (w.Help text) out out' err err' status =
 -- without words the run of the input; else the command that the words ask for, or a stop at words that the command line
 -- does not take. Every file is as before, but for the files OUT of `compile`, `thin`, `migrate` and `rest`, and the log
 -- of `dispatch`. The input is read whole without words, and else by `dispatch` alone, whose robots report by it
-abbrev pub RunsCommand : List Text → Option (List ℕ) → (files after : Option Store) → (unread unwritten : Type 0) → ((log log' : SinkState) → ReportForm → Talk → Type 0) → (out out' err err' : SinkState) → ℕ → Type 0
-RunsCommand [] input files after unread unwritten talks out out' err err' status = RunsHex input out out' err err' status × AreUnchanged files after
-RunsCommand (word ∷ words) input files after unread unwritten talks out out' err err' status =
-    ((request : Request) × ReadsFleet (word ∷ words) (Ok request) × RunsRequest files after unread unwritten talks request out out' err err' status)
-    ⊎ ((stop : WordStop) × ReadsFleet (word ∷ words) (Err stop) × StopsAtWords stop out out' err err' status × AreUnchanged files after × unread)
+abbrev pub RunsCommand : List Text → Option (List ℕ) → Around → (out out' err err' : SinkState) → ℕ → Type 0
+RunsCommand [] input w out out' err err' status = RunsHex input out out' err err' status × AreUnchanged w.files w.after
+RunsCommand (word ∷ words) input w out out' err err' status =
+    ((request : Request) × ReadsFleet (word ∷ words) (Ok request) × RunsRequest w request out out' err err' status)
+    ⊎ ((stop : WordStop) × ReadsFleet (word ∷ words) (Err stop) × StopsAtWords stop out out' err err' status × AreUnchanged w.files w.after × w.unread)

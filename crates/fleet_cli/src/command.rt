@@ -3,7 +3,7 @@
 ghost use Rattle.std.specs.Prelude.{◌≡◌, map, string_bytes};
 ghost use Rattle.fleet_text.specs.Sink.{IsWorking};
 ghost use Rattle.fleet_dispatch.specs.Talk.{IsLogged};
-ghost use Rattle.fleet_cli.specs.Command.{names_alone, names_of, names_of_program, names_of_tasks, names_with, AnswersRequest, RunsRequest, StopsAtWords, RunsCommand};
+ghost use Rattle.fleet_cli.specs.Command.{names_alone, names_of, names_of_program, names_of_tasks, names_with, around, AnswersRequest, RunsRequest, StopsAtWords, RunsCommand};
 
 use crate::dispatch_command::do_dispatch;
 use crate::fault::{Fault, finish, refuse};
@@ -111,9 +111,9 @@ fn answer_request<'a, R: ReportsTo<O>, F: Files, O: Flush>(
     out: &mut O,
 ) -> Result<u8, Fault<'a>>
     requires { IsWorking (O.state out.old) }
-    ensures { AnswersRequest (F.contents files.old) (F.contents files.new)
+    ensures { AnswersRequest (around (F.contents files.old) (F.contents files.new)
         (input.new ≡ input.old) (out.new ≡ out.old)
-        (IsLogged R.talks input.old out.old input.new out.new) request.now texts
+        (IsLogged R.talks input.old out.old input.new out.new)) request.now texts
         (O.state out.old) (O.state out.new) result }
 {
     match request {
@@ -147,9 +147,9 @@ pub fn run_request<R: ReportsTo<O>, F: Files, O: Flush, E: TraceOut>(
 ) -> u8
     requires out_working { IsWorking (O.state out.old) }
     requires err_working { IsWorking (E.state err.old) }
-    ensures { RunsRequest (F.contents files.old) (F.contents files.new)
+    ensures { RunsRequest (around (F.contents files.old) (F.contents files.new)
         (input.new ≡ input.old) (out.new ≡ out.old)
-        (IsLogged R.talks input.old out.old input.new out.new) request.now
+        (IsLogged R.talks input.old out.old input.new out.new)) request.now
         (O.state out.old) (O.state out.new) (E.state err.old) (E.state err.new) result }
 {
     match read_files(alloc, files, names_of(request)) {
@@ -198,9 +198,9 @@ pub fn run_command<R: ReportsTo<O>, F: Files, O: Flush, E: TraceOut>(
     requires out_working { IsWorking (O.state out.old) }
     requires err_working { IsWorking (E.state err.old) }
     ensures { RunsCommand (map string_bytes words.now) (R.remaining input.old)
-        (F.contents files.old) (F.contents files.new)
+        (around (F.contents files.old) (F.contents files.new)
         (input.new ≡ input.old) (out.new ≡ out.old)
-        (IsLogged R.talks input.old out.old input.new out.new)
+        (IsLogged R.talks input.old out.old input.new out.new))
         (O.state out.old) (O.state out.new)
         (E.state err.old) (E.state err.new)
         result }

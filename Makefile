@@ -3,15 +3,16 @@
 PREFIX ?= /usr/local
 BUILT = crates/fleet/out/fleet
 LOG = crates/fleet/out/build.log
-# How many processes prove a crate: one for each processor, if each has 3 GB. Two crates are proved side by side, where
-# neither uses the other. With JOBS= it is for rt to say.
+# How many processes check a crate: one for each processor, if each has 3 GB. Two crates are checked side by side, where
+# neither uses the other.
 JOBS ?= $(shell awk -v n="$$(getconf _NPROCESSORS_ONLN)" '/^MemAvailable/ { m = int($$2 / 3e6) } END { if (m > n) m = n; print m < 1 ? 1 : m }' /proc/meminfo)
+CHECKED = $(CHECK) && (cd crates/fleet && rt run -- --help)
 # Another program to try: make examples FLEET=PATH
 FLEET = $(BUILT)
 # The library for callers in C. LIBRARY= leaves it out, and so it is where there is no C compiler.
 LIBRARY = $(shell command -v cc > /dev/null && command -v objcopy > /dev/null && echo crates/fleet_c/out/library)
 ARCHIVE = $(LIBRARY:%=%/libfleet.a)
-PROVE = awk -v jobs=$(JOBS) -v crate=fleet_cli -f tools/prove.awk crates.txt | $(MAKE) -j 2 -f -
+CHECK = awk -v jobs=$(JOBS) -v crate=fleet_cli -f tools/checks.awk crates.txt | $(MAKE) -j 2 -f -
 SOURCES = crates.txt $(shell find crates -path '*/out' -prune -o \( -name '*.rt' -o -name '*.antt' \) -print)
 
 WAREHOUSE = examples/warehouse.map examples/warehouse.scen
@@ -22,7 +23,7 @@ MAKEFLAGS += --no-builtin-rules
 # Where make install puts things.
 TO = $(DESTDIR)$(PREFIX)
 
-.PHONY: help lib look test examples edits neutral numbers demo picture definitions transcripts install
+.PHONY: help lib look test checks examples edits neutral numbers demo picture definitions transcripts install
 
 help:
 	@echo 'make look                  runs the program on examples within two minutes, with nothing proved'
@@ -30,6 +31,7 @@ help:
 	@echo 'make lib                   builds libfleet for callers in C, C++, Rust and Python, and its header, in $(LIBRARY)'
 	@echo 'make install PREFIX=DIR    puts the program at DIR/bin/fleet ($(PREFIX) where none is given), and libfleet in DIR/lib'
 	@echo 'make test                  the gate: proofs, tests, edits that must fail, and then the examples'
+	@echo 'make checks                proves all that fleet stands on and keeps the work, so that rt check and make prove only what changes then'
 	@echo 'make examples              runs the program on every example of the documents, on transcripts and tables, and on files and streams at their limits'
 	@echo 'make examples FLEET=PATH   the same of another program'
 	@echo 'make edits                 tries more edits that must fail, those of tests/edits, which would cost the gate too much'
@@ -44,15 +46,20 @@ look:
 
 test:
 	rt ci
-	@$(MAKE) --no-print-directory examples JOBS=
+	@$(MAKE) --no-print-directory examples
 
-# Proves the crates below the program, each after those that it uses, and then builds the program and has it print its
-# help. What the prover says goes to a file.
+# Proves the crates below the program, each after those that it uses, and builds the program: from nothing, as the gate
+# does, or where `make checks` kept its work, what has changed since. What the prover says goes to a file.
 $(BUILT): $(SOURCES)
 	@mkdir -p $(@D)
 	@echo 'Proving the crates and building fleet: the first time 17 to 33 minutes on four processors. The lines of the prover go to $(LOG).'
-	@($(if $(JOBS),$(PROVE) && )cd crates/fleet && rt run -- --help) > $(LOG) 2>&1 || { tail -n 20 $(LOG); exit 1; }
+	@if [ -d crates/fleet_cli/out/incremental ]; then $(CHECKED); else sh tools/prove.sh fleet; fi > $(LOG) 2>&1 || { tail -n 20 $(LOG); exit 1; }
 	@touch $@
+
+checks:
+	@mkdir -p $(dir $(BUILT))
+	@echo 'The lines of the prover go to $(LOG).'
+	@($(CHECKED)) > $(LOG) 2>&1 || { tail -n 20 $(LOG); exit 1; }
 
 lib: $(ARCHIVE)
 	@[ -n '$(ARCHIVE)' ] || echo 'libfleet is left out: it needs cc, ld, ar and objcopy'

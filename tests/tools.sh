@@ -22,6 +22,7 @@ check 'numbers of a plan and a trace' 1 '' 'run: more than one trace or plan\n' 
 check 'no robot of a film is red or orange' 0 '' '' \
     "grep -o 'hsl([0-9]*' warehouse.svg | tr -d 'hsl(' | awk '\$1 < 70 || \$1 > 320'"
 check 'the same seed gives the same holds' 0 '1 2\n0 1 2\n' '' "awk -v agents=3 -v ticks=2 -v chance=0.5 -v least=1 -v most=1 -v seed=1 -f tools/delays.awk"
+check 'agents that are no number have no holds' 1 '' 'delays: agents and ticks are numbers\n' "awk -v agents=x -v ticks=2 -f tools/delays.awk"
 
 # Orders ahead: how long a fleet takes whose orders and reports take time.
 check 'orders ahead: a program that cannot be carried out' 1 'the program cannot be carried out\n' '' \

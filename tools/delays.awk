@@ -8,6 +8,10 @@ function random() {
 }
 
 BEGIN {
+    if (agents !~ /^[0-9]+$/ || ticks !~ /^[0-9]+$/) {
+        print "delays: agents and ticks are numbers" > "/dev/stderr"
+        exit 1
+    }
     seed = seed % 2147483646 + 1
     for (k = 0; k < 10; k++) random()
     for (t = 1; t <= ticks; t++) {

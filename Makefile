@@ -27,7 +27,7 @@ TO = $(DESTDIR)$(PREFIX)
 
 help:
 	@echo 'make look                  runs the program on examples within two minutes, with nothing proved'
-	@echo 'make demo                  builds the program (the first time 17 to 33 minutes on four processors) and shows it on examples'
+	@echo 'make demo                  builds the program (the first time some 25 minutes on four processors) and shows it on examples'
 	@echo 'make lib                   builds libfleet for callers in C, C++, Rust and Python, and its header, in $(LIBRARY)'
 	@echo 'make install PREFIX=DIR    puts the program at DIR/bin/fleet ($(PREFIX) where none is given), and libfleet in DIR/lib'
 	@echo 'make test                  the gate: proofs, tests, edits that must fail, and then the examples'
@@ -52,7 +52,7 @@ test:
 # does, or where `make checks` kept its work, what has changed since. What the prover says goes to a file.
 $(BUILT): $(SOURCES)
 	@mkdir -p $(@D)
-	@echo 'Proving the crates and building fleet: the first time 17 to 33 minutes on four processors. The lines of the prover go to $(LOG).'
+	@echo 'Proving the crates and building fleet: the first time some 25 minutes on four processors. The lines of the prover go to $(LOG).'
 	@if [ -d crates/fleet_cli/out/incremental ]; then $(CHECKED); else sh tools/prove.sh fleet; fi > $(LOG) 2>&1 || { tail -n 20 $(LOG); exit 1; }
 	@touch $@
 

@@ -12,7 +12,6 @@
 //! room for them, `refuse` reports. `tools/lib.sh` makes the archive and the shared object.
 #![tactic(auto)]
 
-ghost use Rattle.std.specs.Prelude.{◌≡◌};
 ghost use Rattle.fleet_c.specs.Answer.{AnswersNumbers, AnswersBytes};
 ghost use Rattle.fleet_c.specs.Check.{ChecksTexts, IsCheckStop};
 ghost use Rattle.fleet_c.specs.Compile.{deps_of, CompilesTo, IsCompileStop};

@@ -1,7 +1,7 @@
 //! Refusals as plain structs, which a caller in another language reads.
 
 ghost use Rattle.std.specs.Prelude.{◌≡◌};
-ghost use Rattle.fleet_c.specs.Plain.{named, at, by, map_plain, scen_plain, text_plain, pair_plain, conflict_plain, check_plain, search_plain, compile_plain, load_plain, agent_at, number_at, ring_plain, unordered_plain, verify_plain, run_plain, plain_of};
+ghost use Rattle.fleet_c.specs.Plain.{named, at, by, memory_plain, map_plain, scen_plain, text_plain, pair_plain, conflict_plain, check_plain, search_plain, compile_plain, load_plain, agent_at, number_at, ring_plain, unordered_plain, verify_plain, run_plain, plain_of};
 
 use crate::fault::CallFault;
 use fleet_adg::CompileFault;
@@ -106,11 +106,18 @@ fn by(part: u32, number: u32, first: u64, second: u64) -> FleetFault
     }
 }
 
+/// Want of memory.
+fn memory_plain() -> FleetFault
+    ensures { result ≡ memory_plain }
+{
+    named(MEMORY, 1)
+}
+
 fn map_plain(fault: MapFault) -> FleetFault
     ensures { result ≡ map_plain fault }
 {
     match fault {
-        MapFault::OutOfMemory => named(MEMORY, 1),
+        MapFault::OutOfMemory => memory_plain(),
         MapFault::Header { line } => at(MAP, 2, line),
         MapFault::Size => named(MAP, 3),
         MapFault::RowCount => named(MAP, 4),
@@ -124,7 +131,7 @@ fn scen_plain(fault: ScenFault) -> FleetFault
     ensures { result ≡ scen_plain fault }
 {
     match fault {
-        ScenFault::OutOfMemory => named(MEMORY, 1),
+        ScenFault::OutOfMemory => memory_plain(),
         ScenFault::Version => named(SCEN, 2),
         ScenFault::Fields { line } => at(SCEN, 3, line),
         ScenFault::Number { line, field } => by(SCEN, 4, line, u64::from(field)),
@@ -142,7 +149,7 @@ fn text_plain(fault: TextFault) -> FleetFault
     ensures { result ≡ text_plain fault }
 {
     match fault {
-        TextFault::OutOfMemory => named(MEMORY, 1),
+        TextFault::OutOfMemory => memory_plain(),
         TextFault::Form { line } => at(TEXT, 2, line),
         TextFault::Length { line } => at(TEXT, 3, line),
         TextFault::AgentCount => named(TEXT, 4),
@@ -180,7 +187,7 @@ fn check_plain(fault: PlanFault) -> FleetFault
     ensures { result ≡ check_plain fault }
 {
     match fault {
-        PlanFault::OutOfMemory => named(MEMORY, 1),
+        PlanFault::OutOfMemory => memory_plain(),
         PlanFault::Agents => named(CHECK, 2),
         PlanFault::Start { agent } => at(CHECK, 3, u64::from(agent)),
         PlanFault::Goal { agent } => at(CHECK, 4, u64::from(agent)),
@@ -193,7 +200,7 @@ fn search_plain(stop: PlanStop) -> FleetFault
     ensures { result ≡ search_plain stop }
 {
     match stop {
-        PlanStop::OutOfMemory => named(MEMORY, 1),
+        PlanStop::OutOfMemory => memory_plain(),
         PlanStop::NoPath { agent } => at(SEARCH, 2, u64::from(agent)),
     }
 }
@@ -202,7 +209,7 @@ fn compile_plain(fault: CompileFault) -> FleetFault
     ensures { result ≡ compile_plain fault }
 {
     match fault {
-        CompileFault::OutOfMemory => named(MEMORY, 1),
+        CompileFault::OutOfMemory => memory_plain(),
         CompileFault::TooLong => named(COMPILE, 2),
     }
 }
@@ -211,7 +218,7 @@ fn load_plain(fault: LoadFault) -> FleetFault
     ensures { result ≡ load_plain fault }
 {
     match fault {
-        LoadFault::OutOfMemory => named(MEMORY, 1),
+        LoadFault::OutOfMemory => memory_plain(),
         LoadFault::Magic => named(LOAD, 2),
         LoadFault::Truncated => named(LOAD, 3),
         LoadFault::AgentCount => named(LOAD, 4),
@@ -286,7 +293,7 @@ fn verify_plain(fault: &VerifyFault) -> FleetFault
     ensures { result ≡ verify_plain fault.now }
 {
     match fault {
-        VerifyFault::OutOfMemory => named(MEMORY, 1),
+        VerifyFault::OutOfMemory => memory_plain(),
         VerifyFault::OtherFleet => named(VERIFY, 2),
         VerifyFault::Start { agent } => at(VERIFY, 3, u64::from(*agent)),
         VerifyFault::Goal { agent } => at(VERIFY, 4, u64::from(*agent)),
@@ -309,7 +316,7 @@ fn run_plain(fault: RunFault) -> FleetFault
     ensures { result ≡ run_plain fault }
 {
     match fault {
-        RunFault::OutOfMemory => named(MEMORY, 1),
+        RunFault::OutOfMemory => memory_plain(),
         RunFault::Source { tick } => at(RUN, 2, u64::from(tick)),
         RunFault::Hold { line } => at(RUN, 3, line),
         RunFault::Write => named(RUN, 4),
@@ -323,7 +330,7 @@ impl CallFault {
         ensures { result ≡ plain_of self.now }
     {
         match self {
-            CallFault::OutOfMemory => named(MEMORY, 1),
+            CallFault::OutOfMemory => memory_plain(),
             CallFault::Map(fault) => map_plain(*fault),
             CallFault::Scen(fault) => scen_plain(*fault),
             CallFault::Text(fault) => text_plain(*fault),

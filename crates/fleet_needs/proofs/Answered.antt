@@ -11,14 +11,13 @@ use Rattle.fleet_needs.specs.Rows.{IsColumn}
 use Rattle.fleet_needs.specs.Asked.{IsQuestion, IsSoonerAction, AreQuestions, AreAnswers}
 use Rattle.fleet_needs.specs.Block.{HasColumn, IsAnswer, AreAnswered, AreKnown}
 use Rattle.fleet_needs.specs.Columns.{AreColumns}
-use Rattle.fleet_needs.specs.JoinPass.{IsMade}
-use Rattle.fleet_needs.specs.Joins.{AreOwn, IsRow}
-use Rattle.fleet_needs.specs.Schedule.{AreCounts, HasRows, IsSchedule}
+use Rattle.fleet_needs.specs.JoinPass.{IsJoinRow, IsMade}
+use Rattle.fleet_needs.specs.Joins.{AreOwn}
+use Rattle.fleet_needs.specs.Schedule.{AreCounts, HasRows, next_action}
 use Rattle.fleet_needs.specs.Answering.{AreAnsweredTo, IsNextAnswered, IsAsked}
 use Rattle.fleet_needs.specs.declared.schedule.Columns.{Columns}
-use Rattle.fleet_needs.specs.declared.joins.Join.{Join}
+use Rattle.fleet_needs.specs.declared.join_pass.JoinRow.{JoinRow}
 use Rattle.fleet_needs.specs.declared.questions.Question.{Question}
-use Rattle.fleet_needs.specs.declared.schedule.Schedule.{Schedule}
 use Rattle.fleet_needs.proofs.Joining.{own_column}
 use Rattle.fleet_needs.proofs.NextBlock.{column_cases}
 
@@ -187,30 +186,16 @@ module _ (p : Program) (columns : Columns) (questions : List Question) (a : Acti
 
 -- ---- one row more
 
-module _ (p : Program) (s : Schedule) (is : IsSchedule p s) (n : ℕ) (join : Join) (at : slice_get s.joins.items n ≡ Some join) where
-  pub made_here : IsMade s (n + 1) join.action
-  made_here = (n + 1, omega arith, record { join = join; some = omega arith; at = (let e : n + 1 - 1 ≡ n = omega arith in ap (slice_get s.joins.items) e ∙ at); of = refl })
-
-  pub made_still : (x : ActionId) → IsMade s n x → IsMade s (n + 1) x
-  made_still x (r, le, row) = (r, omega arith, row)
-
-  pub made_back : (x : ActionId) → IsMade s (n + 1) x → IsMade s n x ⊎ (x ≡ join.action)
-  made_back x (r, le, row) = elim (cases_lt n r) [
-    | inr l ↦ inl (r, l, row)
-    | inl l ↦
-        let e : r - 1 ≡ n = omega arith in
-        let same : row.join ≡ join = same_Some row.join join (sym row.at ∙ ap (slice_get s.joins.items) e ∙ at) in
-        inr (sym row.of ∙ ap (λ (y : Join). y.action) same)
-  ]
-
-  -- rows of questions that are to be asked sooner were made before
-  pub made_sooner : (questions : List Question) (asked : AreQuestions p questions) → HasRows s questions → (k : ℕ) (q : Question) → slice_get questions k ≡ Some q → IsSoonerAction asked.level q.last join.action → IsMade s n q.last
-  made_sooner questions asked rows k q there sooner = go (rows k q there)
-    where
-      go : (r : ℕ) × IsRow s.joins.items r q.last → IsMade s n q.last
-      go (r, row) =
-          let l : r - 1 < n = is.ordered asked.level asked.levels (r - 1) n row.join join row.at at (subst (λ (x : ActionId). IsSoonerAction asked.level x join.action) (sym row.of) sooner) in
-          (r, (let some : 1 ≤ r = row.some in omega arith), row)
+-- rows of questions that are to be asked sooner were made before
+pub made_sooner : (p : Program) (row : JoinRow) → IsJoinRow p row → (questions : List Question) (asked : AreQuestions p questions) → HasRows row.schedule.now questions
+    → (k : ℕ) (q : Question) → slice_get questions k ≡ Some q → IsSoonerAction asked.level q.last row.action → IsMade row.schedule.now row.n q.last
+made_sooner p row is questions asked rows k q there sooner =
+    let made = rows k q there in
+    let some : 1 ≤ made.0 = made.1.some in
+    let upto : made.0 ≤ length row.schedule.now.joins.items = made.1.upto in
+    let first : IsSoonerAction asked.level (next_action row.schedule.now (made.0 - 1)) row.action = subst (λ (x : ActionId). IsSoonerAction asked.level x row.action) (sym made.1.of) sooner in
+    let l : made.0 - 1 < row.n = is.schedule.ordered asked.level asked.levels (made.0 - 1) row.n (omega arith) is.next (subst (IsSoonerAction asked.level (next_action row.schedule.now (made.0 - 1))) is.of first) in
+    (made.0, omega arith, made.1)
 
 -- the count of a question's first agent at its last action
 pub asked_column : (p : Program) (columns : Columns) (q : Question) (f : ℕ → ℕ) → AreOwn p → IsQuestion p q → AreCounts p columns q.last.agent q.last.number f → (k : ℕ) → HasColumn columns q.first.agent k → (count : ℕ)

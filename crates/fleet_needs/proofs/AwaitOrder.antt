@@ -1,8 +1,8 @@
 -- The order of awaits, among those of an action and among all.
-use Rattle.std.proofs.Common.{◌≡◌, ◌≢◌, ℕ, ◌+◌, ◌-◌, ◌<◌, ◌≤◌, List, length, take, get_or, map, sym, ap, subst, ◌∙◌, arith, inl, inr, ◌⊎◌}
+use Rattle.std.proofs.Common.{◌≡◌, ◌≢◌, ℕ, ◌+◌, ◌-◌, ◌<◌, ◌≤◌, Bool, false, List, length, take, get_or, map, sym, ap, subst, ◌∙◌, arith, inl, inr, ◌⊎◌}
 use Rattle.std.specs.Prelude.{slice_get, Some, sum_by}
 use Rattle.std.specs.List.Sorted.{IsStrictlyIncreasing}
-use Rattle.std.proofs.lemmas.Bool.{cases_order}
+use Rattle.std.proofs.lemmas.Bool.{cases_eq, cases_order}
 use Rattle.std.proofs.lemmas.Option.{slice_get_within, get_or_from_slice_get}
 use Rattle.std.proofs.lemmas.List.{get_or-map, length-map}
 use Rattle.std.proofs.lemmas.List.Kept.{AllPairs-from_increasing}
@@ -74,3 +74,13 @@ module _ (p : Program) where
       | inr (inr more) ↦ (let s = before b a kb ka (inr (sym e, more)) in inr (omega (arith, s)))
     ]
   ]
+
+-- ---- flags, one after another
+
+-- what holds of the first k flags from a place on, and of the next one, holds of one more
+pub flags_more : (Q : ℕ → Bool → Type 0) (first k : ℕ) (old new : List Bool) → ((n : ℕ) → n ≢ first + k → get_or new n false ≡ get_or old n false)
+    → ((m : ℕ) → m < k → Q m (get_or old (first + m) false)) → Q k (get_or new (first + k) false) → (m : ℕ) → m < k + 1 → Q m (get_or new (first + m) false)
+flags_more Q first k old new others before here m l = elim (cases_eq m k) [
+  | inr ne ↦ subst (Q m) (sym (others (first + m) (λ e. ne (omega (arith, e))))) (before m (omega arith))
+  | inl e ↦ subst (λ (x : ℕ). Q x (get_or new (first + x) false)) (sym e) here
+]

@@ -11,30 +11,29 @@ use Rattle.fleet_model.specs.Chain.{IsAction, IsLevel, awaited}
 use Rattle.fleet_needs.specs.Order.{IsCounted, IsNextAction}
 use Rattle.fleet_needs.specs.Asked.{IsSoonerAction}
 use Rattle.fleet_needs.specs.Places.{place_of_action}
-use Rattle.fleet_needs.specs.Joins.{AddsNone, HasRowOr, IsWanted, IsRow, StandsFor, need_at, need_of, row_taken, IsJoin, AreJoins, Takes, AreLasts, row_of, IsStanding, AreSound, AreJoinsOf, CanJoin, AreTaken, HasJoined, IsAdded}
-use Rattle.fleet_needs.specs.Joins.{AreRaised}
+use Rattle.fleet_needs.specs.Joins.{AddsNone, HasRowOr, IsWanted, join_at, IsRow, StandsFor, need_at, need_of, IsNeed, IsJoin, AreJoins, Takes, AreLasts, row_of, IsStanding, AreSound, AreJoinsOf, CanJoin, AreTaken, AreRaised, HaveGrown, HasJoined, IsAdded}
 use Rattle.fleet_needs.specs.declared.await_places.ActionPlaces.{ActionPlaces}
 use Rattle.fleet_needs.specs.declared.joins.Join.{Join}
 use Rattle.fleet_needs.specs.declared.joins.Need.{Need}
 use Rattle.fleet_needs.specs.declared.joins.Joins.{Joins}
 use Rattle.fleet_needs.proofs.Counting.{counted_back, counted_apart, counted_still, counted_here}
 use Rattle.fleet_needs.proofs.Placed.{place_apart, place_within}
-use Rattle.fleet_needs.proofs.Pushed.{pushed_old, pushed_new, pushed_cases}
 
 -- ---- what more rows keep
 
-abbrev pub AreKeptIn : List Join → List Join → Type 0
-AreKeptIn old new = (n : ℕ) (j : Join) → slice_get old n ≡ Some j → slice_get new n ≡ Some j
+pub row_kept : (a : ActionId) (old new : List Join) → HaveGrown a old new → (r : ℕ) (x : ActionId) → IsRow old r x → IsRow new r x
+row_kept a old new h r x k = record {
+  some = k.some;
+  upto = omega (arith, k.upto, h.more);
+  of = ap (λ (j : Join). j.action) (h.same (r - 1) (omega (arith, k.some, k.upto))) ∙ k.of;
+}
 
-pub row_kept : (old new : List Join) → AreKeptIn old new → (r : ℕ) (a : ActionId) → IsRow old r a → IsRow new r a
-row_kept old new h r a k = record { join = k.join; some = k.some; at = h (r - 1) k.join k.at; of = k.of }
-
-pub stands_kept : (p : Program) (old new : List Join) → AreKeptIn old new → (r i n : ℕ) → StandsFor p old r i n → StandsFor p new r i n
-stands_kept p old new h r i n s = record {
+pub stands_kept : (p : Program) (a : ActionId) (old new : List Join) → HaveGrown a old new → (r i n : ℕ) → StandsFor p old r i n → StandsFor p new r i n
+stands_kept p a old new h r i n s = record {
   number = s.number;
   upto = s.upto;
   quiet = s.quiet;
-  row = elim s.row [ inl none ↦ inl none | inr k ↦ inr (row_kept old new h r (record { agent = i; number = s.number }) k) ];
+  row = elim s.row [ inl none ↦ inl none | inr k ↦ inr (row_kept a old new h r (record { agent = i; number = s.number }) k) ];
 }
 
 -- an action that adds no chain has the row of the one before
@@ -66,147 +65,150 @@ module _ (p : Program) (places : ActionPlaces) (a : ActionId) (old new : Joins) 
   abbrev one : Join
   one = record { action = a; base = base; first = length old.needs.items; count = count }
 
-  still : AreKeptIn old.joins.items new.joins.items
-  still n j at = ap (λ (xs : List Join). slice_get xs n) put ∙ pushed_old old.joins.items one n j at
-
-  newest : slice_get new.joins.items (length old.joins.items) ≡ Some one
-  newest = ap (λ (xs : List Join). slice_get xs (length old.joins.items)) put ∙ pushed_new old.joins.items one
-
-  parts : (n : ℕ) (j : Join) → slice_get new.joins.items n ≡ Some j → (slice_get old.joins.items n ≡ Some j) ⊎ ((n ≡ length old.joins.items) × (j ≡ one))
-  parts n j at = pushed_cases old.joins.items one n j (ap (λ (xs : List Join). slice_get xs n) (sym put) ∙ at)
-
-  same_need : (n : ℕ) (j : Join) → slice_get old.joins.items n ≡ Some j → (k : ℕ) → k < length (awaits_of p j.action.agent j.action.number) → need_of new.needs.items j k ≡ need_of old.needs.items j k
-  same_need n j at k l = kept (j.first + k) (let w = (can.sound.joins n j at).within in omega arith)
-
-  join_on : (n : ℕ) (j : Join) → (slice_get old.joins.items n ≡ Some j) ⊎ ((n ≡ length old.joins.items) × (j ≡ one)) → IsJoin p new.joins.items new.needs.items n j
-  join_on n j (inl at) =
-      let was = can.sound.joins n j at in
-      record {
-        action = was.action;
-        base = stands_kept p old.joins.items new.joins.items still j.base j.action.agent (j.action.number - 1) was.base;
-        sooner = was.sooner;
-        count = was.count;
-        within = (let l = was.within in omega (arith, l, all));
-        waits = λ k w there. ap (λ (x : Need). x.wait) (same_need n j at k (slice_get_within (awaits_of p j.action.agent j.action.number) k w there)) ∙ was.waits k w there;
-        awaits = λ k w there.
-            let e : row_taken new.needs.items j k ≡ row_taken old.needs.items j k = ap (λ (x : Need). x.row) (same_need n j at k (slice_get_within (awaits_of p j.action.agent j.action.number) k w there)) in
-            let before = was.awaits k w there in (
-              (let l : row_taken old.needs.items j k ≤ n = before.0 in omega (arith, e, l)),
-              stands_kept p old.joins.items new.joins.items still _ w.agent w.count (subst (λ (r : ℕ). StandsFor p old.joins.items r w.agent w.count) (sym e) before.1),
-            );
-      }
-  join_on n j (inr (e, same)) = subst (IsJoin p new.joins.items new.needs.items n) (sym same) (record {
-    action = can.action;
-    base = stands_kept p old.joins.items new.joins.items still base a.agent (a.number - 1) stands;
-    sooner = omega (arith, e, within);
-    count = many;
-    within = omega (arith, all);
-    waits = λ k w there. ap (λ (x : Need). x.wait) (each k w there);
-    awaits = λ k w there.
-        let is = (can.awaited k w there).1 in
-        let at : row_taken new.needs.items one k ≡ row_of places old (awaited w) = ap (λ (x : Need). x.row) (each k w there) in (
-          (let l : row_of places old (awaited w) ≤ length old.joins.items = is.within in omega (arith, at, l, e)),
-          stands_kept p old.joins.items new.joins.items still _ w.agent w.count (subst (λ (r : ℕ). StandsFor p old.joins.items r w.agent w.count) (sym at) is.stands),
-        );
-  })
-
-  last_on : (n : ℕ) (j : Join) (r : ℕ) → (slice_get old.joins.items n ≡ Some j) ⊎ ((n ≡ length old.joins.items) × (j ≡ one)) → Takes p new.needs.items j r → n + 1 ≤ slice_index new.lasts.items r
-  last_on n j r (inl at) (inl e) = omega (arith, can.sound.lasts.each n j r at (inl e), raised r)
-  last_on n j r (inl at) (inr (k, l, e)) = omega (arith, can.sound.lasts.each n j r at (inr (k, l, e ∙ ap (λ (x : Need). x.row) (same_need n j at k l))), raised r)
-  last_on n j r (inr (e, same)) (inl is) =
-      let b : r ≡ base = is ∙ ap (λ (x : Join). x.base) same in
-      subst (λ (x : ℕ). n + 1 ≤ slice_index new.lasts.items x) (sym b) (omega (arith, e, based))
-  last_on n j r (inr (e, same)) (inr t) = of (subst (λ (x : Join). (k : ℕ) × (k < length (awaits_of p x.action.agent x.action.number)) × (r ≡ row_taken new.needs.items x k)) same t)
-    where
-      of : (k : ℕ) × (k < length (awaits_of p a.agent a.number)) × (r ≡ row_taken new.needs.items one k) → n + 1 ≤ slice_index new.lasts.items r
-      of (k, l, is) =
-          let w : Await = get_or (awaits_of p a.agent a.number) k (record { agent = 0; count = 0 }) in
-          let there : slice_get (awaits_of p a.agent a.number) k ≡ Some w = slice_get-get_or (awaits_of p a.agent a.number) k (record { agent = 0; count = 0 }) l in
-          let at : r ≡ row_of places old (awaited w) = is ∙ ap (λ (x : Need). x.row) (each k w there) in
-          subst (λ (x : ℕ). n + 1 ≤ slice_index new.lasts.items x) (sym at) (omega (arith, e, noted k w there))
-
   long : length new.joins.items ≡ length old.joins.items + 1
   long = ap (λ (xs : List Join). length xs) put ∙ length_push old.joins.items one
 
+  newest : join_at new.joins.items (length old.joins.items) ≡ one
+  newest = ap (λ (xs : List Join). join_at xs (length old.joins.items)) put ∙ get_or_push old.joins.items one (join_at [] 0) (length old.joins.items) refl
+
+  parts : (n : ℕ) → n < length new.joins.items → (n < length old.joins.items) ⊎ (n ≡ length old.joins.items)
+  parts n l = elim (cases_lt n (length old.joins.items)) [ inl low ↦ inl low | inr high ↦ inr (omega (arith, l, long)) ]
+
+  grown : HaveGrown a old.joins.items new.joins.items
+  grown = record {
+    more = omega (arith, long);
+    same = λ n l. ap (λ (xs : List Join). join_at xs n) put ∙ get_or_append_left old.joins.items (one ∷ []) (join_at [] 0) n l;
+    last = λ n l. elim (parts n l) [ inl low ↦ inl low | inr e ↦ inr (e, ap (λ (m : ℕ). (join_at new.joins.items m).action) e ∙ ap (λ (x : Join). x.action) newest) ];
+  }
+
+  same_need : (n k : ℕ) → n < length old.joins.items → k < length (awaits_of p (join_at old.joins.items n).action.agent (join_at old.joins.items n).action.number)
+      → need_of new.needs.items (join_at old.joins.items n) k ≡ need_of old.needs.items (join_at old.joins.items n) k
+  same_need n k low l = kept ((join_at old.joins.items n).first + k) (let w = (can.sound.joins n low).within in omega arith)
+
+  -- await k of the action
+  await_there : (k : ℕ) → k < length (awaits_of p a.agent a.number) → (w : Await) × (slice_get (awaits_of p a.agent a.number) k ≡ Some w)
+  await_there k l = (get_or (awaits_of p a.agent a.number) k (record { agent = 0; count = 0 }), slice_get-get_or (awaits_of p a.agent a.number) k (record { agent = 0; count = 0 }) l)
+
+  join_on : (n : ℕ) → n < length new.joins.items → IsJoin p new.joins.items new.needs.items n (join_at new.joins.items n)
+  join_on n l = elim (parts n l) [
+    | inl low ↦
+        let j : Join = join_at old.joins.items n in
+        let was = can.sound.joins n low in
+        subst (IsJoin p new.joins.items new.needs.items n) (sym (grown.same n low)) (record {
+          action = was.action;
+          base = stands_kept p a old.joins.items new.joins.items grown j.base j.action.agent (j.action.number - 1) was.base;
+          sooner = was.sooner;
+          count = was.count;
+          within = (let w = was.within in omega (arith, w, all));
+          each = λ k m.
+              let need = was.each k m in
+              subst (IsNeed p new.joins.items (awaits_of p j.action.agent j.action.number) n k) (sym (same_need n k low m))
+              (record { await = need.await; sooner = need.sooner; stands = stands_kept p a old.joins.items new.joins.items grown _ _ _ need.stands });
+        })
+    | inr e ↦ subst (λ (m : ℕ). IsJoin p new.joins.items new.needs.items m (join_at new.joins.items m)) (sym e) (subst (IsJoin p new.joins.items new.needs.items (length old.joins.items)) (sym newest) (record {
+      action = can.action;
+      base = stands_kept p a old.joins.items new.joins.items grown base a.agent (a.number - 1) stands;
+      sooner = within;
+      count = many;
+      within = omega (arith, all);
+      each = λ k m.
+          let there = await_there k m in
+          let is = (can.awaited k there.0 there.1).1 in
+          subst (IsNeed p new.joins.items (awaits_of p a.agent a.number) (length old.joins.items) k) (sym (each k there.0 there.1))
+          (record { await = there.1; sooner = is.within; stands = stands_kept p a old.joins.items new.joins.items grown _ _ _ is.stands });
+    }))
+  ]
+
+  last_old : (n r : ℕ) → n < length old.joins.items → Takes p new.needs.items (join_at old.joins.items n) r → n + 1 ≤ slice_index new.lasts.items r
+  last_old n r low (inl e) = omega (arith, can.sound.lasts.each n r low (inl e), raised r)
+  last_old n r low (inr (k, l, e)) = omega (arith, can.sound.lasts.each n r low (inr (k, l, e ∙ ap (λ (x : Need). x.row) (same_need n k low l))), raised r)
+
+  last_one : (r : ℕ) → Takes p new.needs.items one r → length old.joins.items + 1 ≤ slice_index new.lasts.items r
+  last_one r (inl is) = subst (λ (x : ℕ). length old.joins.items + 1 ≤ slice_index new.lasts.items x) (sym is) based
+  last_one r (inr (k, l, is)) =
+      let there = await_there k l in
+      let at : r ≡ row_of places old (awaited there.0) = is ∙ ap (λ (x : Need). x.row) (each k there.0 there.1) in
+      subst (λ (x : ℕ). length old.joins.items + 1 ≤ slice_index new.lasts.items x) (sym at) (noted k there.0 there.1)
+
+  last_on : (n r : ℕ) → n < length new.joins.items → Takes p new.needs.items (join_at new.joins.items n) r → n + 1 ≤ slice_index new.lasts.items r
+  last_on n r l takes = elim (parts n l) [
+    | inl low ↦ last_old n r low (subst (λ (j : Join). Takes p new.needs.items j r) (grown.same n low) takes)
+    | inr e ↦ omega (arith, e, last_one r (subst (λ (j : Join). Takes p new.needs.items j r) (ap (join_at new.joins.items) e ∙ newest) takes))
+  ]
+
   newest_row : IsRow new.joins.items (length old.joins.items + 1) a
-  newest_row = record { join = one; some = omega arith; at = (let e : length old.joins.items + 1 - 1 ≡ length old.joins.items = omega arith in ap (slice_get new.joins.items) e ∙ newest); of = refl }
+  newest_row = record { some = omega arith; upto = omega (arith, long); of = (let e : length old.joins.items + 1 - 1 ≡ length old.joins.items = omega arith in ap (λ (n : ℕ). (join_at new.joins.items n).action) e ∙ ap (λ (x : Join). x.action) newest) }
 
   pub joined_on : (made : Bool) → HasJoined p places a made (length old.joins.items + 1) old new
   joined_on made = record {
     sound = record {
       right = can.sound.right;
-      joins = λ n j at. join_on n j (parts n j at);
-      lasts = record { all = omega (arith, room, can.sound.lasts.all, long); each = λ n j r at takes. last_on n j r (parts n j at) takes };
+      joins = join_on;
+      lasts = record { all = omega (arith, room, can.sound.lasts.all, long); each = last_on };
       room = ap (λ xs. length xs.items) standing ∙ can.sound.room;
     };
     standing = standing;
-    more = omega (arith, long);
-    kept = λ x s k. row_kept old.joins.items new.joins.items still s x k;
-    still = still;
+    grown = grown;
     within = omega (arith, long);
     stands = record { number = a.number; upto = omega arith; quiet = λ m from upto. absurd (omega arith); row = inr newest_row };
     here = λ e. newest_row;
-    parts = λ n j at. elim (parts n j at) [ inl was ↦ inl was | inr is ↦ inr (is.0, ap (λ (x : Join). x.action) is.1) ];
   }
 
 -- the need of this row by this await
 abbrev pub need_by : Await → ℕ → Need
 need_by w r = record { row = r; wait = w }
 
--- what is taken by the first k awaits
-pub record AreTakenTo (p : Program) (places : ActionPlaces) (a : ActionId) (old : Joins) (k : ℕ) (needs : List Need) (lasts : List ℕ) : Type 0 where
-  pub all : length needs ≡ length old.needs.items + k
-  pub kept : (n : ℕ) → n < length old.needs.items → need_at needs n ≡ need_at old.needs.items n
-  pub each : (m : ℕ) (w : Await) → m < k → slice_get (awaits_of p a.agent a.number) m ≡ Some w → need_at needs (length old.needs.items + m) ≡ record { row = row_of places old (awaited w); wait = w }
-  pub raised : AreRaised old.lasts.items lasts
-  pub noted : (m : ℕ) (w : Await) → m < k → slice_get (awaits_of p a.agent a.number) m ≡ Some w → length old.joins.items + 1 ≤ slice_index lasts (row_of places old (awaited w))
-
+-- what is taken by the first awaits, and by one more
 module _ (p : Program) (places : ActionPlaces) (a : ActionId) (old : Joins) where
-  pub taken_first : AreTakenTo p places a old 0 old.needs.items old.lasts.items
+  pub taken_first : AreTaken p places a 0 old old
   taken_first = record {
+    joins = refl;
+    standing = refl;
     all = omega arith;
     kept = λ n l. refl;
     each = λ m w l at. absurd (omega arith);
-    raised = (refl, λ r. omega arith);
+    lasts = (refl, λ r. omega arith);
     noted = λ m w l at. absurd (omega arith);
   }
 
-  pub taken_on : (k : ℕ) (w : Await) → slice_get (awaits_of p a.agent a.number) k ≡ Some w → (taken : ℕ) → taken ≡ row_of places old (awaited w) → (needs new : List Need) (lasts up : List ℕ) → new ≡ needs ++ record { row = taken; wait = w } ∷ []
-      → AreRaised lasts up → length old.joins.items + 1 ≤ slice_index up taken → AreTakenTo p places a old k needs lasts → AreTakenTo p places a old (k + 1) new up
-  taken_on k w at taken is needs new lasts up put raised noted h = record {
+  pub taken_on : (k : ℕ) (w : Await) → slice_get (awaits_of p a.agent a.number) k ≡ Some w → (taken : ℕ) → taken ≡ row_of places old (awaited w) → (mid new : Joins) → new.joins ≡ mid.joins → new.standing ≡ mid.standing
+      → new.needs.items ≡ mid.needs.items ++ record { row = taken; wait = w } ∷ [] → AreRaised mid.lasts.items new.lasts.items → length old.joins.items + 1 ≤ slice_index new.lasts.items taken → AreTaken p places a k old mid → AreTaken p places a (k + 1) old new
+  taken_on k w at taken is mid new joins standing put raised noted h = record {
+    joins = joins ∙ h.joins;
+    standing = standing ∙ h.standing;
     all = omega (arith, long, h.all);
     kept = λ n l. before n (omega (arith, h.all)) ∙ h.kept n l;
     each = λ m v l there. elim (cases_lt m k) [
       | inl less ↦ before (length old.needs.items + m) (omega (arith, h.all)) ∙ h.each m v less there
       | inr more ↦
           let e : m ≡ k = omega arith in
-          let place : length old.needs.items + m ≡ length needs = omega (arith, h.all) in
-          ap (need_at new) place ∙ newest ∙ ap (need_by w) is ∙ ap (λ (x : Await). need_by x (row_of places old (awaited x))) (same m v e there)
+          let place : length old.needs.items + m ≡ length mid.needs.items = omega (arith, h.all) in
+          ap (need_at new.needs.items) place ∙ newest ∙ ap (need_by w) is ∙ ap (λ (x : Await). need_by x (row_of places old (awaited x))) (same m v e there)
     ];
-    raised = (raised.0 ∙ h.raised.0, λ r. (let x = h.raised.1 r in let y = raised.1 r in omega arith));
+    lasts = (raised.0 ∙ h.lasts.0, λ r. (let x = h.lasts.1 r in let y = raised.1 r in omega arith));
     noted = λ m v l there. elim (cases_lt m k) [
       | inl less ↦ (let x = h.noted m v less there in let y = raised.1 (row_of places old (awaited v)) in omega arith)
       | inr more ↦
           let e : m ≡ k = omega arith in
-          subst (λ (r : ℕ). length old.joins.items + 1 ≤ slice_index up r) (is ∙ ap (λ (x : Await). row_of places old (awaited x)) (same m v e there)) noted
+          subst (λ (r : ℕ). length old.joins.items + 1 ≤ slice_index new.lasts.items r) (is ∙ ap (λ (x : Await). row_of places old (awaited x)) (same m v e there)) noted
     ];
   }
     where
-      long : length new ≡ length needs + 1
-      long = ap (λ (xs : List Need). length xs) put ∙ length_push needs (need_by w taken)
+      long : length new.needs.items ≡ length mid.needs.items + 1
+      long = ap (λ (xs : List Need). length xs) put ∙ length_push mid.needs.items (need_by w taken)
 
-      before : (n : ℕ) → n < length needs → need_at new n ≡ need_at needs n
-      before n l = ap (λ (xs : List Need). need_at xs n) put ∙ get_or_append_left needs (need_by w taken ∷ []) (need_by (record { agent = 0; count = 0 }) 0) n l
+      before : (n : ℕ) → n < length mid.needs.items → need_at new.needs.items n ≡ need_at mid.needs.items n
+      before n l = ap (λ (xs : List Need). need_at xs n) put ∙ get_or_append_left mid.needs.items (need_by w taken ∷ []) (need_at [] 0) n l
 
-      newest : need_at new (length needs) ≡ need_by w taken
-      newest = ap (λ (xs : List Need). need_at xs (length needs)) put ∙ get_or_push needs (need_by w taken) (need_by (record { agent = 0; count = 0 }) 0) (length needs) refl
+      newest : need_at new.needs.items (length mid.needs.items) ≡ need_by w taken
+      newest = ap (λ (xs : List Need). need_at xs (length mid.needs.items)) put ∙ get_or_push mid.needs.items (need_by w taken) (need_at [] 0) (length mid.needs.items) refl
 
       same : (m : ℕ) (v : Await) → m ≡ k → slice_get (awaits_of p a.agent a.number) m ≡ Some v → w ≡ v
       same m v e there = same_Some w v (sym at ∙ ap (slice_get (awaits_of p a.agent a.number)) (sym e) ∙ there)
 
 -- all of them, then the base, and at last the join itself
 pub joined_by : (p : Program) (places : ActionPlaces) (a : ActionId) (old mid low new : Joins) (base first count : ℕ) → CanJoin p places old a → base ≤ length old.joins.items → StandsFor p old.joins.items base a.agent (a.number - 1)
-    → AreTaken p places a old mid → low.joins ≡ mid.joins → low.needs ≡ mid.needs → low.standing ≡ mid.standing → AreRaised mid.lasts.items low.lasts.items → length old.joins.items + 1 ≤ slice_index low.lasts.items base
+    → AreTaken p places a (length (awaits_of p a.agent a.number)) old mid → low.joins ≡ mid.joins → low.needs ≡ mid.needs → low.standing ≡ mid.standing → AreRaised mid.lasts.items low.lasts.items → length old.joins.items + 1 ≤ slice_index low.lasts.items base
     → new.lasts.items ≡ low.lasts.items ++ 0 ∷ [] → first ≡ length old.needs.items → count ≡ length (awaits_of p a.agent a.number) → new.joins.items ≡ low.joins.items ++ record { action = a; base = base; first = first; count = count } ∷ [] → new.needs ≡ low.needs → new.standing ≡ low.standing
     → (made : Bool) → HasJoined p places a made (length old.joins.items + 1) old new
 joined_by p places a old mid low new base first count can within stands taken joins needs standing raised based putl at many putj same_needs same_standing =
@@ -215,10 +217,10 @@ joined_by p places a old mid low new base first count can within stands taken jo
     (same_standing ∙ standing ∙ taken.standing)
     (ap (λ xs. length xs) list ∙ taken.all)
     (λ n l. ap (λ (xs : List Need). need_at xs n) list ∙ taken.kept n l)
-    (λ k w there. ap (λ (xs : List Need). need_at xs (length old.needs.items + k)) list ∙ taken.each k w there)
+    (λ k w there. ap (λ (xs : List Need). need_at xs (length old.needs.items + k)) list ∙ taken.each k w (slice_get_within (awaits_of p a.agent a.number) k w there) there)
     (ap (λ (xs : List ℕ). length xs) putl ∙ length_push low.lasts.items 0 ∙ ap (λ (n : ℕ). n + 1) (raised.0 ∙ taken.lasts.0))
     (λ r. (let x = taken.lasts.1 r in let y = raised.1 r in let z = up r in omega arith))
-    (λ k w there. (let x = taken.noted k w there in let y = raised.1 (row_of places old (awaited w)) in let z = up (row_of places old (awaited w)) in omega arith))
+    (λ k w there. (let x = taken.noted k w (slice_get_within (awaits_of p a.agent a.number) k w there) there in let y = raised.1 (row_of places old (awaited w)) in let z = up (row_of places old (awaited w)) in omega arith))
     (let z = up base in omega (arith, z, based))
   where
     list : new.needs.items ≡ mid.needs.items
@@ -236,13 +238,10 @@ pub joined_none : (p : Program) (places : ActionPlaces) (a : ActionId) (made : B
 joined_none p places a made m base left can within stands none = record {
   sound = can.sound;
   standing = refl;
-  more = omega arith;
-  kept = λ x s k. k;
-  still = λ n j at. at;
+  grown = record { more = omega arith; same = λ n l. refl; last = λ n l. inl l };
   within = within;
   stands = stands_on p m.joins.items base a can.action.first none stands;
   here = λ set. absurd (false≢true (sym left ∙ set));
-  parts = λ n j at. inl at;
 }
 
 -- ---- the row of the action is noted
@@ -276,21 +275,20 @@ module _ (p : Program) (places : ActionPlaces) (a : ActionId) (made : Bool) (r :
   pub added : IsAdded p places a made old new
   added = record {
     sound = sound_on;
+    grown = subst (HaveGrown a old.joins.items) (sym same_joins) h.grown;
     kept = λ x k ne s.
         let e : row_of places new x ≡ row_of places old x = at_other x k ne in
         let l : row_of places old x ≤ length old.joins.items = s.within in
         record {
-          within = omega (arith, e, l, h.more, ap (λ (xs : List Join). length xs) same_joins);
+          within = omega (arith, e, l, h.grown.more, ap (λ (xs : List Join). length xs) same_joins);
           stands = subst (λ (xs : List Join). StandsFor p xs (row_of places new x) x.agent x.number) (sym same_joins)
-              (subst (λ (s : ℕ). StandsFor p mid.joins.items s x.agent x.number) (sym e) (stands_kept p old.joins.items mid.joins.items h.still (row_of places old x) x.agent x.number s.stands));
+              (subst (λ (s : ℕ). StandsFor p mid.joins.items s x.agent x.number) (sym e) (stands_kept p a old.joins.items mid.joins.items h.grown (row_of places old x) x.agent x.number s.stands));
         };
-    rows = λ x s k. subst (λ (xs : List Join). IsRow xs s x) (sym same_joins) (h.kept x s k);
     here = record {
       within = omega (arith, at_own, h.within, ap (λ (xs : List Join). length xs) same_joins);
       stands = subst (λ (xs : List Join). StandsFor p xs (row_of places new a) a.agent a.number) (sym same_joins) (subst (λ (s : ℕ). StandsFor p mid.joins.items s a.agent a.number) (sym at_own) h.stands);
     };
     row = λ set. (r, subst (λ (xs : List Join). IsRow xs r a) (sym same_joins) (h.here set));
-    parts = λ n j at. h.parts n j (ap (λ (xs : List Join). slice_get xs n) (sym same_joins) ∙ at);
   }
 
 -- ---- one action more
@@ -311,6 +309,9 @@ module _ (p : Program) (places : ActionPlaces) (wanted : List Bool) (Passed : Ac
   here : IsCounted (set counts a.agent a.number) a
   here = counted_here counts a next.agent next.number
 
+  kept : (x : ActionId) (r : ℕ) → IsRow old.joins.items r x → IsRow new.joins.items r x
+  kept x r = row_kept a old.joins.items new.joins.items added.grown r x
+
   module _ (level : ActionId → ℕ) (levels : (x : ActionId) → IsAction p x → IsLevel p x (level x)) where
     first_on : (x y : ActionId) → IsAction p x → IsAction p y → IsCounted (set counts a.agent a.number) y → IsSoonerAction level x y → IsCounted (set counts a.agent a.number) x
     first_on x y k m done sooner = elim (back y done) [
@@ -322,31 +323,42 @@ module _ (p : Program) (places : ActionPlaces) (wanted : List Bool) (Passed : Ac
     not_sooner x (inl l) = omega arith
     not_sooner x (inr (e, l)) = omega arith
 
-    ordered_on : (m n : ℕ) (x y : Join) → (slice_get old.joins.items m ≡ Some x) ⊎ ((m ≡ length old.joins.items) × (x.action ≡ a)) → (slice_get old.joins.items n ≡ Some y) ⊎ ((n ≡ length old.joins.items) × (y.action ≡ a))
-        → IsSoonerAction level x.action y.action → m < n
-    ordered_on m n x y (inl at) (inl there) sooner = h.ordered level levels m n x y at there sooner
-    ordered_on m n x y (inl at) (inr (e, same)) sooner = (let l = slice_get_within old.joins.items m x at in omega (arith, l, e))
-    ordered_on m n x y (inr (e, same)) (inl there) sooner =
-        let done : IsCounted counts a = h.first level levels a y.action is (h.sound.joins n y there).action (h.made n y there) (subst (λ (z : ActionId). IsSoonerAction level z y.action) same sooner) in
-        absurd (counted_apart counts a next.agent next.number a done refl)
-    ordered_on m n x y (inr (e, same)) (inr (f, also)) sooner =
-        absurd (not_sooner a (subst (λ (z : ActionId). IsSoonerAction level z a) same (subst (IsSoonerAction level x.action) also sooner)))
+    ordered_on : (m n : ℕ) → m < length new.joins.items → n < length new.joins.items → IsSoonerAction level (join_at new.joins.items m).action (join_at new.joins.items n).action → m < n
+    ordered_on m n l k sooner = elim (added.grown.last n k) [
+      | inr (f, also) ↦ elim (added.grown.last m l) [
+        | inl low ↦ omega (arith, low, f)
+        | inr (e, same) ↦ absurd (not_sooner a (subst (λ (x : ActionId). IsSoonerAction level x a) same (subst (IsSoonerAction level (join_at new.joins.items m).action) also sooner)))
+      ]
+      | inl less ↦
+          let y = join_at old.joins.items n in
+          let to : IsSoonerAction level (join_at new.joins.items m).action y.action = subst (λ (j : Join). IsSoonerAction level (join_at new.joins.items m).action j.action) (added.grown.same n less) sooner in
+          elim (added.grown.last m l) [
+            | inl low ↦ h.ordered level levels m n low less (subst (λ (j : Join). IsSoonerAction level j.action y.action) (added.grown.same m low) to)
+            | inr (e, same) ↦
+                let done : IsCounted counts a = h.first level levels a y.action is (h.sound.joins n less).action (h.made n less) (subst (λ (x : ActionId). IsSoonerAction level x y.action) same to) in
+                absurd (counted_apart counts a next.agent next.number a done refl)
+          ]
+    ]
 
-  rising_on : (m n : ℕ) (x y : Join) → (slice_get old.joins.items m ≡ Some x) ⊎ ((m ≡ length old.joins.items) × (x.action ≡ a)) → (slice_get old.joins.items n ≡ Some y) ⊎ ((n ≡ length old.joins.items) × (y.action ≡ a))
-      → m < n → x.action.agent ≡ y.action.agent → x.action.number < y.action.number
-  rising_on m n x y (inl at) (inl there) l agents = h.rising m n x y at there l agents
-  rising_on m n x y (inl at) (inr (e, same)) l agents =
-      let done : x.action.number ≤ slice_index counts x.action.agent = h.made m x at in
-      let agent : slice_index counts x.action.agent ≡ slice_index counts a.agent = ap (slice_index counts) (agents ∙ ap (λ (z : ActionId). z.agent) same) in
-      let number : y.action.number ≡ a.number = ap (λ (z : ActionId). z.number) same in
-      omega (arith, done, agent, number, next.number)
-  rising_on m n x y (inr (e, same)) (inl there) l agents = absurd (let w = slice_get_within old.joins.items n y there in omega (arith, w, e, l))
-  rising_on m n x y (inr (e, same)) (inr (f, also)) l agents = absurd (omega (arith, e, f, l))
+  rising_on : (m n : ℕ) → m < n → n < length new.joins.items → (join_at new.joins.items m).action.agent ≡ (join_at new.joins.items n).action.agent → (join_at new.joins.items m).action.number < (join_at new.joins.items n).action.number
+  rising_on m n l k agents = elim (added.grown.last n k) [
+    | inl low ↦
+        let x = added.grown.same m (omega arith) in
+        let y = added.grown.same n low in
+        let rise = h.rising m n l low (sym (ap (λ (j : Join). j.action.agent) x) ∙ agents ∙ ap (λ (j : Join). j.action.agent) y) in
+        omega (arith, rise, ap (λ (j : Join). j.action.number) x, ap (λ (j : Join). j.action.number) y)
+    | inr (e, same) ↦
+        let less : m < length old.joins.items = omega (arith, l, e) in
+        let x : ActionId = (join_at new.joins.items m).action in
+        let done : IsCounted counts x = subst (λ (j : Join). IsCounted counts j.action) (sym (added.grown.same m less)) (h.made m less) in
+        let agent : slice_index counts x.agent ≡ slice_index counts a.agent = ap (slice_index counts) (agents ∙ ap (λ (z : ActionId). z.agent) same) in
+        omega (arith, done, agent, ap (λ (z : ActionId). z.number) same, next.number)
+  ]
 
   -- an action has a row, or it is so of it
   rows_on : (Else : ActionId → Type 0) → (made ≡ false → Else a) → HasRowOr Else p old.joins.items (IsCounted counts) → HasRowOr Else p new.joins.items (IsCounted (set counts a.agent a.number))
   rows_on Else or before x k done = elim (back x done) [
-    | inl was ↦ elim (before x k was) [ inl row ↦ inl (row.0, added.rows x row.0 row.1) | inr other ↦ inr other ]
+    | inl was ↦ elim (before x k was) [ inl row ↦ inl (row.0, kept x row.0 row.1) | inr other ↦ inr other ]
     | inr e ↦ subst (λ (y : ActionId). ((r : ℕ) × IsRow new.joins.items r y) ⊎ Else y) (sym e) (by_flag ((r : ℕ) × IsRow new.joins.items r a) (Else a) made added.row or)
   ]
 
@@ -360,13 +372,13 @@ module _ (p : Program) (places : ActionPlaces) (wanted : List Bool) (Passed : Ac
     rows = rows_on (λ x. AddsNone p x.agent x.number) none h.rows;
     passed = rows_on Passed passed h.passed;
     asked = λ x k done set. elim (back x done) [
-      | inl before ↦ (let was = h.asked x k before set in (was.0, added.rows x was.0 was.1))
+      | inl before ↦ (let was = h.asked x k before set in (was.0, kept x was.0 was.1))
       | inr e ↦ (let row = added.row (asked (subst (IsWanted places wanted) e set)) in (row.0, subst (IsRow new.joins.items row.0) (sym e) row.1))
     ];
-    ordered = λ level levels m n x y at there. ordered_on level levels m n x y (added.parts m x at) (added.parts n y there);
-    rising = λ m n x y at there. rising_on m n x y (added.parts m x at) (added.parts n y there);
-    made = λ n j at. elim (added.parts n j at) [
-      | inl was ↦ stays j.action (h.made n j was)
+    ordered = ordered_on;
+    rising = rising_on;
+    made = λ n l. elim (added.grown.last n l) [
+      | inl low ↦ subst (λ (j : Join). IsCounted (set counts a.agent a.number) j.action) (sym (added.grown.same n low)) (stays (join_at old.joins.items n).action (h.made n low))
       | inr e ↦ subst (IsCounted (set counts a.agent a.number)) (sym e.1) here
     ];
     first = first_on;
@@ -375,7 +387,4 @@ module _ (p : Program) (places : ActionPlaces) (wanted : List Bool) (Passed : Ac
 -- a row that is taken was made before
 pub taken_sooner : (p : Program) (joins : List Join) (needs : List Need) (n : ℕ) (j : Join) (r : ℕ) → IsJoin p joins needs n j → Takes p needs j r → r ≤ n
 taken_sooner p joins needs n j r is (inl e) = omega (arith, e, is.sooner)
-taken_sooner p joins needs n j r is (inr (k, l, e)) =
-    let w : Await = get_or (awaits_of p j.action.agent j.action.number) k (record { agent = 0; count = 0 }) in
-    let there : slice_get (awaits_of p j.action.agent j.action.number) k ≡ Some w = slice_get-get_or (awaits_of p j.action.agent j.action.number) k (record { agent = 0; count = 0 }) l in
-    omega (arith, e, (is.awaits k w there).0)
+taken_sooner p joins needs n j r is (inr (k, l, e)) = omega (arith, e, (is.each k l).sooner)

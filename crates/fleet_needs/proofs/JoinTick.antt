@@ -22,17 +22,17 @@ pub joins_none : (p : Program) (places : ActionPlaces) (wanted : List Bool) (Pas
 joins_none p places wanted Passed m n right empty one room = record {
   sound = record {
     right = right;
-    joins = λ k j at. absurd (let l = slice_get_within m.joins.items k j at in omega (arith, l, empty));
-    lasts = record { all = omega (arith, one, empty); each = λ k j r at takes. absurd (let l = slice_get_within m.joins.items k j at in omega (arith, l, empty)) };
+    joins = λ k l. absurd (omega (arith, l, empty));
+    lasts = record { all = omega (arith, one, empty); each = λ k r l takes. absurd (omega (arith, l, empty)) };
     room = room;
   };
   standing = λ a is done. absurd (none_counted n a is.first done);
   rows = λ a is done. absurd (none_counted n a is.first done);
   passed = λ a is done. absurd (none_counted n a is.first done);
   asked = λ a is done set. absurd (none_counted n a is.first done);
-  ordered = λ level levels k l x y at there. absurd (let w = slice_get_within m.joins.items k x at in omega (arith, w, empty));
-  rising = λ k l x y at. absurd (let w = slice_get_within m.joins.items k x at in omega (arith, w, empty));
-  made = λ k j at. absurd (let w = slice_get_within m.joins.items k j at in omega (arith, w, empty));
+  ordered = λ level levels k l low. absurd (omega (arith, low, empty));
+  rising = λ k l less low. absurd (omega (arith, low, empty));
+  made = λ k l. absurd (omega (arith, l, empty));
   first = λ level levels x y k is done. absurd (none_counted n y is.first done);
 }
 

@@ -1,5 +1,5 @@
 -- The column of an action is made of those of the actions that it directly needs.
-use Rattle.std.proofs.Common.{◌≡◌, ◌≢◌, ℕ, zero, suc, ◌+◌, ◌-◌, ◌<◌, ◌≤◌, List, length, get_or, max, refl, sym, ap, subst, ◌∙◌, arith, inl, inr, ◌⊎◌}
+use Rattle.std.proofs.Common.{◌≡◌, ◌≢◌, ℕ, zero, suc, ◌+◌, ◌-◌, ◌<◌, ◌≤◌, length, max, refl, sym, ap, subst, ◌∙◌, arith, inl, inr, ◌⊎◌}
 use Rattle.std.specs.Prelude.{Contains, slice_get, Some}
 use Rattle.std.proofs.lemmas.Bool.{cases_lt}
 use Rattle.std.proofs.lemmas.Option.{slice_get-get_or, slice_get_within, get_or_from_slice_get, same_Some}
@@ -9,7 +9,7 @@ use Rattle.fleet_model.specs.Program.{Program, moves, awaits_of, AreInRange}
 use Rattle.fleet_model.specs.Chain.{IsAction, DirectlyNeeds, Reaches, awaited}
 use Rattle.fleet_needs.specs.Implied.{IsImplied}
 use Rattle.fleet_needs.specs.Joins.{AddsNone, AreQuiet}
-use Rattle.fleet_needs.specs.Rows.{IsColumn, ByOneOf, IsJoined, OfFirst}
+use Rattle.fleet_needs.specs.Rows.{IsColumn, action_before, ByOneOf, IsJoined, OfFirst}
 use Rattle.fleet_model.proofs.Chains.{own_reach, LastStep, chain_ends_by_step, Reaches-trans, Reaches-first, Reaches-last, Reaches-need}
 
 abbrev act : ℕ → ℕ → ActionId
@@ -31,90 +31,82 @@ column_none p i j c = (
 
 -- ---- joined awaits
 
-module _ (p : Program) (i b j : ℕ) where
-  one_of : (S T : ℕ → Await → Type 0) (x : ActionId) → ((k : ℕ) (w : Await) → slice_get (awaits_of p i (b + 1)) k ≡ Some w → S k w → T k w) → ByOneOf S p x i (b + 1) → ByOneOf T p x i (b + 1)
+module _ (p : Program) (a : ActionId) (j : ℕ) where
+  one_of : (S T : ℕ → Await → Type 0) (x : ActionId) → ((k : ℕ) (w : Await) → slice_get (awaits_of p a.agent a.number) k ≡ Some w → S k w → T k w) → ByOneOf S p x a → ByOneOf T p x a
   one_of S T x wider r = record { place = r.place; await = r.await; this = wider r.place r.await r.at r.this; at = r.at; reaches = r.reaches }
 
-  pub joined_same : (S T : ℕ → Await → Type 0) (n : ℕ) → IsJoined S p i b j n → ((k : ℕ) (w : Await) → slice_get (awaits_of p i (b + 1)) k ≡ Some w → S k w → T k w)
-      → ((k : ℕ) (w : Await) → slice_get (awaits_of p i (b + 1)) k ≡ Some w → T k w → S k w) → IsJoined T p i b j n
+  pub joined_same : (S T : ℕ → Await → Type 0) (n : ℕ) → IsJoined S p a j n → ((k : ℕ) (w : Await) → slice_get (awaits_of p a.agent a.number) k ≡ Some w → S k w → T k w)
+      → ((k : ℕ) (w : Await) → slice_get (awaits_of p a.agent a.number) k ≡ Some w → T k w → S k w) → IsJoined T p a j n
   joined_same S T n h there back = record {
     into = λ c f l. elim (h.into c f l) [ inl r ↦ inl r | inr r ↦ inr (one_of S T (act j c) there r) ];
     own = h.own;
     awaits = λ c r. h.awaits c (one_of T S (act j c) back r);
   }
 
-  pub joined_more : (S T : ℕ → Await → Type 0) (n k : ℕ) (w : Await) (u : ℕ) → IsJoined S p i b j n → slice_get (awaits_of p i (b + 1)) k ≡ Some w → IsColumn p (awaited w) j u → T k w
-      → ((m : ℕ) (v : Await) → slice_get (awaits_of p i (b + 1)) m ≡ Some v → S m v → T m v) → ((m : ℕ) (v : Await) → slice_get (awaits_of p i (b + 1)) m ≡ Some v → T m v → S m v ⊎ (m ≡ k))
-      → IsJoined T p i b j (max n u)
+  pub joined_more : (S T : ℕ → Await → Type 0) (n k : ℕ) (w : Await) (u : ℕ) → IsJoined S p a j n → slice_get (awaits_of p a.agent a.number) k ≡ Some w → IsColumn p (awaited w) j u → T k w
+      → ((m : ℕ) (v : Await) → slice_get (awaits_of p a.agent a.number) m ≡ Some v → S m v → T m v) → ((m : ℕ) (v : Await) → slice_get (awaits_of p a.agent a.number) m ≡ Some v → T m v → S m v ⊎ (m ≡ k))
+      → IsJoined T p a j (max n u)
   joined_more S T n k w u h at col this there back = record { into = into; own = λ c r. (let l : c ≤ n = h.own c r in omega arith); awaits = awaits }
     where
-      into : (c : ℕ) → 1 ≤ c → c ≤ max n u → Reaches p (act j c) (act i b) ⊎ ByOneOf T p (act j c) i (b + 1)
+      into : (c : ℕ) → 1 ≤ c → c ≤ max n u → Reaches p (act j c) (action_before a) ⊎ ByOneOf T p (act j c) a
       into c f l = elim (cases_lt n c) [
         | inr le ↦ elim (h.into c f le) [ inl r ↦ inl r | inr r ↦ inr (one_of S T (act j c) there r) ]
         | inl lt ↦ inr (record { place = k; await = w; this = this; at = at; reaches = (col c).1 (f, omega arith) })
       ]
 
-      awaits : (c : ℕ) → ByOneOf T p (act j c) i (b + 1) → c ≤ max n u
+      awaits : (c : ℕ) → ByOneOf T p (act j c) a → c ≤ max n u
       awaits c r = elim (back r.place r.await r.at r.this) [
         | inl s ↦ (let le : c ≤ n = h.awaits c (record { place = r.place; await = r.await; this = s; at = r.at; reaches = r.reaches }) in omega arith)
         | inr e ↦
-            let same : r.await ≡ w = same_Some _ _ (sym r.at ∙ ap (slice_get (awaits_of p i (b + 1))) e ∙ at) in
+            let same : r.await ≡ w = same_Some _ _ (sym r.at ∙ ap (slice_get (awaits_of p a.agent a.number)) e ∙ at) in
             let le : c ≤ u = ((col c).0 (subst (λ v. Reaches p (act j c) (awaited v)) same r.reaches)).1 in
             omega arith
       ]
 
   -- where there are none of these awaits
-  pub joined_none : (S : ℕ → Await → Type 0) (n : ℕ) → ((k : ℕ) (w : Await) → S k w → ⊥) → IsColumn p (record { agent = i; number = b }) j n → IsJoined S p i b j n
+  pub joined_none : (S : ℕ → Await → Type 0) (n : ℕ) → ((k : ℕ) (w : Await) → S k w → ⊥) → IsColumn p (action_before a) j n → IsJoined S p a j n
   joined_none S n none h = record {
     into = λ c f l. inl ((h c).1 (f, l));
     own = λ c r. ((h c).0 r).1;
     awaits = λ c r. absurd (none r.place r.await r.this);
   }
 
--- all of it, for another agent
-pub part_all : (p : Program) (i b j n : ℕ) → IsAction p (record { agent = i; number = b + 1 }) → j ≢ i → IsJoined (OfFirst (length (awaits_of p i (b + 1)))) p i b j n
-    → IsColumn p (record { agent = i; number = b + 1 }) j n
-part_all p i b j n k other h c = (into, out)
-  where
-    a : ActionId
-    a = act i (b + 1)
+  -- all of it, for another agent
+  pub part_all : (n : ℕ) → IsAction p a → j ≢ a.agent → IsJoined (OfFirst (length (awaits_of p a.agent a.number))) p a j n → IsColumn p a j n
+  part_all n k other h c = (into, out)
+    where
+      from : (act j c ≡ a) ⊎ LastStep p (act j c) a → 1 ≤ c → (1 ≤ c) × (c ≤ n)
+      from (inl e) f = absurd (other (ap (λ x. x.agent) e))
+      from (inr l) f = elim l.needs [
+        | inl (same, number, some) ↦
+            let before : l.before ≡ action_before a = same_action l.before (action_before a) (sym same) (omega arith) in
+            (f, h.own c (subst (Reaches p (act j c)) before l.reaches))
+        | inr w ↦ (
+          f,
+          h.awaits c (record {
+            place = w.0;
+            await = record { agent = l.before.agent; count = l.before.number };
+            this = w.1;
+            at = slice_get-get_or _ _ _ w.1 ∙ ap Some w.2;
+            reaches = l.reaches;
+          }),
+        )
+      ]
 
-    from : (act j c ≡ a) ⊎ LastStep p (act j c) a → 1 ≤ c → (1 ≤ c) × (c ≤ n)
-    from (inl e) f = absurd (other (ap (λ x. x.agent) e))
-    from (inr l) f = elim l.needs [
-      | inl (same, number, some) ↦
-          let before : l.before ≡ act i b = same_action l.before (act i b) (sym same) (omega arith) in
-          (f, h.own c (subst (Reaches p (act j c)) before l.reaches))
-      | inr w ↦ (
-        f,
-        h.awaits c (record {
-          place = w.0;
-          await = record { agent = l.before.agent; count = l.before.number };
-          this = w.1;
-          at = slice_get-get_or _ _ _ w.1 ∙ ap Some w.2;
-          reaches = l.reaches;
-        }),
-      )
-    ]
+      into : Reaches p (act j c) a → (1 ≤ c) × (c ≤ n)
+      into r = from (chain_ends_by_step p (act j c) r.0 a r.1) (Reaches-first p (act j c) a r).first
 
-    into : Reaches p (act j c) a → (1 ≤ c) × (c ≤ n)
-    into r = from (chain_ends_by_step p (act j c) r.0 a r.1) (Reaches-first p (act j c) a r).first
-
-    out : (1 ≤ c) × (c ≤ n) → Reaches p (act j c) a
-    out (f, l) = elim (h.into c f l) [
-      | inl r ↦
-          let m = Reaches-last p (act j c) (act i b) r in
-          Reaches-trans p (act j c) (act i b) a r (Reaches-need p (act i b) a m k (inl (refl, refl, m.first)))
-      | inr r ↦
-          let m = Reaches-last p (act j c) (awaited r.await) r.reaches in
-          Reaches-trans p (act j c) (awaited r.await) a r.reaches (Reaches-need p (awaited r.await) a m k (inr (contained r)))
-    ]
-      where
-        contained : (r : ByOneOf (OfFirst (length (awaits_of p i (b + 1)))) p (act j c) i (b + 1)) → Contains (awaits_of p i (b + 1)) r.await
-        contained r = (r.place, r.this, found (awaits_of p i (b + 1)) r.place r.await r.this r.at)
-          where
-            found : (ws : List Await) (m : ℕ) (w : Await) → m < length ws → slice_get ws m ≡ Some w → get_or ws m w ≡ w
-            found ws m w l e = get_or_from_slice_get ws m w w e
+      out : (1 ≤ c) × (c ≤ n) → Reaches p (act j c) a
+      out (f, l) = elim (h.into c f l) [
+        | inl r ↦
+            let m = Reaches-last p (act j c) (action_before a) r in
+            let next : a.number ≡ a.number - 1 + 1 = (let some : 1 ≤ a.number = k.first in omega arith) in
+            Reaches-trans p (act j c) (action_before a) a r (Reaches-need p (action_before a) a m k (inl (refl, next, m.first)))
+        | inr r ↦
+            let m = Reaches-last p (act j c) (awaited r.await) r.reaches in
+            let known : Contains (awaits_of p a.agent a.number) r.await = (r.place, r.this, get_or_from_slice_get (awaits_of p a.agent a.number) r.place r.await r.await r.at) in
+            Reaches-trans p (act j c) (awaited r.await) a r.reaches (Reaches-need p (awaited r.await) a m k (inr known))
+      ]
 
 -- and for its own, whose later actions do not reach it
 pub own_column : (p : Program) (i n : ℕ) → IsAction p (record { agent = i; number = n }) → ((c : ℕ) → Reaches p (record { agent = i; number = c }) (record { agent = i; number = n }) → c ≤ n)

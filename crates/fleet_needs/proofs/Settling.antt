@@ -9,9 +9,9 @@ use Rattle.fleet_model.specs.declared.program.Await.{Await}
 use Rattle.fleet_model.specs.Program.{Program, moves, awaits_of, AreInRange, IsWellFormed}
 use Rattle.fleet_model.specs.Chain.{IsAction, DirectlyNeeds, Reaches, IsNumbering, awaited}
 use Rattle.fleet_model.proofs.Chains.{chain_ends_by_step, Reaches-rises, Reaches-last}
-use Rattle.fleet_needs.specs.Implied.{IsImplied, IsImpliedFlag, first_await}
+use Rattle.fleet_needs.specs.Implied.{IsImplied, first_await}
 use Rattle.fleet_needs.specs.Settled.{IsSettled, AreSettledOf, AreMoreAsked, IsActionSettled, IsUpTo}
-use Rattle.fleet_needs.proofs.AwaitOrder.{await_below, flag_apart}
+use Rattle.fleet_needs.proofs.AwaitOrder.{await_below, flag_apart, flags_more}
 use Rattle.fleet_needs.proofs.Joining.{own_first, by_await}
 
 -- the answer of a search that says yes is not the one that says no
@@ -145,20 +145,10 @@ needed_by p range first a k w is last at same more =
 
 -- ---- awaits settled one after another
 
-module _ (p : Program) (a : ActionId) (first k : ℕ) (oldAsked newAsked old new : List Bool) (more : AreMoreAsked oldAsked newAsked) (others : (n : ℕ) → n ≢ first + k → get_or new n false ≡ get_or old n false) where
-  still_settled : (w : Await) (x : ℕ) → x ≢ first + k → IsSettled p oldAsked a w (get_or old x false) → IsSettled p newAsked a w (get_or new x false)
-  still_settled w x ne (inl set) = inl (more w.agent set.0, (λ f. set.1 (sym (others x ne) ∙ f)))
-  still_settled w x ne (inr told) = inr (subst (IsImpliedFlag p a w) (sym (others x ne)) told)
-
-  pub settled_more : ((w : Await) → slice_get (awaits_of p a.agent a.number) k ≡ Some w → IsSettled p newAsked a w (get_or new (first + k) false))
-      → ((m : ℕ) (w : Await) → m < k → slice_get (awaits_of p a.agent a.number) m ≡ Some w → IsSettled p oldAsked a w (get_or old (first + m) false))
-      → (m : ℕ) (w : Await) → m < k + 1 → slice_get (awaits_of p a.agent a.number) m ≡ Some w → IsSettled p newAsked a w (get_or new (first + m) false)
-  settled_more here before m w l there = elim (cases_lt m k) [
-    | inl less ↦ still_settled w (first + m) (λ e. (let f : m ≡ k = omega (arith, e) in omega arith)) (before m w less there)
-    | inr high ↦
-        let e : k ≡ m = omega arith in
-        subst (λ (n : ℕ). IsSettled p newAsked a w (get_or new (first + n) false)) e (here w (subst (λ (n : ℕ). slice_get (awaits_of p a.agent a.number) n ≡ Some w) (sym e) there))
-  ]
+-- more agents are asked for
+still_settled : (p : Program) (a : ActionId) (w : Await) (was asked : List Bool) (flag : Bool) → AreMoreAsked was asked → IsSettled p was a w flag → IsSettled p asked a w flag
+still_settled p a w was asked flag more (inl set) = inl (more w.agent set.0, set.1)
+still_settled p a w was asked flag more (inr told) = inr told
 
 -- one await more, by what is known of it
 pub settled_next : (p : Program) (a : ActionId) (first k : ℕ) (was asked flags : List Bool) (known : Option Bool) (flag : Bool) → first + k < length flags → AreMoreAsked was asked → (flag ≡ true) ↔ (known ≡ Some true)
@@ -167,9 +157,10 @@ pub settled_next : (p : Program) (a : ActionId) (first k : ℕ) (was asked flags
     → ((w : Await) → slice_get (awaits_of p a.agent a.number) k ≡ Some w → known ≡ Some false → IsImplied p a w → ⊥)
     → ((m : ℕ) (w : Await) → m < k → slice_get (awaits_of p a.agent a.number) m ≡ Some w → IsSettled p was a w (get_or flags (first + m) false))
     → (m : ℕ) (w : Await) → m < k + 1 → slice_get (awaits_of p a.agent a.number) m ≡ Some w → IsSettled p asked a w (get_or (set flags (first + k) flag) (first + m) false)
-settled_next p a first k was asked flags known flag within more sure asks implied unimplied =
-    settled_more p a first k was asked flags (set flags (first + k) flag) more (λ n ne. get_or-set_other flags (first + k) n flag false ne)
-    (λ w at. subst (IsSettled p asked a w) (sym (get_or-set_same flags (first + k) flag false within)) (by known sure (λ e. asks e w at) (implied w at) (unimplied w at)))
+settled_next p a first k was asked flags known flag within more sure asks implied unimplied before m w l there =
+    flags_more (λ n x. (v : Await) → slice_get (awaits_of p a.agent a.number) n ≡ Some v → IsSettled p asked a v x) first k flags (set flags (first + k) flag) (λ n. get_or-set_other flags (first + k) n flag false)
+    (λ n low v at. still_settled p a v was asked _ more (before n v low at))
+    (λ v at. subst (IsSettled p asked a v) (sym (get_or-set_same flags (first + k) flag false within)) (by known sure (λ e. asks e v at) (implied v at) (unimplied v at))) m l w there
   where
     by : {w : Await} → (answer : Option Bool) → (flag ≡ true) ↔ (answer ≡ Some true) → (answer ≡ None → get_or asked w.agent false ≡ true) → (answer ≡ Some true → IsImplied p a w) → (answer ≡ Some false → IsImplied p a w → ⊥) → IsSettled p asked a w flag
     by None is left so not_so = inl (left refl, (λ f. so (is.0 f)))
@@ -181,16 +172,10 @@ pub settled_on : (p : Program) (These Next : ActionId → Type 0) (a : ActionId)
     → ((b : ActionId) → These b → b ≢ a) → IsActionSettled p a oldAsked newAsked old new → AreSettledOf p oldAsked These old → AreSettledOf p newAsked Next new
 settled_on p These Next a oldAsked newAsked old new is back apart h before b kb next k w at = elim (back b kb next) [
   | inr e ↦ subst (λ (x : ActionId). IsSettled p newAsked x w (get_or new (first_await p x + k) false)) (sym e) (h.settled k w (subst (λ (x : ActionId). slice_get (awaits_of p x.agent x.number) k ≡ Some w) e at))
-  | inl these ↦ go these (before b kb these k w at)
+  | inl these ↦
+      let stays = h.others (first_await p b + k) (flag_apart p b a kb is (apart b these) k (slice_get_within (awaits_of p b.agent b.number) k w at)) in
+      subst (IsSettled p newAsked b w) (sym stays) (still_settled p b w oldAsked newAsked _ h.asked (before b kb these k w at))
 ]
-  where
-    stays : These b → get_or new (first_await p b + k) false ≡ get_or old (first_await p b + k) false
-    stays these = h.others (first_await p b + k) (flag_apart p b a kb is (apart b these) k (slice_get_within (awaits_of p b.agent b.number) k w at))
-
-    go : These b → IsSettled p oldAsked b w (get_or old (first_await p b + k) false) → IsSettled p newAsked b w (get_or new (first_await p b + k) false)
-    go these (inl set) = inl (h.asked w.agent set.0, (λ f. set.1 (sym (stays these) ∙ f)))
-    go these (inr told) =
-        inr (subst (IsImpliedFlag p b w) (sym (stays these)) told)
 
 pub one_up : (i n : ℕ) (b : ActionId) → IsUpTo i (n + 1) b → IsUpTo i n b ⊎ (b ≡ record { agent = i; number = n + 1 })
 one_up i n b (inl low) = inl (inl low)

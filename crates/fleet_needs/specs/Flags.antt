@@ -26,13 +26,19 @@ pub record AreFlags (p : Program) (m : ImpliedAwaits) : Type 0 where
   pub places : AreAwaitPlaces p m.places
   pub all : length (flags_of m) ≡ total_awaits p
 
--- the flags of the action's awaits say whether they are implied, if their agents have a column, and no other flag has
--- changed
-pub record AreFlagged (p : Program) (columns : Columns) (a : ActionId) (old new : List Bool) : Type 0 where
-  pub flagged : (k c : ℕ) (w : Await) → slice_get (awaits_of p a.agent a.number) k ≡ Some w → HasColumn columns w.agent c → IsImpliedFlag p a w (get_or new (first_await p a + k) false)
-  pub none : (k : ℕ) (w : Await) → slice_get (awaits_of p a.agent a.number) k ≡ Some w → column_of columns w.agent ≡ None
-      → get_or new (first_await p a + k) false ≡ get_or old (first_await p a + k) false
-  pub others : (n : ℕ) → (n < first_await p a) ⊎ (first_await p a + length (awaits_of p a.agent a.number) ≤ n) → get_or new n false ≡ get_or old n false
+-- the flag says whether the await is implied, if its agent has a column, or is as it was
+pub record IsFlagged (p : Program) (columns : Columns) (a : ActionId) (w : Await) (was flag : Bool) : Type 0 where
+  pub some : (c : ℕ) → HasColumn columns w.agent c → IsImpliedFlag p a w flag
+  pub none : column_of columns w.agent ≡ None → flag ≡ was
+
+-- so do the flags of the action's first n awaits, and no other flag has changed
+pub record AreFlagged (p : Program) (columns : Columns) (a : ActionId) (n : ℕ) (old new : List Bool) : Type 0 where
+  pub each : (k : ℕ) → k < n → (w : Await) → slice_get (awaits_of p a.agent a.number) k ≡ Some w → IsFlagged p columns a w (get_or old (first_await p a + k) false) (get_or new (first_await p a + k) false)
+  pub others : (m : ℕ) → (m < first_await p a) ⊎ (first_await p a + n ≤ m) → get_or new m false ≡ get_or old m false
+
+-- .. of all its awaits
+abbrev pub AreAllFlaggedOf : Program → Columns → ActionId → List Bool → List Bool → Type 0
+AreAllFlaggedOf p columns a old new = AreFlagged p columns a (length (awaits_of p a.agent a.number)) old new
 
 -- the flags of all awaits of these actions say whether they are implied, if their agents have a column
 abbrev pub AreFlaggedFor : Program → Columns → (ActionId → Type 0) → List Bool → Type 0

@@ -19,12 +19,15 @@ AddsNone p i n = (j c : ℕ) → j ≢ i → Reaches p (record { agent = j; numb
 abbrev pub AreQuiet : Program → ℕ → ℕ → ℕ → Type 0
 AreQuiet p i q n = (m : ℕ) → q < m → m ≤ n → AddsNone p i m
 
+-- the join after n others
+abbrev pub join_at : List Join → ℕ → Join
+join_at joins n = get_or joins n (record { action = record { agent = 0; number = 0 }; base = 0; first = 0; count = 0 })
+
 -- row r is that of the action
 pub record IsRow (joins : List Join) (r : ℕ) (a : ActionId) : Type 0 where
-  pub join : Join
   pub some : 1 ≤ r
-  pub at : slice_get joins (r - 1) ≡ Some join
-  pub of : join.action ≡ a
+  pub upto : r ≤ length joins
+  pub of : (join_at joins (r - 1)).action ≡ a
 
 -- row r stands for action n of agent i: it is that of an action of the agent after which no chain is added up to there,
 -- or there is none, and r is 0
@@ -46,6 +49,12 @@ need_of needs j k = need_at needs (j.first + k)
 abbrev pub row_taken : List Need → Join → ℕ → ℕ
 row_taken needs j k = (need_of needs j k).row
 
+-- the need is for await k of these, and names a row that was made among the first n and stands for the awaited action
+pub record IsNeed (p : Program) (joins : List Join) (awaits : List Await) (n k : ℕ) (x : Need) : Type 0 where
+  pub await : slice_get awaits k ≡ Some x.wait
+  pub sooner : x.row ≤ n
+  pub stands : StandsFor p joins x.row x.wait.agent x.wait.count
+
 -- the join after n others: it is of rows that were made before, which stand for all that its action directly needs
 pub record IsJoin (p : Program) (joins : List Join) (needs : List Need) (n : ℕ) (j : Join) : Type 0 where
   pub action : IsAction p j.action
@@ -53,13 +62,11 @@ pub record IsJoin (p : Program) (joins : List Join) (needs : List Need) (n : ℕ
   pub sooner : j.base ≤ n
   pub count : j.count ≡ length (awaits_of p j.action.agent j.action.number)
   pub within : j.first + length (awaits_of p j.action.agent j.action.number) ≤ length needs
-  pub waits : (k : ℕ) (w : Await) → slice_get (awaits_of p j.action.agent j.action.number) k ≡ Some w → (need_of needs j k).wait ≡ w
-  pub awaits : (k : ℕ) (w : Await) → slice_get (awaits_of p j.action.agent j.action.number) k ≡ Some w
-      → (row_taken needs j k ≤ n) × StandsFor p joins (row_taken needs j k) w.agent w.count
+  pub each : (k : ℕ) → k < length (awaits_of p j.action.agent j.action.number) → IsNeed p joins (awaits_of p j.action.agent j.action.number) n k (need_of needs j k)
 
 -- it is so of each join of the list
 abbrev pub AreJoins : Program → List Join → List Need → Type 0
-AreJoins p joins needs = (n : ℕ) (j : Join) → slice_get joins n ≡ Some j → IsJoin p joins needs n j
+AreJoins p joins needs = (n : ℕ) → n < length joins → IsJoin p joins needs n (join_at joins n)
 
 -- the join is of row r
 abbrev pub Takes : Program → List Need → Join → ℕ → Type 0
@@ -68,7 +75,7 @@ Takes p needs j r = (r ≡ j.base) ⊎ ((k : ℕ) × (k < length (awaits_of p j.
 -- no row that is joined of a row comes after the last one
 pub record AreLasts (p : Program) (joins : List Join) (needs : List Need) (lasts : List ℕ) : Type 0 where
   pub all : length lasts ≡ length joins + 1
-  pub each : (n : ℕ) (j : Join) (r : ℕ) → slice_get joins n ≡ Some j → Takes p needs j r → n + 1 ≤ slice_index lasts r
+  pub each : (n r : ℕ) → n < length joins → Takes p needs (join_at joins n) r → n + 1 ≤ slice_index lasts r
 
 -- each of these actions has a row, or there is that to say of it
 abbrev pub HasRowOr : (ActionId → Type 0) → Program → List Join → (ActionId → Type 0) → Type 0
@@ -86,12 +93,12 @@ AreOwn p = (a : ActionId) (c : ℕ) → IsAction p a → Reaches p (record { age
 abbrev pub AreOrdered : Program → List Join → Type 0
 AreOrdered p joins =
     (level : ActionId → ℕ) → ((x : ActionId) → IsAction p x → IsLevel p x (level x))
-    → (m n : ℕ) (x y : Join) → slice_get joins m ≡ Some x → slice_get joins n ≡ Some y → IsSoonerAction level x.action y.action → m < n
+    → (m n : ℕ) → m < length joins → n < length joins → IsSoonerAction level (join_at joins m).action (join_at joins n).action → m < n
 
 -- the rows of an agent rise with its actions
 abbrev pub AreRising : List Join → Type 0
 AreRising joins =
-    (m n : ℕ) (x y : Join) → slice_get joins m ≡ Some x → slice_get joins n ≡ Some y → m < n → x.action.agent ≡ y.action.agent → x.action.number < y.action.number
+    (m n : ℕ) → m < n → n < length joins → (join_at joins m).action.agent ≡ (join_at joins n).action.agent → (join_at joins m).action.number < (join_at joins n).action.number
 
 -- the action is to have a row though it may await nothing
 abbrev pub IsWanted : ActionPlaces → List Bool → ActionId → Type 0
@@ -160,7 +167,7 @@ pub record AreJoinsOf (p : Program) (places : ActionPlaces) (wanted : List Bool)
   pub asked : (a : ActionId) → IsAction p a → These a → IsWanted places wanted a → (r : ℕ) × IsRow m.joins.items r a
   pub ordered : AreOrdered p m.joins.items
   pub rising : AreRising m.joins.items
-  pub made : (n : ℕ) (j : Join) → slice_get m.joins.items n ≡ Some j → These j.action
+  pub made : (n : ℕ) → n < length m.joins.items → These (join_at m.joins.items n).action
   pub first : (level : ActionId → ℕ) → ((x : ActionId) → IsAction p x → IsLevel p x (level x)) → (x y : ActionId) → IsAction p x → IsAction p y → These y → IsSoonerAction level x y → These x
 
 -- the action is the next to have a row: rows stand for all that it directly needs
@@ -170,38 +177,40 @@ pub record CanJoin (p : Program) (places : ActionPlaces) (m : Joins) (a : Action
   pub before : (b : ActionId) → IsAction p b → b.agent ≡ a.agent → b.number + 1 ≡ a.number → IsStanding p places m b
   pub awaited : (k : ℕ) (w : Await) → slice_get (awaits_of p a.agent a.number) k ≡ Some w → IsAction p (awaited w) × IsStanding p places m (awaited w)
 
--- what the awaits of the action need has been listed, and no list has lost anything
-pub record AreTaken (p : Program) (places : ActionPlaces) (a : ActionId) (old new : Joins) : Type 0 where
+-- what the first n awaits of the action need has been listed, and no list has lost anything
+pub record AreTaken (p : Program) (places : ActionPlaces) (a : ActionId) (n : ℕ) (old new : Joins) : Type 0 where
   pub joins : new.joins ≡ old.joins
   pub standing : new.standing ≡ old.standing
-  pub all : length new.needs.items ≡ length old.needs.items + length (awaits_of p a.agent a.number)
-  pub kept : (n : ℕ) → n < length old.needs.items → need_at new.needs.items n ≡ need_at old.needs.items n
-  pub each : (k : ℕ) (w : Await) → slice_get (awaits_of p a.agent a.number) k ≡ Some w
+  pub all : length new.needs.items ≡ length old.needs.items + n
+  pub kept : (k : ℕ) → k < length old.needs.items → need_at new.needs.items k ≡ need_at old.needs.items k
+  pub each : (k : ℕ) (w : Await) → k < n → slice_get (awaits_of p a.agent a.number) k ≡ Some w
       → need_at new.needs.items (length old.needs.items + k) ≡ record { row = row_of places old (awaited w); wait = w }
   pub lasts : AreRaised old.lasts.items new.lasts.items
-  pub noted : (k : ℕ) (w : Await) → slice_get (awaits_of p a.agent a.number) k ≡ Some w
+  pub noted : (k : ℕ) (w : Await) → k < n → slice_get (awaits_of p a.agent a.number) k ≡ Some w
       → length old.joins.items + 1 ≤ slice_index new.lasts.items (row_of places old (awaited w))
 
--- rows have come, none has gone, and the row r is that of the action or stands for it
+-- no join has gone, and one of the action may have come
+pub record HaveGrown (a : ActionId) (old new : List Join) : Type 0 where
+  pub more : length old ≤ length new
+  pub same : (n : ℕ) → n < length old → join_at new n ≡ join_at old n
+  pub last : (n : ℕ) → n < length new → (n < length old) ⊎ ((n ≡ length old) × ((join_at new n).action ≡ a))
+
+-- the row r is that of the action or stands for it
 pub record HasJoined (p : Program) (places : ActionPlaces) (a : ActionId) (made : Bool) (r : ℕ) (old new : Joins) : Type 0 where
   pub sound : AreSound p places new
   pub standing : new.standing ≡ old.standing
-  pub more : length old.joins.items ≤ length new.joins.items
-  pub kept : (x : ActionId) (s : ℕ) → IsRow old.joins.items s x → IsRow new.joins.items s x
-  pub still : (n : ℕ) (j : Join) → slice_get old.joins.items n ≡ Some j → slice_get new.joins.items n ≡ Some j
+  pub grown : HaveGrown a old.joins.items new.joins.items
   pub within : r ≤ length new.joins.items
   pub stands : StandsFor p new.joins.items r a.agent a.number
   pub here : made ≡ true → IsRow new.joins.items r a
-  pub parts : (n : ℕ) (j : Join) → slice_get new.joins.items n ≡ Some j → (slice_get old.joins.items n ≡ Some j) ⊎ ((n ≡ length old.joins.items) × (j.action ≡ a))
 
--- the action has been added: rows have come, and none has gone
+-- the action has been added
 pub record IsAdded (p : Program) (places : ActionPlaces) (a : ActionId) (made : Bool) (old new : Joins) : Type 0 where
   pub sound : AreSound p places new
+  pub grown : HaveGrown a old.joins.items new.joins.items
   pub kept : (x : ActionId) → IsAction p x → x ≢ a → IsStanding p places old x → IsStanding p places new x
-  pub rows : (x : ActionId) (r : ℕ) → IsRow old.joins.items r x → IsRow new.joins.items r x
   pub here : IsStanding p places new a
   pub row : made ≡ true → (r : ℕ) × IsRow new.joins.items r a
-  pub parts : (n : ℕ) (j : Join) → slice_get new.joins.items n ≡ Some j → (slice_get old.joins.items n ≡ Some j) ⊎ ((n ≡ length old.joins.items) × (j.action ≡ a))
 
 -- the joins of all actions of the program, in which no action needs a later one of its agent
 pub record AreJoinsEnd (p : Program) (places : ActionPlaces) (wanted : List Bool) (Passed : ActionId → Type 0) (m : Joins) : Type 0 where

@@ -1,11 +1,12 @@
 -- A schedule of rows, and the counts of rows in their slots.
 use Rattle.std.specs.Prelude.{◌≡◌, ◌≢◌, true, ℕ, ◌+◌, ◌-◌, ◌*◌, ◌<◌, ◌≤◌, List, length, max, slice_index, slice_get, Some}
-use Rattle.fleet_model.specs.Program.{Program, moves}
-use Rattle.fleet_model.specs.Chain.{IsAction}
+use Rattle.fleet_model.specs.declared.program.ActionId.{ActionId}
+use Rattle.fleet_model.specs.Program.{Program, awaits_of, moves}
+use Rattle.fleet_model.specs.Chain.{IsAction, awaited}
 use Rattle.fleet_needs.specs.Block.{HasColumn}
 use Rattle.fleet_needs.specs.Columns.{agents_in}
 use Rattle.fleet_needs.specs.Counts.{counts_of, are_narrow}
-use Rattle.fleet_needs.specs.Joins.{AreJoins, IsRow, Takes, StandsFor, HasAllRows, AreOrdered, AreRising, AreOwn}
+use Rattle.fleet_needs.specs.Joins.{AreJoins, join_at, IsRow, Takes, StandsFor, HasAllRows, AreOrdered, AreRising, AreOwn}
 use Rattle.fleet_needs.specs.Rows.{IsColumn}
 use Rattle.fleet_needs.specs.Slots.{IsStill}
 use Rattle.fleet_needs.specs.declared.counts.Counts.{Counts}
@@ -22,7 +23,7 @@ pub record IsSchedule (p : Program) (s : Schedule) : Type 0 where
   pub rows : HasAllRows p s.joins.items (IsAction p)
   pub all : length s.outs.items ≡ length s.joins.items
   pub within : (n : ℕ) → n < length s.outs.items → slice_index s.outs.items n < s.slots
-  pub still : (n : ℕ) (j : Join) (r : ℕ) → slice_get s.joins.items n ≡ Some j → Takes p s.needs.items j r → 1 ≤ r → IsStill s.outs.items r n
+  pub still : (n r : ℕ) → n < length s.joins.items → Takes p s.needs.items (join_at s.joins.items n) r → 1 ≤ r → IsStill s.outs.items r n
   pub ordered : AreOrdered p s.joins.items
   pub rising : AreRising s.joins.items
   pub own : AreOwn p
@@ -40,9 +41,9 @@ needs_of s = s.needs.items
 abbrev pub joins_in : Schedule → ℕ
 joins_in s = length s.joins.items
 
--- the join after n others
-abbrev pub IsNext : Schedule → ℕ → Join → Type 0
-IsNext s n j = slice_get s.joins.items n ≡ Some j
+-- the action of the join after n others
+abbrev pub next_action : Schedule → ℕ → ActionId
+next_action s n = (join_at s.joins.items n).action
 
 -- row r has a slot
 abbrev pub HasSlot : Schedule → ℕ → Type 0
@@ -77,8 +78,8 @@ pub record AreRowsTo (p : Program) (m : SlotRows) (n : ℕ) : Type 0 where
   pub columns : AreColumnsOf p m.columns
   pub room : length (counts_of m.counts) ≡ m.schedule.now.slots * m.columns.width
   pub narrow : are_narrow m.counts ≡ m.schedule.now.is_narrow
-  pub right : (r : ℕ) (j : Join) → 1 ≤ r → r ≤ n → slice_get m.schedule.now.joins.items (r - 1) ≡ Some j → IsStill m.schedule.now.outs.items r n
-      → AreCounts p m.columns j.action.agent j.action.number (count_in_slot m r)
+  pub right : (r : ℕ) → 1 ≤ r → r ≤ n → r ≤ joins_in m.schedule.now → IsStill m.schedule.now.outs.items r n
+      → AreCounts p m.columns (next_action m.schedule.now (r - 1)).agent (next_action m.schedule.now (r - 1)).number (count_in_slot m r)
 
 -- the row has a count for each column, of as many bytes as those that are kept
 pub record IsRowFor (m : SlotRows) (row : Counts) : Type 0 where
@@ -86,16 +87,31 @@ pub record IsRowFor (m : SlotRows) (row : Counts) : Type 0 where
   pub narrow : are_narrow row ≡ m.schedule.now.is_narrow
 
 -- row r can be taken after n rows
-pub record IsThere (m : SlotRows) (n r : ℕ) : Type 0 where
+pub record IsThere (s : Schedule) (n r : ℕ) : Type 0 where
   pub made : r ≤ n
-  pub within : n ≤ length m.schedule.now.joins.items
-  pub still : 1 ≤ r → IsStill m.schedule.now.outs.items r n
+  pub within : n ≤ joins_in s
+  pub still : 1 ≤ r → IsStill s.outs.items r n
 
 -- row r stands for this action of the program, or for none if the number is 0
-pub record StandsThere (p : Program) (m : SlotRows) (r i n : ℕ) : Type 0 where
+pub record StandsThere (p : Program) (s : Schedule) (r i n : ℕ) : Type 0 where
   pub agent : i < length p
   pub last : n ≤ moves p i
-  pub stands : StandsFor p m.schedule.now.joins.items r i n
+  pub stands : StandsFor p s.joins.items r i n
+
+-- the join after n others, which is made for action a: how many awaits that has, and what the join's base stands for
+pub record IsNextJoin (p : Program) (s : Schedule) (n : ℕ) (a : ActionId) (j : Join) : Type 0 where
+  pub is : j ≡ join_at s.joins.items n
+  pub action : IsAction p a
+  pub count : j.count ≡ length (awaits_of p a.agent a.number)
+  pub base : IsThere s n j.base
+  pub stands : StandsThere p s j.base a.agent (a.number - 1)
+
+-- .. and its need k: for which await that is, and what its row stands for
+pub record IsNextNeed (p : Program) (s : Schedule) (n : ℕ) (a : ActionId) (k : ℕ) (x : Need) : Type 0 where
+  pub await : slice_get (awaits_of p a.agent a.number) k ≡ Some x.wait
+  pub action : IsAction p (awaited x.wait)
+  pub row : IsThere s n x.row
+  pub stands : StandsThere p s x.row x.wait.agent x.wait.count
 
 -- the row was joined with that of action n of agent i, but for the agent's own column, which is as before
 abbrev pub AreJoinedWith : Program → Columns → ℕ → ℕ → List ℕ → List ℕ → Type 0

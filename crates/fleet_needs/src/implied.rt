@@ -1,6 +1,6 @@
 //! Awaits that others imply, and the use of rows that flags them.
 
-ghost use Rattle.std.specs.Prelude.{◌≡◌, ◌<◌, ◌+◌, [], None, Some, false, get_or, length, slice_get, IfOk, OnOk, ◌≢◌, ℕ, nat_le, slice_index};
+ghost use Rattle.std.specs.Prelude.{◌≡◌, ◌<◌, ◌+◌, [], Some, false, get_or, length, slice_get, IfOk, OnOk, Contains};
 ghost use Rattle.fleet_model.specs.declared.program.Await.{Await};
 ghost use Rattle.fleet_model.specs.Program.{AreInRange, awaits_of, total_awaits};
 ghost use Rattle.fleet_model.specs.Machine.{IsFinish};
@@ -9,20 +9,16 @@ ghost use Rattle.fleet_needs.specs.Implied.{IsImpliedFlag, AreAwaitPlaces, first
 ghost use Rattle.fleet_needs.specs.Joins.{HasRowOr};
 ghost use Rattle.fleet_needs.specs.Settled.{AreSettled};
 ghost use Rattle.fleet_needs.specs.Schedule.{IsSchedule, joins_of};
-ghost use Rattle.fleet_needs.specs.Flags.{AreImplied, AreSet, flags_of, AreFlags, AreFlagged};
-ghost use Rattle.fleet_needs.specs.Block.{HasColumn};
+ghost use Rattle.fleet_needs.specs.Flags.{AreImplied, AreSet, flags_of, AreFlags, IsFlagged, AreAllFlaggedOf};
 ghost use Rattle.fleet_needs.specs.JoinPass.{IsJoinRow, HasOthers};
-ghost use Rattle.fleet_needs.specs.Columns.{agents_in, column_of};
-ghost use Rattle.fleet_needs.specs.Counts.{counts_of};
 
 use crate::await_places::AwaitPlaces;
-use crate::counts::Counts;
 use crate::finish_order::FinishOrder;
 use crate::join_pass::{JoinRow, JoinUse, use_joins};
 use crate::questions::is_any;
-use crate::schedule::{Blocks, Columns, Schedule};
+use crate::schedule::{Blocks, Schedule};
 use crate::settled::settle_all;
-use fleet_model::{ActionId, OutOfMemory, ProgramView, total_awaits};
+use fleet_model::{ActionId, Await, OutOfMemory, ProgramView, total_awaits};
 use std::alloc::Global;
 
 /// Which awaits of a program others imply.
@@ -44,18 +40,6 @@ impl ImpliedAwaits {
     {
         let place = self.places.first(program, action) + usize::from(k);
         self.flags[place]
-    }
-
-    /// Flags the await at a place: whether the agent's count in the row is no less than that of the await.
-    fn flag_await(&mut self, at: usize, awaited: u32, count: u32)
-        requires { at < length (flags_of self.old) }
-        ensures places { self.new.places ≡ self.old.places }
-        ensures all { length (flags_of self.new) ≡ length (flags_of self.old) }
-        ensures flagged { get_or (flags_of self.new) at false ≡ nat_le awaited count }
-        ensures others { (n : ℕ) → n ≢ at
-            → get_or (flags_of self.new) n false ≡ get_or (flags_of self.old) n false }
-    {
-        self.flags[at] = awaited <= count;
     }
 
     /// Whether others imply await `k` of the action. Takes no memory.
@@ -114,7 +98,7 @@ fn flag_implied<P: ProgramView>(
 }
 
 /// Flags the awaits of the asked agents, block by block, each with as many columns as there is room for.
-#[tactic(auto, using(crate::proofs::NextBlock::columns_of, crate::proofs::NextBlock::fewer_left, crate::proofs::Flagged::flags_first, crate::proofs::Flagged::flags_begun))]
+#[tactic(auto, using(crate::proofs::NextBlock::columns_of, crate::proofs::NextBlock::fewer_left, crate::proofs::Flagged::flags_begun))]
 fn flag_all<P: ProgramView>(
     alloc: Global,
     program: &P,
@@ -170,28 +154,30 @@ fn flag_awaits<P: ProgramView>(program: &P, row: &JoinRow, implied: &mut Implied
     requires others { HasOthers (P.program program.now) row.now }
     requires flags { AreFlags (P.program program.now) implied.old }
     ensures flags { AreFlags (P.program program.now) implied.new }
-    ensures flagged { AreFlagged (P.program program.now) row.now.columns.now row.now.action
+    ensures flagged { AreAllFlaggedOf (P.program program.now) row.now.columns.now row.now.action
         (flags_of implied.old) (flags_of implied.new) }
 {
-    let _ = program.agents();
-    let join = row.join();
+    let join = row.schedule.join_after(program, row.n);
+    let first = implied.places.first(program, row.action);
     for k in 0..join.count {
-        let need = row.schedule.need(&join, k);
-        if let Some(count) = count_in(row.columns, row.counts, need.wait.agent) {
-            let first = implied.places.first(program, row.action);
-            implied.flag_await(first + usize::from(k), need.wait.count, count);
-        }
+        let need = row.schedule.need(program, row.n, &join, k);
+        let place = first + usize::from(k);
+        flag_await(program, row, need.wait, &mut implied.flags[place]);
     }
 }
 
-/// The agent's count in a row, if it has a column.
-fn count_in(columns: &Columns, row: &Counts, agent: u16) -> Option<u32>
-    requires agent { agent < agents_in columns.now }
-    requires within { (j k : ℕ) → HasColumn columns.now j k → k < length (counts_of row.now) }
-    ensures some { (k : ℕ) → HasColumn columns.now agent k
-        → result ≡ Some (slice_index (counts_of row.now) k) }
-    ensures none { column_of columns.now agent ≡ None → result ≡ None }
+/// Flags an await of the action whose agent has a column: whether others imply it.
+fn flag_await<P: ProgramView>(program: &P, row: &JoinRow, wait: Await, flag: &mut bool)
+    requires range { AreInRange (P.program program.now) }
+    requires row { IsJoinRow (P.program program.now) row.now }
+    requires others { HasOthers (P.program program.now) row.now }
+    requires waits { Contains
+        (awaits_of (P.program program.now) row.now.action.agent row.now.action.number) wait }
+    ensures { IsFlagged (P.program program.now)
+        row.now.columns.now row.now.action wait flag.old flag.new }
 {
-    let k = columns.of(agent)?;
-    Some(row.get(usize::from(k)))
+    let _ = program.agents();
+    if let Some(k) = row.columns.of(wait.agent) {
+        *flag = wait.count <= row.counts.get(usize::from(k));
+    }
 }

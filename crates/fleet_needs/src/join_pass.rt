@@ -6,12 +6,10 @@ ghost use Rattle.fleet_needs.specs.Columns.{agents_in};
 ghost use Rattle.fleet_needs.specs.Block.{HasColumn};
 ghost use Rattle.fleet_model.specs.Program.{AreInRange};
 ghost use Rattle.fleet_needs.specs.Counts.{counts_of, CanHold, AreAlike, are_narrow};
-ghost use Rattle.fleet_needs.specs.Schedule.{IsSchedule, AreColumnsOf, AreRowsTo, IsRowFor, joins_in, AreCounts, IsThere, StandsThere, AreJoinedWith, AreCountsOfTwo, IsNext, HasSlot, slot_of};
-ghost use Rattle.fleet_needs.specs.JoinPass.{IsOthersRow, IsWholeRow, IsJoinRow, HasOthers, HasWhole};
-ghost use Rattle.fleet_needs.specs.declared.joins.Join.{Join};
+ghost use Rattle.fleet_needs.specs.Schedule.{IsSchedule, AreColumnsOf, AreRowsTo, IsRowFor, joins_in, AreCounts, IsThere, StandsThere, AreJoinedWith, AreCountsOfTwo, HasSlot, slot_of, next_action};
+ghost use Rattle.fleet_needs.specs.JoinPass.{AreOthers, AreWhole, IsJoinRow, HasOthers, HasWhole};
 
 use crate::counts::Counts;
-use crate::joins::Join;
 use crate::schedule::{Columns, Schedule};
 use fleet_model::{ActionId, OutOfMemory, ProgramView};
 use std::alloc::Global;
@@ -35,27 +33,21 @@ impl<'a> JoinRow<'a> {
         counts: &'a Counts,
     ) -> JoinRow<'a>
         requires { n < joins_in schedule.now }
-        ensures schedule { result.schedule ≡ schedule.entry }
-        ensures columns { result.columns ≡ columns.entry }
-        ensures n { result.n ≡ n }
-        ensures action { (j : Join) → IsNext schedule.now n j → result.action ≡ j.action }
-        ensures counts { result.counts ≡ counts.entry }
+        ensures { result ≡ record {
+          schedule = schedule.entry;
+          columns = columns.entry;
+          n = n;
+          action = next_action schedule.now n;
+          counts = counts.entry;
+        } }
     {
         JoinRow {
             schedule,
             columns,
             n,
-            action: schedule.join_after(n).action,
+            action: schedule.joins[n].action,
             counts,
         }
-    }
-
-    /// The join that it is made for.
-    pub(crate) fn join(&self) -> Join
-        requires { self.now.n < joins_in self.now.schedule.now }
-        ensures { IsNext self.now.schedule.now self.now.n result }
-    {
-        self.schedule.join_after(self.n)
     }
 }
 
@@ -166,8 +158,8 @@ fn make_row<P: ProgramView, U: JoinUse>(
     requires used { U.used (P.program program.now) rows.now.schedule.now rows.now.columns
         n uses.old }
     ensures row { OnOk result (IsRowFor rows.now row.new) }
-    ensures made { OnOk result (IsWholeRow (P.program program.now)
-        rows.now.schedule.now rows.now.columns n (counts_of row.new)) }
+    ensures made { OnOk result (AreWhole (P.program program.now) rows.now.columns
+        (next_action rows.now.schedule.now n) (counts_of row.new)) }
     ensures used { OnOk result (U.used (P.program program.now) rows.now.schedule.now
         rows.now.columns (n + 1) uses.new) }
     ensures keeps { OnOk result (U.keeps
@@ -189,19 +181,19 @@ fn join_others<P: ProgramView>(program: &P, rows: &SlotRows<'_>, n: usize, row: 
     requires next { n < joins_in rows.now.schedule.now }
     requires row { IsRowFor rows.now row.old }
     ensures row { IsRowFor rows.now row.new }
-    ensures others { IsOthersRow (P.program program.now)
-        rows.now.schedule.now rows.now.columns n (counts_of row.new) }
+    ensures others { AreOthers (P.program program.now) rows.now.columns
+        (next_action rows.now.schedule.now n) (counts_of row.new) }
 {
-    let join = rows.schedule.join_after(n);
+    let join = rows.schedule.join_after(program, n);
     let is_quiet = join.count == 0;
     if is_quiet {
         rows.begin_row(program, n, join.base, row);
         return;
     }
-    let first = rows.schedule.need(&join, 0);
+    let first = rows.schedule.need(program, n, &join, 0);
     rows.begin_joined(program, n, join.base, first.row, row);
     for k in 1..join.count {
-        let need = rows.schedule.need(&join, k);
+        let need = rows.schedule.need(program, n, &join, k);
         rows.join_row(program, n, need.row, row);
     }
 }
@@ -212,15 +204,15 @@ fn raise_awaited<P: ProgramView>(program: &P, rows: &SlotRows<'_>, n: usize, row
     requires rows { AreRowsTo (P.program program.now) rows.now n }
     requires next { n < joins_in rows.now.schedule.now }
     requires row { IsRowFor rows.now row.old }
-    requires others { IsOthersRow (P.program program.now)
-        rows.now.schedule.now rows.now.columns n (counts_of row.old) }
+    requires others { AreOthers (P.program program.now) rows.now.columns
+        (next_action rows.now.schedule.now n) (counts_of row.old) }
     ensures row { IsRowFor rows.now row.new }
-    ensures made { IsWholeRow (P.program program.now)
-        rows.now.schedule.now rows.now.columns n (counts_of row.new) }
+    ensures made { AreWhole (P.program program.now) rows.now.columns
+        (next_action rows.now.schedule.now n) (counts_of row.new) }
 {
-    let join = rows.schedule.join_after(n);
+    let join = rows.schedule.join_after(program, n);
     for k in 0..join.count {
-        let need = rows.schedule.need(&join, k);
+        let need = rows.schedule.need(program, n, &join, k);
         raise_own(&rows.columns, row, need.wait.agent, need.wait.count);
     }
     clear_own(&rows.columns, row, join.action.agent);
@@ -305,10 +297,10 @@ impl<'a> SlotRows<'a> {
     /// Puts into `row` the counts of what row `r` stands for.
     pub(crate) fn begin_row<P: ProgramView>(&self, program: &P, n: usize, r: u32, row: &mut Counts)
         requires rows { AreRowsTo (P.program program.now) self.now n }
-        requires there { IsThere self.now n r }
+        requires there { IsThere self.now.schedule.now n r }
         requires row { IsRowFor self.now row.old }
         ensures row { IsRowFor self.now row.new }
-        ensures counts { (i m : ℕ) → StandsThere (P.program program.now) self.now r i m
+        ensures counts { (i m : ℕ) → StandsThere (P.program program.now) self.now.schedule.now r i m
             → AreCounts (P.program program.now) self.now.columns i m
             (slice_index (counts_of row.new)) }
     {
@@ -329,12 +321,13 @@ impl<'a> SlotRows<'a> {
         row: &mut Counts,
     )
         requires rows { AreRowsTo (P.program program.now) self.now n }
-        requires there { IsThere self.now n r }
-        requires other { IsThere self.now n other }
+        requires there { IsThere self.now.schedule.now n r }
+        requires other { IsThere self.now.schedule.now n other }
         requires row { IsRowFor self.now row.old }
         ensures row { IsRowFor self.now row.new }
-        ensures counts { (i m j l : ℕ) → StandsThere (P.program program.now) self.now r i m
-            → StandsThere (P.program program.now) self.now other j l
+        ensures counts { (i m j l : ℕ)
+            → StandsThere (P.program program.now) self.now.schedule.now r i m
+            → StandsThere (P.program program.now) self.now.schedule.now other j l
             → AreCountsOfTwo (P.program program.now) self.now.columns i m j l (counts_of row.new) }
     {
         if r == 0 || other == 0 {
@@ -348,10 +341,10 @@ impl<'a> SlotRows<'a> {
     /// Joins what row `r` stands for into `row`.
     pub(crate) fn join_row<P: ProgramView>(&self, program: &P, n: usize, r: u32, row: &mut Counts)
         requires rows { AreRowsTo (P.program program.now) self.now n }
-        requires there { IsThere self.now n r }
+        requires there { IsThere self.now.schedule.now n r }
         requires row { IsRowFor self.now row.old }
         ensures row { IsRowFor self.now row.new }
-        ensures joined { (i m : ℕ) → StandsThere (P.program program.now) self.now r i m
+        ensures joined { (i m : ℕ) → StandsThere (P.program program.now) self.now.schedule.now r i m
             → AreJoinedWith (P.program program.now) self.now.columns i m
             (counts_of row.old) (counts_of row.new) }
     {
@@ -366,9 +359,8 @@ impl<'a> SlotRows<'a> {
         requires rows { AreRowsTo (P.program program.now) self.old n }
         requires next { n < joins_in self.old.schedule.now }
         requires row { IsRowFor self.old row.now }
-        requires counts { (j : Join) → IsNext self.old.schedule.now n j
-            → AreCounts (P.program program.now) self.old.columns
-            j.action.agent j.action.number (slice_index (counts_of row.now)) }
+        requires counts { AreWhole (P.program program.now) self.old.columns
+            (next_action self.old.schedule.now n) (counts_of row.now) }
         ensures schedule { self.new.schedule ≡ self.old.schedule }
         ensures columns { self.new.columns ≡ self.old.columns }
         ensures row { IsRowFor self.new row.now }

@@ -266,8 +266,9 @@ impl Joins {
         requires range { AreInRange (P.program program.now) }
         requires can { CanJoin (P.program program.now) places.now self.old action }
         requires row { row ≡ rows_made self.old + 1 }
-        ensures { OnOk result (AreTaken
-            (P.program program.now) places.now action self.old self.new) }
+        ensures { OnOk result (AreTaken (P.program program.now) places.now action
+            (length (awaits_of (P.program program.now) action.agent action.number))
+            self.old self.new) }
     {
         for k in 0..program.await_count(action.agent, action.number) {
             let wait = program.await_at(action.agent, action.number, k);

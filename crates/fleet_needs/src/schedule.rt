@@ -11,7 +11,7 @@ ghost use Rattle.fleet_needs.specs.Flags.{AreSureIf, IsPassed};
 ghost use Rattle.fleet_model.specs.Machine.{IsFinish};
 ghost use Rattle.fleet_needs.specs.Order.{IsWholeOrder};
 ghost use Rattle.fleet_needs.specs.Places.{ArePlacesOf};
-ghost use Rattle.fleet_needs.specs.Schedule.{IsSchedule, HasRows, IsNext, joins_of, needs_of, joins_in};
+ghost use Rattle.fleet_needs.specs.Schedule.{IsSchedule, HasRows, IsNextJoin, IsNextNeed, joins_of, joins_in, next_action};
 ghost use Rattle.fleet_needs.specs.Slots.{AreSlotted, IsTaken};
 ghost use Rattle.fleet_needs.specs.Columns.{AreColumns, IsNextBlock, agents_in, column_of};
 
@@ -105,17 +105,24 @@ impl Schedule {
     }
 
     /// The join after n others.
-    pub(crate) fn join_after(&self, n: usize) -> Join
-        requires { n < joins_in self.now }
-        ensures { IsNext self.now n result }
+    pub(crate) fn join_after<P: ProgramView>(&self, program: &P, n: usize) -> Join
+        requires schedule { IsSchedule (P.program program.now) self.now }
+        requires within { n < joins_in self.now }
+        ensures { IsNextJoin (P.program program.now) self.now n (next_action self.now n) result }
     {
         self.joins[n]
     }
 
-    /// Need `k` of a join.
-    pub(crate) fn need(&self, join: &Join, k: u16) -> Need
-        requires { join.now.first + k < length (needs_of self.now) }
-        ensures { result ≡ need_of (needs_of self.now) join.now k }
+    /// Need `k` of the join after n others.
+    pub(crate) fn need<P: ProgramView>(&self, program: &P, n: usize, join: &Join, k: u16) -> Need
+        requires range { AreInRange (P.program program.now) }
+        requires schedule { IsSchedule (P.program program.now) self.now }
+        requires within { n < joins_in self.now }
+        requires join { IsNextJoin (P.program program.now)
+            self.now n (next_action self.now n) join.now }
+        requires place { k < join.now.count }
+        ensures { IsNextNeed (P.program program.now)
+            self.now n (next_action self.now n) k result }
     {
         self.needs[join.first as usize + usize::from(k)]
     }

@@ -1,6 +1,14 @@
 use Rattle.std.proofs.Common.{rules, ◌≤◌, ◌∙◌, Bool, List, length, ap, arith}
-use Rattle.fleet_needs.proofs.Flagged.{flags_after, flags_end}
+use Rattle.fleet_needs.proofs.Flagged.{flags_first, flags_after, flags_end}
 use Rattle.fleet_needs.proofs.implied.flag_all.Goals as goal
+
+pub loop-columns-init : goal.loop-columns-init
+loop-columns-init g c =
+    let made = c.of-blocks.ensures in
+    record {
+      all = ap (λ (xs : List Bool). length xs) made.asked ∙ c.requires.asked;
+      flagged = rw made.asked (rw made.from (flags_first (g.P.ProgramView.program c.args.program.now) c.args.schedule.now c.args.asked.now c.args.implied.now c.requires.flags c.requires.settled c.requires.passed));
+    }
 
 pub loop-columns-preserved : goal.loop-columns-preserved
 loop-columns-preserved g c =

@@ -1,11 +1,10 @@
-use Rattle.std.proofs.Common.{◌-◌}
 use Rattle.fleet_needs.specs.Counts.{counts_of}
-use Rattle.fleet_needs.specs.Schedule.{IsRowFor}
+use Rattle.fleet_needs.specs.Schedule.{IsRowFor, next_action}
 use Rattle.fleet_needs.proofs.RowsMade.{AreOwnTo}
 use Rattle.fleet_needs.proofs.join_pass.raise_awaited.Given as goal
 
 abbrev pub invariant-loop-k : goal.invariant-loop-k
 invariant-loop-k g l = record {
   row : IsRowFor l.rows l.row;
-  own : AreOwnTo (g.P.ProgramView.program l.program) l.rows.columns l.join.action.agent (l.join.action.number - 1) l.k (counts_of l.row);
+  own : AreOwnTo (g.P.ProgramView.program l.program) l.rows.columns (next_action l.rows.schedule.now l.n) l.k (counts_of l.row);
 }

@@ -1,6 +1,5 @@
-use Rattle.std.proofs.Common.{◌≡◌, ◌≤◌, ◌-◌, ◌<◌, List, length, sym, subst, ap, ◌∙◌, arith}
+use Rattle.std.proofs.Common.{◌≡◌, List, length, sym, subst, ap, ◌∙◌}
 use Rattle.std.specs.Prelude.{slice_get, Some}
-use Rattle.std.proofs.lemmas.Option.{slice_get_within}
 use Rattle.fleet_model.specs.Program.{Program}
 use Rattle.fleet_needs.specs.Answering.{AnswersSoFar, IsAnswering, AreOthersLeft}
 use Rattle.fleet_needs.specs.Block.{AreAnswered}
@@ -17,8 +16,7 @@ answered_all p b columns s t long is left = record {
   answered = λ m k q at has.
       let there : slice_get t.questions m ≡ Some q = subst (λ (x : List Question). slice_get x m ≡ Some q) (sym left.questions) at in
       let row = is.rows m q there in
-      let low : row.0 - 1 < length b.joins.items = slice_get_within b.joins.items (row.0 - 1) row.1.join row.1.at in
-      is.answers.answered m k q there (is.answers.before m q there (row.0, (let some : 1 ≤ row.0 = row.1.some in omega arith), row.1)) has;
+      is.answers.answered m k q there (is.answers.before m q there (row.0, row.1.upto, row.1)) has;
   others = left.flags;
 }
 

@@ -1,14 +1,13 @@
-use Rattle.std.proofs.Common.{◌≡◌, ℕ, length, refl, subst, ap, ◌∙◌, arith}
+use Rattle.std.proofs.Common.{◌≡◌, ℕ, length, subst, ap, ◌∙◌, arith}
 use Rattle.std.specs.Prelude.{slice_index}
-use Rattle.std.proofs.lemmas.Option.{slice_get_within}
 use Rattle.fleet_model.specs.Program.{awaits_of}
 use Rattle.fleet_model.specs.Chain.{awaited}
-use Rattle.fleet_needs.specs.Joins.{row_of}
+use Rattle.fleet_needs.specs.Joins.{row_of, AreTaken}
 use Rattle.fleet_needs.specs.Places.{place_of_action}
 use Rattle.fleet_needs.specs.declared.await_places.ActionPlaces.{ActionPlaces}
 use Rattle.fleet_needs.specs.declared.joins.Joins.{Joins}
 use Rattle.fleet_model.specs.declared.program.ActionId.{ActionId}
-use Rattle.fleet_needs.proofs.JoinLaws.{AreTakenTo, taken_first, taken_on}
+use Rattle.fleet_needs.proofs.JoinLaws.{taken_first, taken_on}
 use Rattle.fleet_needs.proofs.joins.Joins.take_awaited.Goals as goal
 
 -- a row that is read while others are noted stands as it did
@@ -16,10 +15,10 @@ same_row : (places : ActionPlaces) (old m : Joins) (a : ActionId) (r : ℕ) → 
 same_row places old m a r same is = is ∙ ap (λ xs. slice_index xs.items (place_of_action places a)) same
 
 pub loop-k-init : goal.loop-k-init
-loop-k-init g c = record { joins = refl; standing = refl; taken = taken_first (g.P.ProgramView.program c.args.program.now) c.args.places.now c.args.action c.args.self.now }
+loop-k-init g c = record { taken = taken_first (g.P.ProgramView.program c.args.program.now) c.args.places.now c.args.action c.args.self.now }
 
 pub row_of-taken-requires-clause-room : goal.row_of-taken-requires-clause-room
-row_of-taken-requires-clause-room g c = ap (λ xs. length xs.items) c.loop-k.invariant.standing ∙ c.requires.can.sound.room
+row_of-taken-requires-clause-room g c = ap (λ xs. length xs.items) c.loop-k.invariant.taken.standing ∙ c.requires.can.sound.room
 
 pub row_of-taken-requires-clause-action : goal.row_of-taken-requires-clause-action
 row_of-taken-requires-clause-action g c = (c.requires.can.awaited c.loop-k.k c.await_at-wait.result c.await_at-wait.ensures).0
@@ -27,18 +26,16 @@ row_of-taken-requires-clause-action g c = (c.requires.can.awaited c.loop-k.k c.a
 pub raise-requires : goal.raise-requires
 raise-requires g c =
     let st = c.requires.can.awaited c.loop-k.k c.await_at-wait.result c.await_at-wait.ensures in
-    let read = same_row c.args.places.now c.args.self.now c.loop-k.self (awaited c.await_at-wait.result) c.row_of-taken.result c.loop-k.invariant.standing c.row_of-taken.ensures in
-    omega (arith, read, st.1.within, c.loop-k.invariant.taken.raised.0, c.requires.can.sound.lasts.all)
+    let read = same_row c.args.places.now c.args.self.now c.loop-k.self (awaited c.await_at-wait.result) c.row_of-taken.result c.loop-k.invariant.taken.standing c.row_of-taken.ensures in
+    omega (arith, read, st.1.within, c.loop-k.invariant.taken.lasts.0, c.requires.can.sound.lasts.all)
 
 pub loop-k-preserved : goal.loop-k-preserved
 loop-k-preserved g c =
     let p = g.P.ProgramView.program c.args.program.now in
     let w = c.await_at-wait.result in
-    let read = same_row c.args.places.now c.args.self.now c.loop-k.self (awaited w) c.row_of-taken.result c.loop-k.invariant.standing c.row_of-taken.ensures in
+    let read = same_row c.args.places.now c.args.self.now c.loop-k.self (awaited w) c.row_of-taken.result c.loop-k.invariant.taken.standing c.row_of-taken.ensures in
     record {
-      joins = c.raise.ensures.joins ∙ c.loop-k.invariant.joins;
-      standing = c.raise.ensures.standing ∙ c.loop-k.invariant.standing;
-      taken = taken_on p c.args.places.now c.args.action c.args.self.now c.loop-k.k w c.await_at-wait.ensures c.row_of-taken.result read c.loop-k.self.needs.items c.raise.new.self.needs.items c.loop-k.self.lasts.items c.raise.new.self.lasts.items
+      taken = taken_on p c.args.places.now c.args.action c.args.self.now c.loop-k.k w c.await_at-wait.ensures c.row_of-taken.result read c.loop-k.self c.raise.new.self c.raise.ensures.joins c.raise.ensures.standing
           (ap (λ xs. xs.items) c.raise.ensures.needs ∙ c.in_ok-push.ensures.items) c.raise.ensures.raised (omega (arith, c.raise.ensures.noted, c.requires.row)) c.loop-k.invariant.taken;
     }
 
@@ -47,14 +44,4 @@ returns g c =
     let p = g.P.ProgramView.program c.args.program.now in
     let a = c.args.action in
     let whole : c.loop-k.k ≡ length (awaits_of p a.agent a.number) = omega (arith, c.loop-k-test.false, c.await_count-k-end.ensures, c.loop-k.auto.k-end) in
-    let t : AreTakenTo p c.args.places.now a c.args.self.now (length (awaits_of p a.agent a.number)) c.loop-k.self.needs.items c.loop-k.self.lasts.items =
-    subst (λ (n : ℕ). AreTakenTo p c.args.places.now a c.args.self.now n c.loop-k.self.needs.items c.loop-k.self.lasts.items) whole c.loop-k.invariant.taken in
-    record {
-      joins = c.loop-k.invariant.joins;
-      standing = c.loop-k.invariant.standing;
-      all = t.all;
-      kept = t.kept;
-      each = λ k w at. t.each k w (slice_get_within (awaits_of p a.agent a.number) k w at) at;
-      lasts = t.raised;
-      noted = λ k w at. t.noted k w (slice_get_within (awaits_of p a.agent a.number) k w at) at;
-    }
+    subst (λ (n : ℕ). AreTaken p c.args.places.now a n c.args.self.now c.loop-k.self) whole c.loop-k.invariant.taken

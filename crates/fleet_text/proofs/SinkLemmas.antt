@@ -106,6 +106,18 @@ pub gathers_err : {T E : Type 0} (a c : SinkState) (res : Result T E) (r t xs : 
 gathers_err a c (Ok _) r t xs e h = cc
 gathers_err a c (Err _) r t xs e h = h
 
+-- there was room in the row, and the bytes stay there
+pub room_made : (a c : SinkState) (r l t xs : List ℕ) → PassesOn a c r l [] → t ≡ l ++ xs → PassesOn a c r t xs
+room_made a c r l t xs made e = record {
+  handed = made.handed;
+  taken = made.taken;
+  in_order = sym (after_row r l made.handed [] xs made.in_order) ∙ ap (λ z. made.handed ++ z) (sym e);
+}
+
+-- .. or the sink failed before there was
+pub room_refused : {T E : Type 0} (a c : SinkState) (res : Result T E) (r t xs : List ℕ) → IsErr res → StopsWithin a c (r ++ []) → Gathers a c res r t xs
+room_refused a c res r t xs e h = gathers_err a c res r t xs e (stops_before a c r [] xs h)
+
 -- .. of what was written by way of an empty row, and more
 pub takes_err_then : {T E : Type 0} (a c : SinkState) (res : Result T E) (xs ys : List ℕ) → IsErr res → StopsWithin a c xs → TakesAll a c res (xs ++ ys)
 takes_err_then a c (Ok _) xs ys e h = cc

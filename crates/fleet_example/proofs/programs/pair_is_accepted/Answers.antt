@@ -1,5 +1,5 @@
 use Rattle.std.proofs.Common.{refl}
-use Rattle.fleet_example.specs.Programs.{pair, pair_tasks, is_on_open_map}
+use Rattle.fleet_example.specs.Programs.{pair, is_on_open_map}
 use Rattle.fleet_example.proofs.ComputedOrder.{accepted_by_await, accepted_if_awaited}
 use Rattle.fleet_example.proofs.programs.pair_is_accepted.Goals as goal
 

@@ -1,5 +1,5 @@
 use Rattle.std.proofs.Common.{[], ◌∷◌, refl}
-use Rattle.fleet_example.specs.Programs.{late_pair, staying_pair, pair_tasks, is_on_open_map, nth_action}
+use Rattle.fleet_example.specs.Programs.{late_pair, staying_pair, is_on_open_map, nth_action}
 use Rattle.fleet_example.proofs.Computed.{longest_by}
 use Rattle.fleet_example.proofs.ComputedOrder.{accepted_by_await, accepted_if_awaited}
 use Rattle.fleet_example.proofs.programs.staying_pairs_are_accepted.Goals as goal

@@ -17,10 +17,41 @@ use std::marker::Model;
 /// The agents whose actions finish, tick by tick, and in rising order within a tick. Which action it is follows from
 /// how often the agent stands before.
 #[derive(Drop)]
-pub(crate) struct FinishOrder {
+pub struct FinishOrder {
     agents: Vec<u16>,
     /// How many actions are finished before the first tick, and after each one.
     ends: Vec<u32>,
+}
+
+/// What the order in which the actions of a program finish is made of, once it is needed.
+pub trait OrderSource {
+    ghost use Rattle.std.specs.Prelude.{IfOk};
+    ghost use Rattle.fleet_model.specs.Program.{Program};
+    ghost use Rattle.fleet_needs.specs.Order.{IsWholeOrder};
+
+    /// It gives the order of the program.
+    ghost gives: { Program → Self → Type 0 };
+
+    /// The order of the program.
+    fn order<P: ProgramView>(self, alloc: Global, program: &P) -> Result<FinishOrder, OutOfMemory>
+        requires { gives (P.program program.now) self }
+        ensures { IfOk result (IsWholeOrder (P.program program.now)) };
+}
+
+/// How many ticks a program takes if nobody is held. Its order is that of a run.
+#[derive(Clone, Copy)]
+pub struct Ticks {
+    pub count: u32,
+}
+
+impl OrderSource for Ticks {
+    ghost use Rattle.fleet_needs.specs.Order.{EndsAfter};
+
+    ghost gives = { EndsAfter };
+
+    fn order<P: ProgramView>(self, alloc: Global, program: &P) -> Result<FinishOrder, OutOfMemory> {
+        FinishOrder::of(alloc, program, self.count)
+    }
 }
 
 impl Model for FinishOrder {
@@ -32,6 +63,13 @@ impl Model for FinishOrder {
 }
 
 impl FinishOrder {
+    /// These agents, of whom so many have finished an action before the first tick, and after each one.
+    pub fn from_parts(agents: Vec<u16>, ends: Vec<u32>) -> FinishOrder
+        ensures { result ≡ record { agents = agents.items; ends = ends.items } }
+    {
+        FinishOrder { agents, ends }
+    }
+
     /// No ticks yet, with room for so many actions and ticks.
     fn new(alloc: Global, actions: usize, ticks: u32) -> Result<FinishOrder, OutOfMemory>
         ensures order { IfOk result (λ order. (p : Program) → IsOrder p order) }

@@ -63,6 +63,7 @@ mod settled;
 
 pub use counts::{join_rows, row_covers};
 pub use critical::{ActionCosts, CriticalCosts, MAX_COST};
+pub use finish_order::{FinishOrder, OrderSource, Ticks};
 pub use gather::Pieces;
 pub use implied::{ImpliedAwaits, implied_awaits};
 pub use questions::{Question, answer_questions};

@@ -1,9 +1,8 @@
 //! Questions for chains: those that a look a few steps back answers, and the others, agent by agent, by the rows of a
 //! block.
 
-ghost use Rattle.std.specs.Prelude.{◌≡◌, ◌⊎◌, ◌↔◌, ℕ, [], true, false, length, get_or, slice_get, Some, All, IfOk, ◌<◌, ◌≤◌, IsTrue, ◌≢◌, slice_index, None};
+ghost use Rattle.std.specs.Prelude.{◌≡◌, ◌⊎◌, ◌↔◌, ℕ, true, false, length, get_or, slice_get, Some, All, IfOk, ◌<◌, ◌≤◌, IsTrue, ◌≢◌, slice_index, None};
 ghost use Rattle.fleet_model.specs.Program.{AreInRange};
-ghost use Rattle.fleet_model.specs.Machine.{IsFinish};
 ghost use Rattle.fleet_needs.specs.Asked.{AreQuestions, AreAnswers, IsQuestion};
 ghost use Rattle.fleet_needs.specs.Block.{IsAnswer, HasColumn, AreAnswered, AreKnown};
 ghost use Rattle.fleet_needs.specs.Schedule.{HasRows, IsSchedule, AreColumnsOf, AreCounts};
@@ -14,6 +13,7 @@ ghost use Rattle.fleet_needs.specs.Counts.{counts_of};
 ghost use Rattle.fleet_needs.specs.Joins.{AreOwn};
 
 use crate::counts::Counts;
+use crate::finish_order::OrderSource;
 use crate::join_pass::{JoinRow, JoinUse, use_joins};
 use crate::schedule::{Blocks, Columns, Schedule};
 use fleet_model::{ActionId, OutOfMemory, ProgramView};
@@ -27,17 +27,17 @@ pub struct Question {
     pub last: ActionId,
 }
 
-/// For each question whether no chain of needs begins with its first action and ends with its last. The program
-/// finishes after so many ticks if nobody is held. Rows of counts are kept as long as some action is still to take
-/// them.
-pub fn answer_questions<P: ProgramView>(
+/// For each question whether no chain of needs begins with its first action and ends with its last. The order in which
+/// actions finish is made if a look a few steps back leaves some question open. Rows of counts are kept as long as some
+/// action is still to take them.
+pub fn answer_questions<P: ProgramView, S: OrderSource + Drop>(
     alloc: Global,
     program: &P,
-    ticks: u32,
+    source: S,
     questions: &[Question],
 ) -> Result<Vec<bool>, OutOfMemory>
     requires range { AreInRange (P.program program.now) }
-    requires finish { IsFinish (P.program program.now) [] ticks }
+    requires source { S.gives (P.program program.now) source }
     requires questions { AreQuestions (P.program program.now) questions.now }
     ensures { IfOk result (λ flags. AreAnswers (P.program program.now) questions.now flags.items) }
 {
@@ -46,7 +46,8 @@ pub fn answer_questions<P: ProgramView>(
     if !is_any(&asked) {
         return Ok(flags);
     }
-    let schedule = Schedule::for_questions(alloc, program, ticks, questions)?;
+    let order = source.order(alloc, program)?;
+    let schedule = Schedule::for_questions(alloc, program, order, questions)?;
     answer_all(alloc, program, &schedule, questions, &asked, flags)
 }
 

@@ -1,14 +1,13 @@
 //! A schedule of rows, made once for all blocks of columns: which rows are made, in which order, of which rows each is
 //! joined, the slot in which it is kept, and the columns of the blocks, one block after another.
 
-ghost use Rattle.std.specs.Prelude.{◌≡◌, ◌+◌, ◌<◌, ◌≤◌, ℕ, true, [], All, slice_get, Some, length, IfOk, slice_index, OnOk, IsTrue, MatchOption};
+ghost use Rattle.std.specs.Prelude.{◌≡◌, ◌+◌, ◌<◌, ◌≤◌, ℕ, true, All, slice_get, Some, length, IfOk, slice_index, OnOk, IsTrue, MatchOption};
 ghost use Rattle.fleet_model.specs.declared.limits.TheConstants.{MAX_AGENTS};
 ghost use Rattle.fleet_model.specs.Program.{AreInRange, moves, total_moves};
 ghost use Rattle.fleet_model.specs.Chain.{IsAction};
 ghost use Rattle.fleet_needs.specs.Asked.{IsQuestion};
 ghost use Rattle.fleet_needs.specs.Joins.{HasRowOr, IsWanted, need_of, lasts_in, rows_made};
 ghost use Rattle.fleet_needs.specs.Flags.{AreSureIf, IsPassed};
-ghost use Rattle.fleet_model.specs.Machine.{IsFinish};
 ghost use Rattle.fleet_needs.specs.Order.{IsWholeOrder};
 ghost use Rattle.fleet_needs.specs.Places.{ArePlacesOf};
 ghost use Rattle.fleet_needs.specs.Schedule.{IsSchedule, HasRows, IsNextJoin, IsNextNeed, joins_of, joins_in, next_action};
@@ -86,21 +85,20 @@ impl Schedule {
         })
     }
 
-    /// The schedule of a program that so many ticks finish if nobody is held, in which the last actions of these
-    /// questions have rows too.
+    /// The schedule of a program whose actions finish in this order, in which the last actions of these questions have
+    /// rows too.
     pub(crate) fn for_questions<P: ProgramView>(
         alloc: Global,
         program: &P,
-        ticks: u32,
+        order: FinishOrder,
         questions: &[Question],
     ) -> Result<Schedule, OutOfMemory>
         requires range { AreInRange (P.program program.now) }
-        requires finish { IsFinish (P.program program.now) [] ticks }
+        requires order { IsWholeOrder (P.program program.now) order }
         requires questions { All (IsQuestion (P.program program.now)) questions.now }
         ensures schedule { IfOk result (IsSchedule (P.program program.now)) }
         ensures asked { IfOk result (λ s. HasRows s questions.now) }
     {
-        let order = FinishOrder::of(alloc, program, ticks)?;
         Schedule::of(alloc, program, &order, questions, None)
     }
 

@@ -34,6 +34,7 @@ pub mod NextLevel
 pub mod AskedByLevel
 pub mod Beginning
 pub mod PieceLaws
+pub mod LevelOrder
 pub mod Climbing
 pub mod Rows
 pub mod Looking

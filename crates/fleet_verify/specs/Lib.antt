@@ -8,6 +8,7 @@ pub mod Faults
 pub mod Path
 pub mod Parts
 pub mod Rising
+pub mod LevelOrder
 pub mod Rows
 pub mod Broken
 pub mod RefusalWords

@@ -18,6 +18,7 @@ ghost use Rattle.fleet_verify.specs.Outlook.{IsOutlook};
 use crate::agents::ends_right;
 use crate::chained::{Answers, unless_chained};
 use crate::last_visits::LastVisits;
+use crate::level_order::AllLevels;
 use crate::level_row::{LevelRow, row_of};
 use crate::order::{OpenPair, PlacedVisit, begins_visit, is_left_by, number_of, open_unless_after};
 use crate::path::{next_number, numbered_cell};
@@ -762,7 +763,8 @@ fn judge_ahead<P: ProgramView>(
     } = ahead;
     drop(cells);
     last.let_go();
-    match unless_chained(alloc, program, chain, rows, pairs)? {
+    let levels = AllLevels { rows, most: chain };
+    match unless_chained(alloc, program, levels, pairs)? {
         None => Ok(Outlook::Accepted(chain)),
         Some(known) => Ok(Outlook::Unknown(known)),
     }

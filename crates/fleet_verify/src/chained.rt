@@ -3,15 +3,15 @@
 
 ghost use Rattle.std.specs.Prelude.{◌≡◌, ◌<◌, ◌≤◌, ◌+◌, ◌-◌, ◌*◌, ◌↔◌, ℕ, true, false, [], IsTrue, All, Contains, IfOk, IfNone, IfSome, get_or, length, map};
 ghost use Rattle.fleet_model.specs.Program.{AreInRange};
-ghost use Rattle.fleet_model.specs.Machine.{IsFinish};
-ghost use Rattle.fleet_verify.specs.Ahead.{AreCountedUp, level_in};
+ghost use Rattle.fleet_verify.specs.LevelOrder.{AreAllLevels};
 ghost use Rattle.fleet_verify.specs.OpenPairs.{AreVisits, question_of};
 ghost use Rattle.fleet_verify.specs.Chained.{AreKnown, IsChained, IsAskedOf, AreAsked, BeginsLate, key_of};
 
+use crate::level_order::AllLevels;
 use crate::level_row::{LevelRow, row_of};
 use crate::order::{OpenPair, leaving};
 use fleet_model::{ActionId, OutOfMemory, ProgramView, Visit};
-use fleet_needs::{Question, answer_questions};
+use fleet_needs::{OrderSource, Question, answer_questions};
 use std::alloc::Global;
 
 /// A question for a chain, with the level of its last action.
@@ -51,7 +51,6 @@ pub struct Answers {
 impl Answers {
     ghost use Rattle.std.specs.Prelude.{◌≡◌, [], IfOk};
     ghost use Rattle.fleet_model.specs.Program.{AreInRange};
-    ghost use Rattle.fleet_model.specs.Machine.{IsFinish};
     ghost use Rattle.fleet_needs.specs.Asked.{AreQuestions};
     ghost use Rattle.fleet_verify.specs.Chained.{AreKnown};
 
@@ -66,71 +65,63 @@ impl Answers {
         }
     }
 
-    /// The answers to these questions. The program finishes after so many ticks if nobody is held.
-    pub fn to<P: ProgramView>(
+    /// The answers to these questions.
+    pub fn to<P: ProgramView, S: OrderSource + Drop>(
         alloc: Global,
         program: &P,
-        ticks: u32,
+        source: S,
         questions: Vec<Question>,
     ) -> Result<Answers, OutOfMemory>
         requires range { AreInRange (P.program program.now) }
-        requires finish { IsFinish (P.program program.now) [] ticks }
+        requires source { S.gives (P.program program.now) source }
         requires questions { AreQuestions (P.program program.now) questions.items }
         ensures questions { IfOk result (λ a. a.questions.items ≡ questions.items) }
         ensures known { IfOk result (AreKnown (P.program program.now)) }
     {
-        let flags = answer_questions(alloc, program, ticks, &questions)?;
+        let flags = answer_questions(alloc, program, source, &questions)?;
         Ok(Answers { questions, flags })
     }
 }
 
-/// Nothing if a chain orders each of the open pairs of a program that finishes after so many ticks if nobody is held.
-/// Else, or if it is not found, what was answered.
+/// Nothing if a chain orders each of the open pairs of a program whose levels these are. Else, or if it is not found,
+/// what was answered.
 #[tactic(auto, using(crate::proofs::AskedByLevel::known_none))]
 pub fn unless_chained<P: ProgramView>(
     alloc: Global,
     program: &P,
-    ticks: u32,
-    rows: Vec<LevelRow>,
+    levels: AllLevels,
     pairs: Vec<OpenPair>,
 ) -> Result<Option<Answers>, OutOfMemory>
-    requires range { AreInRange (P.program program.now) }
-    requires finish { IsFinish (P.program program.now) [] ticks }
-    requires rows { length rows.items ≡ length (P.program program.now) }
-    requires levels { AreCountedUp (P.program program.now) (level_in rows.items) }
+    requires levels { AreAllLevels (P.program program.now) levels }
     requires visits { All (AreVisits (P.program program.now)) pairs.items }
     ensures chained { IfOk result (λ found. IfNone found ((k : ℕ) → (o : OpenPair)
         → k < length pairs.items → IsChained (P.program program.now) (get_or pairs.items k o))) }
     ensures known { IfOk result (λ found. IfSome found (AreKnown (P.program program.now))) }
 {
-    match ask_all(alloc, program, &rows, &pairs)? {
-        Some(found) => answer_asked(alloc, program, ticks, rows, pairs, found),
+    match ask_all(alloc, program, &levels.rows, &pairs)? {
+        Some(found) => answer_asked(alloc, program, levels, pairs, found),
         None => Ok(Some(Answers::none(alloc))),
     }
 }
 
 /// Nothing if a chain orders each of the open pairs that were asked for, else what was answered. What is asked takes
-/// memory, so all else is given back before.
+/// memory, so all else is given back before, and the levels once the order is made of them.
 #[tactic(auto, using(crate::proofs::AskedByLevel::known_none))]
 fn answer_asked<P: ProgramView>(
     alloc: Global,
     program: &P,
-    ticks: u32,
-    rows: Vec<LevelRow>,
+    levels: AllLevels,
     pairs: Vec<OpenPair>,
     found: Vec<LevelQuestion>,
 ) -> Result<Option<Answers>, OutOfMemory>
-    requires range { AreInRange (P.program program.now) }
-    requires finish { IsFinish (P.program program.now) [] ticks }
-    requires levels { AreCountedUp (P.program program.now) (level_in rows.items) }
-    requires asked { AreAsked (P.program program.now) rows.items pairs.items
+    requires levels { AreAllLevels (P.program program.now) levels }
+    requires asked { AreAsked (P.program program.now) levels.rows.items pairs.items
         (length pairs.items) found.items }
     ensures chained { IfOk result (λ found. IfNone found ((k : ℕ) → (o : OpenPair)
         → k < length pairs.items → IsChained (P.program program.now) (get_or pairs.items k o))) }
     ensures known { IfOk result (λ found. IfSome found (AreKnown (P.program program.now))) }
 {
     let _agents = program.agents();
-    drop(rows);
     let_go(pairs);
     let asked = sorted(found);
     if !are_rising(&asked) {
@@ -138,7 +129,7 @@ fn answer_asked<P: ProgramView>(
     }
     let questions = questions_of(alloc, &asked)?;
     let_go(asked);
-    let answers = Answers::to(alloc, program, ticks, questions)?;
+    let answers = Answers::to(alloc, program, levels, questions)?;
     if is_none(&answers.flags) {
         return Ok(None);
     }

@@ -39,6 +39,7 @@ mod counting;
 mod exactness;
 mod fault;
 mod last_visits;
+mod level_order;
 mod level_row;
 mod needed;
 mod order;

@@ -23,7 +23,7 @@ use crate::path::cell_after;
 use crate::unheld_run::UnheldRun;
 use fleet_grid::Grid;
 use fleet_model::{ActionId, Cell, MAX_COORDINATE, OutOfMemory, ProgramView, Step, Visit};
-use fleet_needs::Question;
+use fleet_needs::{Question, Ticks};
 use fleet_scen::Instance;
 use indexmap::IndexMap;
 use std::alloc::Global;
@@ -160,7 +160,7 @@ pub fn find_violations<P: ProgramView>(
         return first_flagged(alloc, pairs, &known.flags);
     }
     let questions = questions_of(alloc, program, pairs)?;
-    let asked = Answers::to(alloc, program, ticks, questions)?;
+    let asked = Answers::to(alloc, program, Ticks { count: ticks }, questions)?;
     first_flagged(alloc, pairs, &asked.flags)
 }
 

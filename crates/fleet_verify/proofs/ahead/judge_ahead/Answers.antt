@@ -1,3 +1,4 @@
+use Rattle.std.proofs.Common.{arith}
 use Rattle.fleet_verify.proofs.Beginning.{done_counted, done_range, done_finish, done_visits, ahead_accepted}
 use Rattle.fleet_verify.proofs.ahead.judge_ahead.Goals as goal
 
@@ -9,10 +10,13 @@ unless_chained-requires g c =
     let done = c.in-Some.ensures.2 in
     let wf = c.agents-agents.ensures.well_formed in
     record {
-      range = done_range c.args.grid.now c.args.instance.now p c.args.ahead n c.in-Some.chain wf c.requires.starts c.requires.ahead done all;
-      finish = done_finish c.args.grid.now c.args.instance.now p c.args.ahead n c.in-Some.chain wf c.requires.starts c.requires.ahead done all;
-      rows = c.requires.ahead.rows;
-      levels = done_counted c.args.grid.now c.args.instance.now p c.args.ahead n c.in-Some.chain wf c.requires.starts c.requires.ahead done all;
+      levels = record {
+        range = done_range c.args.grid.now c.args.instance.now p c.args.ahead n c.in-Some.chain wf c.requires.starts c.requires.ahead done all;
+        finish = done_finish c.args.grid.now c.args.instance.now p c.args.ahead n c.in-Some.chain wf c.requires.starts c.requires.ahead done all;
+        rows = c.requires.ahead.rows;
+        whole = λ i l. done.whole i (omega (arith, l, all));
+        levels = done_counted c.args.grid.now c.args.instance.now p c.args.ahead n c.in-Some.chain wf c.requires.starts c.requires.ahead done all;
+      };
       visits = done_visits c.args.grid.now c.args.instance.now p c.args.ahead n c.in-Some.chain wf c.requires.starts c.requires.ahead done all;
     }
 

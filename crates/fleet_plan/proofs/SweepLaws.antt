@@ -1,5 +1,5 @@
 -- What the places of agents at two times say of the conflicts of their plan.
-use Rattle.std.proofs.Common.{◌≡◌, ◌≢◌, ℕ, zero, suc, ◌+◌, ◌<◌, ◌≤◌, Bool, true, false, IsTrue, List, [], ◌∷◌, length, get_or, slice_index, All, Option, Some, None, is_some, IfSome, IfNone, inl, inr, refl, sym, ap, ◌∙◌, subst, arith, map, ◌==◌}
+use Rattle.std.proofs.Common.{◌≡◌, ◌≢◌, ℕ, zero, suc, ◌+◌, ◌<◌, ◌≤◌, Bool, true, false, IsTrue, List, [], ◌∷◌, length, get_or, slice_index, All, Option, Some, None, IfSome, IfNone, inl, inr, refl, sym, ap, ◌∙◌, subst, arith, map, ◌==◌}
 use Rattle.std.specs.Prelude.{EachIndex}
 use Rattle.std.specs.List.{IsDistinct, range_with_len}
 use Rattle.std.proofs.lemmas.Bool.{cases_eq, cases_lt, cases_order}
@@ -17,7 +17,7 @@ use Rattle.fleet_plan.specs.declared.plan_fault.Conflict.TheVariants.{Vertex, Sw
 use Rattle.fleet_plan.specs.Plan.{Plan, cell_of, motion_of, steps, IsPath}
 use Rattle.fleet_plan.specs.FirstFault.{GoesRight, path_of, HasConflict, HasNoConflict, time_of, IsKindUpTo, IsConflictUpTo, IsFirstConflict}
 use Rattle.fleet_plan.specs.Rings.{NamesAgents, ahead_of, walk_of, Leads, IsOnRing, IsLeastOnRing}
-use Rattle.fleet_plan.specs.Sweep.{StandOnMap, StandOnPlaces, Meet, IsFirstMeeting, IsAhead, AreAhead, Exchange, IsFirstExchange, HasNoMeeting, HasNoExchange, IsFirstIn, IsFreeIn, IsEntered, IsAgentSettled, IsSweep, IsSwept, SweepRows, HasComeTo}
+use Rattle.fleet_plan.specs.Sweep.{StandOnMap, StandOnPlaces, Meet, IsFirstMeeting, IsAhead, AreAhead, Exchange, IsFirstExchange, HasNoMeeting, HasNoExchange, IsFirstIn, IsFreeIn, IsEntered, IsAgentSettled, NamesMovers, IsSweep, IsSwept, SweepRows, HasComeTo, HaveArrived}
 use Rattle.fleet_plan.specs.UnderWay.{IsSoForOthers, Covers}
 use Rattle.fleet_plan.proofs.RingLaws.{some_is, none_is_not, shortened, each_ahead, each_reached, ends_with, each_on_ring, ring-reaches}
 use Rattle.fleet_plan.proofs.PathLaws.{at_past}
@@ -336,12 +336,12 @@ module _ (have : HavePlaces) (g : Ground) (plan : Plan) (on : StandOnMap g plan)
       go None h = tt
       go (Some c) h = first_is have g plan on t places next s.here then s.earlier c h
 
-  pub found_none : (b : Bool) → b ≡ is_some found → b ≡ false → IfNone found (IsFreeIn places next) → IsSweep g plan next (t + 1)
-  found_none b e f h = record { here = then; earlier = none_here have g plan on t places next s.here then s.earlier (go found (sym e ∙ f) h) }
+  pub found_none : IfNone found (IsFreeIn places next) → IfNone found (IsSweep g plan next (t + 1))
+  found_none h = go found h
     where
-      go : (o : Option Conflict) → is_some o ≡ false → IfNone o (IsFreeIn places next) → IsFreeIn places next
-      go None e h = h
-      go (Some c) e h = absurd (cc)
+      go : (o : Option Conflict) → IfNone o (IsFreeIn places next) → IfNone o (IsSweep g plan next (t + 1))
+      go None h = record { here = then; earlier = none_here have g plan on t places next s.here then s.earlier h }
+      go (Some c) h = tt
 
 -- ---- the rows of the loop
 
@@ -390,6 +390,13 @@ module _ (g : Ground) (plan : Plan) (table : Table ℕ) (places next : List ℕ)
         | inr e ↦ inr (nobody_ahead places next' ahead' are i b e)
       ]
 
+      pub names_movers : NamesMovers ahead' row
+      names_movers = record {
+        few = s.covers.few;
+        agents = λ k d l. let b = s.covers.agents k d l in omega (arith, b, are.all, s.sweep.here.all);
+        others = others_alone;
+      }
+
       pub others_settled : (walks' : List (Option ℕ)) → ((i : ℕ) → ahead_of ahead' i ≡ None → walk_of walks' i ≡ None) → IsSoForOthers row (length next') (IsAgentSettled places next' ahead' walks')
       others_settled walks' none i l = let b : i < length places = omega (arith, then.all, s.sweep.here.all) in elim (others_stay i b) [
         | inl c ↦ inl c
@@ -409,6 +416,12 @@ swept_on g plan table places next ahead walks row t s all entered settled covers
   entered = λ i l. let b : i < length next = omega arith in ap (value_in table) (sym ((settled i b).same)) ∙ entered i b;
   settled = settled;
   covers = covers;
+}
+
+pub come_on : (g : Ground) (plan : Plan) (t : ℕ) (old new : SweepRows) → IsSweep g plan old.next t → HaveArrived plan t old new → HasComeTo g plan t new
+come_on g plan t old new s a = record {
+  fits = a.fits;
+  swept = swept_on g plan new.table new.places new.next new.ahead new.walks new.agents t (subst (λ z. IsSweep g plan z t) (sym a.next) s) (a.fits.places ∙ sym a.fits.next) a.entered a.settled a.covers;
 }
 
 -- the rows may be told as slices

@@ -1,5 +1,6 @@
 -- Agents in places, which are numbers, at one time and at the next.
-use Rattle.std.specs.Prelude.{◌≡◌, ◌≢◌, ℕ, ◌<◌, ◌≤◌, List, length, slice_index, Option, Some, None, ◌⊎◌}
+use Rattle.std.specs.Prelude.{◌≡◌, ◌≢◌, ℕ, ◌<◌, ◌≤◌, List, length, slice_index, Option, Some, None, ◌⊎◌, All}
+use Rattle.fleet_model.specs.declared.limits.TheConstants.{MAX_AGENTS}
 use Rattle.fleet_grid.specs.Ground.{Ground, cell_index}
 use Rattle.fleet_grid.specs.declared.table.Table.{Table}
 use Rattle.fleet_grid.specs.Table.{value_in}
@@ -100,6 +101,12 @@ pub record IsFreeIn (places next : List ℕ) : Type 0 where
   pub none : HasNoExchange places ahead
   pub no_ring : (i : ℕ) → IsOnRing ahead i → ⊥
 
+-- the row is of agents, among them each that somebody is ahead of
+pub record NamesMovers (ahead : List (Option ℕ)) (row : List ℕ) : Type 0 where
+  pub few : length row ≤ MAX_AGENTS
+  pub agents : All (λ i. i < length ahead) row
+  pub others : IsSoForOthers row (length ahead) (IsUnblocked ahead)
+
 -- the first conflict in the step after time t, by who is ahead of whom
 abbrev pub IsFirstAhead : List (Option ℕ) → ℕ → Conflict → Type 0
 IsFirstAhead ahead t (Vertex x i j) = ⊥
@@ -165,3 +172,19 @@ pub record AreFresh (plan : Plan) (rows : SweepRows) : Type 0 where
 pub record HasComeTo (g : Ground) (plan : Plan) (t : ℕ) (rows : SweepRows) : Type 0 where
   pub fits : FitsPlan plan rows
   pub swept : IsSwept g plan rows.table rows.places rows.next rows.ahead rows.walks rows.agents t
+
+-- the sweep has looked ahead at the step after time t: the agents that are not looked at go nowhere, and are entered
+-- in their next places
+pub record HasLookedAhead (plan : Plan) (t : ℕ) (rows : SweepRows) : Type 0 where
+  pub fits : FitsPlan plan rows
+  pub entered : IsSoForOthers rows.agents (length rows.next) (HasIn rows.table rows.next)
+  pub settled : AreOtherAgentsSettled rows.agents rows.places rows.next rows.ahead rows.walks
+  pub covers : Covers plan t rows.agents
+
+-- the agents have come to their next places by time t
+pub record HaveArrived (plan : Plan) (t : ℕ) (old new : SweepRows) : Type 0 where
+  pub fits : FitsPlan plan new
+  pub next : new.next ≡ old.next
+  pub entered : IsEntered new.table new.next
+  pub settled : AreAgentsSettled new.places new.next new.ahead new.walks
+  pub covers : Covers plan t new.agents

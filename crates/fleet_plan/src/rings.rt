@@ -1,10 +1,8 @@
 //! Rings of agents in one step, each of which goes to the cell of the next one.
 
-ghost use Rattle.std.specs.Prelude.{◌≡◌, ℕ, ◌+◌, ◌<◌, ◌≤◌, ◌⊎◌, All, length, IfSome, IfNone, Some, None};
-ghost use Rattle.fleet_model.specs.declared.limits.TheConstants.{MAX_AGENTS};
+ghost use Rattle.std.specs.Prelude.{◌≡◌, ℕ, ◌+◌, ◌<◌, ◌≤◌, ◌⊎◌, length, IfSome, IfNone, Some, None};
 ghost use Rattle.fleet_plan.specs.Rings.{NamesAgents, ahead_of, walk_of, IsOnRing, IsLeastOnRing, LeadsTo, IsWalked, AreClosed};
-ghost use Rattle.fleet_plan.specs.UnderWay.{IsSoForOthers};
-ghost use Rattle.fleet_plan.specs.Sweep.{IsUnblocked};
+ghost use Rattle.fleet_plan.specs.Sweep.{NamesMovers};
 
 /// The least agent that is on a ring, if each agent has at most one that is ahead of it, and nobody is ahead of the
 /// agents that are not in the row. `walks` is working memory: an agent that nobody is ahead of is not noted there.
@@ -14,9 +12,7 @@ pub(crate) fn least_on_ring(
     walks: &mut [Option<u16>],
 ) -> Option<u16>
     requires agents { NamesAgents ahead.now }
-    requires row { All (λ i. i < length ahead.now) row.now }
-    requires few { length row.now ≤ MAX_AGENTS }
-    requires others { IsSoForOthers row.now (length ahead.now) (IsUnblocked ahead.now) }
+    requires row { NamesMovers ahead.now row.now }
     requires walks { length walks.old ≡ length ahead.now }
     requires unwalked { (i : ℕ) → walk_of walks.old i ≡ None }
     ensures some { IfSome result (IsLeastOnRing ahead.now) }

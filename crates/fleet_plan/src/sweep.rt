@@ -6,7 +6,7 @@ ghost use Rattle.fleet_grid.specs.Ground.{is_passable};
 ghost use Rattle.fleet_model.specs.declared.limits.TheConstants.{MAX_AGENTS};
 ghost use Rattle.fleet_plan.specs.FirstFault.{GoesRight, IsFirstConflict, HasNoConflict};
 ghost use Rattle.fleet_plan.specs.Rings.{NamesAgents, ahead_of, walk_of};
-ghost use Rattle.fleet_plan.specs.Sweep.{StandOnMap, StandOnPlaces, IsFirstMeeting, IsEntered, IsAhead, AreAhead, Exchange, IsFirstExchange, HasNone, IsFirstAhead, IsFreeAhead, OthersStandAt, HasIn, Stays, IsUnblocked, AreAgentsSettled, AreOtherAgentsSettled, AreFresh, HasComeTo};
+ghost use Rattle.fleet_plan.specs.Sweep.{StandOnMap, StandOnPlaces, IsFirstMeeting, IsEntered, IsAhead, AreAhead, Exchange, IsFirstExchange, HasNone, IsFirstAhead, IsFreeAhead, OthersStandAt, HasIn, Stays, NamesMovers, AreAgentsSettled, AreOtherAgentsSettled, AreFresh, IsSweep, HasComeTo, HasLookedAhead, HaveArrived};
 ghost use Rattle.fleet_plan.specs.UnderWay.{IsSoForOthers, Covers};
 
 use crate::plan::Plan;
@@ -182,9 +182,7 @@ fn conflict_in(
     requires ahead { NamesAgents ahead.now }
     requires few { length ahead.now ≤ MAX_AGENTS }
     requires apart { IsTrue apart → HasNone (Exchange ahead.now) }
-    requires agents { All (λ i. i < length ahead.now) agents.now }
-    requires few_agents { length agents.now ≤ MAX_AGENTS }
-    requires others { IsSoForOthers agents.now (length ahead.now) (IsUnblocked ahead.now) }
+    requires agents { NamesMovers ahead.now agents.now }
     requires walks { length walks.old ≡ length ahead.now }
     requires unwalked { (i : ℕ) → walk_of walks.old i ≡ None }
     ensures some { IfSome result (IsFirstAhead ahead.now time) }
@@ -399,21 +397,59 @@ impl Sweep {
     {
         // Agents in one place are on one cell: a law of the map.
         cells_have_places_of_their_own();
-        let places = self.places.as_mut_slice();
-        let next = self.next.as_mut_slice();
-        let ahead = self.ahead.as_mut_slice();
-        let walks = self.walks.as_mut_slice();
-        fill_next(plan, grid, time + 1, &self.agents, next);
-        let apart = fill_ahead(&self.table, places, next, &self.agents, ahead);
-        let found = conflict_in(time, apart, &self.agents, ahead, walks);
-        if found.is_some() {
-            return Ok(found);
+        if let Some(conflict) = self.look_ahead(plan, grid, time) {
+            return Ok(Some(conflict));
         }
-        if let Some((i, j)) = meeting(&mut self.table, &self.agents, next)? {
+        if let Some((i, j)) = self.arrive(plan, time)? {
             let time = time + 1;
             return Ok(Some(Conflict::Vertex { time, i, j }));
         }
-        settle(&self.agents, next, places, ahead, walks);
+        Ok(None)
+    }
+
+    /// The first conflict of a plan, if it is on the way to the next time, and the sweep has come to `time`: two agents
+    /// that change places, or a ring. Notes where the agents are then, and who is ahead of each.
+    fn look_ahead(&mut self, plan: &Plan, grid: &Grid, time: u32) -> Option<Conflict>
+        requires on_map { StandOnMap grid.now plan.now }
+        requires few { length plan.now ≤ MAX_AGENTS }
+        requires time { time < 4294967295 }
+        requires swept { HasComeTo grid.now plan.now time self.old }
+        ensures some { IfSome result (IsFirstConflict plan.now) }
+        ensures none { IfNone result (IsSweep grid.now plan.now self.new.next (time + 1)) }
+        ensures ahead { HasLookedAhead plan.now time self.new }
+    {
+        // Agents in one place are on one cell: a law of the map.
+        cells_have_places_of_their_own();
+        let agents = self.agents.as_slice();
+        let places = self.places.as_slice();
+        let next = self.next.as_mut_slice();
+        let ahead = self.ahead.as_mut_slice();
+        let walks = self.walks.as_mut_slice();
+        fill_next(plan, grid, time + 1, agents, next);
+        let apart = fill_ahead(&self.table, places, next, agents, ahead);
+        conflict_in(time, apart, agents, ahead, walks)
+    }
+
+    /// The first two agents that come to one place at the end of the step after `time`. If there are none, the agents
+    /// have come to their next places.
+    fn arrive(&mut self, plan: &Plan, time: u32) -> Result<Option<(u16, u16)>, AllocError>
+        requires few { length plan.now ≤ MAX_AGENTS }
+        requires time { time < 4294967295 }
+        requires ahead { HasLookedAhead plan.now time self.old }
+        ensures some { IfOk result (λ found. IfSome found
+            (λ pair. IsFirstMeeting self.old.next pair.0 pair.1)) }
+        ensures none { IfOk result (λ found. IfNone found
+            (HaveArrived plan.now (time + 1) self.old self.new)) }
+    {
+        let agents = self.agents.as_slice();
+        let next = self.next.as_slice();
+        if let Some(pair) = meeting(&mut self.table, agents, next)? {
+            return Ok(Some(pair));
+        }
+        let places = self.places.as_mut_slice();
+        let ahead = self.ahead.as_mut_slice();
+        let walks = self.walks.as_mut_slice();
+        settle(agents, next, places, ahead, walks);
         drop_arrived(&mut self.agents, plan, time);
         Ok(None)
     }

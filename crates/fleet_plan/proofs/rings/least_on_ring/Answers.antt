@@ -3,7 +3,7 @@ use Rattle.fleet_plan.proofs.rings.least_on_ring.Goals as goal
 use Rattle.fleet_plan.proofs.rings.least_on_ring.Goals.{in-Some, in_default}
 
 pub loop-number-init : goal.loop-number-init
-loop-number-init c = walked_begins c.args.row.now c.args.ahead.now c.args.walks.now c.requires.walks c.requires.unwalked c.requires.others
+loop-number-init c = walked_begins c.args.row.now c.args.ahead.now c.args.walks.now c.requires.walks c.requires.unwalked c.requires.row.others
 
 pub loop-number-preserved : goal.loop-number-preserved
 loop-number-preserved c =

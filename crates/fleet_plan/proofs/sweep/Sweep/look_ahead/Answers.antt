@@ -1,0 +1,52 @@
+use Rattle.std.proofs.Common.{sym, arith}
+use Rattle.std.proofs.lemmas.List.{with_items_is}
+use Rattle.fleet_plan.proofs.MeetLaws.{entered_apart, first_in, free_in}
+use Rattle.fleet_plan.proofs.SweepLaws.{found_first, found_none, others_there, others_stay, names_movers, others_entered, others_settled, come_to_as}
+use Rattle.fleet_plan.proofs.sweep.Sweep.look_ahead.Goals as goal
+
+pub fill_next-requires-clause-others : goal.fill_next-requires-clause-others
+fill_next-requires-clause-others c =
+    let has = come_to_as _ _ _ _ _ _ _ _ c.as_slice-places.ensures.value c.as_mut_slice-next.ensures.value c.as_mut_slice-ahead.ensures.value c.as_mut_slice-walks.ensures.value (rw (sym c.self.view_is) at c.requires.swept) in
+    rw c.as_slice-agents.ensures.value (others_there c.args.grid.now c.args.plan.now c.self.inside.table c.as_slice-places.result.now c.as_mut_slice-next.result.now c.as_mut_slice-ahead.result.now c.as_mut_slice-walks.result.now c.self.inside.agents.items c.args.time has.swept has.fits.next)
+
+pub fill_ahead-apart-requires-clause-others : goal.fill_ahead-apart-requires-clause-others
+fill_ahead-apart-requires-clause-others c =
+    let has = come_to_as _ _ _ _ _ _ _ _ c.as_slice-places.ensures.value c.as_mut_slice-next.ensures.value c.as_mut_slice-ahead.ensures.value c.as_mut_slice-walks.ensures.value (rw (sym c.self.view_is) at c.requires.swept) in
+    rw c.as_slice-agents.ensures.value (others_stay c.args.grid.now c.args.plan.now c.self.inside.table c.as_slice-places.result.now c.as_mut_slice-next.result.now c.as_mut_slice-ahead.result.now c.as_mut_slice-walks.result.now c.self.inside.agents.items c.args.time has.swept has.fits.next c.fill_next.new.next c.fill_next.ensures)
+
+pub conflict_in-requires-clause-agents : goal.conflict_in-requires-clause-agents
+conflict_in-requires-clause-agents c =
+    let has = come_to_as _ _ _ _ _ _ _ _ c.as_slice-places.ensures.value c.as_mut_slice-next.ensures.value c.as_mut_slice-ahead.ensures.value c.as_mut_slice-walks.ensures.value (rw (sym c.self.view_is) at c.requires.swept) in
+    rw c.as_slice-agents.ensures.value (names_movers c.args.grid.now c.args.plan.now c.self.inside.table c.as_slice-places.result.now c.as_mut_slice-next.result.now c.as_mut_slice-ahead.result.now c.as_mut_slice-walks.result.now c.self.inside.agents.items c.args.time has.swept has.fits.next c.fill_next.new.next c.fill_next.ensures c.fill_ahead-apart.new.ahead c.fill_ahead-apart.ensures.ahead)
+
+pub returns-clause-some : goal.returns-clause-some
+returns-clause-some c =
+    let has = come_to_as _ _ _ _ _ _ _ _ c.as_slice-places.ensures.value c.as_mut_slice-next.ensures.value c.as_mut_slice-ahead.ensures.value c.as_mut_slice-walks.ensures.value (rw (sym c.self.view_is) at c.requires.swept) in
+    found_first c.cells_have_places_of_their_own.ensures c.args.grid.now c.args.plan.now c.requires.on_map c.args.time c.as_slice-places.result.now c.fill_next.new.next has.swept.sweep c.fill_next.ensures c.conflict_in.result (first_in c.as_slice-places.result.now c.fill_next.new.next c.fill_ahead-apart.new.ahead c.args.time (entered_apart c.self.inside.table c.as_slice-places.result.now has.swept.entered) c.fill_ahead-apart.ensures.ahead c.conflict_in.result c.conflict_in.ensures.some)
+
+pub returns-clause-none : goal.returns-clause-none
+returns-clause-none c =
+    let has = come_to_as _ _ _ _ _ _ _ _ c.as_slice-places.ensures.value c.as_mut_slice-next.ensures.value c.as_mut_slice-ahead.ensures.value c.as_mut_slice-walks.ensures.value (rw (sym c.self.view_is) at c.requires.swept) in
+    rw (with_items_is c.self.inside.next c.fill_next.new.next (omega (arith, c.fill_next.auto.next, c.as_mut_slice-next.ensures.len, c.self.inside.next.ok))) (found_none c.cells_have_places_of_their_own.ensures c.args.grid.now c.args.plan.now c.requires.on_map c.args.time c.as_slice-places.result.now c.fill_next.new.next has.swept.sweep c.fill_next.ensures c.conflict_in.result (free_in c.as_slice-places.result.now c.fill_next.new.next c.fill_ahead-apart.new.ahead (entered_apart c.self.inside.table c.as_slice-places.result.now has.swept.entered) c.fill_ahead-apart.ensures.ahead c.conflict_in.result c.conflict_in.ensures.none))
+
+pub returns-clause-ahead : goal.returns-clause-ahead
+returns-clause-ahead c =
+    let has = come_to_as _ _ _ _ _ _ _ _ c.as_slice-places.ensures.value c.as_mut_slice-next.ensures.value c.as_mut_slice-ahead.ensures.value c.as_mut_slice-walks.ensures.value (rw (sym c.self.view_is) at c.requires.swept) in
+    let v = c.self.inside in
+    let was = rw (sym c.self.view_is) at c.requires.swept in
+    rw (
+      with_items_is v.next c.fill_next.new.next (omega (arith, c.fill_next.auto.next, c.as_mut_slice-next.ensures.len, v.next.ok)),
+      with_items_is v.ahead c.fill_ahead-apart.new.ahead (omega (arith, c.fill_ahead-apart.auto.ahead, c.as_mut_slice-ahead.ensures.len, v.ahead.ok)),
+      with_items_is v.walks c.conflict_in.new.walks (omega (arith, c.conflict_in.auto.walks, c.as_mut_slice-walks.ensures.len, v.walks.ok)),
+    )
+    (record {
+      fits = record {
+        places = was.fits.places;
+        next = c.fill_next.ensures.all;
+        ahead = omega (arith, c.fill_ahead-apart.auto.ahead, has.fits.ahead);
+        walks = omega (arith, c.conflict_in.auto.walks, has.fits.walks);
+      };
+      entered = others_entered c.args.grid.now c.args.plan.now v.table c.as_slice-places.result.now c.as_mut_slice-next.result.now c.as_mut_slice-ahead.result.now c.as_mut_slice-walks.result.now v.agents.items c.args.time has.swept has.fits.next c.fill_next.new.next c.fill_next.ensures;
+      settled = rw (sym c.as_slice-places.ensures.value) (others_settled c.args.grid.now c.args.plan.now v.table c.as_slice-places.result.now c.as_mut_slice-next.result.now c.as_mut_slice-ahead.result.now c.as_mut_slice-walks.result.now v.agents.items c.args.time has.swept has.fits.next c.fill_next.new.next c.fill_next.ensures c.fill_ahead-apart.new.ahead c.fill_ahead-apart.ensures.ahead c.conflict_in.new.walks c.conflict_in.ensures.unwalked);
+      covers = has.swept.covers;
+    })

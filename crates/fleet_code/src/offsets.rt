@@ -1,6 +1,6 @@
 //! Where the actions of an agent stand in the bytes.
 
-ghost use Rattle.std.specs.Prelude.{◌≡◌, ◌<◌, ◌≤◌, ◌+◌, ◌-◌, ◌/◌, ◌∷◌, [], min, replicate, true, length, take, vec_len, vec_capacity, IfOk, IfSome, IsTrue, ◌↔◌, Ok, List, ◌^◌, All, slice_index_or};
+ghost use Rattle.std.specs.Prelude.{◌≡◌, ◌<◌, ◌≤◌, ◌+◌, ◌-◌, ◌/◌, ◌∷◌, [], min, replicate, true, length, take, vec_len, vec_capacity, IfOk, IfSome, IfNone, IsTrue, ◌↔◌, ℕ, Ok, List, ◌^◌, All, slice_index_or};
 ghost use Rattle.fleet_model.specs.Answer.{IsDueUnless};
 ghost use Rattle.fleet_model.specs.declared.program.Action.{Action};
 ghost use Rattle.fleet_code.specs.Spelling.{action, agent};
@@ -205,12 +205,17 @@ fn bare_after_first(
         × (actions_at head.version count head.whole head.agents own bytes.now
         ≡ Ok (actions, x.1.now)) × (x.0 ≡ 0 ∷ ends_of 0 actions))) }
     ensures count { IfOk result (λ found. IfSome found (λ x. length x.0 ≡ count + 1)) }
+    ensures none { IfOk result (λ found. IfNone found ((first : Action) (rest : List ℕ) → 1 ≤ count
+        → action_at head.version (length bytes.now) head.whole head.agents own 0 bytes.now
+        ≡ Ok (first, rest) → AreBare head.version (count - 1) rest → ⊥)) }
 {
     if count == 0 {
         return Ok(None);
     }
-    let Ok((opcodes, after)) = after_action(head, own, bytes) else {
-        return Ok(None);
+    let (opcodes, after) = match after_action(head, own, bytes) {
+        Ok(found) => found,
+        Err(LoadFault::OutOfMemory) => return Err(OutOfMemory),
+        Err(_) => return Ok(None),
     };
     if !are_bare(head.version, count - 1, after) {
         return Ok(None);

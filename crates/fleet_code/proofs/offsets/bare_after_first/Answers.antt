@@ -13,11 +13,11 @@ returns-clause-value c =
     let first = c.in-Ok.ensures.value in
     let bare = c.are_bare.ensures.0 c.if-not-are_bare.false in
     let more : count ≡ suc (count - 1) = omega (arith, c.if-count-eq0.false) in
-    let found = bare_later head.version (count - 1) head.whole head.agents c.args.own c.args.bytes.now c.in-Ok.after.now first.0.0 (first.1 ∙ ap (λ (rest : List ℕ). Ok (first.0.0, rest)) (sym first.2.1)) bare.there bare.steps in (
+    let found = bare_later head.version (count - 1) head.whole head.agents c.args.own c.args.bytes.now c.in-Ok.found.1.now first.0.0 (first.1 ∙ ap (λ (rest : List ℕ). Ok (first.0.0, rest)) (sym first.2.1)) bare.there bare.steps in (
       found.0,
       subst (λ (m : ℕ). actions_at head.version m head.whole head.agents c.args.own c.args.bytes.now ≡ Ok (found.0, c.split_at.result.1.now)) (sym more) (found.1 ∙ ap (λ (rest : List ℕ). Ok (found.0, rest)) (sym c.split_at.ensures.back)),
       c.in_ok-bare_after.ensures ∙ (ap (λ (k : ℕ). 0 ∷ range_with_len k count) first.2.0 ∙ (ap (λ (m : ℕ). 0 ∷ range_with_len (opcodes first.0.0) m) more ∙ found.2)),
     )
 
 pub returns-clause-count : goal.returns-clause-count
-returns-clause-count c = rw c.in_ok-bare_after.ensures (omega (arith, length-range_with_len c.in-Ok.opcodes c.args.count))
+returns-clause-count c = rw c.in_ok-bare_after.ensures (omega (arith, length-range_with_len c.in-Ok.found.0 c.args.count))

@@ -1,8 +1,9 @@
--- Rows of bytes that end with kept places.
-use Rattle.std.proofs.Common.{◌≡◌, ◌≤◌, ◌<◌, ◌+◌, ◌-◌, ◌++◌, ◌∷◌, [], ◌⊎◌, get_or, zero, suc, inl, inr, refl, ℕ, List, length, take, drop, set, ap, sym, ◌∙◌, arith, length-append, subst, Bool, true, false, Option, None, Some, if◌then◌else◌, add-one}
+-- Rows of bytes that end with kept numerals.
+use Rattle.std.proofs.Common.{◌≡◌, ◌≢◌, ◌≤◌, ◌<◌, ◌+◌, ◌-◌, ◌*◌, ◌++◌, ◌∷◌, [], ◌⊎◌, get_or, zero, suc, inl, inr, refl, ℕ, List, length, take, drop, set, ap, sym, ◌∙◌, arith, length-append, subst, Bool, true, false, Option, None, Some, pos, if◌then◌else◌, add-one}
 use Rattle.std.proofs.lemmas.List.{append_assoc, drop-append-le, drop-drop, drop-set-lt, drop-take, drop_all, ext_get_or, get_or_past, get_or-map, map-set, get_or-set_other, get_or-set_same, length-drop, length-map, length-set, length-take}
 use Rattle.std.specs.Prelude.{codes}
 use Rattle.std.specs.List.{flat_map}
+use Rattle.std.specs.Fmt.{signed_decimal}
 use Rattle.std.proofs.lemmas.List.FromFn.{get_or-map-range_with_len}
 use Rattle.std.proofs.lemmas.List.Concat.{flat_map-cons}
 use Rattle.std.proofs.Math.Seq.{drop-append-add, drop-append_seam, drop-cons, take-append-add}
@@ -20,8 +21,9 @@ use Rattle.fleet_model.specs.Machine.{Configuration, standing_at, standing_after
 use Rattle.fleet_model.proofs.Tick.{length-tick, standing_at_tick}
 use Rattle.fleet_machine.specs.Machine.{MachineState, flag_of, moving_flags}
 use Rattle.fleet_machine.specs.AgentSet.{AreNoneFrom, IsNextFrom}
+use Rattle.fleet_run.specs.declared.line.Change.{Change}
 use Rattle.fleet_run.specs.Text.{place_text}
-use Rattle.fleet_run.specs.Line.{places_text, IsLineKept, IsWrittenOver, WritesOver, IsBeside, IsTextOf, IsKeptBefore, places_of}
+use Rattle.fleet_run.specs.Line.{Numeral, numeral, numeral_text, numeral_before, numeral_after, numerals_of, numerals_text, HasNumerals, EndsWith, IsNumeralAt, IsLineKept, IsWrittenOver, WritesOver, IsBeside, IsChange, IsKeptBefore, places_of}
 
 -- what was written before a place leaves what is behind it
 drop_behind : (row row' text : List ℕ) (at m : ℕ) → drop at row' ≡ text ++ drop (at + length text) row
@@ -51,24 +53,19 @@ same_or_later zero (suc k) l = inr (omega arith)
 same_or_later (suc i) zero l = absurd (omega arith)
 same_or_later (suc i) (suc k) l = elim (same_or_later i k (omega arith)) [ inl e ↦ inl (ap suc e) | inr m ↦ inr (omega arith) ]
 
--- behind the last place stands the end of the line
-pub last_place : (c : Configuration) (row : List ℕ) (at k : ℕ) → length c ≤ k → drop at row ≡ 10 ∷ [] → drop at row ≡ places_text (drop k c)
-last_place c row at k l e =
+-- behind the last numeral stands the end of the line
+pub last_numeral : (c : List Numeral) (row : List ℕ) (at k : ℕ) → length c ≤ k → drop at row ≡ 10 ∷ [] → drop at row ≡ numerals_text (drop k c)
+last_numeral c row at k l e =
     let none : drop k c ≡ [] = drop_all k c l in
     rw none e
 
--- a place that was written before those behind it
-pub placed : (c : Configuration) (row row' : List ℕ) (at end i j : ℕ) (d : Standing) → i < length c → j ≡ suc i → drop at row' ≡ place_text (get_or c i d).place ++ drop end row
-    → drop end row ≡ places_text (drop j c) → drop at row' ≡ places_text (drop i c)
+-- a numeral that was written before those behind it
+pub placed : (c : List Numeral) (row row' : List ℕ) (at end i j : ℕ) (d : Numeral) → i < length c → j ≡ suc i → drop at row' ≡ numeral_text (get_or c i d) ++ drop end row
+    → drop end row ≡ numerals_text (drop j c) → drop at row' ≡ numerals_text (drop i c)
 placed c row row' at end i j d l next e behind =
-    let text = place_text (get_or c i d).place in
-    e ∙ ap (λ x. text ++ x) (behind ∙ ap (λ k. places_text (drop k c)) next) ∙ sym (append_assoc text (flat_map (λ s. place_text s.place) (drop (suc i) c)) (codes "\n"))
-    ∙ ap (λ x. x ++ codes "\n") (sym (flat_map-cons (λ (s : Standing). place_text s.place) (get_or c i d) (drop (suc i) c))) ∙ ap places_text (sym (drop-cons c i d l))
-
--- the same of the place of an agent
-pub place_before : (c : Configuration) (i : ℕ) (d : Standing) (row row' : List ℕ) (at end n : ℕ) → drop at row' ≡ place_text (get_or c i d).place ++ drop end row
-    → length row' ≡ length row → at ≤ end → end ≤ length row → end ≤ n → drop n row' ≡ drop n row
-place_before c i d row row' at end n e same low high later = left_behind row row' (place_text (get_or c i d).place) at end n e same low high later
+    let text = numeral_text (get_or c i d) in
+    e ∙ ap (λ x. text ++ x) (behind ∙ ap (λ k. numerals_text (drop k c)) next) ∙ sym (append_assoc text (flat_map numeral_text (drop (suc i) c)) (codes "\n"))
+    ∙ ap (λ x. x ++ codes "\n") (sym (flat_map-cons numeral_text (get_or c i d) (drop (suc i) c))) ∙ ap numerals_text (sym (drop-cons c i d l))
 
 -- A piece of a row before what was written over
 pub piece_before : (row rest t : List ℕ) (n m at : ℕ) → m ≡ n + length t → m ≤ at → at ≤ length row → drop n row ≡ t ++ drop m row
@@ -84,29 +81,29 @@ piece_before row rest t n m at next low high e =
     drop-append-le n (take at row) rest (omega (arith, front, next)) ∙ ap (λ x. x ++ rest) (left ∙ ap (λ x. t ++ x) (sym right)) ∙ append_assoc t (drop m (take at row)) rest
     ∙ ap (λ x. t ++ x) (sym (drop-append-le m (take at row) rest (omega (arith, front))))
 
--- how far the next place is
-pub next_begin : (c : Configuration) (row begins : List ℕ) (k : ℕ) (d : Standing) → IsLineKept c row begins → k < length c
-    → (get_or begins (k + 1) 0 ≡ get_or begins k 0 + length (place_text (get_or c k d).place)) × (drop (get_or begins k 0) row ≡ place_text (get_or c k d).place ++ drop (get_or begins (k + 1) 0) row)
+-- how far the next numeral is
+pub next_begin : (c : List Numeral) (row begins : List ℕ) (k : ℕ) (d : Numeral) → HasNumerals c row begins → k < length c
+    → (get_or begins (k + 1) 0 ≡ get_or begins k 0 + length (numeral_text (get_or c k d))) × (drop (get_or begins k 0) row ≡ numeral_text (get_or c k d) ++ drop (get_or begins (k + 1) 0) row)
 next_begin c row begins k d kept agent =
-    let text = place_text (get_or c k d).place in
+    let text = numeral_text (get_or c k d) in
     let e : drop (get_or begins k 0) row ≡ text ++ drop (get_or begins (k + 1) 0) row =
-    kept.places k (omega arith) ∙ ap places_text (drop-cons c k d agent)
-    ∙ ap (λ x. x ++ codes "\n") (flat_map-cons (λ (s : Standing). place_text s.place) (get_or c k d) (drop (suc k) c))
-    ∙ append_assoc text (flat_map (λ s. place_text s.place) (drop (suc k) c)) (codes "\n")
-    ∙ ap (λ n. text ++ places_text (drop n c)) (sym (add-one k)) ∙ ap (λ x. text ++ x) (sym (kept.places (k + 1) (omega arith))) in
+    kept.numerals k (omega arith) ∙ ap numerals_text (drop-cons c k d agent)
+    ∙ ap (λ x. x ++ codes "\n") (flat_map-cons numeral_text (get_or c k d) (drop (suc k) c))
+    ∙ append_assoc text (flat_map numeral_text (drop (suc k) c)) (codes "\n")
+    ∙ ap (λ n. text ++ numerals_text (drop n c)) (sym (add-one k)) ∙ ap (λ x. text ++ x) (sym (kept.numerals (k + 1) (omega arith))) in
     (written_length row row text (get_or begins k 0) (get_or begins (k + 1) 0) e refl (omega (arith, kept.room, kept.within k (omega arith))) (omega (arith, kept.room, kept.within (k + 1) (omega arith))), e)
 
--- places behind one another begin one after the other
-pub begins_rise : (c : Configuration) (row begins : List ℕ) (d : Standing) → IsLineKept c row begins → (k m : ℕ) → k + m ≤ length c → get_or begins k 0 ≤ get_or begins (k + m) 0
+-- numerals behind one another begin one after the other
+pub begins_rise : (c : List Numeral) (row begins : List ℕ) (d : Numeral) → HasNumerals c row begins → (k m : ℕ) → k + m ≤ length c → get_or begins k 0 ≤ get_or begins (k + m) 0
 begins_rise c row begins d kept k zero h = let e : k + zero ≡ k = omega arith in rw e (omega arith)
 begins_rise c row begins d kept k (suc m) h =
     let e : k + suc m ≡ k + m + 1 = omega arith in
     let next = (next_begin c row begins (k + m) d kept (omega arith)).0 in
     rw e (omega (arith, next, begins_rise c row begins d kept k m (omega arith)))
 
--- A row in which a place was written over one that has as many bytes.
-module _ (c : Configuration) (row row' begins : List ℕ) (i : ℕ) (s : Standing) (kept : IsLineKept c row begins) (agent : i < length c)
-    (over : IsWrittenOver s.place (get_or begins i 0) (get_or begins (i + 1) 0) row row') where
+-- A row in which a numeral was written over one that has as many bytes.
+module _ (c : List Numeral) (row row' begins : List ℕ) (i : ℕ) (s : Numeral) (kept : HasNumerals c row begins) (agent : i < length c)
+    (over : IsWrittenOver (numeral_text s) (get_or begins i 0) (get_or begins (i + 1) 0) row row') where
   abbrev at : ℕ
   at = get_or begins i 0
 
@@ -114,9 +111,9 @@ module _ (c : Configuration) (row row' begins : List ℕ) (i : ℕ) (s : Standin
   end = get_or begins (i + 1) 0
 
   abbrev text : List ℕ
-  text = place_text s.place
+  text = numeral_text s
 
-  abbrev after : Configuration
+  abbrev after : List Numeral
   after = set c i s
 
   at_within : at ≤ 24587
@@ -132,60 +129,181 @@ module _ (c : Configuration) (row row' begins : List ℕ) (i : ℕ) (s : Standin
   as_long = let e : length row' ≡ length (take at row ++ (text ++ drop end row)) = ap length over.written in
       omega (arith, e, front, length-append (take at row) (text ++ drop end row), length-append text (drop end row), length-drop end row, over.fits, kept.room, end_within)
 
-  -- from the place on
+  -- from the numeral on
   from_place : drop at row' ≡ text ++ drop end row
   from_place = ap (drop at) over.written ∙ subst (λ n. drop n (take at row ++ (text ++ drop end row)) ≡ text ++ drop end row) front (drop-append_seam (take at row) (text ++ drop end row))
 
-  -- behind the place all is as it was
-  behind : (k : ℕ) → i < k → k ≤ length c → end ≤ get_or begins k 0 → drop (get_or begins k 0) row' ≡ places_text (drop k after)
+  -- behind the numeral all is as it was
+  behind : (k : ℕ) → i < k → k ≤ length c → end ≤ get_or begins k 0 → drop (get_or begins k 0) row' ≡ numerals_text (drop k after)
   behind k later h low =
       left_behind row row' text at end (get_or begins k 0) from_place (omega (arith, as_long, kept.room)) (omega (arith, over.fits)) (omega (arith, kept.room, end_within)) low
-      ∙ kept.places k h ∙ ap places_text (sym (drop-set-lt k c i s later))
+      ∙ kept.numerals k h ∙ ap numerals_text (sym (drop-set-lt k c i s later))
 
-  -- the place itself
-  pub here : drop at row' ≡ places_text (drop i after)
+  -- the numeral itself
+  pub here : drop at row' ≡ numerals_text (drop i after)
   here = placed after row row' at end i (i + 1) s (omega (arith, length-set c i s)) (omega arith)
-      (from_place ∙ ap (λ (d : Standing). place_text d.place ++ drop end row) (sym (get_or-set_same c i s s agent)))
-      (kept.places (i + 1) (omega arith) ∙ ap places_text (sym (drop-set-lt (i + 1) c i s (omega arith))))
+      (from_place ∙ ap (λ (d : Numeral). numeral_text d ++ drop end row) (sym (get_or-set_same c i s s agent)))
+      (kept.numerals (i + 1) (omega arith) ∙ ap numerals_text (sym (drop-set-lt (i + 1) c i s (omega arith))))
 
-  -- before the place all is as it was
-  pub before : (m k : ℕ) → k + m ≡ i → drop (get_or begins k 0) row' ≡ places_text (drop k after)
+  -- before the numeral all is as it was
+  pub before : (m k : ℕ) → k + m ≡ i → drop (get_or begins k 0) row' ≡ numerals_text (drop k after)
   before zero k is = let e : k ≡ i = omega arith in rw e here
   before (suc m) k is =
       let next = next_begin c row begins k s kept (omega arith) in
       let later = begins_rise c row begins s kept (k + 1) m (omega arith) in
       let goes : k + 1 + m ≡ i = omega arith in
       let low : get_or begins (k + 1) 0 ≤ at = subst (λ n. get_or begins (k + 1) 0 ≤ get_or begins n 0) goes later in
-      let piece = piece_before row (text ++ drop end row) (place_text (get_or c k s).place) (get_or begins k 0) (get_or begins (k + 1) 0) at next.0 low (omega (arith, kept.room, at_within)) next.1 in
+      let piece = piece_before row (text ++ drop end row) (numeral_text (get_or c k s)) (get_or begins k 0) (get_or begins (k + 1) 0) at next.0 low (omega (arith, kept.room, at_within)) next.1 in
       let same : get_or after k s ≡ get_or c k s = get_or-set_other c i k s s (omega arith) in
       placed after row' row' (get_or begins k 0) (get_or begins (k + 1) 0) k (k + 1) s (omega (arith, length-set c i s)) (omega arith)
-      (ap (drop (get_or begins k 0)) over.written ∙ piece ∙ ap (λ x. place_text (get_or c k s).place ++ drop (get_or begins (k + 1) 0) x) (sym over.written)
-      ∙ ap (λ (d : Standing). place_text d.place ++ drop (get_or begins (k + 1) 0) row') (sym same))
+      (ap (drop (get_or begins k 0)) over.written ∙ piece ∙ ap (λ x. numeral_text (get_or c k s) ++ drop (get_or begins (k + 1) 0) x) (sym over.written)
+      ∙ ap (λ (d : Numeral). numeral_text d ++ drop (get_or begins (k + 1) 0) row') (sym same))
       (before m (k + 1) (omega arith))
 
-  pub after_or_at : (k : ℕ) → k ≤ length c → i ≤ k → drop (get_or begins k 0) row' ≡ places_text (drop k after)
+  pub after_or_at : (k : ℕ) → k ≤ length c → i ≤ k → drop (get_or begins k 0) row' ≡ numerals_text (drop k after)
   after_or_at k h low = elim (same_or_later i k low) [
     | inl e ↦ rw e here
     | inr l ↦ behind k l h (let r = begins_rise c row begins s kept (i + 1) (k - (i + 1)) (omega arith) in let goes : i + 1 + (k - (i + 1)) ≡ k = omega arith in subst (λ n. end ≤ get_or begins n 0) goes r)
   ]
 
--- What is kept of a configuration in which one place was written over.
-pub overwritten : (c : Configuration) (row row' begins : List ℕ) (i : ℕ) (s : Standing) → IsLineKept c row begins → i < length c
-    → IsWrittenOver s.place (get_or begins i 0) (get_or begins (i + 1) 0) row row' → IsLineKept (set c i s) row' begins
+-- What is kept of a row in which one numeral was written over.
+pub overwritten : (c : List Numeral) (row row' begins : List ℕ) (i : ℕ) (s : Numeral) → HasNumerals c row begins → i < length c
+    → IsWrittenOver (numeral_text s) (get_or begins i 0) (get_or begins (i + 1) 0) row row' → HasNumerals (set c i s) row' begins
 overwritten c row row' begins i s kept agent over =
     let same_length = length-set c i s in
     record {
-      agents = omega (arith, same_length, kept.agents);
+      few = omega (arith, same_length, kept.few);
       room = as_long c row row' begins i s kept agent over;
       begun = kept.begun;
       time = kept.time;
       rising = λ k h. kept.rising k (omega (arith, same_length));
       within = λ k h. kept.within k (omega (arith, same_length));
-      places = λ k h. elim (cases_lt k i) [
+      numerals = λ k h. elim (cases_lt k i) [
         | inl m ↦ before c row row' begins i s kept agent over (i - k) k (omega arith)
         | inr l ↦ after_or_at c row row' begins i s kept agent over k (omega (arith, same_length)) l
       ];
     }
+
+-- ---- the numerals of a configuration
+
+pub length-numerals_of : (c : Configuration) → length (numerals_of c) ≡ 2 * length c
+length-numerals_of [] = refl
+length-numerals_of (s ∷ c) = omega (arith, length-numerals_of c)
+
+numerals_are_places : (c : Configuration) → flat_map numeral_text (numerals_of c) ≡ flat_map (λ s. place_text s.place) c
+numerals_are_places [] = refl
+numerals_are_places (s ∷ c) =
+    let column = signed_decimal s.place.x in
+    let others : List ℕ = flat_map (λ (t : Standing). place_text t.place) c in
+    ap (λ l. 32 ∷ (column ++ (44 ∷ (signed_decimal s.place.y ++ l)))) (numerals_are_places c)
+    ∙ ap (λ l. 32 ∷ l) (sym (append_assoc column (44 ∷ signed_decimal s.place.y) others))
+
+-- the places, and the end of the line
+pub places_behind : (c : Configuration) (row begins : List ℕ) → IsLineKept c row begins → drop (get_or begins 0 0) row ≡ flat_map (λ s. place_text s.place) c ++ codes "\n"
+places_behind c row begins kept = kept.numerals 0 (omega arith) ∙ ap (λ l. l ++ codes "\n") (numerals_are_places c)
+
+column_at : (c : Configuration) (i : ℕ) (n : Numeral) → i < length c → get_or (numerals_of c) (2 * i) n ≡ numeral 32 (standing_at c i).place.x
+column_at [] i n l = absurd (omega arith)
+column_at (s ∷ c) zero n l = refl
+column_at (s ∷ c) (suc i) n l = let two : 2 * suc i ≡ suc (suc (2 * i)) = omega arith in rw two (column_at c i n (omega arith))
+
+row_at : (c : Configuration) (i : ℕ) (n : Numeral) → i < length c → get_or (numerals_of c) (2 * i + 1) n ≡ numeral 44 (standing_at c i).place.y
+row_at [] i n l = absurd (omega arith)
+row_at (s ∷ c) zero n l = refl
+row_at (s ∷ c) (suc i) n l = let two : 2 * suc i + 1 ≡ suc (suc (2 * i + 1)) = omega arith in rw two (row_at c i n (omega arith))
+
+column_set : (c : Configuration) (i : ℕ) (s : Standing) → i < length c → (standing_at c i).place.y ≡ s.place.y
+    → set (numerals_of c) (2 * i) (numeral 32 s.place.x) ≡ numerals_of (set c i s)
+column_set [] i s l e = absurd (omega arith)
+column_set (t ∷ c) zero s l e = ap (λ y. numeral 32 s.place.x ∷ numeral 44 y ∷ numerals_of c) e
+column_set (t ∷ c) (suc i) s l e =
+    let two : 2 * suc i ≡ suc (suc (2 * i)) = omega arith in
+    rw two (ap (λ ns. numeral 32 t.place.x ∷ numeral 44 t.place.y ∷ ns) (column_set c i s (omega arith) e))
+
+row_set : (c : Configuration) (i : ℕ) (s : Standing) → i < length c → (standing_at c i).place.x ≡ s.place.x
+    → set (numerals_of c) (2 * i + 1) (numeral 44 s.place.y) ≡ numerals_of (set c i s)
+row_set [] i s l e = absurd (omega arith)
+row_set (t ∷ c) zero s l e = ap (λ x. numeral 32 x ∷ numeral 44 s.place.y ∷ numerals_of c) e
+row_set (t ∷ c) (suc i) s l e =
+    let two : 2 * suc i + 1 ≡ suc (suc (2 * i + 1)) = omega arith in
+    rw two (ap (λ ns. numeral 32 t.place.x ∷ numeral 44 t.place.y ∷ ns) (row_set c i s (omega arith) e))
+
+pub column_numeral : (c : Configuration) (i : ℕ) → i < length c → IsNumeralAt (numerals_of c) (2 * i) (numeral 32 (standing_at c i).place.x)
+column_numeral c i l = record { inside = omega (arith, length-numerals_of c); is = column_at c i _ l }
+
+pub row_numeral : (c : Configuration) (i : ℕ) → i < length c → IsNumeralAt (numerals_of c) (2 * i + 1) (numeral 44 (standing_at c i).place.y)
+row_numeral c i l = record { inside = omega (arith, length-numerals_of c); is = row_at c i _ l }
+
+-- the numeral that an agent's change changes
+pub changing : (c : Configuration) (i : ℕ) (q r : Place) (d : Change) → i < length c → (standing_at c i).place ≡ q → IsChange i q r d
+    → IsNumeralAt (numerals_of c) d.number (numeral_before d)
+changing c i q r d l here change = elim change [
+  | inl h ↦ rw (h.1, ← here) (column_numeral c i l)
+  | inr h ↦ rw (h.1, ← here) (row_numeral c i l)
+]
+
+pub changed : (c : Configuration) (i : ℕ) (s : Standing) (q : Place) (d : Change) → i < length c → (standing_at c i).place ≡ q → IsChange i q s.place d
+    → set (numerals_of c) d.number (numeral_after d) ≡ numerals_of (set c i s)
+changed c i s q d l here change = elim change [
+  | inl h ↦ rw h.1 (column_set c i s l (ap (λ (p : Place). p.y) here ∙ h.0))
+  | inr h ↦ rw h.1 (row_set c i s l (ap (λ (p : Place). p.x) here ∙ h.0))
+]
+
+-- a line of which only the end was written
+pub ends_empty : (ns : List Numeral) (n at : ℕ) (row begins : List ℕ) → n ≡ length ns → length ns ≤ 2048 → at ≡ 24587 → length row ≡ 24588 → length begins ≡ 2049 → drop at row ≡ 10 ∷ []
+    → EndsWith ns n at row (set begins n at)
+ends_empty ns n at row begins all few is long begun end =
+    let here : get_or (set begins n at) n 0 ≡ at = get_or-set_same begins n at 0 (omega arith) in
+    let only : (k : ℕ) → n ≤ k → k ≤ length ns → get_or (set begins n at) k 0 ≡ at = λ k l h. let e : k ≡ n = omega arith in rw e here in
+    record {
+      room = omega arith;
+      high = omega arith;
+      long = long;
+      begun = length-set begins n at ∙ begun;
+      here = here;
+      rising = λ k l h. omega (arith, only k l h);
+      within = λ k l h. omega (arith, only k l h);
+      numerals = λ k l h. rw (only k l h) (last_numeral ns row at k (omega arith) end);
+    }
+
+-- .. and of which one numeral more was written
+pub ends_before : (ns : List Numeral) (k : ℕ) (n : Numeral) (row row' begins : List ℕ) (at end : ℕ) → IsNumeralAt ns k n → EndsWith ns (k + 1) end row begins → k < length begins
+    → drop at row' ≡ numeral_text n ++ drop end row → length row' ≡ length row → at ≤ end → end ≤ at + 12 → EndsWith ns k at row' (set begins k at)
+ends_before ns k n row row' begins at end there old inside written same low high =
+    let here : get_or (set begins k at) k 0 ≡ at = get_or-set_same begins k at 0 inside in
+    let other : (j : ℕ) → j ≢ k → get_or (set begins k at) j 0 ≡ get_or begins j 0 = λ j ne. get_or-set_other begins k j at 0 ne in
+    let room = old.room in
+    let top = old.high in
+    record {
+      room = omega arith;
+      high = omega arith;
+      long = same ∙ old.long;
+      begun = length-set begins k at ∙ old.begun;
+      here = here;
+      rising = λ j l h. elim (same_or_later k j l) [ inl e ↦ rw e (omega (arith, here)) | inr m ↦ let o = other j (omega arith) in omega (arith, o, old.rising j (omega arith) h) ];
+      within = λ j l h. elim (same_or_later k j l) [ inl e ↦ rw e (omega (arith, here)) | inr m ↦ let o = other j (omega arith) in omega (arith, o, old.within j (omega arith) h) ];
+      numerals = λ j l h. elim (same_or_later k j l) [
+        | inl e ↦
+            rw (e, here) (placed ns row row' at end k (k + 1) n there.inside (omega arith)
+            (written ∙ ap (λ (t : Numeral). numeral_text t ++ drop end row) (sym there.is))
+            (ap (λ b. drop b row) (sym old.here) ∙ old.numerals (k + 1) (omega arith) (omega (arith, there.inside))))
+        | inr m ↦
+            rw (other j (omega arith)) (left_behind row row' (numeral_text n) at end (get_or begins j 0) written same low (omega (arith, old.long)) (old.rising j (omega arith) h)
+            ∙ old.numerals j (omega arith) h)
+      ];
+    }
+
+-- a line that was written whole
+pub all_written : (ns : List Numeral) (at : ℕ) (row begins : List ℕ) → length ns ≤ 2048 → EndsWith ns 0 at row begins → HasNumerals ns row begins
+all_written ns at row begins few h = record {
+  few = few;
+  room = h.long;
+  begun = h.begun;
+  time = omega (arith, h.here, h.room);
+  rising = λ k l. omega (arith, h.here, h.rising k (omega arith) l);
+  within = λ k l. h.within k (omega arith) l;
+  numerals = λ k l. h.numerals k (omega arith) l;
+}
 
 -- the place of an agent
 pub place_of_agent : (c : Configuration) (i : ℕ) (d : Place) → i < length c → get_or (places_of c) i d ≡ (standing_at c i).place
@@ -226,14 +344,21 @@ pub record IsRewritten (m : MachineState) (from : ℕ) (row begins : List ℕ) (
 pub beside_itself : (q : Place) → IsBeside q q
 beside_itself q = inl (refl, record { low = omega (arith, ints); high = omega (arith, ints) })
 
-pub rewritten_next : (m : MachineState) (from i : ℕ) (row row' begins begins' : List ℕ) (places : List Place) (h : IsRewritten m from row begins places) → IsNextFrom m.moving from i → i < length m.configuration
-    → IsLineKept (set h.now i (standing_at m.configuration i)) row' begins' → IsRewritten m (i + 1) row' begins' (set places i (standing_at m.configuration i).place)
-rewritten_next m from i row row' begins begins' places h next agent kept =
+-- where an agent stood
+pub stood : (m : MachineState) (from : ℕ) (row begins : List ℕ) (places : List Place) (h : IsRewritten m from row begins places) (i : ℕ) (nowhere : Place) → i < length m.configuration
+    → (standing_at h.now i).place ≡ get_or places i nowhere
+stood m from row begins places h i nowhere agent =
+    sym (ap (λ l. get_or l i nowhere) h.placed ∙ place_of_agent h.now i nowhere (omega (arith, h.agents)))
+
+pub rewritten_next : (m : MachineState) (from i : ℕ) (row row' begins begins' : List ℕ) (places : List Place) (h : IsRewritten m from row begins places) (q : Place) (d : Change) → IsNextFrom m.moving from i
+    → i < length m.configuration → (standing_at h.now i).place ≡ q → IsChange i q (standing_at m.configuration i).place d
+    → HasNumerals (set (numerals_of h.now) d.number (numeral_after d)) row' begins' → IsRewritten m (i + 1) row' begins' (set places i (standing_at m.configuration i).place)
+rewritten_next m from i row row' begins begins' places h q d next agent here change kept =
     let s = standing_at m.configuration i in
     let within : i < length h.now = omega (arith, h.agents) in
     record {
       now = set h.now i s;
-      kept = kept;
+      kept = subst (λ ns. HasNumerals ns row' begins') (changed h.now i s q d within here change) kept;
       placed = ap (λ (l : List Place). set l i s.place) h.placed ∙ places_with h.now i s;
       agents = omega (arith, length-set h.now i s, h.agents);
       same = λ j none. elim (cases_eq j i) [
@@ -256,37 +381,37 @@ module _ (m : MachineState) (from : ℕ) (row begins : List ℕ) (places : List 
   pub places_all : places ≡ places_of m.configuration
   places_all = h.placed ∙ ap places_of all_rewritten
 
-pub really_over : (b : Bool) (q : Place) (at end : ℕ) (row row' : List ℕ) → WritesOver b q at end row row' → b ≡ true → IsWrittenOver q at end row row'
-really_over true q at end row row' h e = h
-really_over false q at end row row' h e = absurd cc
+pub really_over : (b : Bool) (text : List ℕ) (at end : ℕ) (row row' : List ℕ) → WritesOver b text at end row row' → b ≡ true → IsWrittenOver text at end row row'
+really_over true text at end row row' h e = h
+really_over false text at end row row' h e = absurd cc
 
-pub not_over : (b : Bool) (q : Place) (at end : ℕ) (row row' : List ℕ) → WritesOver b q at end row row' → b ≡ false → row' ≡ row
-not_over true q at end row row' h e = absurd cc
-not_over false q at end row row' h e = h
+pub not_over : (b : Bool) (text : List ℕ) (at end : ℕ) (row row' : List ℕ) → WritesOver b text at end row row' → b ≡ false → row' ≡ row
+not_over true text at end row row' h e = absurd cc
+not_over false text at end row row' h e = h
 
--- the text of an agent's place
-pub text_at : (c : Configuration) (i : ℕ) (row begins : List ℕ) → IsLineKept c row begins → i < length c
-    → IsTextOf (standing_at c i).place (get_or begins i 0) (get_or begins (i + 1) 0) row
-text_at c i row begins kept agent =
-    let next = next_begin c row begins i (standing_at [] 0) kept agent in
-    record { fits = sym next.0; written = next.1 }
+-- where a numeral of a line ends, and its text
+pub numeral_there : (ns : List Numeral) (k : ℕ) (n : Numeral) (row begins : List ℕ) → HasNumerals ns row begins → IsNumeralAt ns k n
+    → (get_or begins (k + 1) 0 ≡ get_or begins k 0 + length (numeral_text n)) × (drop (get_or begins k 0) row ≡ numeral_text n ++ drop (get_or begins (k + 1) 0) row)
+numeral_there ns k n row begins kept there =
+    let next = next_begin ns row begins k n kept there.inside in
+    subst (λ (t : Numeral). (get_or begins (k + 1) 0 ≡ get_or begins k 0 + length (numeral_text t)) × (drop (get_or begins k 0) row ≡ numeral_text t ++ drop (get_or begins (k + 1) 0) row)) there.is next
 
--- the begins of an agent's place and of the next are in order
-pub in_order : (c : Configuration) (i : ℕ) (row begins : List ℕ) → IsLineKept c row begins → i < length c → get_or begins i 0 ≤ get_or begins (i + 1) 0
-in_order c i row begins kept agent = begins_rise c row begins (standing_at c i) kept i 1 (omega (arith, agent))
+-- the begins of a numeral and of the next are in order
+pub in_order : (ns : List Numeral) (k : ℕ) (row begins : List ℕ) → HasNumerals ns row begins → k < length ns → get_or begins k 0 ≤ get_or begins (k + 1) 0
+in_order ns k row begins kept inside = begins_rise ns row begins (numeral 32 (pos 0)) kept k 1 (omega (arith, inside))
 
--- the time is written before the places
-pub timed : (c : Configuration) (row row' begins digits : List ℕ) (at : ℕ) → IsLineKept c row begins → drop at row' ≡ digits ++ (58 ∷ drop (get_or begins 0 0) row)
-    → length row' ≡ length row → at ≤ get_or begins 0 0 → IsLineKept c row' begins
-timed c row row' begins digits at kept e same low = record {
-  agents = kept.agents;
+-- the time is written before the numerals
+pub timed : (ns : List Numeral) (row row' begins digits : List ℕ) (at : ℕ) → HasNumerals ns row begins → drop at row' ≡ digits ++ (58 ∷ drop (get_or begins 0 0) row)
+    → length row' ≡ length row → at ≤ get_or begins 0 0 → HasNumerals ns row' begins
+timed ns row row' begins digits at kept e same low = record {
+  few = kept.few;
   room = same ∙ kept.room;
   begun = kept.begun;
   time = kept.time;
   rising = kept.rising;
   within = kept.within;
-  places = λ k h. left_behind row row' (digits ++ (58 ∷ [])) at (get_or begins 0 0) (get_or begins k 0) (e ∙ sym (append_assoc digits (58 ∷ []) (drop (get_or begins 0 0) row))) same low
-      (omega (arith, kept.room, kept.within 0 (omega arith))) (kept.rising k h) ∙ kept.places k h;
+  numerals = λ k h. left_behind row row' (digits ++ (58 ∷ [])) at (get_or begins 0 0) (get_or begins k 0) (e ∙ sym (append_assoc digits (58 ∷ []) (drop (get_or begins 0 0) row))) same low
+      (omega (arith, kept.room, kept.within 0 (omega arith))) (kept.rising k h) ∙ kept.numerals k h;
 }
 
 -- who does not move stands where it stood

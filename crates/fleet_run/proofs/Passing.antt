@@ -1,17 +1,18 @@
--- A run at one time: what it wrote, and what it asked for.
-use Rattle.std.proofs.Common.{◌≡◌, ◌∙◌, ◌≢◌, ◌+◌, ℕ, Bool, true, None, Some, Option, Ok, Err, List, length, refl, sym, ap, subst, Result}
-use Rattle.fleet_model.specs.Program.{Program}
-use Rattle.fleet_model.specs.Machine.{Configuration}
+-- A run at one time: what it wrote, and what it asked for, and the run so far.
+use Rattle.std.proofs.Common.{◌≡◌, ◌∙◌, ◌<◌, ◌+◌, not, cond, ℕ, Bool, None, Some, Option, Ok, Err, List, length, refl, sym, ap, subst, Result}
+use Rattle.fleet_model.specs.Program.{Program, IsWellFormed}
+use Rattle.fleet_model.specs.Machine.{Configuration, is_ready_held, tick}
+use Rattle.fleet_machine.specs.Machine.{flag_of}
 use Rattle.fleet_run.specs.declared.run.End.{End}
 use Rattle.fleet_run.specs.declared.run.RunFault.{RunFault}
 use Rattle.fleet_run.specs.declared.run.RunFault.TheVariants.{OutOfMemory, Source, Hold, Write, HoldLimit}
 use Rattle.fleet_run.specs.declared.run.Time.{Time}
-use Rattle.fleet_run.specs.declared.run.TheConstants.{MAX_RUN_TICKS}
-use Rattle.fleet_run.specs.Source.{SourceState, HasNotFailed}
+use Rattle.fleet_run.specs.Source.{SourceState, CanBeAsked}
 use Rattle.fleet_run.specs.Text.{line_of, lines_below}
 use Rattle.fleet_run.specs.Outcome.{AsksNext, AsksUnless, AsksUnlessOver, IsAskedFor, PassesTime, RunsLines, run_end}
 use Rattle.fleet_run.proofs.Ending.{not_over}
-use Rattle.fleet_run.proofs.UnderWay.{IsUnderWay, IsNextTick, asked, asked_so_far, line_added, stops_asking, stops_at_sink}
+use Rattle.fleet_run.proofs.Progress.{all_left}
+use Rattle.fleet_run.proofs.UnderWay.{IsUnderWay, asked, asked_so_far, falls, line_added, one_tick_on, stops_asking, stops_at_sink, unset_after}
 use Rattle.fleet_text.specs.Sink.{SinkState, Takes}
 
 -- no answer of asking is that the sink failed, or want of memory
@@ -30,40 +31,36 @@ asks_after time s s' o o' line (Err (Hold n)) flags took h = (took, h)
 asks_after time s s' o o' line (Err Write) flags took h = absurd ((asks_so time.end time.source_ended s s' time.ticks Write flags h).1)
 asks_after time s s' o o' line (Err HoldLimit) flags took h = (took, h)
 
-module _ (p : Program) (s now after : SourceState) (c : Configuration) (time : Time) (held : ℕ) (first mid last : SinkState) (flags : List Bool)
-    (before : IsUnderWay p s now c time.ticks held time.source_ended) (working : HasNotFailed now) (lines : Takes first mid (lines_below p s.ticks time.ticks))
-    (end_is : time.end ≡ run_end p c) where
-  with_line : Takes mid last (line_of time.ticks c) → Takes first last (lines_below p s.ticks (time.ticks + 1))
-  with_line took = line_added p s.ticks time.ticks c first mid last before.here lines took
+-- a run so far: where it is, what it can ask, and what it wrote
+pub record IsSoFar (p : Program) (s now : SourceState) (first mid : SinkState) (c : Configuration) (ticks held : ℕ) (ended : Bool) (flags : List Bool) : Type 0 where
+  pub under_way : IsUnderWay p s now c ticks held ended
+  pub can : CanBeAsked ended now flags
+  pub agents : length flags ≡ length p
+  pub written : Takes first mid (lines_below p s.ticks ticks)
 
-  stops_there : (e : RunFault) → length flags ≡ length p → Takes mid last (line_of time.ticks c) → AsksUnlessOver time now after (Err e) flags
-      → RunsLines p s after first last c (Err e)
-  stops_there e same took h =
+module _ (p : Program) (s now after : SourceState) (c : Configuration) (time : Time) (held : ℕ) (first mid last : SinkState) (unset flags : List Bool)
+    (before : IsSoFar p s now first mid c time.ticks held time.source_ended unset) (same : length flags ≡ length unset) (end_is : time.end ≡ run_end p c) where
+  agents : length flags ≡ length p
+  agents = same ∙ before.agents
+
+  with_line : Takes mid last (line_of time.ticks c) → Takes first last (lines_below p s.ticks (time.ticks + 1))
+  with_line took = line_added p s.ticks time.ticks c first mid last before.under_way.here before.written took
+
+  stops_there : (e : RunFault) → Takes mid last (line_of time.ticks c) → AsksUnlessOver time now after (Err e) flags → RunsLines p s after first last c (Err e)
+  stops_there e took h =
       let asks = asks_so time.end time.source_ended now after time.ticks e flags h in
       let goes = not_over p c (sym asks.0 ∙ end_is) in
-      stops_asking p s now after first last c time.ticks held time.source_ended e flags before goes (with_line took) same asks.1
+      stops_asking p s now after first last c time.ticks held time.source_ended e flags before.under_way goes (with_line took) agents asks.1
 
   -- the run stops at this time
-  pub stops_in_time : (e : RunFault) → length flags ≡ length p → PassesTime time now after mid last (line_of time.ticks c) (Err e) flags → RunsLines p s after first last c (Err e)
-  stops_in_time OutOfMemory same h = h
-  stops_in_time (Source n) same h = stops_there (Source n) same h.0 h.1
-  stops_in_time (Hold n) same h = stops_there (Hold n) same h.0 h.1
-  stops_in_time Write same h =
-      let stop = stops_at_sink p s now c time.ticks held time.source_ended first mid last before working lines h.0 in
+  pub stops_in_time : (e : RunFault) → PassesTime time now after mid last (line_of time.ticks c) (Err e) flags → RunsLines p s after first last c (Err e)
+  stops_in_time OutOfMemory h = h
+  stops_in_time (Source n) h = stops_there (Source n) h.0 h.1
+  stops_in_time (Hold n) h = stops_there (Hold n) h.0 h.1
+  stops_in_time Write h =
+      let stop = stops_at_sink p s now c time.ticks held time.source_ended first mid last before.under_way before.can.working before.written h.0 in
       subst (λ source. RunsLines p s source first last c (Err Write)) (sym h.1) stop
-  stops_in_time HoldLimit same h = stops_there HoldLimit same h.0 h.1
-
-  -- the run goes on after this time
-  pub goes_in_time : (more : Bool) → time.end ≡ None → length flags ≡ length p → PassesTime time now after mid last (line_of time.ticks c) (Ok more) flags
-      → (IsNextTick p now time.source_ended flags more after) × HasNotFailed after × (more ≡ true → time.ticks ≢ MAX_RUN_TICKS)
-  goes_in_time more is same h =
-      let asks : AsksNext time.source_ended now after time.ticks (Ok more) flags =
-      subst (λ e. AsksUnless e time.source_ended now after time.ticks (Ok more) flags) is h.1 in
-      let next = asked p time.source_ended now after more flags asks.0 same in
-      (next.0, next.1, asks.1)
-
-  pub written_in_time : (more : Bool) → PassesTime time now after mid last (line_of time.ticks c) (Ok more) flags → Takes first last (lines_below p s.ticks (time.ticks + 1))
-  written_in_time more h = with_line h.0
+  stops_in_time HoldLimit h = stops_there HoldLimit h.0 h.1
 
   -- the run ends at this time
   pub ends_in_time : (more : Bool) (end : End) → time.end ≡ Some end → PassesTime time now after mid last (line_of time.ticks c) (Ok more) flags
@@ -72,13 +69,32 @@ module _ (p : Program) (s now after : SourceState) (c : Configuration) (time : T
       let over : AsksUnless (Some end) time.source_ended now after time.ticks (Ok more) flags =
       subst (λ e. AsksUnless e time.source_ended now after time.ticks (Ok more) flags) is h.1 in
       let took = with_line h.0 in (
-        before.here,
+        before.under_way.here,
         record {
-          needed = before.needed;
-          end = ap (run_end p) (sym before.here) ∙ sym end_is ∙ is;
-          held = before.held_is;
-          asked = subst (IsAskedFor time.ticks s) (sym over.1) (asked_so_far p s now c time.ticks held time.source_ended before working);
+          needed = before.under_way.needed;
+          end = ap (run_end p) (sym before.under_way.here) ∙ sym end_is ∙ is;
+          held = before.under_way.held_is;
+          asked = subst (IsAskedFor time.ticks s) (sym over.1) (asked_so_far p s now c time.ticks held time.source_ended before.under_way before.can.working);
           taken = took.taken;
           working = took.working;
         },
+      )
+
+  -- the run goes on after this time, and one tick later the holds and the actions that are left have become fewer
+  pub goes_on_in_time : (more : Bool) → time.end ≡ None → IsWellFormed p → PassesTime time now after mid last (line_of time.ticks c) (Ok more) flags
+      → IsSoFar p s after first last (tick p (flag_of flags) c) (time.ticks + 1) (held + cond (is_ready_held p (flag_of flags) c) 1 0) (not more) flags
+      × (length after.ticks + all_left p (tick p (flag_of flags) c) < length now.ticks + all_left p c)
+  goes_on_in_time more is ok h =
+      let asks : AsksNext time.source_ended now after time.ticks (Ok more) flags =
+      subst (λ e. AsksUnless e time.source_ended now after time.ticks (Ok more) flags) is h.1 in
+      let next = asked p time.source_ended now after more flags asks.0 agents in
+      let goes = not_over p c (sym is ∙ end_is) in
+      let on = one_tick_on p s now c time.ticks held time.source_ended before.under_way flags more after next.0 goes ok asks.1 in (
+        record {
+          under_way = on;
+          can = record { working = next.1; nothing_left = on.nothing_left; unset = unset_after p now time.source_ended flags more after next.0 };
+          agents = agents;
+          written = with_line h.0;
+        },
+        falls p s now c time.ticks held time.source_ended before.under_way flags more after next.0 goes,
       )

@@ -1,20 +1,17 @@
--- A row in which a place was written over one that has more bytes or fewer.
+-- A row in which a numeral was written over one that has more bytes or fewer.
 use Rattle.std.proofs.Common.{◌≡◌, ◌≤◌, ◌<◌, ◌+◌, ◌-◌, ◌++◌, get_or, zero, suc, inl, inr, refl, ℕ, List, length, take, drop, set, ap, sym, ◌∙◌, arith, length-append, subst}
 use Rattle.std.proofs.lemmas.List.{append_assoc, drop-drop, drop-set-lt, get_or-set_same, get_or-set_other, length-drop, length-set, length-take}
 use Rattle.std.proofs.lemmas.List.Edits.{take-paste, drop-paste}
 use Rattle.std.proofs.lemmas.Bool.{cases_lt}
 use Rattle.std.specs.List.{copy_within}
 use Rattle.std.proofs.Math.Seq.{drop-append-add, drop-append_seam}
-use Rattle.fleet_model.specs.declared.standing.Standing.{Standing}
-use Rattle.fleet_model.specs.Machine.{Configuration}
-use Rattle.fleet_run.specs.Text.{place_text}
-use Rattle.fleet_run.specs.Line.{places_text, moved_before, IsLineKept, IsResized}
+use Rattle.fleet_run.specs.Line.{Numeral, numeral_text, numerals_text, moved_before, HasNumerals, IsResized}
 use Rattle.fleet_run.proofs.Lines.{left_behind, same_or_later, placed, piece_before, next_begin, begins_rise}
 
-module _ (c : Configuration) (row row1 row2 begins begins2 : List ℕ) (i to : ℕ) (s : Standing) (kept : IsLineKept c row begins) (agent : i < length c)
-    (fits : to + length (place_text s.place) ≡ get_or begins (i + 1) 0) (roomy : get_or begins i 0 + 11 ≤ get_or begins 0 0 + to)
+module _ (c : List Numeral) (row row1 row2 begins begins2 : List ℕ) (i to : ℕ) (s : Numeral) (kept : HasNumerals c row begins) (agent : i < length c)
+    (fits : to + length (numeral_text s) ≡ get_or begins (i + 1) 0) (roomy : get_or begins i 0 + 11 ≤ get_or begins 0 0 + to)
     (shifted : row1 ≡ copy_within row (get_or begins 0 0) (get_or begins i 0) (to + get_or begins 0 0 - get_or begins i 0))
-    (written : row2 ≡ take to row1 ++ (place_text s.place ++ drop (get_or begins (i + 1) 0) row1))
+    (written : row2 ≡ take to row1 ++ (numeral_text s ++ drop (get_or begins (i + 1) 0) row1))
     (long : length begins2 ≡ length begins)
     (moved : (k : ℕ) → k < i + 1 → get_or begins2 k 0 + get_or begins i 0 ≡ get_or begins k 0 + to)
     (others : (k : ℕ) → i + 1 ≤ k → get_or begins2 k 0 ≡ get_or begins k 0) where
@@ -27,20 +24,20 @@ module _ (c : Configuration) (row row1 row2 begins begins2 : List ℕ) (i to : �
   abbrev end : ℕ
   end = get_or begins (i + 1) 0
 
-  -- where the places begin now
+  -- where the numerals begin now
   abbrev now : ℕ
   now = to + front - at
 
   abbrev text : List ℕ
-  text = place_text s.place
+  text = numeral_text s
 
-  abbrev after : Configuration
+  abbrev after : List Numeral
   after = set c i s
 
   abbrev rest : List ℕ
   rest = text ++ drop end row
 
-  -- the bytes of the places before, and what comes after them
+  -- the bytes of the numerals before, and what comes after them
   abbrev tail : List ℕ
   tail = take (at - front) (drop front row) ++ rest
 
@@ -95,7 +92,7 @@ module _ (c : Configuration) (row row1 row2 begins begins2 : List ℕ) (i to : �
       let e = ap length whole in
       omega (arith, e, length-append (take now row) tail, now_there, length-append (take (at - front) (drop front row)) rest, copied, length-append text (drop end row), length-drop end row, fits, kept.room, end_within, as_far)
 
-  -- from a place on that was moved
+  -- from a numeral on that was moved
   from_moved : (k : ℕ) → k ≤ i → drop (get_or begins2 k 0) row2 ≡ drop (get_or begins k 0 - front) tail
   from_moved k le =
       let place : get_or begins2 k 0 ≡ length (take now row) + (get_or begins k 0 - front) = omega (arith, moved k (omega arith), kept.rising k (omega arith), rises, roomy, now_there) in
@@ -103,7 +100,7 @@ module _ (c : Configuration) (row row1 row2 begins begins2 : List ℕ) (i to : �
       ∙ (ap (λ (n : ℕ). drop n (take now row ++ tail)) place
       ∙ drop-append-add (take now row) tail (get_or begins k 0 - front))
 
-  -- the place itself
+  -- the numeral itself
   from_place : drop (get_or begins2 i 0) row2 ≡ text ++ drop end row
   from_place =
       from_moved i (omega arith)
@@ -113,24 +110,24 @@ module _ (c : Configuration) (row row1 row2 begins begins2 : List ℕ) (i to : �
   is_to : get_or begins2 i 0 ≡ to
   is_to = omega (arith, moved i (omega arith))
 
-  behind : (k : ℕ) → i < k → k ≤ length c → drop (get_or begins2 k 0) row2 ≡ places_text (drop k after)
+  behind : (k : ℕ) → i < k → k ≤ length c → drop (get_or begins2 k 0) row2 ≡ numerals_text (drop k after)
   behind k later h =
       let low : end ≤ get_or begins k 0 = (let r = begins_rise c row begins s kept (i + 1) (k - (i + 1)) (omega arith) in let goes : i + 1 + (k - (i + 1)) ≡ k = omega arith in subst (λ n. end ≤ get_or begins n 0) goes r) in
       ap (λ (n : ℕ). drop n row2) (others k (omega arith))
       ∙ (left_behind row row2 text to end (get_or begins k 0) (ap (λ (n : ℕ). drop n row2) (sym is_to) ∙ from_place) (omega (arith, as_long, kept.room)) (omega (arith, fits)) (omega (arith, kept.room, end_within)) low
-      ∙ (kept.places k h ∙ ap places_text (sym (drop-set-lt k c i s later))))
+      ∙ (kept.numerals k h ∙ ap numerals_text (sym (drop-set-lt k c i s later))))
 
-  pub here : drop (get_or begins2 i 0) row2 ≡ places_text (drop i after)
+  pub here : drop (get_or begins2 i 0) row2 ≡ numerals_text (drop i after)
   here = placed after row row2 (get_or begins2 i 0) end i (i + 1) s (omega (arith, length-set c i s)) (omega arith)
-      (from_place ∙ ap (λ (d : Standing). place_text d.place ++ drop end row) (sym (get_or-set_same c i s s agent)))
-      (kept.places (i + 1) (omega arith) ∙ ap places_text (sym (drop-set-lt (i + 1) c i s (omega arith))))
+      (from_place ∙ ap (λ (d : Numeral). numeral_text d ++ drop end row) (sym (get_or-set_same c i s s agent)))
+      (kept.numerals (i + 1) (omega arith) ∙ ap numerals_text (sym (drop-set-lt (i + 1) c i s (omega arith))))
 
-  -- a place before it was moved with what comes after it
-  pub before : (m k : ℕ) → k + m ≡ i → drop (get_or begins2 k 0) row2 ≡ places_text (drop k after)
+  -- a numeral before it was moved with what comes after it
+  pub before : (m k : ℕ) → k + m ≡ i → drop (get_or begins2 k 0) row2 ≡ numerals_text (drop k after)
   before zero k is = let e : k ≡ i = omega arith in rw e here
   before (suc m) k is =
       let next = next_begin c row begins k s kept (omega arith) in
-      let t = place_text (get_or c k s).place in
+      let t = numeral_text (get_or c k s) in
       let first = kept.rising k (omega arith) in
       let goes : k + 1 + m ≡ i = omega arith in
       let low : get_or begins (k + 1) 0 ≤ at = subst (λ n. get_or begins (k + 1) 0 ≤ get_or begins n 0) goes (begins_rise c row begins s kept (k + 1) m (omega arith)) in
@@ -142,14 +139,14 @@ module _ (c : Configuration) (row row1 row2 begins begins2 : List ℕ) (i to : �
       let same : get_or after k s ≡ get_or c k s = get_or-set_other c i k s s (omega arith) in
       placed after row2 row2 (get_or begins2 k 0) (get_or begins2 (k + 1) 0) k (k + 1) s (omega (arith, length-set c i s)) (omega arith)
       (from_moved k (omega arith) ∙ (piece ∙ (ap (λ (r : List ℕ). t ++ r) (sym (from_moved (k + 1) (omega arith)))
-      ∙ ap (λ (d : Standing). place_text d.place ++ drop (get_or begins2 (k + 1) 0) row2) (sym same))))
+      ∙ ap (λ (d : Numeral). numeral_text d ++ drop (get_or begins2 (k + 1) 0) row2) (sym same))))
       (before m (k + 1) (omega arith))
 
-  pub resized : IsLineKept after row2 begins2
+  pub resized : HasNumerals after row2 begins2
   resized =
       let same_length = length-set c i s in
       record {
-        agents = omega (arith, same_length, kept.agents);
+        few = omega (arith, same_length, kept.few);
         room = as_long;
         begun = omega (arith, long, kept.begun);
         time = omega (arith, moved 0 (omega arith), roomy);
@@ -161,7 +158,7 @@ module _ (c : Configuration) (row row1 row2 begins begins2 : List ℕ) (i to : �
           | inl later ↦ omega (arith, others k (omega arith), kept.within k (omega (arith, same_length)))
           | inr le ↦ (let low = begins_rise c row begins s kept k (i - k) (omega arith) in let goes : k + (i - k) ≡ i = omega arith in let low' : get_or begins k 0 ≤ at = subst (λ n. get_or begins k 0 ≤ get_or begins n 0) goes low in omega (arith, low', moved k (omega arith), fits, end_within))
         ];
-        places = λ k h. elim (cases_lt k i) [
+        numerals = λ k h. elim (cases_lt k i) [
           | inl lt ↦ before (i - k) k (omega arith)
           | inr ge ↦ elim (same_or_later i k ge) [
             | inl e ↦ rw e here
@@ -170,6 +167,6 @@ module _ (c : Configuration) (row row1 row2 begins begins2 : List ℕ) (i to : �
         ];
       }
 
-pub resized_by : (c : Configuration) (row row' begins begins' : List ℕ) (i : ℕ) (s : Standing) → IsLineKept c row begins → i < length c → IsResized i (place_text s.place) row row' begins begins' → IsLineKept (set c i s) row' begins'
+pub resized_by : (c : List Numeral) (row row' begins begins' : List ℕ) (i : ℕ) (s : Numeral) → HasNumerals c row begins → i < length c → IsResized i (numeral_text s) row row' begins begins' → HasNumerals (set c i s) row' begins'
 resized_by c row row' begins begins' i s kept agent made =
     resized c row (moved_before i made.to row begins) row' begins begins' i made.to s kept agent made.fits made.room refl made.written made.long made.moved made.others

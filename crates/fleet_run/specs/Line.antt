@@ -1,53 +1,93 @@
 -- A line that is kept from tick to tick.
-use Rattle.std.specs.Prelude.{◌≡◌, ◌≤◌, ◌<◌, ◌+◌, ◌-◌, ◌++◌, ◌⊎◌, ℤ, pos, ◌+ℤ◌, ◌≤ℤ◌, ◌/◌, ◌%◌, ◌^◌, ℕ, Bool, true, false, List, length, map, set, take, drop, get_or, codes}
+use Rattle.std.specs.Prelude.{◌≡◌, ◌≤◌, ◌<◌, ◌+◌, ◌-◌, ◌*◌, ◌++◌, ◌∷◌, ◌⊎◌, ℤ, pos, ◌+ℤ◌, ◌≤ℤ◌, ◌/◌, ◌%◌, ◌^◌, ℕ, Bool, true, false, List, [], length, map, set, take, drop, get_or, codes}
 use Rattle.std.specs.List.{flat_map, copy_within}
+use Rattle.std.specs.Fmt.{signed_decimal}
 use Rattle.fleet_model.specs.declared.geometry.Place.{Place}
 use Rattle.fleet_model.specs.Machine.{Configuration, standing_at}
 use Rattle.fleet_machine.specs.Machine.{MachineState, flag_of}
-use Rattle.fleet_model.specs.declared.limits.TheConstants.{MAX_AGENTS}
-use Rattle.fleet_run.specs.declared.line.TheConstants.{TIME}
-use Rattle.fleet_run.specs.declared.trace.TheConstants.{LINE}
-use Rattle.fleet_run.specs.Text.{place_text}
+use Rattle.fleet_run.specs.declared.line.Change.{Change}
+use Rattle.fleet_run.specs.declared.line.TheConstants.{TIME, NUMERALS}
+use Rattle.fleet_run.specs.declared.trace.TheConstants.{LINE, NUMBER}
 
--- the places of these agents, and the end of the line
-abbrev pub places_text : Configuration → List ℕ
-places_text c = flat_map (λ s. place_text s.place) c ++ codes "\n"
+-- a number in a line, and the byte before it
+pub record Numeral : Type 0 where
+  pub separator : ℕ
+  pub value : ℤ
 
--- The row ends with the places of the configuration: that of agent k begins where `begins` says, and after the last one
--- is the line's end.
-pub record IsLineKept (c : Configuration) (row begins : List ℕ) : Type 0 where
-  pub agents : length c ≤ MAX_AGENTS
+abbrev pub numeral : ℕ → ℤ → Numeral
+numeral separator value = record { separator = separator; value = value }
+
+-- its bytes
+abbrev pub numeral_text : Numeral → List ℕ
+numeral_text n = n.separator ∷ signed_decimal n.value
+
+-- those of a place: its column after a space, and its row after a comma
+abbrev pub place_numerals : Place → List Numeral
+place_numerals q = numeral 32 q.x ∷ numeral 44 q.y ∷ []
+
+-- those of the places of these agents
+abbrev pub numerals_of : Configuration → List Numeral
+numerals_of c = flat_map (λ s. place_numerals s.place) c
+
+-- numerals, and the end of the line
+abbrev pub numerals_text : List Numeral → List ℕ
+numerals_text ns = flat_map numeral_text ns ++ codes "\n"
+
+-- the numeral of this number is that one
+pub record IsNumeralAt (ns : List Numeral) (k : ℕ) (n : Numeral) : Type 0 where
+  pub inside : k < length ns
+  pub is : get_or ns k n ≡ n
+
+-- The row ends with the numerals from this number on, which begin at `at`: each begins where `begins` says, and after
+-- the last one is the line's end. Before them is room for the others and for the time.
+pub record EndsWith (ns : List Numeral) (from at : ℕ) (row begins : List ℕ) : Type 0 where
+  pub room : TIME + NUMBER * from ≤ at
+  pub high : at ≤ LINE - 1
+  pub long : length row ≡ LINE
+  pub begun : length begins ≡ NUMERALS + 1
+  pub here : get_or begins from 0 ≡ at
+  pub rising : (k : ℕ) → from ≤ k → k ≤ length ns → at ≤ get_or begins k 0
+  pub within : (k : ℕ) → from ≤ k → k ≤ length ns → get_or begins k 0 ≤ LINE - 1
+  pub numerals : (k : ℕ) → from ≤ k → k ≤ length ns → drop (get_or begins k 0) row ≡ numerals_text (drop k ns)
+
+-- the row ends with these numerals, and before them is room for the time
+pub record HasNumerals (ns : List Numeral) (row begins : List ℕ) : Type 0 where
+  pub few : length ns ≤ NUMERALS
   pub room : length row ≡ LINE
-  pub begun : length begins ≡ MAX_AGENTS + 1
+  pub begun : length begins ≡ NUMERALS + 1
   pub time : TIME ≤ get_or begins 0 0
-  pub rising : (k : ℕ) → k ≤ length c → get_or begins 0 0 ≤ get_or begins k 0
-  pub within : (k : ℕ) → k ≤ length c → get_or begins k 0 ≤ LINE - 1
-  pub places : (k : ℕ) → k ≤ length c → drop (get_or begins k 0) row ≡ places_text (drop k c)
+  pub rising : (k : ℕ) → k ≤ length ns → get_or begins 0 0 ≤ get_or begins k 0
+  pub within : (k : ℕ) → k ≤ length ns → get_or begins k 0 ≤ LINE - 1
+  pub numerals : (k : ℕ) → k ≤ length ns → drop (get_or begins k 0) row ≡ numerals_text (drop k ns)
 
--- a place was written over the bytes from `at` to `end`, and has as many bytes
-pub record IsWrittenOver (q : Place) (at end : ℕ) (row row' : List ℕ) : Type 0 where
-  pub fits : at + length (place_text q) ≡ end
-  pub written : row' ≡ take at row ++ (place_text q ++ drop end row)
+-- the row ends with the places of the configuration
+abbrev pub IsLineKept : Configuration → (row begins : List ℕ) → Type 0
+IsLineKept c row begins = HasNumerals (numerals_of c) row begins
 
--- the place was written over those bytes, or all bytes are as they were
-abbrev pub WritesOver : Bool → (q : Place) (at end : ℕ) (row row' : List ℕ) → Type 0
-WritesOver true q at end row row' = IsWrittenOver q at end row row'
-WritesOver false q at end row row' = row' ≡ row
+-- a text was written over the bytes from `at` to `end`, and has as many
+pub record IsWrittenOver (text : List ℕ) (at end : ℕ) (row row' : List ℕ) : Type 0 where
+  pub fits : at + length text ≡ end
+  pub written : row' ≡ take at row ++ (text ++ drop end row)
 
--- the bytes before the place of agent i, from the first place on, are moved so far that a text which begins at `to`
--- ends where the place does
-abbrev pub moved_before : (i to : ℕ) (row begins : List ℕ) → List ℕ
-moved_before i to row begins = copy_within row (get_or begins 0 0) (get_or begins i 0) (to + get_or begins 0 0 - get_or begins i 0)
+-- the text was written over those bytes, or all bytes are as they were
+abbrev pub WritesOver : Bool → (text : List ℕ) (at end : ℕ) (row row' : List ℕ) → Type 0
+WritesOver true text at end row row' = IsWrittenOver text at end row row'
+WritesOver false text at end row row' = row' ≡ row
 
--- a text is written over the place of agent i, and the places before it are moved as far as it has more bytes or fewer
-pub record IsResized (i : ℕ) (text row row' begins begins' : List ℕ) : Type 0 where
+-- the bytes before a numeral, from the first one on, are moved so far that a text which begins at `to` ends where the
+-- numeral does
+abbrev pub moved_before : (k to : ℕ) (row begins : List ℕ) → List ℕ
+moved_before k to row begins = copy_within row (get_or begins 0 0) (get_or begins k 0) (to + get_or begins 0 0 - get_or begins k 0)
+
+-- a text is written over a numeral, and the numerals before it are moved as far as it has more bytes or fewer
+pub record IsResized (k : ℕ) (text row row' begins begins' : List ℕ) : Type 0 where
   pub to : ℕ
-  pub fits : to + length text ≡ get_or begins (i + 1) 0
-  pub room : get_or begins i 0 + TIME ≤ get_or begins 0 0 + to
-  pub written : row' ≡ take to (moved_before i to row begins) ++ (text ++ drop (get_or begins (i + 1) 0) (moved_before i to row begins))
+  pub fits : to + length text ≡ get_or begins (k + 1) 0
+  pub room : get_or begins k 0 + TIME ≤ get_or begins 0 0 + to
+  pub written : row' ≡ take to (moved_before k to row begins) ++ (text ++ drop (get_or begins (k + 1) 0) (moved_before k to row begins))
   pub long : length begins' ≡ length begins
-  pub moved : (k : ℕ) → k < i + 1 → get_or begins' k 0 + get_or begins i 0 ≡ get_or begins k 0 + to
-  pub others : (k : ℕ) → i + 1 ≤ k → get_or begins' k 0 ≡ get_or begins k 0
+  pub moved : (j : ℕ) → j < k + 1 → get_or begins' j 0 + get_or begins k 0 ≡ get_or begins j 0 + to
+  pub others : (j : ℕ) → k + 1 ≤ j → get_or begins' j 0 ≡ get_or begins j 0
 
 -- the numbers differ by one at most
 pub record AreClose (a b : ℤ) : Type 0 where
@@ -74,10 +114,18 @@ pub record IsDigitOver (old new : ℤ) (at : ℕ) (row row' : List ℕ) : Type 0
 abbrev pub IsBeside : Place → Place → Type 0
 IsBeside q r = ((q.x ≡ r.x) × AreClose q.y r.y) ⊎ ((q.y ≡ r.y) × AreClose q.x r.x)
 
--- the bytes from `at` to `end` are the text of this place
-pub record IsTextOf (q : Place) (at end : ℕ) (row : List ℕ) : Type 0 where
-  pub fits : at + length (place_text q) ≡ end
-  pub written : drop at row ≡ place_text q ++ drop end row
+-- the numeral that changes, before and after
+abbrev pub numeral_before : Change → Numeral
+numeral_before d = numeral d.separator d.old
+
+abbrev pub numeral_after : Change → Numeral
+numeral_after d = numeral d.separator d.new
+
+-- agent i goes from the one place to the other by this change of its column or of its row
+abbrev pub IsChange : ℕ → (q r : Place) → Change → Type 0
+IsChange i q r d =
+    ((q.y ≡ r.y) × (d ≡ record { number = 2 * i; separator = 32; old = q.x; new = r.x }))
+    ⊎ ((q.x ≡ r.x) × (d ≡ record { number = 2 * i + 1; separator = 44; old = q.y; new = r.y }))
 
 -- where the agents stand
 abbrev pub places_of : Configuration → List Place

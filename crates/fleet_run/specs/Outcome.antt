@@ -2,9 +2,13 @@
 use Rattle.std.specs.Prelude.{◌≡◌, ◌≢◌, ℕ, ◌+◌, ◌<◌, ◌≤◌, ◌++◌, Bool, true, false, List, [], length, take, drop, Option, None, Some, Result, Ok, Err, if◌then◌else◌}
 use Rattle.std.specs.Io.KnownBytes.{Appends}
 use Rattle.fleet_model.specs.Program.{Program}
-use Rattle.fleet_model.specs.Machine.{Configuration, Holds, run, held_ticks, is_finished, is_stuck, is_over}
+use Rattle.fleet_model.specs.declared.geometry.Place.{Place}
+use Rattle.fleet_model.specs.Machine.{Configuration, Holds, opening, run, held_ticks, is_finished, is_stuck, is_over}
+use Rattle.fleet_machine.specs.Machine.{MachineState, Runs}
 use Rattle.fleet_run.specs.declared.source.SourceFault.{SourceFault}
 use Rattle.fleet_run.specs.declared.source.SourceFault.TheVariants.{Broken, Text}
+use Rattle.fleet_run.specs.declared.line.TheConstants.{NUMERALS}
+use Rattle.fleet_run.specs.declared.trace.TheConstants.{LINE}
 use Rattle.fleet_run.specs.declared.run.TheConstants.{MAX_RUN_TICKS}
 use Rattle.fleet_run.specs.declared.run.End.{End}
 use Rattle.fleet_run.specs.declared.run.End.TheVariants.{Finished, Stuck}
@@ -15,6 +19,20 @@ use Rattle.fleet_run.specs.declared.run.RunFault.TheVariants.{OutOfMemory, Sourc
 use Rattle.fleet_run.specs.Text.{line_of, lines_below}
 use Rattle.fleet_text.specs.Sink.{SinkState, IsWorking, HasFailed, Takes, StopsWithin}
 use Rattle.fleet_run.specs.Source.{SourceState, HasNotFailed, AsksTick}
+
+-- a run can begin: the machine is at its start, and neither the source nor the sink has failed
+pub record CanRun (p : Program) (m : MachineState) (source : SourceState) (out : SinkState) : Type 0 where
+  pub runs : Runs p m
+  pub starts : m.configuration ≡ opening p
+  pub source_works : HasNotFailed source
+  pub sink_works : IsWorking out
+
+-- the rows of a run: room for a line, for where each of its numbers begins, and for a flag and a place of each agent
+pub record AreRowsFor (p : Program) (row begins : List ℕ) (flags : List Bool) (places : List Place) : Type 0 where
+  pub a_line : length row ≡ LINE
+  pub a_begin_each : length begins ≡ NUMERALS + 1
+  pub a_flag_each : length flags ≡ length p
+  pub a_place_each : length places ≡ length p
 
 -- how the run has ended at this configuration, if it has
 abbrev pub run_end : Program → Configuration → Option End

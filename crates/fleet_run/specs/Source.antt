@@ -22,6 +22,12 @@ list_source ticks = record { ticks = ticks; last = None; fault = None }
 abbrev pub HasNotFailed : SourceState → Type 0
 HasNotFailed source = source.fault ≡ None
 
+-- it can be asked for its next tick: it has not failed, and if it has ended nothing is left, and no flag is set
+pub record CanBeAsked (ended : Bool) (source : SourceState) (flags : List Bool) : Type 0 where
+  pub working : HasNotFailed source
+  pub nothing_left : ended ≡ true → source.ticks ≡ []
+  pub unset : ended ≡ true → AreFlagsOf [] flags
+
 -- One call of `next`: the first tick is set and taken off; or no tick was left and nothing came after them; or no tick
 -- was left and the source fails as its last says. Nothing is said of what comes after a source that has ended.
 abbrev pub GivesTick : (source source' : SourceState) → Result Bool SourceFault → List Bool → Type 0

@@ -1,31 +1,59 @@
-//! The line of a run, kept from tick to tick.
+//! The line of a run, kept from tick to tick: numbers, each with the byte before it, which are those of the agents' places,
+//! one after another. A move changes one of them.
 
-ghost use Rattle.std.specs.Prelude.{◌≡◌, ◌≢◌, false, ◌+◌, ◌-◌, ◌<◌, ◌≤◌, ◌^◌, ◌++◌, ◌∷◌, ℕ, true, length, take, drop, set, get_or, slice_index, IfSome, IfNone, IsTrue, ◌↔◌, ◌%◌, pos};
+ghost use Rattle.std.specs.Prelude.{◌≡◌, false, ◌+◌, ◌-◌, ◌*◌, ◌<◌, ◌≤◌, ◌^◌, ◌++◌, ◌∷◌, ℕ, List, true, length, take, drop, set, get_or, slice_index, IfSome, IfNone, IsTrue, ◌↔◌, ◌%◌, ◌≢◌, pos};
 ghost use Rattle.std.specs.List.{copy_within};
-ghost use Rattle.fleet_model.specs.declared.standing.Standing.{Standing};
-ghost use Rattle.fleet_model.specs.Machine.{Configuration, standing_at};
 ghost use Rattle.std.specs.Fmt.{decimal};
-ghost use Rattle.fleet_run.specs.Line.{AreClose, IsBeside, IsDigit, IsDigitOver, IsLineKept, IsKeptBefore, IsResized, IsTextOf, WritesOver, places_of};
-ghost use Rattle.fleet_run.specs.Text.{place_text};
+ghost use Rattle.fleet_run.specs.Line.{AreClose, EndsWith, HasNumerals, IsBeside, IsChange, IsDigit, IsDigitOver, IsLineKept, IsKeptBefore, IsNumeralAt, IsResized, Numeral, WritesOver, numeral, numeral_after, numeral_before, numeral_text, places_of};
 
-use crate::trace::{LINE, PLACE, write_count, write_place};
+use crate::trace::{LINE, NUMBER, write_count, write_separated};
 use fleet_machine::Machine;
 use fleet_model::{MAX_AGENTS, Place, Standing};
 use fleet_text::write_byte;
 
+/// How many numbers a line has at most, besides the time.
+pub const NUMERALS: usize = 2 * MAX_AGENTS;
+
+/// Writes the number `at` of a line, after a byte, before those from `end` on, and where it begins into `begins`, and
+/// answers that.
+fn write_numeral(
+    at: usize,
+    separator: u8,
+    value: i32,
+    row: &mut [u8],
+    begins: &mut [u16],
+    end: usize,
+) -> usize
+    requires room { NUMBER ≤ end }
+    requires within { end ≤ LINE }
+    requires row { length row.old ≡ LINE }
+    requires begins { at < length begins.old }
+    ensures written { (ns : List Numeral)
+        → IsNumeralAt ns at (numeral separator value)
+        → EndsWith ns (at + 1) end row.old begins.old → EndsWith ns at result row.new begins.new }
+    ensures low { end ≤ result + NUMBER }
+    ensures high { result ≤ end }
+    ensures row { length row.new ≡ LINE }
+{
+    let begin = write_separated(separator, value, row, end);
+    begins[at] = begin as u16;
+    begin
+}
+
 /// Writes the places of all agents and the end of the line, so that they end with the row, and into `begins` where each
-/// place begins, and last where the end of the line does.
-pub fn write_places(rows: &[Standing], row: &mut [u8], begins: &mut [usize])
+/// number of a place begins, and last where the end of the line does.
+pub fn write_places(rows: &[Standing], row: &mut [u8], begins: &mut [u16])
     requires agents { length rows.now ≤ MAX_AGENTS }
     requires room { length row.old ≡ LINE }
-    requires begins { length begins.old ≡ MAX_AGENTS + 1 }
+    requires begins { length begins.old ≡ NUMERALS + 1 }
     ensures { IsLineKept rows.now row.new begins.new }
 {
     let mut at = write_byte(b'\n', row, LINE);
-    begins[rows.len()] = at;
+    begins[2 * rows.len()] = at as u16;
     for i in (0..rows.len()).rev() {
-        at = write_place(rows[i].place, row, at);
-        begins[i] = at;
+        let Place { x, y } = rows[i].place;
+        at = write_numeral(2 * i + 1, b',', y, row, begins, at);
+        at = write_numeral(2 * i, b' ', x, row, begins, at);
     }
 }
 
@@ -39,20 +67,17 @@ pub fn copy_places(rows: &[Standing], places: &mut [Place])
     }
 }
 
-/// Writes a place over that of agent `i` if both have as many bytes, and answers whether it did.
-fn overwrite(i: usize, place: Place, row: &mut [u8], begins: &[usize]) -> bool
+/// Writes a text over a number of the line if both have as many bytes, and answers whether it did.
+fn overwrite(at: usize, text: &[u8], row: &mut [u8], begins: &[u16]) -> bool
     requires room { length row.old ≡ LINE }
-    requires agent { i + 1 < length begins.now }
-    requires order { get_or begins.now i 0 ≤ get_or begins.now (i + 1) 0 }
-    requires within { get_or begins.now (i + 1) 0 ≤ LINE }
-    ensures { WritesOver result place (get_or begins.now i 0) (get_or begins.now (i + 1) 0)
+    requires number { at + 1 < length begins.now }
+    requires order { get_or begins.now at 0 ≤ get_or begins.now (at + 1) 0 }
+    requires within { get_or begins.now (at + 1) 0 ≤ LINE }
+    ensures { WritesOver result text.now (get_or begins.now at 0) (get_or begins.now (at + 1) 0)
         row.old row.new }
 {
-    let mut text = [0; PLACE];
-    let at = write_place(place, &mut text, PLACE);
-    let text = &text[at..];
-    let begin = begins[i];
-    let end = begins[i + 1];
+    let begin = usize::from(begins[at]);
+    let end = usize::from(begins[at + 1]);
     if text.len() != end - begin {
         return false;
     }
@@ -60,21 +85,7 @@ fn overwrite(i: usize, place: Place, row: &mut [u8], begins: &[usize]) -> bool
     true
 }
 
-/// Writes the last digit of a place over that of agent `i`, which stood beside it, on its place of these, if no other
-/// byte changes, and answers whether it did.
-#[inline(always)]
-fn move_place(i: usize, place: Place, row: &mut [u8], begins: &[usize], places: &[Place]) -> bool
-    requires kept { (c : Configuration) × (IsLineKept c row.old begins.now) × (i < length c)
-        × (places.now ≡ places_of c) × IsBeside (standing_at c i).place place }
-    ensures kept { result ≡ true → (c : Configuration)
-        → IsLineKept c row.old begins.now → i < length c
-        → (s : Standing) → s.place ≡ place → IsLineKept (set c i s) row.new begins.now }
-    ensures same { result ≡ false → row.new ≡ row.old }
-{
-    patch_place(places[i], place, row, begins[i], begins[i + 1])
-}
-
-/// How many places of a tick may become longer or shorter, one after another, before all places are written anew.
+/// How many numbers of a tick may become longer or shorter, one after another, before all places are written anew.
 const MOST_RESIZED: u32 = 24;
 
 /// Moves the bytes from `begin` to before `end` so that they end before `to`.
@@ -89,10 +100,10 @@ fn shift_bytes(row: &mut [u8], begin: usize, end: usize, to: usize)
 }
 
 /// Moves the first offsets as `from` moves to `to`.
-fn shift_begins(begins: &mut [usize], count: usize, from: usize, to: usize)
+fn shift_begins(begins: &mut [u16], count: usize, from: u16, to: u16)
     requires count { count ≤ length begins.old }
     requires room { (k : ℕ) → k < count → from ≤ get_or begins.old k 0 + to }
-    requires fit { (k : ℕ) → k < count → get_or begins.old k 0 + to < 2 ^ 64 }
+    requires fit { (k : ℕ) → k < count → get_or begins.old k 0 + to < 2 ^ 16 }
     ensures shifted { (k : ℕ) → k < count
         → get_or begins.new k 0 + from ≡ get_or begins.old k 0 + to }
     ensures others { (k : ℕ) → count ≤ k → get_or begins.new k 0 ≡ get_or begins.old k 0 }
@@ -136,7 +147,7 @@ fn place_for(text: &[u8], front: usize, begin: usize, end: usize) -> Option<usiz
     requires order { front ≤ begin }
     requires begin { begin ≤ LINE }
     requires end { end ≤ LINE }
-    requires short { length text.now ≤ PLACE }
+    requires short { length text.now ≤ NUMBER }
     ensures fits { IfSome result (λ to. to + length text.now ≡ end) }
     ensures room { IfSome result (λ to. begin + TIME ≤ front + to) }
     ensures full { IfNone result (front + end < begin + TIME + length text.now) }
@@ -149,67 +160,63 @@ fn place_for(text: &[u8], front: usize, begin: usize, end: usize) -> Option<usiz
     Some(end - text.len())
 }
 
-/// Writes a text over the place of agent `i`, however many bytes it has, and moves the places before it as far. Answers
+/// Writes a text over a number of the line, however many bytes it has, and moves the numbers before it as far. Answers
 /// whether there is room for that.
-fn resize_to(i: usize, text: &[u8], row: &mut [u8], begins: &mut [usize]) -> bool
+fn resize_to(at: usize, text: &[u8], row: &mut [u8], begins: &mut [u16]) -> bool
     requires room { length row.old ≡ LINE }
-    requires agent { i + 1 < length begins.old }
-    requires order { get_or begins.old 0 0 ≤ get_or begins.old i 0 }
-    requires begin { get_or begins.old i 0 ≤ LINE }
-    requires within { get_or begins.old (i + 1) 0 ≤ LINE }
-    requires before { (k : ℕ) → k < i + 1
+    requires number { at + 1 < length begins.old }
+    requires begin { get_or begins.old at 0 ≤ LINE }
+    requires within { get_or begins.old (at + 1) 0 ≤ LINE }
+    requires before { (k : ℕ) → k < at + 1
         → (get_or begins.old 0 0 ≤ get_or begins.old k 0) × (get_or begins.old k 0 ≤ LINE) }
-    requires short { length text.now ≤ PLACE }
-    ensures { result ≡ true → IsResized i text.now row.old row.new begins.old begins.new }
+    requires short { length text.now ≤ NUMBER }
+    ensures { result ≡ true → IsResized at text.now row.old row.new begins.old begins.new }
 {
-    let front = begins[0];
-    let begin = begins[i];
-    let end = begins[i + 1];
+    let front = usize::from(begins[0]);
+    let begin = usize::from(begins[at]);
+    let end = usize::from(begins[at + 1]);
     match place_for(text, front, begin, end) {
         Some(to) => {
             resize_text(text, row, front, begin, to, end);
-            shift_begins(begins, i + 1, begin, to);
+            shift_begins(begins, at + 1, begin as u16, to as u16);
             true
         }
         None => false,
     }
 }
 
-/// Writes a place over that of agent `i`, however many bytes it has, and moves the places before it as far. Answers
-/// whether there is room for that.
-fn resize_place(i: usize, place: Place, row: &mut [u8], begins: &mut [usize]) -> bool
-    requires room { length row.old ≡ LINE }
-    requires agent { i + 1 < length begins.old }
-    requires order { get_or begins.old 0 0 ≤ get_or begins.old i 0 }
-    requires begin { get_or begins.old i 0 ≤ LINE }
-    requires within { get_or begins.old (i + 1) 0 ≤ LINE }
-    requires before { (k : ℕ) → k < i + 1
-        → (get_or begins.old 0 0 ≤ get_or begins.old k 0) × (get_or begins.old k 0 ≤ LINE) }
-    ensures { result ≡ true
-        → IsResized i (place_text place) row.old row.new begins.old begins.new }
-{
-    let mut text = [0; PLACE];
-    let at = write_place(place, &mut text, PLACE);
-    resize_to(i, &text[at..], row, begins)
-}
-
-/// Writes a place over that of agent `i`. Answers 0 if it has as many bytes, 1 if those before it were moved, and else
-/// that there is no room for that, by a number greater than `MOST_RESIZED`.
-#[inline(never)]
-fn put_place(i: usize, place: Place, row: &mut [u8], begins: &mut [usize]) -> u32
-    requires kept { (c : Configuration) × (IsLineKept c row.old begins.old) × (i < length c) }
+/// Writes the text of a number over a number of the line. Answers 0 if it has as many bytes, 1 if those before it were
+/// moved, and else that there is no room for that, by a number greater than `MOST_RESIZED`.
+fn put_text(at: usize, text: &[u8], row: &mut [u8], begins: &mut [u16]) -> u32
+    requires kept { (ns : List Numeral) × (HasNumerals ns row.old begins.old) × (at < length ns) }
+    requires short { length text.now ≤ NUMBER }
     ensures few { result ≤ MOST_RESIZED + 1 }
-    ensures kept { result ≤ MOST_RESIZED → (c : Configuration)
-        → IsLineKept c row.old begins.old → i < length c
-        → (s : Standing) → s.place ≡ place → IsLineKept (set c i s) row.new begins.new }
+    ensures kept { result ≤ MOST_RESIZED → (ns : List Numeral) (n : Numeral)
+        → HasNumerals ns row.old begins.old → at < length ns → text.now ≡ numeral_text n
+        → HasNumerals (set ns at n) row.new begins.new }
 {
-    if overwrite(i, place, row, begins) {
+    if overwrite(at, text, row, begins) {
         return 0;
     }
-    if resize_place(i, place, row, begins) {
+    if resize_to(at, text, row, begins) {
         return 1;
     }
     MOST_RESIZED + 1
+}
+
+/// Writes the number that a change leads to over the one from which it does, and answers as `put_text` does.
+#[inline(never)]
+fn put_change(change: Change, row: &mut [u8], begins: &mut [u16]) -> u32
+    requires kept { (ns : List Numeral) × (HasNumerals ns row.old begins.old)
+        × (change.number < length ns) }
+    ensures few { result ≤ MOST_RESIZED + 1 }
+    ensures kept { result ≤ MOST_RESIZED → (ns : List Numeral)
+        → HasNumerals ns row.old begins.old → change.number < length ns
+        → HasNumerals (set ns change.number (numeral_after change)) row.new begins.new }
+{
+    let mut text = [0; NUMBER];
+    let at = write_separated(change.separator, change.new, &mut text, NUMBER);
+    put_text(change.number, &text[at..], row, begins)
 }
 
 /// Writes the time before the places, and answers where the line begins.
@@ -224,34 +231,6 @@ pub fn write_time(time: u32, row: &mut [u8], begin: usize) -> usize
     write_count(time, row, at)
 }
 
-/// Writes the places of the agents that the last tick moved over those before, in the row and in the list of places;
-/// all places anew if more than a few are longer or shorter than before.
-pub fn write_moved(machine: &Machine, row: &mut [u8], begins: &mut [usize], places: &mut [Place])
-    requires agents { length machine.now.configuration ≤ MAX_AGENTS }
-    requires before { IsKeptBefore machine.now row.old begins.old places.old }
-    requires moved { length machine.now.moving ≡ length machine.now.configuration }
-    ensures kept { IsLineKept machine.now.configuration row.new begins.new }
-    ensures places { places.new ≡ places_of machine.now.configuration }
-{
-    let rows = machine.agents();
-    let mut resized = 0;
-    let mut cursor = machine.moved_cursor();
-    while let Some(i) = machine.moved_at(&mut cursor) {
-        let i = usize::from(i);
-        let place = rows[i].place;
-        let is_moved = move_place(i, place, row, begins, places);
-        places[i] = place;
-        if !is_moved {
-            resized += put_place(i, place, row, begins);
-            if resized > MOST_RESIZED {
-                write_places(rows, row, begins);
-                copy_places(rows, places);
-                return;
-            }
-        }
-    }
-}
-
 /// The coordinate as a number, if it is not negative.
 fn natural(coordinate: i32) -> Option<u32>
     ensures some { IfSome result (λ n. (coordinate ≡ pos n) × (n < 2 ^ 32)) }
@@ -261,44 +240,6 @@ fn natural(coordinate: i32) -> Option<u32>
         return None;
     }
     Some(coordinate.unsigned_abs())
-}
-
-/// The least number of six digits, above each that is written here in place.
-const SIX_DIGITS: u32 = 100_000;
-
-/// The coordinate as a number, if it is not negative and has five digits at most.
-fn small_number(coordinate: i32) -> Option<u32>
-    ensures some { IfSome result (λ n. (coordinate ≡ pos n) × (n < SIX_DIGITS)) }
-    ensures none { IfNone result ((n : ℕ) → coordinate ≡ pos n → SIX_DIGITS ≤ n) }
-{
-    let number = natural(coordinate)?;
-    if number < SIX_DIGITS {
-        Some(number)
-    } else {
-        None
-    }
-}
-
-/// 1 if the number is this one or a greater one, and 0 if not.
-fn reaches(number: u32, bound: u32) -> usize
-    ensures most { result ≤ 1 }
-    ensures below { number < bound → result ≡ 0 }
-    ensures from { bound ≤ number → result ≡ 1 }
-{
-    usize::from(number >= bound)
-}
-
-/// How many digits the number has.
-fn digit_count(number: u32) -> usize
-    requires { number < SIX_DIGITS }
-    ensures few { result ≤ 5 }
-    ensures digits { result ≡ length (decimal number) }
-{
-    let is_short = number < 100;
-    if is_short {
-        return 1 + reaches(number, 10);
-    }
-    3 + reaches(number, 1_000) + reaches(number, 10_000)
 }
 
 /// Whether a number is the code of a digit.
@@ -330,26 +271,82 @@ fn patch_digit(old: i32, new: i32, row: &mut [u8], at: usize) -> bool
     true
 }
 
-/// Writes the last digit of one coordinate of a place over that of a place beside it, whose text stands there, if no
-/// other byte of the text changes, and answers whether it did.
+/// How a move changes a line: which number of the line it changes, the byte before that, and the number before and
+/// after.
+#[derive(Clone, Copy)]
+struct Change {
+    number: usize,
+    separator: u8,
+    old: i32,
+    new: i32,
+}
+
+/// How the line changes where agent `i` goes from a place to one beside it.
 #[inline(always)]
-fn patch_place(old: Place, place: Place, row: &mut [u8], begin: usize, end: usize) -> bool
-    requires room { length row.old ≡ LINE }
-    requires order { begin ≤ end }
-    requires within { end ≤ LINE }
-    requires text { IsTextOf old begin end row.old }
-    requires beside { IsBeside old place }
-    ensures { WritesOver result place begin end row.old row.new }
+fn change_of(i: usize, old: Place, new: Place) -> Change
+    requires agent { i < MAX_AGENTS }
+    requires beside { IsBeside old new }
+    ensures close { AreClose result.old result.new }
+    ensures change { IsChange i old new result }
 {
-    // Where the text begins is of use to the contract alone.
-    let _ = begin;
-    let last = end - 1;
-    let is_other_row = old.y != place.y;
+    let is_other_row = old.y != new.y;
     if is_other_row {
-        return patch_digit(old.y, place.y, row, last);
+        Change {
+            number: 2 * i + 1,
+            separator: b',',
+            old: old.y,
+            new: new.y,
+        }
+    } else {
+        Change {
+            number: 2 * i,
+            separator: b' ',
+            old: old.x,
+            new: new.x,
+        }
     }
-    let Some(y) = small_number(place.y) else {
-        return false;
-    };
-    patch_digit(old.x, place.x, row, last - 1 - digit_count(y))
+}
+
+/// Makes a change of the line if it changes a last digit alone, and answers whether it did.
+#[inline(always)]
+fn patch(change: Change, row: &mut [u8], begins: &[u16]) -> bool
+    requires kept { (ns : List Numeral) × (HasNumerals ns row.old begins.now)
+        × IsNumeralAt ns change.number (numeral_before change) }
+    requires close { AreClose change.old change.new }
+    ensures kept { result ≡ true → (ns : List Numeral) → HasNumerals ns row.old begins.now
+        → IsNumeralAt ns change.number (numeral_before change)
+        → HasNumerals (set ns change.number (numeral_after change)) row.new begins.now }
+    ensures same { result ≡ false → row.new ≡ row.old }
+{
+    let end = usize::from(begins[change.number + 1]);
+    patch_digit(change.old, change.new, row, end - 1)
+}
+
+/// Writes the places of the agents that the last tick moved over those before, in the row and in the list of places;
+/// all places anew if more than a few are longer or shorter than before.
+pub fn write_moved(machine: &Machine, row: &mut [u8], begins: &mut [u16], places: &mut [Place])
+    requires agents { length machine.now.configuration ≤ MAX_AGENTS }
+    requires before { IsKeptBefore machine.now row.old begins.old places.old }
+    requires moved { length machine.now.moving ≡ length machine.now.configuration }
+    ensures kept { IsLineKept machine.now.configuration row.new begins.new }
+    ensures places { places.new ≡ places_of machine.now.configuration }
+{
+    let rows = machine.agents();
+    let mut resized = 0;
+    let mut cursor = machine.moved_cursor();
+    while let Some(i) = machine.moved_at(&mut cursor) {
+        let i = usize::from(i);
+        let place = rows[i].place;
+        let change = change_of(i, places[i], place);
+        places[i] = place;
+        let is_patched = patch(change, row, begins);
+        if !is_patched {
+            resized += put_change(change, row, begins);
+            if resized > MOST_RESIZED {
+                write_places(rows, row, begins);
+                copy_places(rows, places);
+                return;
+            }
+        }
+    }
 }

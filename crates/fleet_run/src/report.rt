@@ -1,8 +1,7 @@
 //! Rehearsals: runs of any program.
 
 ghost use Rattle.std.specs.Prelude.{◌≡◌};
-ghost use Rattle.fleet_model.specs.Machine.{opening};
-ghost use Rattle.fleet_machine.specs.Machine.{Runs};
+ghost use Rattle.fleet_run.specs.Outcome.{CanRun};
 ghost use Rattle.fleet_run.specs.Rehearsal.{Rehearses};
 ghost use Rattle.fleet_text.specs.Sink.{IsWorking};
 ghost use Rattle.fleet_run.specs.Source.{HasNotFailed};
@@ -31,10 +30,7 @@ fn run_rehearsal<P: ProgramView, S: HoldSource, O: TraceOut>(
     source: &mut S,
     out: &mut O,
 ) -> Result<Rehearsal, RunFault>
-    requires runs { Runs (P.program program.now) machine.old }
-    requires opening { machine.old.configuration ≡ opening (P.program program.now) }
-    requires source { HasNotFailed (S.state source.old) }
-    requires sink { IsWorking (O.state out.old) }
+    requires { CanRun (P.program program.now) machine.old (S.state source.old) (O.state out.old) }
     ensures { Rehearses (P.program program.now) (S.state source.old) (S.state source.new)
         (O.state out.old) (O.state out.new)
         result }

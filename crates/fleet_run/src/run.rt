@@ -1,17 +1,15 @@
 //! Runs, line by line.
 
-ghost use Rattle.std.specs.Prelude.{◌≡◌, ◌+◌, ◌<◌, ◌≤◌, length, true, [], if◌then◌else◌};
-ghost use Rattle.fleet_model.specs.Machine.{Configuration, opening, tick, is_ready_held};
+ghost use Rattle.std.specs.Prelude.{◌≡◌, ◌+◌, ◌<◌, ◌≤◌, ◌^◌, length, if◌then◌else◌};
+ghost use Rattle.fleet_model.specs.Machine.{Configuration, tick, is_ready_held};
 ghost use Rattle.fleet_machine.specs.Machine.{Runs, flag_of};
 ghost use Rattle.fleet_run.specs.Text.{line_of};
 ghost use Rattle.fleet_run.specs.Line.{IsLineKept, places_of};
 ghost use Rattle.fleet_text.specs.Sink.{IsWorking, TakesAll};
-ghost use Rattle.fleet_run.specs.Source.{HasNotFailed, AreFlagsOf};
-ghost use Rattle.fleet_run.specs.declared.trace.TheConstants.{LINE};
-ghost use Rattle.fleet_model.specs.declared.limits.TheConstants.{MAX_AGENTS};
-ghost use Rattle.fleet_run.specs.Outcome.{run_end, fault_of, AsksNext, AsksUnlessOver, PassesTime, RunsLines};
+ghost use Rattle.fleet_run.specs.Source.{CanBeAsked};
+ghost use Rattle.fleet_run.specs.Outcome.{run_end, fault_of, AreRowsFor, AsksNext, AsksUnlessOver, CanRun, PassesTime, RunsLines};
 
-use crate::line::{copy_places, write_moved, write_places, write_time};
+use crate::line::{NUMERALS, copy_places, write_moved, write_places, write_time};
 use crate::source::{HoldSource, SourceFault, ask};
 use crate::trace::LINE;
 use fleet_machine::Machine;
@@ -110,7 +108,7 @@ fn put_time_line<O: TraceOut>(
     out: &mut O,
     time: u32,
     row: &mut [u8],
-    begins: &[usize],
+    begins: &[u16],
 ) -> Result<(), OutFault>
     requires working { IsWorking (O.state out.old) }
     requires kept { (c : Configuration) × IsLineKept c row.old begins.now }
@@ -119,7 +117,7 @@ fn put_time_line<O: TraceOut>(
     ensures taken { (c : Configuration) → IsLineKept c row.old begins.now
         → TakesAll (O.state out.old) (O.state out.new) result (line_of time c) }
 {
-    let at = write_time(time, row, begins[0]);
+    let at = write_time(time, row, usize::from(begins[0]));
     put_all(out, &row[at..])
 }
 
@@ -146,10 +144,8 @@ fn next_tick<S: HoldSource>(
     ticks: u32,
     flags: &mut [bool],
 ) -> Result<bool, RunFault>
-    requires working { HasNotFailed (S.state source.old) }
-    requires ended { has_ended ≡ true → (S.state source.old).ticks ≡ [] }
-    requires unset { has_ended ≡ true → AreFlagsOf [] flags.old }
-    requires few { ticks < 4294967295 }
+    requires can { CanBeAsked has_ended (S.state source.old) flags.old }
+    requires few { ticks + 1 < 2 ^ 32 }
     ensures { AsksNext has_ended (S.state source.old) (S.state source.new) ticks result flags.new }
 {
     match ask(source, has_ended, flags) {
@@ -165,10 +161,8 @@ fn next_unless_over<S: HoldSource>(
     time: Time,
     flags: &mut [bool],
 ) -> Result<bool, RunFault>
-    requires working { HasNotFailed (S.state source.old) }
-    requires ended { time.source_ended ≡ true → (S.state source.old).ticks ≡ [] }
-    requires unset { time.source_ended ≡ true → AreFlagsOf [] flags.old }
-    requires few { time.ticks < 4294967295 }
+    requires can { CanBeAsked time.source_ended (S.state source.old) flags.old }
+    requires few { time.ticks + 1 < 2 ^ 32 }
     ensures { AsksUnlessOver time (S.state source.old) (S.state source.new) result flags.new }
 {
     match time.end {
@@ -184,13 +178,11 @@ fn pass_time<S: HoldSource, O: TraceOut>(
     out: &mut O,
     time: Time,
     row: &mut [u8],
-    begins: &[usize],
+    begins: &[u16],
     flags: &mut [bool],
 ) -> Result<bool, RunFault>
-    requires working { HasNotFailed (S.state source.old) }
-    requires ended { time.source_ended ≡ true → (S.state source.old).ticks ≡ [] }
-    requires unset { time.source_ended ≡ true → AreFlagsOf [] flags.old }
-    requires few { time.ticks < 4294967295 }
+    requires can { CanBeAsked time.source_ended (S.state source.old) flags.old }
+    requires few { time.ticks + 1 < 2 ^ 32 }
     requires sink { IsWorking (O.state out.old) }
     requires kept { (c : Configuration) × IsLineKept c row.old begins.now }
     ensures kept { (c : Configuration) → IsLineKept c row.old begins.now
@@ -208,8 +200,8 @@ fn pass_time<S: HoldSource, O: TraceOut>(
 impl Counts {
     /// The counts after one tick more, in which a ready agent was held or not.
     fn after(self, ready_held: bool) -> Counts
-        requires few { self.ticks < 4294967295 }
-        requires held { self.held < 4294967295 }
+        requires few { self.ticks + 1 < 2 ^ 32 }
+        requires held { self.held + 1 < 2 ^ 32 }
         ensures ticks { result.ticks ≡ self.ticks + 1 }
         ensures held { result.held ≡ self.held + (if ready_held then 1 else 0) }
     {
@@ -226,7 +218,7 @@ fn tick_row<P: ProgramView>(
     machine: &mut Machine,
     flags: &[bool],
     row: &mut [u8],
-    begins: &mut [usize],
+    begins: &mut [u16],
     places: &mut [Place],
 ) -> bool
     requires runs { Runs (P.program program.now) machine.old }
@@ -247,11 +239,11 @@ fn tick_row<P: ProgramView>(
     tick.ready_held
 }
 
-/// What a run keeps from tick to tick: the bytes of the line of the time, and where each place begins in them; and of
+/// What a run keeps from tick to tick: the bytes of the line of the time, and where each number of a place begins in them; and of
 /// each agent whether it is held, and its place.
 struct Rows<'r> {
     row: &'r mut [u8],
-    begins: &'r mut [usize],
+    begins: &'r mut [u16],
     flags: &'r mut [bool],
     places: &'r mut [Place],
 }
@@ -264,14 +256,9 @@ fn run_in<P: ProgramView, S: HoldSource, O: TraceOut>(
     out: &mut O,
     rows: Rows<'_>,
 ) -> Result<Ran, RunFault>
-    requires runs { Runs (P.program program.now) machine.old }
-    requires opening { machine.old.configuration ≡ opening (P.program program.now) }
-    requires source { HasNotFailed (S.state source.old) }
-    requires sink { IsWorking (O.state out.old) }
-    requires room { length rows.row.now ≡ LINE }
-    requires begins { length rows.begins.now ≡ MAX_AGENTS + 1 }
-    requires flags { length rows.flags.now ≡ length (P.program program.now) }
-    requires places { length rows.places.now ≡ length (P.program program.now) }
+    requires can { CanRun (P.program program.now) machine.old (S.state source.old) (O.state out.old) }
+    requires rows { AreRowsFor (P.program program.now) rows.row.now rows.begins.now rows.flags.now
+        rows.places.now }
     ensures runs { Runs (P.program program.now) machine.new }
     ensures looked { machine.old.looked ≤ machine.new.looked }
     ensures lines { RunsLines (P.program program.now) (S.state source.old) (S.state source.new)
@@ -313,10 +300,7 @@ pub fn run_lines<P: ProgramView, S: HoldSource, O: TraceOut>(
     source: &mut S,
     out: &mut O,
 ) -> Result<Ran, RunFault>
-    requires runs { Runs (P.program program.now) machine.old }
-    requires opening { machine.old.configuration ≡ opening (P.program program.now) }
-    requires source { HasNotFailed (S.state source.old) }
-    requires sink { IsWorking (O.state out.old) }
+    requires { CanRun (P.program program.now) machine.old (S.state source.old) (O.state out.old) }
     ensures runs { Runs (P.program program.now) machine.new }
     ensures looked { machine.old.looked ≤ machine.new.looked }
     ensures lines { RunsLines (P.program program.now) (S.state source.old) (S.state source.new)
@@ -326,7 +310,7 @@ pub fn run_lines<P: ProgramView, S: HoldSource, O: TraceOut>(
     let mut flags = [false; MAX_AGENTS];
     let flags = &mut flags[..program.agents() as usize];
     let mut row = [0; LINE];
-    let mut begins = [0; MAX_AGENTS + 1];
+    let mut begins = [0; NUMERALS + 1];
     let mut places = [Place { x: 0, y: 0 }; MAX_AGENTS];
     let places = &mut places[..program.agents() as usize];
     let rows = Rows {

@@ -1,7 +1,7 @@
 //! Sources of holds, and the one that reads a text.
 
 ghost use Rattle.std.specs.Prelude.{◌≡◌, ℕ, ◌<◌, not, length, true, [], ◌∷◌, List, ◌↔◌, MatchBool, MatchOption, IfSome, None, Some, min, option_map, position};
-ghost use Rattle.fleet_run.specs.Source.{HasNotFailed, GivesTick, AsksTick, AreFlagsOf};
+ghost use Rattle.fleet_run.specs.Source.{HasNotFailed, CanBeAsked, GivesTick, AsksTick, AreFlagsOf};
 ghost use Rattle.fleet_machine.specs.Machine.{flag_of};
 ghost use Rattle.std.specs.List.{slice_split};
 ghost use Rattle.fleet_text.specs.Text.{lines};
@@ -51,9 +51,7 @@ pub fn ask<S: HoldSource>(
     has_ended: bool,
     flags: &mut [bool],
 ) -> Result<bool, SourceFault>
-    requires working { HasNotFailed (S.state source.old) }
-    requires ended { has_ended ≡ true → (S.state source.old).ticks ≡ [] }
-    requires unset { has_ended ≡ true → AreFlagsOf [] flags.old }
+    requires { CanBeAsked has_ended (S.state source.old) flags.old }
     ensures { AsksTick has_ended (S.state source.old) (S.state source.new) result flags.new }
 {
     if has_ended {

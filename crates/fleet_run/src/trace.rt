@@ -1,12 +1,10 @@
 //! The text of a run: its places, its lines and its end.
 
-ghost use Rattle.std.specs.Prelude.{◌≡◌, ◌≤◌, ◌+◌, ◌<◌, ◌++◌, length, drop};
-ghost use Rattle.fleet_model.specs.Machine.{opening};
+ghost use Rattle.std.specs.Prelude.{◌≡◌, ◌≤◌, ◌+◌, ◌<◌, ◌++◌, ◌∷◌, length, drop};
 ghost use Rattle.fleet_machine.specs.Machine.{Runs};
 ghost use Rattle.fleet_run.specs.Fleet.{IsShown};
 ghost use Rattle.fleet_run.specs.Drive.{Drives};
-ghost use Rattle.fleet_text.specs.Sink.{IsWorking};
-ghost use Rattle.fleet_run.specs.Source.{HasNotFailed};
+ghost use Rattle.fleet_run.specs.Outcome.{CanRun};
 ghost use Rattle.std.specs.Fmt.{decimal, signed_decimal};
 ghost use Rattle.fleet_run.specs.Text.{place_text, number_line, last_line_of, closing_lines, trace_closing};
 
@@ -35,10 +33,7 @@ pub fn run_trace<P: ProgramView, S: HoldSource, O: TraceOut>(
     out: &mut O,
 ) -> Result<Report, RunFault>
     requires shown { IsShown (P.program program.now) chain }
-    requires runs { Runs (P.program program.now) machine.old }
-    requires opening { machine.old.configuration ≡ opening (P.program program.now) }
-    requires source { HasNotFailed (S.state source.old) }
-    requires sink { IsWorking (O.state out.old) }
+    requires can { CanRun (P.program program.now) machine.old (S.state source.old) (O.state out.old) }
     ensures runs { Runs (P.program program.now) machine.new }
     ensures looked { machine.old.looked ≤ machine.new.looked }
     ensures outcome { Drives (P.program program.now) chain (S.state source.old) (S.state source.new)
@@ -88,6 +83,19 @@ fn write_signed(number: i32, row: &mut [u8], end: usize) -> usize
     }
 }
 
+/// Writes a byte and a number after it, so that they end before `end`, and answers where they begin.
+pub fn write_separated(separator: u8, number: i32, row: &mut [u8], end: usize) -> usize
+    requires room { NUMBER ≤ end }
+    requires within { end ≤ length row.old }
+    ensures low { end ≤ result + NUMBER }
+    ensures high { result ≤ end }
+    ensures written { drop result row.new
+        ≡ separator ∷ (signed_decimal number ++ drop end row.old) }
+{
+    let at = write_signed(number, row, end);
+    write_byte(separator, row, at)
+}
+
 /// Writes a place as ` x,y`, with the space before it, so that it ends before `end`, and answers where it begins.
 pub fn write_place(place: Place, row: &mut [u8], end: usize) -> usize
     requires room { PLACE ≤ end }
@@ -96,14 +104,15 @@ pub fn write_place(place: Place, row: &mut [u8], end: usize) -> usize
     ensures high { result ≤ end }
     ensures written { drop result row.new ≡ place_text place ++ drop end row.old }
 {
-    let at = write_signed(place.y, row, end);
-    let at = write_byte(b',', row, at);
-    let at = write_signed(place.x, row, at);
-    write_byte(b' ', row, at)
+    let at = write_separated(b',', place.y, row, end);
+    write_separated(b' ', place.x, row, at)
 }
 
+/// How many bytes the longest number of a place has, with the byte before it.
+pub const NUMBER: usize = 12;
+
 /// How many bytes the longest place has, with the space before it.
-pub const PLACE: usize = 24;
+pub const PLACE: usize = 2 * NUMBER;
 
 /// How many bytes the longest line has.
 pub const LINE: usize = MAX_AGENTS * PLACE + 12;

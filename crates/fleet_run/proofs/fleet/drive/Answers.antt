@@ -9,14 +9,19 @@ use Rattle.fleet_run.proofs.UnderWay.{at_opening, told_in_time, told_unless_fail
 use Rattle.fleet_run.proofs.Progress.{arrived_if_told, longest_if_told}
 use Rattle.fleet_run.proofs.fleet.drive.Goals as goal
 
-pub run_trace-requires-clause-opening : goal.run_trace-requires-clause-opening
-run_trace-requires-clause-opening g c =
+pub run_trace-requires-clause-can : goal.run_trace-requires-clause-can
+run_trace-requires-clause-can g c =
     let running = c.fleet.invariant in
     let p = g.P.ProgramView.program c.fleet.inside.accepted.program in
     let here = c.fleet.inside.machine.configuration in
     let counts = rw (← c.fleet.view_is) at c.requires.counts in
     let start : here ≡ opening p = at_opening p here running.reached (λ i h. counts i (standing_at [] 0) (omega (arith, running.runs.agents))) in
-    start ∙ ap (λ q. opening (g.P.ProgramView.program q)) (sym c.program.ensures.program)
+    record {
+      runs = rw c.program.ensures.program running.runs;
+      starts = start ∙ ap (λ q. opening (g.P.ProgramView.program q)) (sym c.program.ensures.program);
+      source_works = c.requires.source;
+      sink_works = c.requires.sink;
+    }
 
 pub run_trace-requires-clause-shown : goal.run_trace-requires-clause-shown
 run_trace-requires-clause-shown g c =

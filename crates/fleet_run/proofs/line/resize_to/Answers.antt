@@ -1,4 +1,4 @@
-use Rattle.std.proofs.Common.{arith}
+use Rattle.std.proofs.Common.{arith, ◌∙◌}
 use Rattle.fleet_run.proofs.line.resize_to.Goals as goal
 
 pub shift_begins-requires-clause-room : goal.shift_begins-requires-clause-room
@@ -10,10 +10,10 @@ shift_begins-requires-clause-fit c = λ k l. omega (arith, (c.requires.before k 
 pub returns-in-Some : goal.returns-in-Some
 returns-in-Some c = λ is. record {
   to = c.in-Some.to;
-  fits = c.in-Some.ensures.fits;
-  room = c.in-Some.ensures.room;
-  written = c.resize_text.ensures;
+  fits = c.in-Some.ensures.fits ∙ c.from-end.ensures;
+  room = rw (← c.from-front.ensures, ← c.from-begin.ensures) c.in-Some.ensures.room;
+  written = rw (← c.from-front.ensures, ← c.from-begin.ensures, ← c.from-end.ensures) c.resize_text.ensures;
   long = c.shift_begins.auto.begins;
-  moved = c.shift_begins.ensures.shifted;
+  moved = rw (← c.from-begin.ensures) c.shift_begins.ensures.shifted;
   others = c.shift_begins.ensures.others;
 }

@@ -1,11 +1,8 @@
-use Rattle.std.proofs.Common.{◌≡◌, ◌≤◌, ◌+◌, [], true, length}
+use Rattle.std.proofs.Common.{◌≡◌, ◌≤◌, ◌+◌, length}
 use Rattle.fleet_machine.specs.Machine.{Runs}
-use Rattle.fleet_run.specs.Text.{lines_below}
 use Rattle.fleet_run.specs.Line.{IsLineKept, places_of}
-use Rattle.fleet_text.specs.Sink.{Takes}
-use Rattle.fleet_run.specs.Source.{HasNotFailed, AreFlagsOf}
+use Rattle.fleet_run.proofs.Passing.{IsSoFar}
 use Rattle.fleet_run.proofs.Progress.{all_left}
-use Rattle.fleet_run.proofs.UnderWay.{IsUnderWay}
 use Rattle.fleet_run.proofs.run.run_in.Given as goal
 
 abbrev pub invariant-ticks : goal.invariant-ticks
@@ -16,13 +13,9 @@ invariant-ticks g l =
     record {
       runs : Runs p l.machine;
       looked : l.initial.machine.looked ≤ l.machine.looked;
-      flags : length l.flags ≡ length p;
-      unset : l.source_ended ≡ true → AreFlagsOf [] l.flags;
-      under_way : IsUnderWay p first now l.machine.configuration l.counts.ticks l.counts.held l.source_ended;
-      source : HasNotFailed now;
+      so_far : IsSoFar p first now (g.O.TraceOut.state l.initial.out) (g.O.TraceOut.state l.out) l.machine.configuration l.counts.ticks l.counts.held l.source_ended l.flags;
       kept : IsLineKept l.machine.configuration l.row l.begins;
       places : l.places ≡ places_of l.machine.configuration;
-      written : Takes (g.O.TraceOut.state l.initial.out) (g.O.TraceOut.state l.out) (lines_below p first.ticks l.counts.ticks);
     }
 
 abbrev pub decreases-ticks : goal.decreases-ticks

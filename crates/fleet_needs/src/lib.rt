@@ -6,9 +6,9 @@
 //! `std::simd`, in two small functions of their own, whose proofs alone speak of lanes: the loops over them know places
 //! and counts.
 //!
-//! `finish_order` runs the program once without holds and notes the order in which the actions finish (the agents, tick
-//! by tick). `Finishing` goes through it, action by action; so the tick that finishes each action is noted, which rises
-//! along chains.
+//! `finish_order` has the order in which the actions finish if nobody is held (the agents, tick by tick): that of a run,
+//! or what another `OrderSource` makes. `Finishing` goes through it, action by action; so the tick that finishes each
+//! action is noted, which rises along chains.
 //!
 //! A `schedule` says which rows are made, in which order, of which rows each is joined, and in which slot it is kept.
 //! It is made once, and serves all blocks of columns: each agent that is asked for has a column in one block. `joins`

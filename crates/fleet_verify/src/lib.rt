@@ -9,7 +9,8 @@
 //! on as far as its awaits allow, and reads it instruction by instruction; whom it looks at next says `queue`. It keeps
 //! the levels of its actions (`level_row`), of each cell the last visit (`last_visits`) and the open pairs, which
 //! mostly the last await of an action spares, and says yes if all arrive on passable ground and chains order those
-//! pairs, which `chained` asks for in the order of their levels. If it does not, `unheld_run` runs the program with
+//! pairs, which `chained` asks for in the order of their levels: `level_order` sorts all actions by them, since that is
+//! the order in which they finish if nobody is held. If it does not, `unheld_run` runs the program with
 //! nobody held, looks whether each place that it comes to is passable, and adds each visit as it begins to the
 //! `VisitOrder` of `order`, which groups them by cell and keeps the *open pairs*: a visit and the next of its cell, by
 //! another agent, which does not await that the first is left. A run that finishes has met each await, and `agents`

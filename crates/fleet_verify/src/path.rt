@@ -4,12 +4,13 @@ ghost use Rattle.std.specs.Prelude.{◌≡◌, ◌<◌, ◌≤◌, ◌+◌, ◌�
 ghost use Rattle.fleet_model.specs.Geometry.{place_of, stepped};
 ghost use Rattle.fleet_model.specs.Program.{moves, IsWellFormed};
 ghost use Rattle.fleet_grid.specs.Ground.{is_passable};
+ghost use Rattle.fleet_model.specs.declared.geometry.Cell.{Cell};
 ghost use Rattle.fleet_verify.specs.Faults.{AwaitsRight};
 ghost use Rattle.fleet_verify.specs.Path.{AnswersFirst, IsPosition, IsPathJudged};
 ghost use Rattle.fleet_verify.specs.Order.{numbered_cell};
 
 use fleet_grid::Grid;
-use fleet_model::{Cell, Place, ProgramView, Step};
+use fleet_model::{Cell, MAX_COORDINATE, Place, ProgramView, Step};
 
 /// The judgement of an agent's path.
 #[derive(Clone, Copy)]
@@ -118,7 +119,7 @@ pub fn cell_after(grid: &Grid, cell: Cell, step: Step) -> Option<Cell>
 }
 
 /// How far apart the numbers of two cells are, one right below the other.
-const ROW: u32 = 65_536;
+const ROW: u32 = MAX_COORDINATE + 1;
 
 /// What a move adds to the number of a cell, by how many quarter turns from the north: the number wraps.
 static LEADS: [u32; 4] = [u32::MAX - (ROW - 1), 1, ROW, u32::MAX];
@@ -140,8 +141,10 @@ pub fn numbered_cell(number: u32) -> Cell
 pub fn next_number(number: u32, step: Step) -> u32
     requires column { (numbered_cell number).x < u16.MAX }
     requires row { (numbered_cell number).y < u16.MAX }
-    ensures { (numbered_cell result).x < u16.MAX → (numbered_cell result).y < u16.MAX
+    ensures place { (numbered_cell result).x < u16.MAX → (numbered_cell result).y < u16.MAX
         → place_of (numbered_cell result) ≡ stepped (place_of (numbered_cell number)) step }
+    ensures cell { (c : Cell) → place_of c ≡ stepped (place_of (numbered_cell number)) step
+        → numbered_cell result ≡ c }
 {
     match step {
         Step::Go(dir) => number.wrapping_add(LEADS[dir as usize]),

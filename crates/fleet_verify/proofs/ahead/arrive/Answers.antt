@@ -45,7 +45,7 @@ pub returns-in_ok-enter-in-Go-clause-here : goal.returns-in_ok-enter-in-Go-claus
 returns-in_ok-enter-in-Go-clause-here g c =
     let ground = subst (λ (q : Cell). IsTrue (is_passable c.args.grid.now (place_of q))) c.numbered_cell-cell.ensures c.in_ok-enter-in-Go.ensures.ground in
     let within = within_numbers c.args.grid.now c.width-width.ensures.sizes (numbered_cell c.next_number-next.result) ground in
-    arrival_here c.requires.runner c.requires.needs (numbered_cell c.next_number-next.result) (c.next_number-next.ensures within.0 within.1)
+    arrival_here c.requires.runner c.requires.needs (numbered_cell c.next_number-next.result) (c.next_number-next.ensures.place within.0 within.1)
 
 pub returns-in_ok-enter-in-Go-clause-added : goal.returns-in_ok-enter-in-Go-clause-added
 returns-in_ok-enter-in-Go-clause-added g c = λ visits old.
@@ -54,7 +54,7 @@ returns-in_ok-enter-in-Go-clause-added g c = λ visits old.
     let made = c.in_ok-enter-in-Go.ensures in
     let ground = subst (λ (q : Cell). IsTrue (is_passable c.args.grid.now (place_of q))) c.numbered_cell-cell.ensures made.ground in
     let within = within_numbers c.args.grid.now c.width-width.ensures.sizes (numbered_cell c.next_number-next.result) ground in
-    let here = ap place_of c.numbered_cell-cell.ensures ∙ arrival_here c.requires.runner c.requires.needs (numbered_cell c.next_number-next.result) (c.next_number-next.ensures within.0 within.1) in
+    let here = ap place_of c.numbered_cell-cell.ensures ∙ arrival_here c.requires.runner c.requires.needs (numbered_cell c.next_number-next.result) (c.next_number-next.ensures.place within.0 within.1) in
     record {
       placed = old.placed ++ s ∷ [];
       same = map-append (λ (x : PlacedVisit). x.visit) old.placed (s ∷ []) ∙ (ap (λ vs. vs ++ s.visit ∷ []) old.same ∙ sym (entry_more p visits s.visit (enters_by p s.visit c.args.needs (arrival_by c.requires.runner c.requires.left c.requires.needs) ∙ ap is_move c.in-Go.is)));

@@ -1,10 +1,11 @@
-use Rattle.std.proofs.Common.{◌≤◌, ◌==◌, not, get_or, ap}
-use Rattle.std.proofs.lemmas.Bool.{ne_eqb}
-use Rattle.std.proofs.lemmas.List.{get_or_default}
+use Rattle.std.proofs.Common.{◌≤◌, ◌==◌, not, get_or, ap, sym}
+use Rattle.std.proofs.lemmas.Bool.{ne_eqb, eq-eqb}
+use Rattle.std.proofs.lemmas.List.{get_or_default, append-nil}
 use Rattle.fleet_model.specs.declared.program.Await.{Await}
-use Rattle.fleet_code.specs.Spelling.{most_count}
-use Rattle.fleet_code.proofs.Written.{passing_holds}
+use Rattle.fleet_code.specs.Spelling.{most_count, await}
+use Rattle.fleet_code.proofs.Written.{passing_holds, passed_more}
 use Rattle.fleet_code.proofs.encoder.put_awaits_of_others.Goals as goal
+use Rattle.fleet_code.proofs.encoder.put_awaits_of_others.Goals.{then-one-own+in_ok-put_await, else-one-own}
 
 pub put_await-requires : goal.put_await-requires
 put_await-requires c =
@@ -14,3 +15,13 @@ put_await-requires c =
     let one : Await = get_or awaits k none in
     passing_holds (λ (w : Await). w.count ≤ most_count c.args.version) (λ (w : Await). not (w.agent == c.args.own)) awaits k one c.requires c.loop-one-test.true
     (get_or_default awaits k none one c.loop-one-test.true) (ap not (ne_eqb one.agent c.args.own c.if-one-own.true))
+
+pub loop-one-preserved : goal.loop-one-preserved
+loop-one-preserved c =
+    let none : Await = record { agent = 0; count = 0 } in
+    let one : Await = get_or c.args.awaits.now c.loop-one.one-index none in
+    let more = passed_more (await c.args.version) (λ (w : Await). not (w.agent == c.args.own)) c.args.out.now.items c.loop-one.out.items c.if-one-own.out.items c.args.awaits.now c.loop-one.one-index none c.loop-one-test.true c.loop-one.invariant in
+    elim c.if-one-own.branch [
+      | then-one-own+in_ok-put_await w ↦ more (rw (w.out-is, ap not (ne_eqb one.agent c.args.own w.if-one-own.true)) w.in_ok-put_await.ensures)
+      | else-one-own w ↦ more (rw (w.out-is, ap not (eq-eqb one.agent c.args.own w.if-one-own.false)) (sym (append-nil c.loop-one.out.items)))
+    ]

@@ -46,7 +46,8 @@ pub record AreThinnedAgents (p : Program) (n : ℕ) (agents : List AgentProgram)
 
 -- ---- what is left of an accepted program
 
--- all that `thin` promises of a program q, if p is accepted for the ground and the tasks and has so long a chain
+-- q is p without its implied awaits, accepted as p is and with as long a chain; it runs equally, loses nothing if it is
+-- thinned again, and no program with the starts, goals, steps and chains of p does without an await of q
 pub record IsThinnedFor (passable : Place → Bool) (tasks : List Task) (p : Program) (chain : ℕ) (q : Program) : Type 0 where
   pub is : IsThinned p q
   pub accepted : IsAccepted passable tasks q

@@ -1,6 +1,6 @@
 //! What is left of programs whose agents are on their way.
 
-ghost use Rattle.std.specs.Prelude.{◌≡◌, ◌<◌, IfOk, Some, None, true, false, List, All, length, drop, map};
+ghost use Rattle.std.specs.Prelude.{◌≡◌, ◌<◌, IfOk, OnOk, [], Some, None, true, false, List, All, length, drop, map};
 ghost use Rattle.fleet_model.specs.declared.program.Await.{Await};
 ghost use Rattle.fleet_model.specs.declared.task.Task.{Task};
 ghost use Rattle.fleet_model.specs.Program.{Program, IsWellFormed, actions_of, awaits_of};
@@ -119,9 +119,27 @@ fn rest_actions<P: ProgramView>(
     ensures { IfOk result (λ actions. actions ≡ map (rest_action standings.now)
         (drop (count_at standings.now i) (actions_of (P.program program.now) i))) }
 {
+    let mut actions = Actions::new(alloc);
+    put_rest(alloc, program, standings, i, &mut actions)?;
+    Ok(actions)
+}
+
+/// Puts the actions that agent `i` has not finished on an empty list.
+fn put_rest<P: ProgramView>(
+    alloc: Global,
+    program: &P,
+    standings: &[Standing],
+    i: u16,
+    actions: &mut Actions,
+) -> Result<(), OutOfMemory>
+    requires on_way { IsOnWay (P.program program.now) standings.now }
+    requires agent { i < length (P.program program.now) }
+    requires none { actions.old ≡ [] }
+    ensures { OnOk result (actions.new ≡ map (rest_action standings.now)
+        (drop (count_at standings.now i) (actions_of (P.program program.now) i))) }
+{
     let done = standings[usize::from(i)].count;
     let count = program.moves(i);
-    let mut actions = Actions::new(alloc);
     actions.reserve_exact((count - done) as usize, 0)?;
     for finished in done..count {
         let action = ActionId {
@@ -132,7 +150,7 @@ fn rest_actions<P: ProgramView>(
         let step = program.step(i, finished + 1);
         actions.push(Action { step, awaits })?;
     }
-    Ok(actions)
+    Ok(())
 }
 
 /// The awaits of the action that are not met yet.

@@ -3,11 +3,9 @@
 ghost use Rattle.std.specs.Prelude.{◌≡◌, ◌≤◌, ◌<◌, ◌+◌, ◌-◌, ◌↔◌, ℕ, List, length, IfOk, OnOk, IsTrue};
 ghost use Rattle.fleet_model.specs.declared.limits.TheConstants.{MAX_MOVES_V1};
 ghost use Rattle.fleet_model.specs.Program.{Program, moves, awaits_of, NeverStays, AreShort};
-ghost use Rattle.fleet_model.specs.Chain.{IsAction, IsLongestChain};
-ghost use Rattle.fleet_model.specs.Accepted.{IsAccepted};
+ghost use Rattle.fleet_model.specs.Chain.{IsAction};
 ghost use Rattle.fleet_grid.specs.Ground.{is_passable};
 ghost use Rattle.fleet_code.specs.Spelling.{most_count, spelling};
-ghost use Rattle.fleet_verify.specs.Reduced.{IsThinned, HasLeastAwaits, RunEqually};
 ghost use Rattle.fleet_adg.specs.ProgramBytes.{AreBytesOf};
 ghost use Rattle.fleet_adg.specs.Thinned.{FitsFirst, IsThinnedFor, CanThin, AreThinnedAgents, AddsAwaits, AddsAction, AddsActions};
 
@@ -31,15 +29,8 @@ use std::alloc::Global;
 /// The program that is left is accepted for the same map and instance, has the same longest chain, and runs as before
 /// under every list of holds; none of its awaits is implied, and every program with the same chains has all of them.
 pub fn thin<P: ProgramView>(alloc: Global, accepted: &Accepted<'_, P>) -> Result<Program, ThinFault>
-    ensures thinned { IfOk result (IsThinned (P.program accepted.now.program)) }
-    ensures accepted { IfOk result (IsAccepted
-        (is_passable accepted.now.grid) accepted.now.instance) }
-    ensures chain { IfOk result (λ q. IsLongestChain q accepted.now.chain) }
-    ensures equally { IfOk result (RunEqually (P.program accepted.now.program)) }
-    // Thinning it again drops nothing.
-    ensures again { IfOk result (λ q. IsThinned q q) }
-    // Every program with its starts, goals, steps and chains awaits all that it awaits.
-    ensures least { IfOk result (HasLeastAwaits (P.program accepted.now.program)) }
+    ensures thinned { IfOk result (IsThinnedFor (is_passable accepted.now.grid)
+        accepted.now.instance (P.program accepted.now.program) accepted.now.chain) }
     ensures moves { IfOk result (λ q. NeverStays (P.program accepted.now.program) → NeverStays q) }
     // If version 1 of the bytes has room for the program, it has for what is left of it.
     ensures short { IfOk result (λ q. AreShort (P.program accepted.now.program) → AreShort q) }

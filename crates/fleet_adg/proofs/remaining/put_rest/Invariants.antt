@@ -2,7 +2,7 @@ use Rattle.std.proofs.Common.{◌≡◌, ◌≤◌, map, take, drop}
 use Rattle.fleet_model.specs.Program.{actions_of}
 use Rattle.fleet_model.specs.Machine.{count_at}
 use Rattle.fleet_verify.specs.Rest.{rest_action}
-use Rattle.fleet_adg.proofs.remaining.rest_actions.Given as goal
+use Rattle.fleet_adg.proofs.remaining.put_rest.Given as goal
 
 abbrev pub invariant-loop-finished : goal.invariant-loop-finished
 invariant-loop-finished g l = record {

@@ -4,7 +4,7 @@ use Rattle.fleet_model.specs.Program.{actions_of}
 use Rattle.fleet_model.specs.Machine.{count_at}
 use Rattle.fleet_verify.specs.Rest.{rest_action}
 use Rattle.fleet_adg.proofs.RestMade.{action_more}
-use Rattle.fleet_adg.proofs.remaining.rest_actions.Goals as goal
+use Rattle.fleet_adg.proofs.remaining.put_rest.Goals as goal
 
 pub loop-finished-preserved : goal.loop-finished-preserved
 loop-finished-preserved g c =

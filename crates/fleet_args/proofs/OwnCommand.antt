@@ -21,14 +21,20 @@ use Rattle.clap.proofs.WalkLemmas.{both, list_any-map}
 use Rattle.fleet_args.specs.declared.arguments.Argument.{Argument}
 use Rattle.fleet_args.specs.declared.arguments.CommandText.{CommandText}
 use Rattle.fleet_args.specs.declared.arguments.OptionNames.{OptionNames}
-use Rattle.fleet_args.specs.Arguments.{own, shape_for}
-use Rattle.fleet_args.specs.Commands.{commands, fleet, shape_in}
+use Rattle.fleet_args.specs.Arguments.{own, said, shape_in}
+use Rattle.fleet_args.specs.Commands.{commands, fleet}
 use Rattle.fleet_args.proofs.NoCommand.{unnamed}
 use Rattle.fleet_args.proofs.RequestLemmas.{faultless}
 
 -- the command at this place
 abbrev pub command_at : ℕ → Text × List Argument
 command_at j = get_or commands j ([], [])
+
+-- what is one for each command is one for that at a place
+pub same_at : {Y : Type 0} (f g : Text × List Argument → Y) → map f commands ≡ map g commands → (j : ℕ) → j < length commands → f (command_at j) ≡ g (command_at j)
+same_at {Y} f g same j lt =
+    let none : Y = f ([], []) in
+    sym (get_or-map f commands j ([], []) none lt) ∙ ap (λ l. get_or l j none) same ∙ get_or-map g commands j ([], []) none lt
 
 -- a walk that has stopped only gathers the words that are left
 stopped_walk : (c : List Rule) (names : Names) (w : Walk) (p : Text × List Text) → w.stopped ≡ Some p → (rest : List Text)
@@ -108,11 +114,6 @@ wanted names c = ((Some c.0, Some (built (own_in names c)).top, []), true)
 each_found : (names : OptionNames) → map (found names) commands ≡ map (wanted names) commands
 each_found names = refl
 
-found_at : (names : OptionNames) (j : ℕ) → j < length commands → found names (command_at j) ≡ wanted names (command_at j)
-found_at names j lt =
-    let none = wanted names ([], []) in
-    sym (get_or-map (found names) commands j ([], []) none lt) ∙ ap (λ l. get_or l j none) (each_found names) ∙ get_or-map (wanted names) commands j ([], []) none lt
-
 none_of_itself : (names : OptionNames) → own_fault (built (fleet names)).top ≡ []
 unfolding defaults_fault
 none_of_itself names = refl
@@ -131,17 +132,12 @@ module _ (names : OptionNames) (c : Text × List Argument) (e : found names c �
 
 -- the text at the place of a name among the texts of the commands
 pub text_is :
-    (names : OptionNames) (texts : List CommandText) → map (shape_for names) texts ≡ map (shape_in names) commands → (name : Text) (j : ℕ)
-    → position (λ text. bytes_eq text.name.now name) texts ≡ Some j → (d : CommandText)
-    → (j < length commands) × (shape_for names (get_or texts j d) ≡ shape_in names (command_at j)) × (name ≡ (command_at j).0)
-text_is names texts same name j place d =
+    (texts : List CommandText) → map said texts ≡ commands → (name : Text) (j : ℕ) → position (λ text. bytes_eq text.name.now name) texts ≡ Some j → (d : CommandText)
+    → (j < length commands) × (said (get_or texts j d) ≡ command_at j) × (name ≡ (command_at j).0)
+text_is texts same name j place d =
     let at = position-Some (λ text. bytes_eq text.name.now name) texts j d place in
-    let count : length texts ≡ length commands = sym (length-map texts (shape_for names)) ∙ ap length same ∙ length-map commands (shape_in names) in
-    let first = shape_in names ([], []) in
-    let lt : j < length commands = omega (arith, at.0, count) in
-    let shape : shape_for names (get_or texts j d) ≡ shape_in names (command_at j) =
-    sym (get_or-map (shape_for names) texts j d first at.0) ∙ ap (λ l. get_or l j first) same ∙ get_or-map (shape_in names) commands j ([], []) first lt in
-    (lt, shape, sym ((bytes_eq-Decides _ _).0 at.1) ∙ ap (λ s. s.name) shape)
+    let text : said (get_or texts j d) ≡ command_at j = sym (get_or-map said texts j d ([], []) at.0) ∙ ap (λ l. get_or l j ([], [])) same in
+    (omega (arith, at.0, sym (length-map texts said) ∙ ap length same), text, sym ((bytes_eq-Decides _ _).0 at.1) ∙ ap (λ s. s.0) text)
 
 -- the words after the first
 abbrev after_first : {X : Type 0} → List X → List X
@@ -165,32 +161,30 @@ absent p xs none =
 
 -- words whose first is this, and the commands as texts
 module _ {X : Type 0} (f : X → Text) (ws : List X) (first : X) (some : 1 ≤ length ws) (is : first ≡ get_or ws 0 first) (name : Text) (named : name ≡ f first)
-    (names : OptionNames) (texts : List CommandText) (same : map (shape_for names) texts ≡ map (shape_in names) commands) where
+    (names : OptionNames) (texts : List CommandText) (same : map said texts ≡ commands) where
   words : map f ws ≡ name ∷ map f (after_first ws)
   words = words_from f ws first some is ∙ ap (λ w. w ∷ map f (after_first ws)) (sym named)
 
   -- the command line finds a fault in them if none of the texts has that name
   pub none_named : None ≡ position (λ text. bytes_eq text.name.now name) texts → fault_of (fleet names) (map f ws) ≢ []
   none_named none =
-      let p : Shape → Bool = λ s. bytes_eq s.name name in
-      let no : list_any (λ c. bytes_eq c.0 name) commands ≡ false =
-      list_any-map p (shape_in names) commands ∙ ap (list_any p) (sym same) ∙ sym (list_any-map p (shape_for names) texts)
-      ∙ absent (λ (text : CommandText). bytes_eq text.name.now name) texts none in
+      let p : Text × List Argument → Bool = λ c. bytes_eq c.0 name in
+      let no : list_any p commands ≡ false = ap (list_any p) (sym same) ∙ sym (list_any-map p said texts) ∙ absent (λ (text : CommandText). bytes_eq text.name.now name) texts none in
       subst (λ ws. fault_of (fleet names) ws ≢ []) (sym words) (unnamed names name (map f (after_first ws)) no)
 
   module _ (j : ℕ) (place : position (λ text. bytes_eq text.name.now name) texts ≡ Some j) (d : CommandText) (app : App)
-      (made : app ≡ own (shape_for names (get_or texts j d))) where
+      (made : app ≡ own (shape_in names (said (get_or texts j d)))) where
     abbrev c : Text × List Argument
     c = command_at j
 
-    text : (j < length commands) × (shape_for names (get_or texts j d) ≡ shape_in names c) × (name ≡ c.0)
-    text = text_is names texts same name j place d
+    text : (j < length commands) × (said (get_or texts j d) ≡ c) × (name ≡ c.0)
+    text = text_is texts same name j place d
 
     found_is : found names c ≡ wanted names c
-    found_is = found_at names j text.0
+    found_is = same_at (found names) (wanted names) (each_found names) j text.0
 
     own_is : app ≡ own_in names c
-    own_is = made ∙ ap own text.1
+    own_is = made ∙ ap (own_in names) text.1
 
     begin : map f ws ≡ c.0 ∷ map f (after_first ws)
     begin = words ∙ ap (λ w. w ∷ map f (after_first ws)) text.2

@@ -1,21 +1,23 @@
 -- What a command by itself has for its arguments, if a parse of it succeeds.
-use Rattle.std.proofs.Common.{◌≡◌, ◌∙◌, ◌⊎◌, inl, inr, ◌&&◌, ◌||◌, ◌<◌, ◌≤◌, ◌^◌, ℕ, zero, suc, Bool, cond, true, false, not, List, [], ◌∷◌, map, length, Option, option_and_then, Some, None, codes, is_some, option_map, nat_lt, refl, sym, ap, subst, arith, true≢false, ltb-true, get_or}
-use Rattle.std.specs.Prelude.{pos, if◌then◌else◌}
+use Rattle.std.proofs.Common.{◌≡◌, ◌∙◌, ◌⊎◌, inl, inr, ◌&&◌, ◌||◌, ◌<◌, ◌≤◌, ◌^◌, ℕ, zero, suc, Bool, cond, true, false, not, List, [], ◌∷◌, map, length, Option, Some, None, codes, is_some, nat_lt, refl, sym, ap, subst, arith, true≢false, ltb-true, lt-ltb, get_or}
+use Rattle.std.specs.Prelude.{pos, if◌then◌else◌, MatchBool, ⊤}
 use Rattle.std.specs.Borrow.{Bor}
+use Rattle.std.specs.Char.{digit_value}
 use Rattle.std.specs.List.{All, Any, find, list_all, list_any, position, slice_index_or}
 use Rattle.std.specs.Str.{bytes_eq}
-use Rattle.std.specs.Str.Parse.{ParsesUnsigned, digits_value, without_leading_plus}
+use Rattle.std.specs.Str.Parse.{AllDigits, ParsesUnsigned, digits_value, without_leading_plus}
 use Rattle.std.proofs.lemmas.Bool.{or_right}
 use Rattle.std.proofs.lemmas.List.{get_or-map, length-map}
-use Rattle.std.proofs.lemmas.List.Elements.{All-get_or}
+use Rattle.std.proofs.lemmas.List.Elements.{All-from_get_or, All-get_or, recursion_from_All}
 use Rattle.std.proofs.lemmas.List.Folds.{list_any_at}
+use Rattle.std.proofs.lemmas.List.Sums.{AllPass-from_list_all}
 use Rattle.std.proofs.lemmas.Slice.Eq.{bytes_eq-Decides}
 use Rattle.clap.specs.Lexer.{without_minus}
-use Rattle.clap.specs.Facts.{AllowsNone, Entry, EntryPasses, HasReading, IsCountArg, PassesArg, WantsDefault, args_of, least_values, parser_of, parser_of_value, unwrap_or_range}
+use Rattle.clap.specs.Facts.{AllowsNone, EntryPasses, Entry, HasReading, IsCountArg, PassesArg, args_of, least_values, parser_of, parser_of_value, unwrap_or_range}
 use Rattle.clap.specs.Built.{IsAuto, IsParsedFrom, IsPlain, SameRules}
 use Rattle.clap.specs.Matches.{ReadsOne, first_value, found_of, matched_of, one_text}
 use Rattle.clap.specs.Simple.{App, IsSimple, app_of, has_simple_rules, is_ready, is_ready_leaf, new_rule, shape_of}
-use Rattle.clap.specs.Texts.{items_of}
+use Rattle.clap.specs.ValueTests.{is_numeral}
 use Rattle.clap.specs.Values.{Accepts, read_as, reading_of}
 use Rattle.clap.specs.Walk.{Rule, Text, is_empty, rule_of}
 use Rattle.clap.specs.Faults.{has_free_rules}
@@ -30,47 +32,57 @@ use Rattle.clap.specs.declared.builder.value_parser.ValueParser.TheVariants as p
 use Rattle.clap.specs.declared.parser.matches.ArgMatches.{ArgMatches}
 use Rattle.clap.specs.declared.parser.matches.Found.{Found}
 use Rattle.clap.specs.declared.parser.matches.MatchedArg.{MatchedArg}
-use Rattle.clap.proofs.CallerLemmas.{default_present, entry_by_id, required_has_value, same_rules_by_id}
+use Rattle.clap.proofs.CallerLemmas.{entry_by_id, required_has_value, same_rules_by_id}
 use Rattle.clap.proofs.CallerReads.{signed_reads}
 use Rattle.clap.proofs.SimpleLemmas.{ready_simple, simple_groups}
 use Rattle.clap.proofs.TakesLemmas.{each_rule, free_arg}
 use Rattle.clap.proofs.WalkLemmas.{both}
 use Rattle.fleet_model.specs.declared.deps.Deps.TheVariants as deps
 use Rattle.fleet_args.specs.declared.arguments.Argument.{Argument}
+use Rattle.fleet_args.specs.declared.arguments.Argument.TheVariants as argument_is
 use Rattle.fleet_args.specs.declared.arguments.CommandText.{CommandText}
 use Rattle.fleet_args.specs.declared.arguments.Form.{Form}
 use Rattle.fleet_args.specs.declared.arguments.Form.TheVariants as form
 use Rattle.fleet_args.specs.declared.arguments.OptionNames.{OptionNames}
 use Rattle.fleet_args.specs.declared.commands.Best.TheVariants as best_is
-use Rattle.fleet_args.specs.Arguments.{AreNames, described, own, rule_by, rule_for, shape_for}
-use Rattle.fleet_args.specs.Commands.{commands, has_values, shape_in}
-use Rattle.fleet_args.specs.Values.{best_by, deps_in, has_value, has_value_by, in_bits, number_by, number_in, values_in}
-use Rattle.fleet_args.proofs.RequestLemmas.{digits_from, is_small, is_small_number}
-use Rattle.fleet_args.proofs.OwnCommand.{command_at, text_is}
+use Rattle.fleet_args.specs.Arguments.{AreNames, described, own, rule_by, rule_for, said, shape_in}
+use Rattle.fleet_args.specs.Commands.{HasAll, HasValues, commands}
+use Rattle.fleet_args.specs.Values.{HasNumber, HasValue, HasValueBy, InBits, IsUsed, values_found, values_in}
+use Rattle.fleet_args.proofs.OwnCommand.{command_at, same_at, text_is}
 
 -- ---- numbers
 
--- what a text is read as is its number, or it has none
-number_reads : (bits : ℕ) (text : Text) → ReadsOne {T = ℕ} {E = Unit {0}} (ParsesUnsigned bits 10) text (number_in bits text)
-number_reads bits text = go (is_small bits (without_leading_plus text)) refl
+digits_pass : (ds : List ℕ) → AllDigits 10 ds → list_all (λ d. nat_lt (digit_value d) 10) ds ≡ true
+digits_pass [] h = refl
+digits_pass (d ∷ ds) h = rw (lt-ltb (digit_value d) 10 h.0) (digits_pass ds h.1)
+
+digits_from : (ds : List ℕ) → list_all (λ d. nat_lt (digit_value d) 10) ds ≡ true → AllDigits 10 ds
+digits_from [] e = tt
+digits_from (d ∷ ds) e = (ltb-true _ _ (both _ _ e).0, digits_from ds (both _ _ e).1)
+
+-- a text is read as a number of so many bits, or it is none
+number_reads : (bits : ℕ) (text : Text) → (r : Option ℕ) × ReadsOne {T = ℕ} {E = Unit {0}} (ParsesUnsigned bits 10) text r
+number_reads bits text = go (is_numeral (without_leading_plus text) && nat_lt (digits_value 10 (without_leading_plus text)) (2 ^ bits)) refl
   where
-    go : (b : Bool) → is_small bits (without_leading_plus text) ≡ b
-        → ReadsOne {T = ℕ} {E = Unit {0}} (ParsesUnsigned bits 10) text (cond b (Some (digits_value 10 (without_leading_plus text))) None)
+    go : (b : Bool) → (is_numeral (without_leading_plus text) && nat_lt (digits_value 10 (without_leading_plus text)) (2 ^ bits)) ≡ b
+        → (r : Option ℕ) × ReadsOne {T = ℕ} {E = Unit {0}} (ParsesUnsigned bits 10) text r
     go true t =
         let outer = both _ _ t in
         let inner = both _ _ outer.0 in
-        (((ltb-true _ _ inner.0, digits_from (without_leading_plus text) inner.1), ltb-true _ _ outer.1), refl)
-    go false t = (tt, λ h. true≢false (sym (is_small_number bits (without_leading_plus text) h.0 h.1) ∙ t))
+        (Some (digits_value 10 (without_leading_plus text)), (((ltb-true _ _ inner.0, digits_from (without_leading_plus text) inner.1), ltb-true _ _ outer.1), refl))
+    go false t =
+        let ds = without_leading_plus text in
+        (None, (tt, λ h. true≢false (rw (lt-ltb 0 (length ds) h.0.0, digits_pass ds h.0.1, lt-ltb (digits_value 10 ds) (2 ^ bits) h.1) at t)))
 
 -- what holds of numbers of each size that fits
-by_bits : (most : ℕ) (test : ℕ → Bool) → ((bits : ℕ) → most < 2 ^ bits → test bits ≡ true) → in_bits most test ≡ true
-by_bits most test each = small (nat_lt most 65536) refl
+by_bits : (most : ℕ) (P : ℕ → Type 0) → ((bits : ℕ) → most < 2 ^ bits → P bits) → InBits most P
+by_bits most P each = small (nat_lt most 65536) refl
   where
-    large : (b : Bool) → nat_lt most 4294967296 ≡ b → cond b (test 32) true ≡ true
+    large : (b : Bool) → nat_lt most 4294967296 ≡ b → MatchBool b (P 32) ⊤
     large true t = each 32 (ltb-true _ _ t)
-    large false t = refl
+    large false t = tt
 
-    small : (b : Bool) → nat_lt most 65536 ≡ b → cond b (test 16) (cond (nat_lt most 4294967296) (test 32) true) ≡ true
+    small : (b : Bool) → nat_lt most 65536 ≡ b → MatchBool b (P 16) (MatchBool (nat_lt most 4294967296) (P 32) ⊤)
     small true t = each 16 (ltb-true _ _ t)
     small false t = large (nat_lt most 4294967296) refl
 
@@ -151,19 +163,6 @@ none_below : {X : Type 0} (xs : List X) → xs ≡ [] → 0 < length xs → ⊥
 none_below xs e some =
     let bad : 0 < 0 = rw e at some in
     omega arith
-
-there : (id : Text) (xs : List Entry) (i : ℕ) → i < length xs → ((d : Entry) → bytes_eq (slice_index_or xs i d).0.now id ≡ true)
-    → is_some (option_map (λ e. e.1) (find (λ e. bytes_eq e.0.now id) xs)) ≡ true
-there id [] i lt at = absurd (omega arith)
-there id (x ∷ xs) zero lt at =
-    let here : bytes_eq x.0.now id ≡ true = at x in
-    rw here refl
-there id (x ∷ xs) (suc i) lt at = go (bytes_eq x.0.now id) (there id xs i (omega arith) at)
-  where
-    go : (b : Bool) → is_some (option_map (λ e. e.1) (find (λ e. bytes_eq e.0.now id) xs)) ≡ true
-        → is_some (option_map (λ e. e.1) (cond b (Some x) (find (λ e. bytes_eq e.0.now id) xs))) ≡ true
-    go true later = refl
-    go false later = later
 
 -- a command that excludes nothing, a parse of it, and an argument of it: no other has its name
 module _ (c : Command) (m : ArgMatches) (p : IsParsedFrom c m) (plain : IsPlain c) (simple : IsSimple c)
@@ -259,30 +258,28 @@ module _ (c : Command) (m : ArgMatches) (p : IsParsedFrom c m) (plain : IsPlain 
           go None e = inl (rw e refl, rw e refl)
           go (Some x) e = inr (entry_reads x e)
 
-      -- an argument with a default has a value
-      default_reads : WantsDefault a → Reads f a.id.now q
-      default_reads wants =
-          let has = default_present c m p simple.globals k d lt wants in
-          go (matched_of f a.id.now) refl (there a.id.now f.entries.items has.0 has.1 has.2)
-        where
-          go : (o : Option MatchedArg) → matched_of f a.id.now ≡ o → is_some o ≡ true → Reads f a.id.now q
-          go None e some = absurd (true≢false (sym some))
-          go (Some x) e some = entry_reads x e
+-- an argument has no text, or one that passes
+abbrev ReadsIfUsed : Found → Text → ValueParser → Type 0
+ReadsIfUsed f id q = (first_value f id ≡ None) × (one_text f id ≡ None) ⊎ Reads f id q
 
--- a value that passed a range of numbers of so many bits is a number
-number_value : (bits : ℕ) (f : Found) (id : Text) (low high : ℕ) → high < 2 ^ bits → Reads f id (parser.Signed (pos low) (pos high)) → (n : ℕ) × (number_by bits (one_text f id) ≡ Some (Some n))
-number_value bits f id low high fits value =
-    let number = signed_reads (Unit {0}) (ParsesUnsigned bits 10) bits low high value.text (number_in bits (without_minus value.text)) (number_reads bits (without_minus value.text)) (λ u x h. h) fits value.pass in
-    (number.0, ap (number_by bits) value.one ∙ ap (option_map Some) number.1)
-
--- the number of an option that was used, or not
-number_option : (bits : ℕ) (f : Found) (id : Text) (low high : ℕ) → high < 2 ^ bits → (first_value f id ≡ None) × (one_text f id ≡ None) ⊎ Reads f id (parser.Signed (pos low) (pos high))
-    → (n : Option ℕ) × (number_by bits (one_text f id) ≡ Some n)
-number_option bits f id low high fits value = elim value [
-  | inl none ↦ (None, ap (number_by bits) none.1)
+-- .. which is a number, if a range of numbers of so many bits is passed
+number_there : (bits : ℕ) (found : Found) (id : Text) (low high : ℕ) → high < 2 ^ bits → ReadsIfUsed found id (parser.Signed (pos low) (pos high)) → HasNumber (values_found found) id bits
+number_there bits found id low high fits value = elim value [
+  | inl none ↦ (None, none.1)
   | inr has ↦
-      let number = number_value bits f id low high fits has in
-      (Some number.0, number.1)
+      let read = number_reads bits (without_minus has.text) in
+      let number = signed_reads (Unit {0}) (ParsesUnsigned bits 10) bits low high has.text read.0 read.1 (λ u x h. h) fits has.pass in
+      (Some number.0, (without_minus has.text, has.one, subst (ReadsOne {T = ℕ} {E = Unit {0}} (ParsesUnsigned bits 10) (without_minus has.text)) number.1 read.1))
+]
+
+-- .. and which names something, if it is one of two names
+name_there : {A : Type 0} (found : Found) (id : Text) (lent : Bor (List (Bor Text))) (one two : Text) (x y : A) → map (λ name. name.now) lent.now ≡ one ∷ two ∷ []
+    → ReadsIfUsed found id (parser.Names lent) → (v : Option A) × IsUsed (λ t a. chosen one x two y t ≡ Some a) (first_value found id) v
+name_there found id lent one two x y are value = elim value [
+  | inl none ↦ (None, none.0)
+  | inr has ↦
+      let v = named_value lent one two x y has.text are has.pass in
+      (Some v.0, (has.text, has.first, v.1))
 ]
 
 -- ---- the commands
@@ -296,24 +293,10 @@ judged names c =
 each_judged : (names : OptionNames) → map (judged names) commands ≡ map (λ c. (Some c, true, true, true)) commands
 each_judged names = refl
 
-judged_at : (names : OptionNames) (j : ℕ) → j < length commands → judged names (command_at j) ≡ (Some (command_at j), true, true, true)
-judged_at names j lt =
-    let none : Option (Text × List Argument) × Bool × Bool × Bool = (None, false, false, false) in
-    sym (get_or-map (judged names) commands j ([], []) none lt) ∙ ap (λ l. get_or l j none) (each_judged names) ∙ get_or-map (λ c. (Some c, true, true, true)) commands j ([], []) none lt
-
-all_pass : {X : Type 0} (p : X → Bool) (xs : List X) → ((k : ℕ) (d : X) → k < length xs → p (get_or xs k d) ≡ true) → list_all p xs ≡ true
-all_pass p [] each = refl
-all_pass p (x ∷ xs) each = rw (each 0 x (omega arith), all_pass p xs (λ k d lt. each (suc k) d (omega arith))) refl
-
 item : {X : Type 0} (xs : List X) (k : ℕ) → k < length xs → X
 item [] k lt = absurd (omega arith)
 item (x ∷ xs) zero lt = x
 item (x ∷ xs) (suc k) lt = item xs k (omega arith)
-
-passed_at : {X : Type 0} (p : X → Bool) (xs : List X) (k : ℕ) (d : X) → k < length xs → list_all p xs ≡ true → p (get_or xs k d) ≡ true
-passed_at p [] k d lt all = absurd (omega arith)
-passed_at p (x ∷ xs) zero d lt all = (both _ _ all).0
-passed_at p (x ∷ xs) (suc k) d lt all = passed_at p xs k d (omega arith) (both _ _ all).1
 
 -- a command by itself, and a parse of it
 module _ (names : OptionNames) (are : AreNames names) (name : Text) (xs : List Argument) (passed : judged names (name, xs) ≡ (Some (name, xs), true, true, true))
@@ -381,7 +364,7 @@ module _ (names : OptionNames) (are : AreNames names) (name : Text) (xs : List A
         (ap (λ (r : Rule). bytes_eq r.id (get_or rules k no_rule).id) (sym (rule_at j y j_in)) ∙ ap (λ (r : Rule). bytes_eq (slice_index_or (args_of c) j y).id.now r.id) (sym (rule_at k some_arg in_args)) ∙ same)
 
     own_id : is_own arg.id.now ≡ true
-    own_id = ap (λ (r : Rule). is_own r.id) (rule_at k some_arg in_args) ∙ passed_at (λ r. is_own r.id) rules k no_rule in_rules apart.1
+    own_id = ap (λ (r : Rule). is_own r.id) (rule_at k some_arg in_args) ∙ AllPass-from_list_all (λ r. is_own r.id) rules apart.1 k no_rule in_rules
 
     named : arg.id.now ≡ [] → ⊥
     named empty = true≢false (sym own_id ∙ ap is_own empty)
@@ -392,58 +375,51 @@ module _ (names : OptionNames) (are : AreNames names) (name : Text) (xs : List A
     negates : (out-Command c).subcommand_negates_reqs ≡ false
     negates = ap (λ (b : App). b.top.subcommand_negates_reqs) is
 
+    least : (rule_of arg).range ≡ None → 1 ≤ least_values arg
+    least none = subst (λ (o : Option ValueRange). 1 ≤ (unwrap_or_range o).start_inclusive) (sym none) (omega arith)
+
+    value : (how : ValueParser) → rule_of arg ≡ record (new_rule arg.id.now) { long = Some arg.id.now; action = Some Set; value_names = 1; parser = Some how } → ReadsIfUsed (found_of m) arg.id.now how
+    value how rule =
+        option_reads c m p plain simple k some_arg in_args unique named other (ap (λ (r : Rule). r.action) rule) (least (ap (λ (r : Rule). r.range) rule)) how
+        (ap (λ (r : Rule). r.parser) rule) (ap (λ (r : Rule). r.ignore_case) rule)
+
+    id_is : (id : Text) (f : Form) → (rule_by names id f).id ≡ id
+    id_is id form.Word = refl
+    id_is id form.Text = refl
+    id_is id (form.Numbers low high) = refl
+    id_is id form.Deps = refl
+    id_is id form.Best = refl
+    id_is id form.Flag = refl
+
     -- an argument of this form has what a command cannot do without
-    has : (f : Form) (default : Option Text) → rule_of arg ≡ rule_by names (arg.id.now, f, default) → has_value_by (values_in m) arg.id.now f default ≡ true
-    has f default rule = go f default rule
-      where
-        least : (f : Form) (default : Option Text) → rule_of arg ≡ rule_by names (arg.id.now, f, default) → 1 ≤ least_values arg
-        least f default rule = subst (λ (o : Option ValueRange). 1 ≤ (unwrap_or_range o).start_inclusive) (sym (ap (λ (r : Rule). r.range) rule)) (omega arith)
+    has : (f : Form) → rule_of arg ≡ rule_by names arg.id.now f → HasValueBy (values_in m) arg.id.now f
+    has form.Word rule =
+        required_has_value c m p plain simple.globals negates k some_arg in_args (ap (λ (r : Rule). r.required) rule) (ap (λ (r : Rule). r.action) rule)
+        (simple.args k some_arg in_args).delimiter (least (ap (λ (r : Rule). r.range) rule)) unique named other
+    has (form.Numbers low high) rule = by_bits high _ (λ bits fits. number_there bits (found_of m) arg.id.now low high fits (value _ rule))
+    has form.Deps rule = name_there _ _ names.deps (codes "all") (codes "last") deps.All deps.Last are.deps (value _ rule)
+    has form.Best rule = name_there _ _ names.best (codes "chain") (codes "cost") best_is.Chain best_is.Cost are.best (value _ rule)
+    has form.Text rule = tt
+    has form.Flag rule = tt
 
-        wants : (f : Form) (default : Text) → rule_of arg ≡ rule_by names (arg.id.now, f, Some default) → WantsDefault arg
-        wants f default rule =
-            let one : length (map (λ s. s.now) (items_of arg.default_vals)) ≡ 1 = ap (λ (r : Rule). length r.defaults) rule in
-            ((simple.args k some_arg in_args).default_ifs, omega (arith, one, length-map (items_of arg.default_vals) (λ s. s.now)))
-
-        go : (f : Form) (default : Option Text) → rule_of arg ≡ rule_by names (arg.id.now, f, default) → has_value_by (values_in m) arg.id.now f default ≡ true
-        go form.Word default rule =
-            required_has_value c m p plain simple.globals negates k some_arg in_args (ap (λ (r : Rule). r.required) rule) (ap (λ (r : Rule). r.action) rule) (simple.args k some_arg in_args).delimiter (least form.Word default rule) unique named other
-        go (form.Numbers low high) None rule =
-            let value = option_reads c m p plain simple k some_arg in_args unique named other (ap (λ (r : Rule). r.action) rule) (least (form.Numbers low high) None rule) (parser.Signed (pos low) (pos high)) (ap (λ (r : Rule). r.parser) rule) (ap (λ (r : Rule). r.ignore_case) rule) in
-            by_bits high _ (λ bits fits. ap is_some (number_option bits (found_of m) arg.id.now low high fits value).1)
-        go (form.Numbers low high) (Some default) rule =
-            let value = default_reads c m p plain simple k some_arg in_args unique named other (ap (λ (r : Rule). r.action) rule) (least (form.Numbers low high) (Some default) rule) (parser.Signed (pos low) (pos high)) (ap (λ (r : Rule). r.parser) rule) (ap (λ (r : Rule). r.ignore_case) rule)
-            (wants (form.Numbers low high) default rule) in
-            by_bits high _ (λ bits fits. ap (λ number. is_some (option_and_then (λ n. n) number)) (number_value bits (found_of m) arg.id.now low high fits value).1)
-        go form.Deps None rule = refl
-        go form.Deps (Some default) rule =
-            let value = default_reads c m p plain simple k some_arg in_args unique named other (ap (λ (r : Rule). r.action) rule) (least form.Deps (Some default) rule) (parser.Names names.deps) (ap (λ (r : Rule). r.parser) rule) (ap (λ (r : Rule). r.ignore_case) rule)
-            (wants form.Deps default rule) in
-            ap is_some (ap (option_and_then deps_in) value.first ∙ (named_value names.deps (codes "all") (codes "last") deps.All deps.Last value.text are.deps value.pass).1)
-        go form.Best default rule =
-            elim (option_reads c m p plain simple k some_arg in_args unique named other (ap (λ (r : Rule). r.action) rule) (least form.Best default rule) (parser.Names names.best) (ap (λ (r : Rule). r.parser) rule) (ap (λ (r : Rule). r.ignore_case) rule)) [
-              | inl unused ↦ ap (λ text. is_some (best_by text)) unused.0
-              | inr value ↦
-                  ap (λ text. is_some (best_by text)) value.first
-                  ∙ ap (λ known. is_some (option_map Some known)) (named_value names.best (codes "chain") (codes "cost") best_is.Chain best_is.Cost value.text are.best value.pass).1
-            ]
-        go form.Text default rule = refl
-        go form.Flag default rule = refl
-
-    has_here : has_value (values_in m) argument ≡ true
+    has_here : HasValue (values_in m) argument
     has_here =
-        let id : arg.id.now ≡ (described argument).0 = ap (λ (r : Rule). r.id) rule_is in
-        subst (λ i. has_value_by (values_in m) i (described argument).1 (described argument).2 ≡ true) id
-        (has (described argument).1 (described argument).2 (rule_is ∙ ap (λ i. rule_by names (i, (described argument).1, (described argument).2)) (sym id)))
+        let id : arg.id.now ≡ (described argument).0 = ap (λ (r : Rule). r.id) rule_is ∙ id_is _ (described argument).1 in
+        subst (λ i. HasValueBy (values_in m) i (described argument).1) id (has (described argument).1 (rule_is ∙ ap (λ i. rule_by names i (described argument).1) (sym id)))
 
   -- the command has all values
-  have : has_values name (values_in m) ≡ true
-  have = rw (ap (λ j. j.0) passed) (all_pass (has_value (values_in m)) xs has_here)
+  have : HasValues name (values_in m)
+  have =
+      subst (HasAll (values_in m)) (sym (ap (λ j. j.0) passed))
+      (recursion_from_All (HasValue (values_in m)) xs (All-from_get_or (HasValue (values_in m)) xs argument_is.Map (λ k lt. has_here k argument_is.Map lt)))
 
 -- the command of this name by itself has all values that it cannot do without, if a parse of it succeeds
 pub values_there :
-    (names : OptionNames) → AreNames names → (texts : List CommandText) → map (shape_for names) texts ≡ map (shape_in names) commands → (name : Text) (j : ℕ)
-    → position (λ text. bytes_eq text.name.now name) texts ≡ Some j → (d : CommandText) → (c : Command) → app_of c ≡ own (shape_for names (get_or texts j d))
-    → (m : ArgMatches) → IsParsedFrom c m → has_values name (values_in m) ≡ true
+    (names : OptionNames) → AreNames names → (texts : List CommandText) → map said texts ≡ commands → (name : Text) (j : ℕ)
+    → position (λ text. bytes_eq text.name.now name) texts ≡ Some j → (d : CommandText) → (c : Command) → app_of c ≡ own (shape_in names (said (get_or texts j d)))
+    → (m : ArgMatches) → IsParsedFrom c m → HasValues name (values_in m)
 values_there names are texts same name j place d c is m p =
-    let text = text_is names texts same name j place d in
-    ap (λ n. has_values n (values_in m)) text.2 ∙ have names are (command_at j).0 (command_at j).1 (judged_at names j text.0) c (is ∙ ap own text.1) m p
+    let text = text_is texts same name j place d in
+    subst (λ n. HasValues n (values_in m)) (sym text.2)
+    (have names are (command_at j).0 (command_at j).1 (same_at (judged names) (λ c. (Some c, true, true, true)) (each_judged names) j text.0) c
+    (is ∙ ap (λ t. own (shape_in names t)) text.1) m p)

@@ -1,73 +1,37 @@
 -- From the getters of the matches to what the words ask.
-use Rattle.std.proofs.Common.{◌≡◌, ◌≢◌, ◌<◌, ◌∙◌, ◌⊎◌, inl, inr, ◌&&◌, not, ◌^◌, ℕ, Bool, true, false, List, [], ◌∷◌, Option, Some, None, Result, Ok, Err, length, nat_lt, option_map, refl, sym, ap, subst, true≢false, lt-ltb, ltb-true}
-use Rattle.std.specs.List.{list_all, list_any}
-use Rattle.std.specs.Option.{option_map_or}
-use Rattle.std.specs.Result.{result_ok}
-use Rattle.std.specs.Char.{digit_value}
-use Rattle.std.specs.Str.Parse.{AllDigits, IsNumeral, ParsesUnsigned, digits_value, without_leading_plus}
+use Rattle.std.proofs.Common.{◌≡◌, ◌≢◌, ◌∙◌, ◌⊎◌, inl, inr, not, ℕ, Bool, true, false, List, [], ◌∷◌, Option, Some, None, Result, Ok, Err, refl, sym, ap, subst, true≢false}
+use Rattle.std.specs.List.{list_any}
+use Rattle.std.specs.Str.Parse.{ParsesUnsigned}
 use Rattle.std.proofs.lemmas.Bool.{or_right}
-use Rattle.clap.specs.Words.{App, Row, Text, TriesOne, rows_of, first_of, one_of, first_value, one_text, fault_of, takes, is_simple_and_free, IsAmong}
-use Rattle.clap.specs.ValueTests.{is_numeral}
+use Rattle.clap.specs.Words.{App, Text, rows_of, first_of, one_of, first_value, one_text, fault_of, subcommand_of, takes, is_simple_and_free, IsAmong}
+use Rattle.clap.specs.Matches.{ReadsOne}
 use Rattle.clap.specs.declared.error.ErrorKind.{ErrorKind}
 use Rattle.clap.specs.declared.error.ErrorKind.TheVariants as kind
 use Rattle.clap.specs.declared.parser.matches.Found.{Found}
-use Rattle.clap.proofs.WalkLemmas.{both, first_value-rows, one_text-rows}
-use Rattle.fleet_args.specs.Values.{number_in, number_by, values_found, values_of}
+use Rattle.clap.proofs.WalkLemmas.{first_value-rows, one_text-rows}
+use Rattle.fleet_args.specs.Values.{HasNumber, IsNumberIfUsed, values_found, values_of}
 use Rattle.fleet_args.specs.Commands.{AsksCommand}
-use Rattle.fleet_args.specs.Request.{AsksBy, is_help, IsStopOf, StopsFor}
+use Rattle.fleet_args.specs.Request.{Asks, is_help, IsStopOf, StopsFor}
 use Rattle.fleet_args.specs.declared.commands.Request.{Request}
 use Rattle.fleet_args.specs.declared.request.WordStop.{WordStop}
 use Rattle.fleet_args.specs.declared.request.WordStop.TheVariants as stop
 
 -- ---- a number
 
-digits_pass : (ds : List ℕ) → AllDigits 10 ds → list_all (λ d. nat_lt (digit_value d) 10) ds ≡ true
-digits_pass [] h = refl
-digits_pass (d ∷ ds) h = rw (lt-ltb (digit_value d) 10 h.0) (digits_pass ds h.1)
-
-pub digits_from : (ds : List ℕ) → list_all (λ d. nat_lt (digit_value d) 10) ds ≡ true → AllDigits 10 ds
-digits_from [] e = tt
-digits_from (d ∷ ds) e =
-    let parts = both _ _ e in
-    (ltb-true _ _ parts.0, digits_from ds parts.1)
-
-abbrev pub is_small : ℕ → List ℕ → Bool
-is_small bits ds = is_numeral ds && nat_lt (digits_value 10 ds) (2 ^ bits)
-
-pub is_small_number : (bits : ℕ) (ds : List ℕ) → IsNumeral 10 ds → digits_value 10 ds < 2 ^ bits → is_small bits ds ≡ true
-is_small_number bits ds h lt = rw (lt-ltb 0 (length ds) h.0, digits_pass ds h.1, lt-ltb (digits_value 10 ds) (2 ^ bits) lt) refl
-
-number_read : {E : Type 0} (bits : ℕ) (text : Text) (r : Result ℕ E) → ParsesUnsigned bits 10 text r → result_ok r ≡ number_in bits text
-number_read bits text (Ok n) h =
-    let ds = without_leading_plus text in
-    rw (lt-ltb 0 (length ds) h.0.0.0, digits_pass ds h.0.0.1, lt-ltb (digits_value 10 ds) (2 ^ bits) h.0.1) (ap (λ k. Some k) h.1)
-number_read bits text (Err e) h = go (is_small bits (without_leading_plus text)) refl
-  where
-    go : (b : Bool) → is_small bits (without_leading_plus text) ≡ b → None ≡ number_in bits text
-    go false t = rw t refl
-    go true t =
-        let outer = both _ _ t in
-        let inner = both _ _ outer.0 in
-        absurd (h ((ltb-true _ _ inner.0, digits_from (without_leading_plus text) inner.1), ltb-true _ _ outer.1))
-
-number_tried :
+-- what `get_one` gives is the option's number, which can be read
+pub number_used :
     {E : Type 0} (bits : ℕ) (gives : Text → Result ℕ E → Type 0) → ((t : Text) (r : Result ℕ E) → gives t r → ParsesUnsigned bits 10 t r)
-    → (text : Text) (r : Result (Option ℕ) E) → TriesOne gives text r → result_ok r ≡ option_map Some (number_in bits text)
-number_tried {E} bits gives parses text (Ok (Some n)) h = ap (option_map Some) (number_read {E = E} bits text (Ok n) (parses text (Ok n) h))
-number_tried bits gives parses text (Ok None) h = absurd h
-number_tried {E} bits gives parses text (Err e) h = ap (option_map Some) (number_read {E = E} bits text (Err e) (parses text (Err e) h))
-
--- what `try_get_one` gives is the option's number
-pub number_gives :
-    {E : Type 0} (bits : ℕ) (gives : Text → Result ℕ E → Type 0) → ((t : Text) (r : Result ℕ E) → gives t r → ParsesUnsigned bits 10 t r)
-    → (f : Found) (id : Text) (r : Result (Option ℕ) E) → (one_text f id ≡ None → r ≡ Ok None)
-    → ((t : List ℕ) → one_text f id ≡ Some t → TriesOne gives t r)
-    → result_ok r ≡ number_by bits (one_text f id)
-number_gives bits gives parses f id r none some = go (one_text f id) refl
+    → (f : Found) (id : Text) (r : Option ℕ) → (one_text f id ≡ None → r ≡ None) → ((t : Text) → one_text f id ≡ Some t → ReadsOne gives t r)
+    → HasNumber (values_found f) id bits → IsNumberIfUsed bits (values_found f) id r
+number_used bits gives parses f id r none some has = go has.0 has.1 r none some
   where
-    go : (o : Option Text) → one_text f id ≡ o → result_ok r ≡ option_map_or (λ text. option_map Some (number_in bits text)) o (Some None)
-    go None e = rw (none e) refl
-    go (Some t) e = number_tried bits gives parses t r (some t e)
+    go : (used : Option ℕ) → IsNumberIfUsed bits (values_found f) id used → (r : Option ℕ) → (one_text f id ≡ None → r ≡ None)
+        → ((t : Text) → one_text f id ≡ Some t → ReadsOne gives t r) → IsNumberIfUsed bits (values_found f) id r
+    go None unused r none some = subst (IsNumberIfUsed bits (values_found f) id) (sym (none unused)) unused
+    go (Some n) used (Some v) none some = (used.0, used.1, parses used.0 (Ok v) (some used.0 used.1))
+    go (Some n) used None none some =
+        let failed = some used.0 used.1 in
+        absurd (parses used.0 (Err failed.0) failed.1 used.2.0)
 
 -- ---- the command
 
@@ -78,11 +42,10 @@ same_values f =
     let ones : ◌≡◌ {A = Text → Option Text} (one_text f) (λ id. one_of id (rows_of f)) = λ i id. one_text-rows f id i in
     rw (firsts, ones) refl
 
--- so what the matches ask is what the command that was found asks
-pub request_found : (f : Found) (name : Text) (found : Option (Text × List Row)) (request : Request) → found ≡ Some (name, rows_of f)
-    → AsksCommand name (values_found f) request → AsksBy found request
-request_found f name found request is h =
-    subst (λ o. AsksBy o request) (sym is) (subst (λ values. AsksCommand name values request) (same_values f) h)
+-- so what the matches ask is what the words ask that enter this command with their rows
+pub request_found : (app : App) (words : List Text) (f : Found) (name : Text) (request : Request) → fault_of app words ≡ [] → subcommand_of app words ≡ Some (name, rows_of f)
+    → AsksCommand name (values_found f) request → Asks app words request
+request_found app words f name request none is h = (none, ((name, rows_of f), is, subst (λ values. AsksCommand name values request) (same_values f) h))
 
 -- ---- an answer
 

@@ -1,11 +1,9 @@
 -- The words and options of the commands, as what a parse reads of them.
-use Rattle.std.specs.Prelude.{◌≡◌, ℕ, Bool, true, false, List, [], ◌∷◌, Option, None, Some, codes, pos, map, option_map, if◌then◌else◌}
-use Rattle.std.specs.Option.{option_map_or}
+use Rattle.std.specs.Prelude.{◌≡◌, true, false, List, [], ◌∷◌, Option, None, Some, codes, pos, map}
 use Rattle.clap.specs.Words.{App, Shape, Rule, Text, app_of, new_app, new_rule, rule_of}
 use Rattle.clap.specs.declared.builder.Arg.{Arg}
 use Rattle.clap.specs.declared.builder.Command.TheViews.{out-Command as fields_of}
 use Rattle.clap.specs.declared.builder.Command.{Command}
-use Rattle.clap.specs.declared.builder.action.ArgAction.{ArgAction}
 use Rattle.clap.specs.declared.builder.action.ArgAction.TheVariants.{Set, SetTrue}
 use Rattle.clap.specs.declared.builder.ValueParser.{ValueParser}
 use Rattle.clap.specs.declared.builder.ValueParser.TheVariants as parser
@@ -24,83 +22,70 @@ pub record AreNames (names : OptionNames) : Type 0 where
   pub deps : map (λ name. name.now) names.deps.now ≡ codes "all" ∷ codes "last" ∷ []
   pub best : map (λ name. name.now) names.best.now ≡ codes "chain" ∷ codes "cost" ∷ []
 
--- each argument: its name, its form, and its default, which it has if it is not given
-abbrev pub described : Argument → Text × Form × Option Text
-described a.Map = (codes "map", form.Word, None)
-described a.Scen = (codes "scen", form.Word, None)
-described a.Plan = (codes "plan", form.Word, None)
-described a.Out = (codes "out", form.Word, None)
-described a.Program = (codes "program", form.Word, None)
-described a.Agents = (codes "agents", form.Numbers 0 65535, None)
-described a.Horizon = (codes "horizon", form.Numbers 1 65535, Some (codes "1024"))
-described a.Tries = (codes "tries", form.Numbers 1 MAX_TRIES, Some (codes "1"))
-described a.Best = (codes "best", form.Best, None)
-described a.Deps = (codes "deps", form.Deps, Some (codes "last"))
-described a.Dwell = (codes "dwell", form.Numbers 0 MAX_MOVES, Some (codes "0"))
-described a.Holds = (codes "holds", form.Text, None)
-described a.Numbers = (codes "numbers", form.Flag, None)
-described a.Ahead = (codes "ahead", form.Numbers 1 255, Some (codes "1"))
-described a.Unnumbered = (codes "unnumbered", form.Flag, None)
-described a.Resume = (codes "resume", form.Text, None)
-described a.Costs = (codes "costs", form.Text, None)
-described a.Broken = (codes "broken", form.Text, None)
-described a.Reports = (codes "reports", form.Word, None)
-described a.ScenOut = (codes "scen_out", form.Word, None)
-described a.ProgramOut = (codes "program_out", form.Word, None)
-described a.Without = (codes "without", form.Text, None)
-described a.MapOut = (codes "map-out", form.Text, None)
-described a.OthersOut = (codes "others-out", form.Text, None)
-described a.Log = (codes "log", form.Text, None)
+-- each argument: its name and its form
+abbrev pub described : Argument → Text × Form
+described a.Map = (codes "map", form.Word)
+described a.Scen = (codes "scen", form.Word)
+described a.Plan = (codes "plan", form.Word)
+described a.Out = (codes "out", form.Word)
+described a.Program = (codes "program", form.Word)
+described a.Agents = (codes "agents", form.Numbers 0 65535)
+described a.Horizon = (codes "horizon", form.Numbers 1 65535)
+described a.TryCount = (codes "tries", form.Numbers 1 MAX_TRIES)
+described a.BestBy = (codes "best", form.Best)
+described a.DepsKind = (codes "deps", form.Deps)
+described a.Dwell = (codes "dwell", form.Numbers 0 MAX_MOVES)
+described a.Holds = (codes "holds", form.Text)
+described a.Numbers = (codes "numbers", form.Flag)
+described a.Ahead = (codes "ahead", form.Numbers 1 255)
+described a.Unnumbered = (codes "unnumbered", form.Flag)
+described a.Resume = (codes "resume", form.Text)
+described a.Costs = (codes "costs", form.Text)
+described a.Broken = (codes "broken", form.Text)
+described a.Reports = (codes "reports", form.Word)
+described a.ScenOut = (codes "scen_out", form.Word)
+described a.ProgramOut = (codes "program_out", form.Word)
+described a.Without = (codes "without", form.Text)
+described a.MapOut = (codes "map-out", form.Text)
+described a.OthersOut = (codes "others-out", form.Text)
+described a.Log = (codes "log", form.Text)
 
 -- what the text of an argument says of it
-abbrev pub told : ArgumentText → Text × Form × Option Text
-told text = (text.name.now, text.form, option_map (λ default. default.now) text.default)
+abbrev pub told : ArgumentText → Text × Form
+told text = (text.name.now, text.form)
 
--- a word, at its place among such words, has to be there; the others are options
-abbrev pub is_word : Form → Bool
-is_word form.Word = true
-is_word _ = false
-
--- what a use of a flag does, and of another argument, which takes a value
-abbrev pub action_for : Form → ArgAction
-action_for form.Flag = SetTrue
-action_for _ = Set
-
-abbrev pub value_names_for : Form → ℕ
-value_names_for form.Flag = 0
-value_names_for _ = 1
-
--- how the values of an argument are read
+-- how the values of an argument of this form are read, if it does not take any text
 abbrev pub parser_for : OptionNames → Form → Option ValueParser
 parser_for names (form.Numbers least most) = Some (parser.Signed (pos least) (pos most))
 parser_for names form.Deps = Some (parser.Names names.deps)
 parser_for names form.Best = Some (parser.Names names.best)
 parser_for names _ = None
 
--- the rule of an argument of this name and form, if it takes any text and has no default: the word, or `--NAME`
+-- the rule of an argument of this name and form, if it takes any text: a word, a flag `--NAME`, or an option `--NAME`
+-- with a value
 abbrev pub plain_rule : Text → Form → Rule
-plain_rule name f = record (new_rule name) {
-  required = is_word f;
-  long = if is_word f then None else Some name;
-  action = Some (action_for f);
-  value_names = value_names_for f;
-}
+plain_rule name form.Word = record (new_rule name) { required = true; action = Some Set; value_names = 1 }
+plain_rule name form.Flag = record (new_rule name) { long = Some name; action = Some SetTrue }
+plain_rule name _ = record (new_rule name) { long = Some name; action = Some Set; value_names = 1 }
 
--- the rule that an argument's description gives
-abbrev pub rule_by : OptionNames → Text × Form × Option Text → Rule
-rule_by names d = record (plain_rule d.0 d.1) { parser = parser_for names d.1; defaults = option_map_or (λ default. default ∷ []) d.2 [] }
+-- the same, with what it takes
+abbrev pub rule_by : OptionNames → Text → Form → Rule
+rule_by names name f = record (plain_rule name f) { parser = parser_for names f }
 
 -- the rule of each argument
 abbrev pub rule_for : OptionNames → Argument → Rule
-rule_for names argument = rule_by names (described argument)
+rule_for names argument = rule_by names (described argument).0 (described argument).1
 
--- a command without subcommands, by its name and its arguments
-abbrev pub command : Text → List Rule → Shape
-command name rules = record (new_app name).top { rules = rules }
+-- what the text of a command says of it: its name and its arguments
+abbrev pub said : CommandText → Text × List Argument
+said text = (text.name.now, text.arguments.now)
 
 -- the shape of a command, by its name and its arguments
+abbrev pub shape_in : OptionNames → Text × List Argument → Shape
+shape_in names c = record (new_app c.0).top { rules = map (rule_for names) c.1 }
+
 abbrev pub shape_for : OptionNames → CommandText → Shape
-shape_for names text = command text.name.now (map (rule_for names) text.arguments.now)
+shape_for names text = shape_in names (said text)
 
 -- a command of this shape, without subcommands
 abbrev pub alone : Shape → App

@@ -1,13 +1,13 @@
 -- The commands, each with its arguments and with what it is asked for, and the command line that has them.
-use Rattle.std.specs.Prelude.{◌≡◌, Bool, true, false, List, [], ◌∷◌, codes, fold, map}
-use Rattle.std.specs.List.{find, list_all}
-use Rattle.std.specs.Option.{option_map_or}
+use Rattle.std.specs.Prelude.{◌≡◌, true, List, [], ◌∷◌, Option, None, Some, codes, fold, map}
+use Rattle.std.specs.List.{AllByRecursion, find}
 use Rattle.std.specs.Str.{bytes_eq}
 use Rattle.clap.specs.Words.{App, Shape, Text, new_app, with_subcommand}
 pub use Rattle.fleet_args.specs.Arguments.{AreNames}
 pub use Rattle.fleet_args.specs.declared.arguments.OptionNames.{OptionNames}
-use Rattle.fleet_args.specs.Arguments.{command, rule_for}
-use Rattle.fleet_args.specs.Values.{Values, IsText, IsTextIfUsed, IsNumberIfUsed, IsNumber, IsKind, IsBestIfUsed, IsFlag, has_value}
+use Rattle.fleet_args.specs.Arguments.{shape_in}
+use Rattle.fleet_model.specs.declared.deps.Deps.TheVariants.{Last}
+use Rattle.fleet_args.specs.Values.{Values, IsText, IsTextIfUsed, IsNumberIfUsed, IsNumberOr, AreDepsOr, IsBestIfUsed, IsFlag, HasValue}
 use Rattle.fleet_args.specs.declared.arguments.Argument.{Argument}
 use Rattle.fleet_args.specs.declared.arguments.Argument.TheVariants as a
 use Rattle.fleet_args.specs.declared.commands.ProgramFor.{ProgramFor}
@@ -32,12 +32,12 @@ abbrev pub commands : List (Text × List Argument)
 commands =
     (codes "instance", a.Map ∷ a.Scen ∷ a.Agents ∷ []) ∷
     (codes "check", a.Map ∷ a.Scen ∷ a.Plan ∷ a.Agents ∷ a.Numbers ∷ []) ∷
-    (codes "plan", a.Map ∷ a.Scen ∷ a.Agents ∷ a.Horizon ∷ a.Tries ∷ a.Best ∷ []) ∷
-    (codes "compile", a.Map ∷ a.Scen ∷ a.Plan ∷ a.Out ∷ a.Agents ∷ a.Deps ∷ a.Dwell ∷ []) ∷
+    (codes "plan", a.Map ∷ a.Scen ∷ a.Agents ∷ a.Horizon ∷ a.TryCount ∷ a.BestBy ∷ []) ∷
+    (codes "compile", a.Map ∷ a.Scen ∷ a.Plan ∷ a.Out ∷ a.Agents ∷ a.DepsKind ∷ a.Dwell ∷ []) ∷
     (codes "verify", a.Map ∷ a.Scen ∷ a.Program ∷ a.Agents ∷ []) ∷
     (codes "run", a.Map ∷ a.Scen ∷ a.Program ∷ a.Agents ∷ a.Holds ∷ []) ∷
     (codes "rehearse", a.Program ∷ a.Holds ∷ []) ∷
-    (codes "auto", a.Map ∷ a.Scen ∷ a.Agents ∷ a.Horizon ∷ a.Tries ∷ a.Best ∷ a.Deps ∷ a.Holds ∷ a.Numbers ∷ []) ∷
+    (codes "auto", a.Map ∷ a.Scen ∷ a.Agents ∷ a.Horizon ∷ a.TryCount ∷ a.BestBy ∷ a.DepsKind ∷ a.Holds ∷ a.Numbers ∷ []) ∷
     (codes "thin", a.Map ∷ a.Scen ∷ a.Program ∷ a.Out ∷ a.Agents ∷ []) ∷
     (codes "migrate", a.Program ∷ a.Out ∷ []) ∷
     (codes "list", a.Program ∷ []) ∷
@@ -46,21 +46,22 @@ commands =
     (codes "rest", a.Map ∷ a.Scen ∷ a.Program ∷ a.Reports ∷ a.ScenOut ∷ a.ProgramOut ∷ a.Agents ∷ a.Without ∷ a.MapOut ∷ a.OthersOut ∷ []) ∷
     []
 
--- the shape of a command
-abbrev pub shape_in : OptionNames → Text × List Argument → Shape
-shape_in names c = command c.0 (map (rule_for names) c.1)
-
 -- the whole command line
 abbrev pub fleet : OptionNames → App
 fleet names = with_shapes fleet_top (map (shape_in names) commands)
 
--- this is the name of a command, and the arguments that it cannot do without have values
-abbrev pub has_values : Text → Values → Bool
-has_values name values = option_map_or (λ c. list_all (has_value values) c.1) (find (λ c. bytes_eq name c.0) commands) false
+-- these values has the command that was found for its arguments, as far as it cannot do without them
+abbrev pub HasAll : Values → Option (Text × List Argument) → Type 0
+HasAll values None = ⊥
+HasAll values (Some c) = AllByRecursion (HasValue values) c.1
+
+-- this is the name of a command, and the values are such
+abbrev pub HasValues : Text → Values → Type 0
+HasValues name values = HasAll values (find (λ c. bytes_eq name c.0) commands)
 
 -- a map, a scenario and how many of its agents are asked for
 abbrev pub AsksTasks : Values → Tasks → Type 0
-AsksTasks values t = IsText values (codes "map") t.map × IsText values (codes "scen") t.scen × IsNumberIfUsed values (codes "agents") t.agents
+AsksTasks values t = IsText values (codes "map") t.map × IsText values (codes "scen") t.scen × IsNumberIfUsed 16 values (codes "agents") t.agents
 
 -- the same with a program
 abbrev pub AsksProgram : Values → ProgramFor → Type 0
@@ -68,7 +69,7 @@ AsksProgram values p = AsksTasks values p.tasks × IsText values (codes "program
 
 -- how many orders are tried, and what makes a plan the best
 abbrev pub AsksTries : Values → Tries → Type 0
-AsksTries values tries = IsNumber 32 values (codes "tries") tries.count × IsBestIfUsed values (codes "best") tries.best
+AsksTries values tries = IsNumberOr 1 32 values (codes "tries") tries.count × IsBestIfUsed values (codes "best") tries.best
 
 -- the command of this name, with these values of its arguments, asks this
 abbrev pub AsksCommand : Text → Values → Request → Type 0
@@ -76,21 +77,21 @@ AsksCommand name values (r.Instance q) = (name ≡ codes "instance") × AsksTask
 AsksCommand name values (r.Check q) =
     (name ≡ codes "check") × AsksTasks values q.tasks × IsText values (codes "plan") q.plan × IsFlag values (codes "numbers") q.numbers
 AsksCommand name values (r.Plan q) =
-    (name ≡ codes "plan") × AsksTasks values q.tasks × IsNumber 16 values (codes "horizon") q.horizon × AsksTries values q.tries
+    (name ≡ codes "plan") × AsksTasks values q.tasks × IsNumberOr 1024 16 values (codes "horizon") q.horizon × AsksTries values q.tries
 AsksCommand name values (r.Compile q) =
     (name ≡ codes "compile") × AsksTasks values q.tasks × IsText values (codes "plan") q.plan × IsText values (codes "out") q.out
-    × IsKind values (codes "deps") q.deps × IsNumber 32 values (codes "dwell") q.dwell
+    × AreDepsOr Last values (codes "deps") q.deps × IsNumberOr 0 32 values (codes "dwell") q.dwell
 AsksCommand name values (r.Verify q) = (name ≡ codes "verify") × AsksProgram values q
 AsksCommand name values (r.Run q) = (name ≡ codes "run") × AsksProgram values q.subject × IsTextIfUsed values (codes "holds") q.holds
 AsksCommand name values (r.Rehearse q) = (name ≡ codes "rehearse") × IsText values (codes "program") q.program × IsTextIfUsed values (codes "holds") q.holds
 AsksCommand name values (r.Auto q) =
-    (name ≡ codes "auto") × AsksTasks values q.tasks × IsNumber 16 values (codes "horizon") q.horizon × AsksTries values q.tries
-    × IsKind values (codes "deps") q.deps × IsTextIfUsed values (codes "holds") q.holds × IsFlag values (codes "numbers") q.numbers
+    (name ≡ codes "auto") × AsksTasks values q.tasks × IsNumberOr 1024 16 values (codes "horizon") q.horizon × AsksTries values q.tries
+    × AreDepsOr Last values (codes "deps") q.deps × IsTextIfUsed values (codes "holds") q.holds × IsFlag values (codes "numbers") q.numbers
 AsksCommand name values (r.Thin q) = (name ≡ codes "thin") × AsksProgram values q.subject × IsText values (codes "out") q.out
 AsksCommand name values (r.Migrate q) = (name ≡ codes "migrate") × IsText values (codes "program") q.program × IsText values (codes "out") q.out
 AsksCommand name values (r.List q) = (name ≡ codes "list") × IsText values (codes "program") q.program
 AsksCommand name values (r.Dispatch q) =
-    (name ≡ codes "dispatch") × AsksProgram values q.subject × IsNumber 16 values (codes "ahead") q.ahead
+    (name ≡ codes "dispatch") × AsksProgram values q.subject × IsNumberOr 1 16 values (codes "ahead") q.ahead
     × IsFlag values (codes "unnumbered") q.unnumbered × IsTextIfUsed values (codes "resume") q.resume
     × IsTextIfUsed values (codes "log") q.log
 AsksCommand name values (r.Times q) =

@@ -10,11 +10,6 @@ use Rattle.fleet_args.specs.declared.commands.Request.{Request}
 use Rattle.fleet_args.specs.declared.request.WordStop.{WordStop}
 use Rattle.fleet_args.specs.declared.request.WordStop.TheVariants as stop
 
--- the command that was found, with its rows, asks this
-abbrev pub AsksBy : Option (Text × List Row) → Request → Type 0
-AsksBy None request = ⊥
-AsksBy (Some found) request = AsksCommand found.0 (values_of found.1) request
-
 -- the words ask for help or for the version
 abbrev pub is_help : ErrorKind → Bool
 is_help kind.DisplayHelp = true
@@ -37,19 +32,17 @@ StopsFor app words stop.OutOfMemory = ⊤
 StopsFor app words (stop.Usage text) = Refuses (λ k. not (is_help k)) app words
 StopsFor app words (stop.Help text) = Refuses is_help app words
 
--- the command line finds no fault in the words, and the command that they enter asks this
+-- the command line finds no fault in the words, and the command that they enter asks this, by the values of its rows
 abbrev pub Asks : App → List Text → Request → Type 0
-Asks app words request = (fault_of app words ≡ []) × AsksBy (subcommand_of app words) request
+Asks app words request =
+    (fault_of app words ≡ []) × ((found : Text × List Row) × (subcommand_of app words ≡ Some found) × AsksCommand found.0 (values_of found.1) request)
 
 -- the request that the words ask; or none, if the command line finds a fault in them
 abbrev pub AsksAlone : OptionNames → List Text → Option Request → Type 0
 AsksAlone names words (Some request) = Asks (fleet names) words request
 AsksAlone names words None = fault_of (fleet names) words ≢ []
 
--- the answer is the request that the words ask, or a stop for words that are not taken
-abbrev pub Reads : App → List Text → Result Request WordStop → Type 0
-Reads app words result = MatchResult result (Asks app words) (StopsFor app words)
-
--- the same of the program's command line, whatever texts hold the names that options take
+-- the answer is the request that the words ask of the program's command line, whatever texts hold the names that
+-- options take; or a stop for words that the command line does not take
 abbrev pub ReadsFleet : List Text → Result Request WordStop → Type 0
-ReadsFleet words result = (names : OptionNames) × AreNames names × Reads (fleet names) words result
+ReadsFleet words result = (names : OptionNames) × AreNames names × MatchResult result (Asks (fleet names) words) (StopsFor (fleet names) words)

@@ -1,10 +1,10 @@
 //! The words and options of commands as data, and the values that were given for them.
 
-ghost use Rattle.std.specs.Prelude.{◌≡◌, IfOk, None, fold, map, true};
-ghost use Rattle.clap.specs.Words.{app_of, with_rule, found_of, one_text};
+ghost use Rattle.std.specs.Prelude.{◌≡◌, IfOk, None, fold, map};
+ghost use Rattle.clap.specs.Words.{app_of, with_rule};
 ghost use Rattle.fleet_args.specs.Arguments.{IsArg, IsApp, IsLocal, alone, described, parser_for, plain_rule, rule_for, shape_for, told};
 ghost use Rattle.fleet_args.specs.declared.arguments.OptionNames.{OptionNames};
-ghost use Rattle.fleet_args.specs.Values.{IsBestIfUsed, IsFlag, IsKind, IsNumber, IsNumberIfUsed, IsText, best_in, deps_in, has_kind, has_number, has_text, number_by, reads_best, reads_number, values_in};
+ghost use Rattle.fleet_args.specs.Values.{AreDepsIfUsed, HasBest, HasDeps, HasNumber, HasText, IsBestIfUsed, IsFlag, IsNumberIfUsed, IsText, best_in, deps_in, values_in};
 
 use crate::commands::Best;
 use clap::builder::ValueParser;
@@ -30,9 +30,9 @@ pub(crate) enum Argument {
     Program,
     Agents,
     Horizon,
-    Tries,
-    Best,
-    Deps,
+    TryCount,
+    BestBy,
+    DepsKind,
     Dwell,
     Holds,
     Numbers,
@@ -67,15 +67,14 @@ pub(crate) enum Form {
     Flag,
 }
 
-/// What an argument is: its name, which is `--NAME` for an option; in help the name of its value, and a text; its form;
-/// and what it is if it is not given.
+/// What an argument is: its name, which is `--NAME` for an option; in help the name of its value, and a text; and its
+/// form.
 #[derive(Clone, Copy)]
 struct ArgumentText {
     name: &'static str,
     value: &'static str,
     help: &'static str,
     form: Form,
-    default: Option<&'static str>,
 }
 
 /// A command: its name, its text for help, and its arguments.
@@ -93,175 +92,150 @@ static ARGUMENTS: [ArgumentText; 25] = [
         value: "MAP",
         help: "Map file (MovingAI), each side 1 to 4096",
         form: Form::Word,
-        default: None,
     },
     ArgumentText {
         name: "scen",
         value: "SCEN",
         help: "Scenario file (MovingAI), one line per agent",
         form: Form::Word,
-        default: None,
     },
     ArgumentText {
         name: "plan",
         value: "PLAN",
         help: "Plan text: a line per agent, its cells x,y at times 0, 1, 2 ..",
         form: Form::Word,
-        default: None,
     },
     ArgumentText {
         name: "out",
         value: "OUT",
         help: "The file to which the program bytes are written",
         form: Form::Word,
-        default: None,
     },
     ArgumentText {
         name: "program",
         value: "PROGRAM",
         help: "Program file (bytes, not hexadecimal)",
         form: Form::Word,
-        default: None,
     },
     ArgumentText {
         name: "agents",
         value: "K",
         help: "Take the first K agents of the scenario, 1 to 1024 [default: all]",
         form: Form::Numbers(0, u16::MAX as u32),
-        default: None,
     },
     ArgumentText {
         name: "horizon",
         value: "H",
-        help: "The latest time at which an agent may arrive, 1 to 65535; below its shortest way there is no path",
+        help: "The latest time at which an agent may arrive, 1 to 65535; below its shortest way there is no path [default: 1024]",
         form: Form::Numbers(1, u16::MAX as u32),
-        default: Some("1024"),
     },
     ArgumentText {
         name: "tries",
         value: "N",
-        help: "How many orders of the agents are tried, 1 to 1000000: an agent that finds no path is planned first in the next one",
+        help: "How many orders of the agents are tried, 1 to 1000000: an agent that finds no path is planned first in the next one [default: 1]",
         form: Form::Numbers(1, MAX_TRIES),
-        default: Some("1"),
     },
     ArgumentText {
         name: "best",
         value: "BEST",
         help: "Tries all N orders, and keeps the first plan with the shortest chain (chain) or the least sum of costs (cost)",
         form: Form::Best,
-        default: None,
     },
     ArgumentText {
         name: "deps",
         value: "DEPS",
-        help: "What a move into a cell waits for: the last leaving by each other agent (all), or only the latest leaving (last)",
+        help: "What a move into a cell waits for: the last leaving by each other agent (all), or only the latest leaving (last) [default: last]",
         form: Form::Deps,
-        default: Some("last"),
     },
     ArgumentText {
         name: "dwell",
         value: "N",
-        help: "How many actions each agent stays on its last cell after its moves, 0 to 1000000",
+        help: "How many actions each agent stays on its last cell after its moves, 0 to 1000000 [default: 0]",
         form: Form::Numbers(0, MAX_MOVES),
-        default: Some("0"),
     },
     ArgumentText {
         name: "holds",
         value: "FILE",
         help: "Holds text: a line per tick, - for nobody or the numbers of the held agents, rising [default: nobody is held]",
         form: Form::Text,
-        default: None,
     },
     ArgumentText {
         name: "numbers",
         value: "",
         help: "Prints more numbers of the plan at the end",
         form: Form::Flag,
-        default: None,
     },
     ArgumentText {
         name: "ahead",
         value: "K",
-        help: "How many orders an agent may have at most that it has not reported, 1 to 255",
+        help: "How many orders an agent may have at most that it has not reported, 1 to 255 [default: 1]",
         form: Form::Numbers(1, u8::MAX as u32),
-        default: Some("1"),
     },
     ArgumentText {
         name: "unnumbered",
         value: "",
         help: "Orders and reports name agents alone: go AGENT FROM TO, and a report that comes twice counts twice",
         form: Form::Flag,
-        default: None,
     },
     ArgumentText {
         name: "resume",
         value: "FILE",
         help: "Goes on after the reports in this file: takes them first, and then prints the orders that are open",
         form: Form::Text,
-        default: None,
     },
     ArgumentText {
         name: "costs",
         value: "FILE",
         help: "What actions cost: lines A X, each action of agent A, and A:N X, its action N [default: each action costs 1]",
         form: Form::Text,
-        default: None,
     },
     ArgumentText {
         name: "broken",
         value: "ACTIONS",
         help: "The actions in which robots break down: words A:N, rising, one space between two [default: all robots go on]",
         form: Form::Text,
-        default: None,
     },
     ArgumentText {
         name: "reports",
         value: "LOG",
         help: "The log of a dispatch: its reports, a line for each",
         form: Form::Word,
-        default: None,
     },
     ArgumentText {
         name: "scen_out",
         value: "SCEN_OUT",
         help: "The file to which the tasks that are left are written, as a scenario",
         form: Form::Word,
-        default: None,
     },
     ArgumentText {
         name: "program_out",
         value: "PROGRAM_OUT",
         help: "The file to which the program bytes that are left are written",
         form: Form::Word,
-        default: None,
     },
     ArgumentText {
         name: "without",
         value: "CELLS",
         help: "The agent of a dead robot, and the cells on which it stands: A:X,Y or A:X,Y:X,Y [default: no robot is dead]",
         form: Form::Text,
-        default: None,
     },
     ArgumentText {
         name: "map-out",
         value: "FILE",
         help: "A file to which the map is written, in which the cells of the dead robot are blocked",
         form: Form::Text,
-        default: None,
     },
     ArgumentText {
         name: "others-out",
         value: "FILE",
         help: "A file to which the tasks of all but the dead robot's agent are written, as a scenario",
         form: Form::Text,
-        default: None,
     },
     ArgumentText {
         name: "log",
         value: "FILE",
         help: "Appends each report that is taken to this file, on the disk before anything follows from it",
         form: Form::Text,
-        default: None,
     },
 ];
 
@@ -272,7 +246,7 @@ fn text_of(argument: Argument) -> &'static ArgumentText
     &ARGUMENTS[argument as usize]
 }
 
-/// How `clap` reads the values of an argument of this form, with these names.
+/// How `clap` reads the values of an argument of this form, with these names; of other forms it is any text.
 fn parser_for<'a>(names: OptionNames<'a>, form: Form) -> Option<ValueParser<'a>>
     ensures { result ≡ parser_for names.entry form }
 {
@@ -286,9 +260,10 @@ fn parser_for<'a>(names: OptionNames<'a>, form: Form) -> Option<ValueParser<'a>>
     }
 }
 
-/// The argument as `clap` takes it, if it takes any text and has no default.
+/// The argument as `clap` takes it, if it takes any text.
 fn plain_arg<'a>(alloc: Global, text: &ArgumentText) -> Arg<'a>
-    ensures { IsArg (plain_rule text.now.name.now text.now.form) result }
+    ensures rule { IsArg (plain_rule text.now.name.now text.now.form) result }
+    ensures parser { result.value_parser ≡ None }
 {
     let named = Arg::new(alloc, text.name).help(text.help);
     if let Form::Flag = text.form {
@@ -317,11 +292,7 @@ fn arg_of<'a>(alloc: Global, names: OptionNames<'a>, argument: Argument) -> Arg<
     ensures { IsArg (rule_for names.entry argument) result }
 {
     let text = text_of(argument);
-    let arg = with_parser(plain_arg(alloc, text), parser_for(names, text.form));
-    match text.default {
-        Some(default) => arg.default_value(default),
-        None => arg,
-    }
+    with_parser(plain_arg(alloc, text), parser_for(names, text.form))
 }
 
 /// The command with these arguments after those that it has.
@@ -361,20 +332,6 @@ pub(crate) fn command_of<'a>(
     )
 }
 
-/// The number of up to 16 bits of an option: `Some(None)` if it was not used, and `None` if its text is no such number.
-fn number(matches: &ArgMatches<'_>, id: &str) -> Option<Option<u16>>
-    ensures { result ≡ number_by 16 (one_text (found_of matches.now) id.now) }
-{
-    matches.try_get_one::<u16>(id).ok()
-}
-
-/// The same of a number of up to 32 bits.
-fn count(matches: &ArgMatches<'_>, id: &str) -> Option<Option<u32>>
-    ensures { result ≡ number_by 32 (one_text (found_of matches.now) id.now) }
-{
-    matches.try_get_one::<u32>(id).ok()
-}
-
 /// The kind of awaits of this name, if there is one.
 fn deps_of(name: &str) -> Option<Deps>
     ensures { result ≡ deps_in name.now }
@@ -399,7 +356,7 @@ fn best_of(name: &str) -> Option<Best>
 
 /// The text of an argument that has one.
 pub(crate) fn text<'a>(matches: &ArgMatches<'a>, id: &str) -> &'a str
-    requires { has_text (values_in matches.now) id.now ≡ true }
+    requires { HasText (values_in matches.now) id.now }
     ensures { IsText (values_in matches.now) id.now result }
 {
     match matches.get_str(id) {
@@ -408,58 +365,39 @@ pub(crate) fn text<'a>(matches: &ArgMatches<'a>, id: &str) -> &'a str
     }
 }
 
-/// The number of an option, if it was used.
+/// The number of up to 16 bits of an option, if it was used.
 pub(crate) fn used_number(matches: &ArgMatches<'_>, id: &str) -> Option<u16>
-    requires { reads_number 16 (values_in matches.now) id.now ≡ true }
-    ensures { IsNumberIfUsed (values_in matches.now) id.now result }
+    requires { HasNumber (values_in matches.now) id.now 16 }
+    ensures { IsNumberIfUsed 16 (values_in matches.now) id.now result }
 {
-    match number(matches, id) {
-        Some(number) => number,
-        None => unreachable!(),
-    }
-}
-
-/// The number of an option that has one.
-pub(crate) fn given_number(matches: &ArgMatches<'_>, id: &str) -> u16
-    requires { has_number 16 (values_in matches.now) id.now ≡ true }
-    ensures { IsNumber 16 (values_in matches.now) id.now result }
-{
-    match number(matches, id) {
-        Some(Some(number)) => number,
-        Some(None) => unreachable!(),
-        None => unreachable!(),
-    }
+    matches.get_one::<u16>(id)
 }
 
 /// The same of a number of up to 32 bits.
-pub(crate) fn given_count(matches: &ArgMatches<'_>, id: &str) -> u32
-    requires { has_number 32 (values_in matches.now) id.now ≡ true }
-    ensures { IsNumber 32 (values_in matches.now) id.now result }
+pub(crate) fn used_count(matches: &ArgMatches<'_>, id: &str) -> Option<u32>
+    requires { HasNumber (values_in matches.now) id.now 32 }
+    ensures { IsNumberIfUsed 32 (values_in matches.now) id.now result }
 {
-    match count(matches, id) {
-        Some(Some(count)) => count,
-        Some(None) => unreachable!(),
-        None => unreachable!(),
-    }
+    matches.get_one::<u32>(id)
 }
 
-/// The kind of awaits that an option names.
-pub(crate) fn given_deps(matches: &ArgMatches<'_>, id: &str) -> Deps
-    requires { has_kind (values_in matches.now) id.now ≡ true }
-    ensures { IsKind (values_in matches.now) id.now result }
+/// The kind of awaits that an option names, if it was used.
+pub(crate) fn used_deps(matches: &ArgMatches<'_>, id: &str) -> Option<Deps>
+    requires { HasDeps (values_in matches.now) id.now }
+    ensures { AreDepsIfUsed (values_in matches.now) id.now result }
 {
     match matches.get_str(id) {
         Some(name) => match deps_of(name) {
-            Some(deps) => deps,
+            Some(deps) => Some(deps),
             None => unreachable!(),
         },
-        None => unreachable!(),
+        None => None,
     }
 }
 
 /// What an option names as making a plan the best, if it was used.
 pub(crate) fn used_best(matches: &ArgMatches<'_>, id: &str) -> Option<Best>
-    requires { reads_best (values_in matches.now) id.now ≡ true }
+    requires { HasBest (values_in matches.now) id.now }
     ensures { IsBestIfUsed (values_in matches.now) id.now result }
 {
     match matches.get_str(id) {

@@ -1,13 +1,15 @@
 //! The commands: what each is asked for, its words and options, and how they are read from the matches.
 
-ghost use Rattle.std.specs.Prelude.{◌≡◌, codes, true};
-ghost use Rattle.fleet_args.specs.Values.{has_number, has_text, reads_best, reads_number, values_in};
-ghost use Rattle.fleet_args.specs.Commands.{AsksCommand, AsksProgram, AsksTasks, AsksTries, has_values};
+ghost use Rattle.std.specs.Prelude.{codes};
+ghost use Rattle.fleet_args.specs.Values.{HasBest, HasNumber, HasText, values_in};
+ghost use Rattle.fleet_args.specs.Commands.{AsksCommand, AsksProgram, AsksTasks, AsksTries, HasValues};
 
-use crate::arguments::{
-    Argument, CommandText, given_count, given_deps, given_number, text, used, used_best,
-    used_number,
+use crate::arguments::Argument::{
+    Agents, Ahead, BestBy, Broken, Costs, DepsKind, Dwell, Holds, Horizon, Log, Map, MapOut,
+    Numbers, OthersOut, Out, Plan, Program, ProgramOut, Reports, Resume, Scen, ScenOut, TryCount,
+    Unnumbered, Without,
 };
+use crate::arguments::{CommandText, text, used, used_best, used_count, used_deps, used_number};
 use clap::ArgMatches;
 use fleet_model::Deps;
 
@@ -169,167 +171,99 @@ pub(crate) static COMMANDS: [CommandText; 14] = [
     CommandText {
         name: "instance",
         about: "Prints the size of a map, its passable cells, and each agent's start and goal",
-        arguments: &[Argument::Map, Argument::Scen, Argument::Agents],
+        arguments: &[Map, Scen, Agents],
     },
     CommandText {
         name: "check",
         about: "Tells whether a plan is free of conflict, or its first fault",
-        arguments: &[
-            Argument::Map,
-            Argument::Scen,
-            Argument::Plan,
-            Argument::Agents,
-            Argument::Numbers,
-        ],
+        arguments: &[Map, Scen, Plan, Agents, Numbers],
     },
     CommandText {
         name: "plan",
         about: "Plans a path for each agent in turn, and prints the plan text",
-        arguments: &[
-            Argument::Map,
-            Argument::Scen,
-            Argument::Agents,
-            Argument::Horizon,
-            Argument::Tries,
-            Argument::Best,
-        ],
+        arguments: &[Map, Scen, Agents, Horizon, TryCount, BestBy],
     },
     CommandText {
         name: "compile",
         about: "Compiles a conflict-free plan into a program, writes it to OUT, and prints its agents, moves, awaits and bytes",
-        arguments: &[
-            Argument::Map,
-            Argument::Scen,
-            Argument::Plan,
-            Argument::Out,
-            Argument::Agents,
-            Argument::Deps,
-            Argument::Dwell,
-        ],
+        arguments: &[Map, Scen, Plan, Out, Agents, DepsKind, Dwell],
     },
     CommandText {
         name: "verify",
         about: "Tells whether a program is safe and arrives whoever is held, or its first fault",
-        arguments: &[
-            Argument::Map,
-            Argument::Scen,
-            Argument::Program,
-            Argument::Agents,
-        ],
+        arguments: &[Map, Scen, Program, Agents],
     },
     CommandText {
         name: "run",
         about: "Verifies a program and runs it: prints the positions tick by tick, then agents, ticks, chain and held",
-        arguments: &[
-            Argument::Map,
-            Argument::Scen,
-            Argument::Program,
-            Argument::Agents,
-            Argument::Holds,
-        ],
+        arguments: &[Map, Scen, Program, Agents, Holds],
     },
     CommandText {
         name: "rehearse",
         about: "Runs any program until it is finished or stuck: prints the positions tick by tick, then agents, ticks and held",
-        arguments: &[Argument::Program, Argument::Holds],
+        arguments: &[Program, Holds],
     },
     CommandText {
         name: "auto",
         about: "Plans, compiles, verifies and runs: prints the positions tick by tick, then agents, ticks, chain and held",
         arguments: &[
-            Argument::Map,
-            Argument::Scen,
-            Argument::Agents,
-            Argument::Horizon,
-            Argument::Tries,
-            Argument::Best,
-            Argument::Deps,
-            Argument::Holds,
-            Argument::Numbers,
+            Map, Scen, Agents, Horizon, TryCount, BestBy, DepsKind, Holds, Numbers,
         ],
     },
     CommandText {
         name: "thin",
         about: "Drops the awaits of an accepted program that others imply, writes it to OUT, and prints its awaits before and after",
-        arguments: &[
-            Argument::Map,
-            Argument::Scen,
-            Argument::Program,
-            Argument::Out,
-            Argument::Agents,
-        ],
+        arguments: &[Map, Scen, Program, Out, Agents],
     },
     CommandText {
         name: "migrate",
         about: "Writes a program to OUT in version 2 of the bytes, and prints how many they are",
-        arguments: &[Argument::Program, Argument::Out],
+        arguments: &[Program, Out],
     },
     CommandText {
         name: "list",
         about: "Prints any program as text: a line for each agent, and after it one for each of its actions",
-        arguments: &[Argument::Program],
+        arguments: &[Program],
     },
     CommandText {
         name: "dispatch",
         about: "Dispatches robots: prints go AGENT:N FROM TO as each move may begin, and reads a line for each report of which moves are done",
-        arguments: &[
-            Argument::Map,
-            Argument::Scen,
-            Argument::Program,
-            Argument::Agents,
-            Argument::Ahead,
-            Argument::Unnumbered,
-            Argument::Resume,
-            Argument::Log,
-        ],
+        arguments: &[Map, Scen, Program, Agents, Ahead, Unnumbered, Resume, Log],
     },
     CommandText {
         name: "times",
         about: "Tells when each agent of an accepted program arrives at the soonest, or how far it comes if robots break down",
-        arguments: &[
-            Argument::Map,
-            Argument::Scen,
-            Argument::Program,
-            Argument::Agents,
-            Argument::Costs,
-            Argument::Broken,
-        ],
+        arguments: &[Map, Scen, Program, Agents, Costs, Broken],
     },
     CommandText {
         name: "rest",
         about: "Writes what is left of an accepted program after the reports of a log: its tasks and its bytes, and prints its agents, moves, awaits and bytes",
         arguments: &[
-            Argument::Map,
-            Argument::Scen,
-            Argument::Program,
-            Argument::Reports,
-            Argument::ScenOut,
-            Argument::ProgramOut,
-            Argument::Agents,
-            Argument::Without,
-            Argument::MapOut,
-            Argument::OthersOut,
+            Map, Scen, Program, Reports, ScenOut, ProgramOut, Agents, Without, MapOut, OthersOut,
         ],
     },
 ];
 
+/// The horizon of a command that names none.
+const DEFAULT_HORIZON: u16 = 1_024;
+
 /// The tries that the matches of a command ask for.
 fn tries_in(matches: &ArgMatches<'_>) -> Tries
-    requires count { has_number 32 (values_in matches.now) (codes "tries") ≡ true }
-    requires best { reads_best (values_in matches.now) (codes "best") ≡ true }
+    requires count { HasNumber (values_in matches.now) (codes "tries") 32 }
+    requires best { HasBest (values_in matches.now) (codes "best") }
     ensures { AsksTries (values_in matches.now) result }
 {
     Tries {
-        count: given_count(matches, "tries"),
+        count: used_count(matches, "tries").unwrap_or(1),
         best: used_best(matches, "best"),
     }
 }
 
 /// The tasks that the matches of a command ask for.
 fn tasks_in<'a>(matches: &ArgMatches<'a>) -> Tasks<'a>
-    requires map { has_text (values_in matches.now) (codes "map") ≡ true }
-    requires scen { has_text (values_in matches.now) (codes "scen") ≡ true }
-    requires agents { reads_number 16 (values_in matches.now) (codes "agents") ≡ true }
+    requires map { HasText (values_in matches.now) (codes "map") }
+    requires scen { HasText (values_in matches.now) (codes "scen") }
+    requires agents { HasNumber (values_in matches.now) (codes "agents") 16 }
     ensures { AsksTasks (values_in matches.now) result }
 {
     Tasks {
@@ -341,10 +275,10 @@ fn tasks_in<'a>(matches: &ArgMatches<'a>) -> Tasks<'a>
 
 /// The program, and the tasks that it is for, that the matches of a command ask for.
 fn program_in<'a>(matches: &ArgMatches<'a>) -> ProgramFor<'a>
-    requires map { has_text (values_in matches.now) (codes "map") ≡ true }
-    requires scen { has_text (values_in matches.now) (codes "scen") ≡ true }
-    requires agents { reads_number 16 (values_in matches.now) (codes "agents") ≡ true }
-    requires program { has_text (values_in matches.now) (codes "program") ≡ true }
+    requires map { HasText (values_in matches.now) (codes "map") }
+    requires scen { HasText (values_in matches.now) (codes "scen") }
+    requires agents { HasNumber (values_in matches.now) (codes "agents") 16 }
+    requires program { HasText (values_in matches.now) (codes "program") }
     ensures { AsksProgram (values_in matches.now) result }
 {
     ProgramFor {
@@ -355,7 +289,7 @@ fn program_in<'a>(matches: &ArgMatches<'a>) -> ProgramFor<'a>
 
 /// The request of `check`.
 fn check_in<'a>(matches: &ArgMatches<'a>) -> Request<'a>
-    requires { has_values (codes "check") (values_in matches.now) ≡ true }
+    requires { HasValues (codes "check") (values_in matches.now) }
     ensures { AsksCommand (codes "check") (values_in matches.now) result }
 {
     Request::Check(CheckRequest {
@@ -367,40 +301,40 @@ fn check_in<'a>(matches: &ArgMatches<'a>) -> Request<'a>
 
 /// The request of `plan`.
 fn plan_in<'a>(matches: &ArgMatches<'a>) -> Request<'a>
-    requires { has_values (codes "plan") (values_in matches.now) ≡ true }
+    requires { HasValues (codes "plan") (values_in matches.now) }
     ensures { AsksCommand (codes "plan") (values_in matches.now) result }
 {
     Request::Plan(PlanRequest {
         tasks: tasks_in(matches),
-        horizon: given_number(matches, "horizon"),
+        horizon: used_number(matches, "horizon").unwrap_or(DEFAULT_HORIZON),
         tries: tries_in(matches),
     })
 }
 
 /// The request of `compile`.
 fn compile_in<'a>(matches: &ArgMatches<'a>) -> Request<'a>
-    requires { has_values (codes "compile") (values_in matches.now) ≡ true }
+    requires { HasValues (codes "compile") (values_in matches.now) }
     ensures { AsksCommand (codes "compile") (values_in matches.now) result }
 {
     Request::Compile(CompileRequest {
         tasks: tasks_in(matches),
         plan: text(matches, "plan"),
         out: text(matches, "out"),
-        deps: given_deps(matches, "deps"),
-        dwell: given_count(matches, "dwell"),
+        deps: used_deps(matches, "deps").unwrap_or(Deps::Last),
+        dwell: used_count(matches, "dwell").unwrap_or(0),
     })
 }
 
 /// The request of `auto`.
 fn auto_in<'a>(matches: &ArgMatches<'a>) -> Request<'a>
-    requires { has_values (codes "auto") (values_in matches.now) ≡ true }
+    requires { HasValues (codes "auto") (values_in matches.now) }
     ensures { AsksCommand (codes "auto") (values_in matches.now) result }
 {
     Request::Auto(AutoRequest {
         tasks: tasks_in(matches),
-        horizon: given_number(matches, "horizon"),
+        horizon: used_number(matches, "horizon").unwrap_or(DEFAULT_HORIZON),
         tries: tries_in(matches),
-        deps: given_deps(matches, "deps"),
+        deps: used_deps(matches, "deps").unwrap_or(Deps::Last),
         holds: matches.get_str("holds"),
         numbers: used(matches, "numbers"),
     })
@@ -408,12 +342,12 @@ fn auto_in<'a>(matches: &ArgMatches<'a>) -> Request<'a>
 
 /// The request of `dispatch`.
 fn dispatch_in<'a>(matches: &ArgMatches<'a>) -> Request<'a>
-    requires { has_values (codes "dispatch") (values_in matches.now) ≡ true }
+    requires { HasValues (codes "dispatch") (values_in matches.now) }
     ensures { AsksCommand (codes "dispatch") (values_in matches.now) result }
 {
     Request::Dispatch(DispatchRequest {
         subject: program_in(matches),
-        ahead: given_number(matches, "ahead"),
+        ahead: used_number(matches, "ahead").unwrap_or(1),
         unnumbered: used(matches, "unnumbered"),
         resume: matches.get_str("resume"),
         log: matches.get_str("log"),
@@ -422,7 +356,7 @@ fn dispatch_in<'a>(matches: &ArgMatches<'a>) -> Request<'a>
 
 /// The request of `times`.
 fn times_in<'a>(matches: &ArgMatches<'a>) -> Request<'a>
-    requires { has_values (codes "times") (values_in matches.now) ≡ true }
+    requires { HasValues (codes "times") (values_in matches.now) }
     ensures { AsksCommand (codes "times") (values_in matches.now) result }
 {
     Request::Times(TimesRequest {
@@ -434,7 +368,7 @@ fn times_in<'a>(matches: &ArgMatches<'a>) -> Request<'a>
 
 /// The request of `rest`.
 fn rest_in<'a>(matches: &ArgMatches<'a>) -> Request<'a>
-    requires { has_values (codes "rest") (values_in matches.now) ≡ true }
+    requires { HasValues (codes "rest") (values_in matches.now) }
     ensures { AsksCommand (codes "rest") (values_in matches.now) result }
 {
     Request::Rest(RestRequest {
@@ -450,7 +384,7 @@ fn rest_in<'a>(matches: &ArgMatches<'a>) -> Request<'a>
 
 /// The request of the command of this name, by its matches.
 pub(crate) fn request_by<'a>(name: &str, matches: &ArgMatches<'a>) -> Request<'a>
-    requires { has_values name.now (values_in matches.now) ≡ true }
+    requires { HasValues name.now (values_in matches.now) }
     ensures { AsksCommand name.now (values_in matches.now) result }
 {
     match name {

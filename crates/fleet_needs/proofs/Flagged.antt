@@ -1,9 +1,9 @@
 -- The flags of awaits, one action and one block more.
-use Rattle.std.proofs.Common.{◌≡◌, ◌≢◌, ℕ, ◌+◌, ◌<◌, ◌≤◌, Bool, true, false, List, [], ◌∷◌, length, get_or, set, refl, sym, ap, subst, ◌∙◌, arith, inl, inr, ◌⊎◌}
+use Rattle.std.proofs.Common.{◌≡◌, ◌≢◌, ℕ, ◌+◌, ◌-◌, ◌<◌, ◌≤◌, Bool, true, false, List, [], ◌∷◌, length, get_or, set, refl, sym, ap, subst, ◌∙◌, arith, inl, inr, ◌⊎◌}
 use Rattle.std.specs.Borrow.{Bor}
 use Rattle.std.specs.Prelude.{not, Contains, slice_get, slice_index, Some, None, Option, nat_le}
-use Rattle.std.proofs.lemmas.Bool.{cases_lt, false≢true}
-use Rattle.std.proofs.lemmas.Option.{slice_get_within, same_Some}
+use Rattle.std.proofs.lemmas.Bool.{cases_lt, cases_eq, false≢true}
+use Rattle.std.proofs.lemmas.Option.{slice_get_within, get_or_from_slice_get, same_Some}
 use Rattle.std.proofs.lemmas.List.{get_or-set_same, get_or-set_other}
 use Rattle.fleet_model.specs.declared.program.ActionId.{ActionId}
 use Rattle.fleet_model.specs.declared.program.Await.{Await}
@@ -18,7 +18,7 @@ use Rattle.fleet_needs.specs.declared.join_pass.JoinRow.{JoinRow}
 use Rattle.fleet_needs.specs.declared.schedule.Schedule.{Schedule}
 use Rattle.fleet_needs.proofs.NextBlock.{column_cases}
 use Rattle.fleet_needs.proofs.Passing.{same_or_not}
-use Rattle.fleet_needs.specs.Implied.{IsImplied, IsImpliedFlag, first_await}
+use Rattle.fleet_needs.specs.Implied.{AreAwaitPlaces, IsImplied, IsImpliedFlag, first_await}
 use Rattle.fleet_needs.specs.Settled.{AreSettled, IsSettled}
 use Rattle.fleet_needs.proofs.AwaitOrder.{flag_apart, flags_more}
 use Rattle.fleet_needs.specs.Flags.{AreSure, AreSureIf, IsFirstSet, IsPassed, AreSet, AreFlags, IsFlagged, AreFlagged, AreAllFlaggedOf, AreFlaggedFor, AreLeft, AreAllFlagged, AreAwaitFlags, AreFlaggedTo, AreImplied, flags_of}
@@ -58,50 +58,31 @@ flagged_next p columns a k one there old mid at flag place within here h = recor
 
 -- ---- the flags of one action more
 
-pub flagged_on : (p : Program) (columns : Columns) (Done Next : ActionId → Type 0) (a : ActionId) (old new : List Bool) → IsAction p a → ((b : ActionId) → IsAction p b → Next b → Done b ⊎ (b ≡ a))
-    → ((b : ActionId) → IsAction p b → Done b → b ≢ a) → AreAllFlaggedOf p columns a old new → AreFlaggedFor p columns Done old → AreFlaggedFor p columns Next new
-flagged_on p columns Done Next a old new is back apart h before b kb next k c w at has = elim (back b kb next) [
-  | inl done ↦ subst (IsImpliedFlag p b w) (sym (h.others (first_await p b + k) (flag_apart p b a kb is (apart b kb done) k (slice_get_within (awaits_of p b.agent b.number) k w at)))) (before b kb done k c w at has)
-  | inr e ↦
-      subst (λ (x : ActionId). IsImpliedFlag p x w (get_or new (first_await p x + k) false)) (sym e)
-      (let there = subst (λ (x : ActionId). slice_get (awaits_of p x.agent x.number) k ≡ Some w) e at in (h.each k (slice_get_within (awaits_of p a.agent a.number) k w there) w there).some c has)
-]
+-- the flag of an await of any action is as it was, or is flagged with those of this action
+module _ (p : Program) (columns : Columns) (a : ActionId) (old new : List Bool) (is : IsAction p a) (h : AreAllFlaggedOf p columns a old new) where
+  each_flag : (b : ActionId) → IsAction p b → (k : ℕ) (w : Await) → slice_get (awaits_of p b.agent b.number) k ≡ Some w
+      → ((b ≢ a) × (get_or new (first_await p b + k) false ≡ get_or old (first_await p b + k) false)) ⊎ IsFlagged p columns b w (get_or old (first_await p b + k) false) (get_or new (first_await p b + k) false)
+  each_flag b kb k w at = elim (same_or_not b a) [
+    | inr ne ↦ inl (ne, h.others (first_await p b + k) (flag_apart p b a kb is ne k (slice_get_within (awaits_of p b.agent b.number) k w at)))
+    | inl e ↦
+        let there : slice_get (awaits_of p a.agent a.number) k ≡ Some w = subst (λ (x : ActionId). slice_get (awaits_of p x.agent x.number) k ≡ Some w) e at in
+        inr (subst (λ (x : ActionId). IsFlagged p columns x w (get_or old (first_await p x + k) false) (get_or new (first_await p x + k) false)) (sym e) (h.each k (slice_get_within (awaits_of p a.agent a.number) k w there) w there))
+  ]
 
-left_here : (p : Program) (columns : Columns) (a : ActionId) (old new : List Bool) → IsAction p a → AreAllFlaggedOf p columns a old new
-    → (b : ActionId) → IsAction p b → (k : ℕ) (w : Await) → slice_get (awaits_of p b.agent b.number) k ≡ Some w → get_or columns.of_agent.items w.agent None ≡ None → get_or new (first_await p b + k) false ≡ get_or old (first_await p b + k) false
-left_here p columns a old new is h b kb k w at none = elim (same_or_not b a) [
-  | inr ne ↦ h.others (first_await p b + k) (flag_apart p b a kb is ne k (slice_get_within (awaits_of p b.agent b.number) k w at))
-  | inl e ↦
-      subst (λ (x : ActionId). get_or new (first_await p x + k) false ≡ get_or old (first_await p x + k) false) (sym e)
-      (let there = subst (λ (x : ActionId). slice_get (awaits_of p x.agent x.number) k ≡ Some w) e at in (h.each k (slice_get_within (awaits_of p a.agent a.number) k w there) w there).none none)
-]
+  pub left_on : AreLeft p columns old new
+  left_on = record {
+    others = λ b kb k w at none. elim (each_flag b kb k w at) [ inl same ↦ same.1 | inr flagged ↦ flagged.none none ];
+    set = λ b kb k w at implied was. elim (each_flag b kb k w at) [
+      | inl same ↦ same.1 ∙ was
+      | inr flagged ↦ elim (column_cases columns w.agent) [ inl has ↦ (flagged.some has.0 has.1).1 implied | inr none ↦ flagged.none none ∙ was ]
+    ];
+  }
 
-set_on : (p : Program) (columns : Columns) (a : ActionId) (old new : List Bool) → IsAction p a → AreAllFlaggedOf p columns a old new
-    → (b : ActionId) → IsAction p b → (k : ℕ) (w : Await) → slice_get (awaits_of p b.agent b.number) k ≡ Some w → IsImplied p b w → get_or old (first_await p b + k) false ≡ true → get_or new (first_await p b + k) false ≡ true
-set_on p columns a old new is h b kb k w at implied was = elim (same_or_not b a) [
-  | inr ne ↦ h.others (first_await p b + k) (flag_apart p b a kb is ne k (slice_get_within (awaits_of p b.agent b.number) k w at)) ∙ was
-  | inl e ↦
-      let there : slice_get (awaits_of p a.agent a.number) k ≡ Some w = subst (λ (x : ActionId). slice_get (awaits_of p x.agent x.number) k ≡ Some w) e at in
-      let is_flagged = h.each k (slice_get_within (awaits_of p a.agent a.number) k w there) w there in
-      subst (λ (x : ActionId). get_or new (first_await p x + k) false ≡ true) (sym e)
-      (elim (column_cases columns w.agent) [
-        | inl has ↦ (is_flagged.some has.0 has.1).1 (subst (λ (x : ActionId). IsImplied p x w) e implied)
-        | inr none ↦ is_flagged.none none ∙ subst (λ (x : ActionId). get_or old (first_await p x + k) false ≡ true) e was
-      ])
-]
-
-pub left_on : (p : Program) (columns : Columns) (a : ActionId) (old new : List Bool) → IsAction p a → AreAllFlaggedOf p columns a old new → AreLeft p columns old new
-left_on p columns a old new is h = record { others = left_here p columns a old new is h; set = set_on p columns a old new is h }
-
-pub flagged_made : (p : Program) (row : JoinRow) (old new : List Bool) → IsJoinRow p row → AreAllFlaggedOf p row.columns.now row.action old new → AreFlaggedFor p row.columns.now (IsMade row.schedule.now row.n) old
-    → AreFlaggedFor p row.columns.now (IsMade row.schedule.now (row.n + 1)) new
-flagged_made p row old new is h before =
-    flagged_on p row.columns.now (λ b. IsMade row.schedule.now row.n b × (b ≢ row.action)) (IsMade row.schedule.now (row.n + 1)) row.action old new (row_of_action p row is)
-    (λ b k made. elim (same_or_not b row.action) [
-      | inl e ↦ inr e
-      | inr ne ↦ elim (made_back p row is b made) [ inl was ↦ inl (was, ne) | inr e ↦ absurd (ne e) ]
-    ])
-    (λ b k done. done.1) h (λ b k done. before b k done.0)
+  pub flagged_on : (Done Next : ActionId → Type 0) → ((b : ActionId) → Next b → Done b ⊎ (b ≡ a)) → AreFlaggedFor p columns Done old → AreFlaggedFor p columns Next new
+  flagged_on Done Next back before b kb next k c w at has = elim (each_flag b kb k w at) [
+    | inr flagged ↦ flagged.some c has
+    | inl same ↦ elim (back b next) [ inl done ↦ subst (IsImpliedFlag p b w) (sym same.1) (before b kb done k c w at has) | inr e ↦ absurd (same.0 e) ]
+  ]
 
 pub flagged_none : (p : Program) (s : Schedule) (columns : Columns) (flags : List Bool) → AreFlaggedFor p columns (IsMade s 0) flags
 flagged_none p s columns flags a is (r, le, row) = absurd (omega (arith, le, row.some))

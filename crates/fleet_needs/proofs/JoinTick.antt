@@ -15,7 +15,8 @@ use Rattle.fleet_needs.specs.declared.joins.Joins.{Joins}
 use Rattle.fleet_needs.proofs.Counting.{none_counted}
 use Rattle.fleet_needs.proofs.Free.{all_finished}
 use Rattle.fleet_needs.proofs.GatheredAll.{own_later}
-use Rattle.fleet_needs.proofs.Joining.{awaited_action}
+use Rattle.fleet_needs.proofs.Joining.{awaited_action, is_before}
+use Rattle.fleet_needs.specs.Rows.{action_before}
 
 pub joins_none : (p : Program) (places : ActionPlaces) (wanted : List Bool) (Passed : ActionId → Type 0) (m : Joins) (n : ℕ) → ArePlacesOf p places → length m.joins.items ≡ 0 → length m.lasts.items ≡ 1 → length m.standing.items ≡ total_moves p
     → AreJoinsOf p places wanted Passed (IsCounted (replicate n 0)) m
@@ -55,7 +56,7 @@ pub can_join : (p : Program) (places : ActionPlaces) (wanted : List Bool) (Passe
 can_join p places wanted Passed old new f next state m h = record {
   sound = h.sound;
   action = next.action;
-  before = λ b is same e. h.standing b is (let at : slice_index (come_in old) b.agent ≡ slice_index (come_in old) f.action.agent = ap (slice_index (come_in old)) same in omega (arith, at, next.next.number, e));
+  before = λ some. h.standing (action_before f.action) (is_before p f.action next.action some) (omega (arith, next.next.number));
   awaited = λ k w at.
       let is = awaited_action p state.whole.range f.action.agent f.action.number k w at in
       (is, h.standing (awaited w) is (next.needs (awaited w) is (inr (k, slice_get_within (awaits_of p f.action.agent f.action.number) k w at, get_or_from_slice_get (awaits_of p f.action.agent f.action.number) k w w at))));

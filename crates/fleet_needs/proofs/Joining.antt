@@ -1,5 +1,5 @@
 -- The column of an action is made of those of the actions that it directly needs.
-use Rattle.std.proofs.Common.{◌≡◌, ◌≢◌, ℕ, zero, suc, ◌+◌, ◌-◌, ◌<◌, ◌≤◌, length, max, refl, sym, ap, subst, ◌∙◌, arith, inl, inr, ◌⊎◌}
+use Rattle.std.proofs.Common.{◌≡◌, ◌≢◌, ℕ, zero, suc, ◌+◌, ◌-◌, ◌<◌, ◌≤◌, List, length, get_or, max, refl, sym, ap, subst, ◌∙◌, arith, inl, inr, ◌⊎◌}
 use Rattle.std.specs.Prelude.{Contains, slice_get, Some}
 use Rattle.std.proofs.lemmas.Bool.{cases_lt}
 use Rattle.std.proofs.lemmas.Option.{slice_get-get_or, slice_get_within, get_or_from_slice_get, same_Some}
@@ -32,7 +32,7 @@ column_none p i j c = (
 -- ---- joined awaits
 
 module _ (p : Program) (a : ActionId) (j : ℕ) where
-  one_of : (S T : ℕ → Await → Type 0) (x : ActionId) → ((k : ℕ) (w : Await) → slice_get (awaits_of p a.agent a.number) k ≡ Some w → S k w → T k w) → ByOneOf S p x a → ByOneOf T p x a
+  pub one_of : (S T : ℕ → Await → Type 0) (x : ActionId) → ((k : ℕ) (w : Await) → slice_get (awaits_of p a.agent a.number) k ≡ Some w → S k w → T k w) → ByOneOf S p x a → ByOneOf T p x a
   one_of S T x wider r = record { place = r.place; await = r.await; this = wider r.place r.await r.at r.this; at = r.at; reaches = r.reaches }
 
   pub joined_same : (S T : ℕ → Await → Type 0) (n : ℕ) → IsJoined S p a j n → ((k : ℕ) (w : Await) → slice_get (awaits_of p a.agent a.number) k ≡ Some w → S k w → T k w)
@@ -71,42 +71,35 @@ module _ (p : Program) (a : ActionId) (j : ℕ) where
     awaits = λ c r. absurd (none r.place r.await r.this);
   }
 
-  -- all of it, for another agent
-  pub part_all : (n : ℕ) → IsAction p a → j ≢ a.agent → IsJoined (OfFirst (length (awaits_of p a.agent a.number))) p a j n → IsColumn p a j n
-  part_all n k other h c = (into, out)
-    where
-      from : (act j c ≡ a) ⊎ LastStep p (act j c) a → 1 ≤ c → (1 ≤ c) × (c ≤ n)
-      from (inl e) f = absurd (other (ap (λ x. x.agent) e))
-      from (inr l) f = elim l.needs [
-        | inl (same, number, some) ↦
-            let before : l.before ≡ action_before a = same_action l.before (action_before a) (sym same) (omega arith) in
-            (f, h.own c (subst (Reaches p (act j c)) before l.reaches))
-        | inr w ↦ (
-          f,
-          h.awaits c (record {
-            place = w.0;
-            await = record { agent = l.before.agent; count = l.before.number };
-            this = w.1;
-            at = slice_get-get_or _ _ _ w.1 ∙ ap Some w.2;
-            reaches = l.reaches;
-          }),
-        )
-      ]
+-- ---- the last step of a chain
 
-      into : Reaches p (act j c) a → (1 ≤ c) × (c ≤ n)
-      into r = from (chain_ends_by_step p (act j c) r.0 a r.1) (Reaches-first p (act j c) a r).first
+-- from another agent an action is reached through the action before or through one of its awaits
+pub step_back : (p : Program) (x a : ActionId) → x.agent ≢ a.agent → Reaches p x a → Reaches p x (action_before a) ⊎ ByOneOf (OfFirst (length (awaits_of p a.agent a.number))) p x a
+step_back p x a apart (cs, h) = elim (chain_ends_by_step p x cs a h) [
+  | inl e ↦ absurd (apart (ap (λ (y : ActionId). y.agent) e))
+  | inr l ↦ elim l.needs [
+    | inl (same, number, some) ↦ inl (subst (Reaches p x) (same_action l.before (action_before a) (sym same) (omega arith)) l.reaches)
+    | inr w ↦ inr (record { place = w.0; await = record { agent = l.before.agent; count = l.before.number }; this = w.1; at = slice_get-get_or _ _ _ w.1 ∙ ap Some w.2; reaches = l.reaches })
+  ]
+]
 
-      out : (1 ≤ c) × (c ≤ n) → Reaches p (act j c) a
-      out (f, l) = elim (h.into c f l) [
-        | inl r ↦
-            let m = Reaches-last p (act j c) (action_before a) r in
-            let next : a.number ≡ a.number - 1 + 1 = (let some : 1 ≤ a.number = k.first in omega arith) in
-            Reaches-trans p (act j c) (action_before a) a r (Reaches-need p (action_before a) a m k (inl (refl, next, m.first)))
-        | inr r ↦
-            let m = Reaches-last p (act j c) (awaited r.await) r.reaches in
-            let known : Contains (awaits_of p a.agent a.number) r.await = (r.place, r.this, get_or_from_slice_get (awaits_of p a.agent a.number) r.place r.await r.await r.at) in
-            Reaches-trans p (act j c) (awaited r.await) a r.reaches (Reaches-need p (awaited r.await) a m k (inr known))
-      ]
+-- .. and so it is
+pub step_on : (p : Program) (x a : ActionId) → IsAction p a → Reaches p x (action_before a) ⊎ ByOneOf (OfFirst (length (awaits_of p a.agent a.number))) p x a → Reaches p x a
+step_on p x a is (inl r) =
+    let m = Reaches-last p x (action_before a) r in
+    let next : a.number ≡ a.number - 1 + 1 = (let some : 1 ≤ a.number = is.first in omega arith) in
+    Reaches-trans p x (action_before a) a r (Reaches-need p (action_before a) a m is (inl (refl, next, m.first)))
+step_on p x a is (inr r) =
+    let m = Reaches-last p x (awaited r.await) r.reaches in
+    let known : Contains (awaits_of p a.agent a.number) r.await = (r.place, r.this, get_or_from_slice_get (awaits_of p a.agent a.number) r.place r.await r.await r.at) in
+    Reaches-trans p x (awaited r.await) a r.reaches (Reaches-need p (awaited r.await) a m is (inr known))
+
+-- so the column of an action is all of it, for another agent
+pub part_all : (p : Program) (a : ActionId) (j n : ℕ) → IsAction p a → j ≢ a.agent → IsJoined (OfFirst (length (awaits_of p a.agent a.number))) p a j n → IsColumn p a j n
+part_all p a j n is other h c = (
+  (λ r. ((Reaches-first p (act j c) a r).first, elim (step_back p (act j c) a other r) [ inl own ↦ h.own c own | inr by ↦ h.awaits c by ])),
+  (λ b. step_on p (act j c) a is (h.into c b.0 b.1)),
+)
 
 -- and for its own, whose later actions do not reach it
 pub own_column : (p : Program) (i n : ℕ) → IsAction p (record { agent = i; number = n }) → ((c : ℕ) → Reaches p (record { agent = i; number = c }) (record { agent = i; number = n }) → c ≤ n)
@@ -120,16 +113,10 @@ own_column p i n k later c = (
 
 -- if all that it awaits is needed by the action before, too
 pub adds_none : (p : Program) (i n : ℕ) → ((w : Await) → Contains (awaits_of p i n) w → Reaches p (awaited w) (record { agent = i; number = n - 1 })) → AddsNone p i n
-adds_none p i n awaits j c ne (cs, h) = elim (chain_ends_by_step p (act j c) cs (act i n) h) [
-  | inl e ↦ absurd (ne (ap (λ (x : ActionId). x.agent) e))
-  | inr l ↦ by l.before l.needs l.reaches
+adds_none p i n awaits j c ne r = elim (step_back p (act j c) (act i n) ne r) [
+  | inl own ↦ own
+  | inr by ↦ Reaches-trans p (act j c) (awaited by.await) (act i (n - 1)) by.reaches (awaits by.await (by.place, by.this, get_or_from_slice_get (awaits_of p i n) by.place by.await by.await by.at))
 ]
-  where
-    by : (b : ActionId) → DirectlyNeeds p (act i n) b → Reaches p (act j c) b → Reaches p (act j c) (record { agent = i; number = n - 1 })
-    by b (inl (same, number, some)) r =
-        let e : b ≡ act i (n - 1) = same_action b (act i (n - 1)) (sym same) (omega arith) in
-        subst (Reaches p (act j c)) e r
-    by b (inr w) r = Reaches-trans p (act j c) b (act i (n - 1)) r (awaits (record { agent = b.agent; count = b.number }) w)
 
 -- if it awaits nothing
 pub adds_none_if_quiet : (p : Program) (i n : ℕ) → length (awaits_of p i n) ≡ 0 → AddsNone p i n
@@ -185,10 +172,8 @@ awaited_action p range i n k w e =
     record { agent = known.agent; first = known.first; last = known.last }
 
 -- the action before one of the program
-pub is_before : (p : Program) (a b : ActionId) → IsAction p a → 1 < a.number → b.agent ≡ a.agent → b.number + 1 ≡ a.number → IsAction p b
-is_before p a b is some agent number =
-    let last : b.number ≤ moves p a.agent = (let l : a.number ≤ moves p a.agent = is.last in omega arith) in
-    record { agent = omega (arith, is.agent, agent); first = omega arith; last = subst (λ (i : ℕ). b.number ≤ moves p i) (sym agent) last }
+pub is_before : (p : Program) (a : ActionId) → IsAction p a → 1 < a.number → IsAction p (action_before a)
+is_before p a is some = record { agent = is.agent; first = omega arith; last = (let l : a.number ≤ moves p a.agent = is.last in omega arith) }
 
 -- ---- chains found from their ends
 

@@ -1,5 +1,5 @@
 -- What is reached, and what is not, by the ticks of actions and by what they directly need.
-use Rattle.std.proofs.Common.{◌≡◌, ◌≢◌, ℕ, ◌+◌, ◌<◌, ◌≤◌, Bool, true, false, List, length, get_or, set, refl, sym, ap, subst, ◌∙◌, arith, inl, inr, ◌⊎◌}
+use Rattle.std.proofs.Common.{◌≡◌, ◌≢◌, ℕ, ◌+◌, ◌-◌, ◌<◌, ◌≤◌, Bool, true, false, List, length, get_or, set, refl, sym, ap, subst, ◌∙◌, arith, inl, inr, ◌⊎◌}
 use Rattle.std.specs.Prelude.{Contains, slice_get, Some, None, Option, ◌↔◌}
 use Rattle.std.proofs.lemmas.Bool.{cases_lt, cases_eq, cases_order, false≢true, true≢false}
 use Rattle.std.proofs.lemmas.List.{get_or-set_same, get_or-set_other, get_or_past}
@@ -12,7 +12,8 @@ use Rattle.fleet_model.proofs.Chains.{chain_ends_by_step, Reaches-rises, Reaches
 use Rattle.fleet_needs.specs.Implied.{IsImplied, first_await}
 use Rattle.fleet_needs.specs.Settled.{IsSettled, AreSettledOf, AreMoreAsked, IsActionSettled, IsUpTo}
 use Rattle.fleet_needs.proofs.AwaitOrder.{await_below, flag_apart, flags_more}
-use Rattle.fleet_needs.proofs.Joining.{own_first, by_await}
+use Rattle.fleet_needs.specs.Rows.{action_before}
+use Rattle.fleet_needs.proofs.Joining.{own_first, by_await, step_back}
 
 -- the answer of a search that says yes is not the one that says no
 pub no_is_not_yes : Some false ≡ Some true → ⊥
@@ -58,10 +59,6 @@ module _ (p : Program) (number : ActionId → ℕ) (rising : IsNumbering p numbe
 abbrev pub NoneIsReached : Program → ActionId → ActionId → (ℕ → Type 0) → Type 0
 NoneIsReached p first a These = (m : ℕ) (w : Await) → These m → slice_get (awaits_of p a.agent a.number) m ≡ Some w → Reaches p first (awaited w) → ⊥
 
-module _ (p : Program) (a b : ActionId) where
-  await_is : Contains (awaits_of p a.agent a.number) (record { agent = b.agent; count = b.number }) → (m : ℕ) × (slice_get (awaits_of p a.agent a.number) m ≡ Some (record { agent = b.agent; count = b.number }))
-  await_is (m, l, e) = (m, slice_get-get_or (awaits_of p a.agent a.number) m (record { agent = b.agent; count = b.number }) l ∙ ap Some e)
-
 -- one more is not
 pub apart_more : (p : Program) (first a : ActionId) (k : ℕ) (v : Await) → slice_get (awaits_of p a.agent a.number) k ≡ Some v → (Reaches p first (awaited v) → ⊥)
     → NoneIsReached p first a (λ m. m < k) → NoneIsReached p first a (λ m. m < k + 1)
@@ -82,18 +79,16 @@ apart_but p first a k n v at none before m w l there r = elim (cases_lt m n) [
       none (λ same. l.1 (e ∙ same)) (subst (λ (x : Await). Reaches p first (awaited x)) (same_Some w v (sym there ∙ ap (slice_get (awaits_of p a.agent a.number)) e ∙ at)) r)
 ]
 
+-- nothing reaches the action before the first one
+pub none_before : (p : Program) (x a : ActionId) → a.number ≤ 1 → Reaches p x (action_before a) → ⊥
+none_before p x a first r = let f : 1 ≤ a.number - 1 = (Reaches-last p x (action_before a) r).first in omega arith
+
 -- if nothing that the last action directly needs is reached, the last is not reached either
-pub none_reached : (p : Program) (first last : ActionId) → (last.agent ≡ first.agent → ⊥) → NoneIsReached p first last (λ m. m < length (awaits_of p last.agent last.number))
-    → ((before : ActionId) → before.agent ≡ last.agent → before.number + 1 ≡ last.number → 1 ≤ before.number → Reaches p first before → ⊥)
-    → Reaches p first last → ⊥
-none_reached p first last other awaits own (cs, h) = elim (chain_ends_by_step p first cs last h) [
-  | inl e ↦ other (ap (λ (x : ActionId). x.agent) (sym e))
-  | inr l ↦ by l.before l.needs l.reaches
+pub none_reached : (p : Program) (first last : ActionId) → (last.agent ≡ first.agent → ⊥) → NoneIsReached p first last (λ m. m < length (awaits_of p last.agent last.number)) → (Reaches p first (action_before last) → ⊥) → Reaches p first last → ⊥
+none_reached p first last other awaits own r = elim (step_back p first last (λ e. other (sym e)) r) [
+  | inl by ↦ own by
+  | inr by ↦ awaits by.place by.await by.this by.at by.reaches
 ]
-  where
-    by : (b : ActionId) → DirectlyNeeds p last b → Reaches p first b → ⊥
-    by b (inl (same, number, some)) r = own b (sym same) (sym number) some r
-    by b (inr w) r = (let k = await_is p last b w in awaits k.0 (record { agent = b.agent; count = b.number }) (slice_get_within (awaits_of p last.agent last.number) k.0 _ k.1) k.1 r)
 
 -- ---- other actions that an action directly needs
 
@@ -114,25 +109,23 @@ module _ (p : Program) (formed : IsWellFormed p) (a : ActionId) (k : ℕ) (w : A
     subst (λ (x : ActionId). Reaches p x (awaited v)) e r,
   )
 
-  pub by_own : AreInRange p → (first : ActionId) → first ≡ awaited w → (before : ActionId) → before.agent ≡ a.agent → before.number + 1 ≡ a.number → 1 < a.number → Reaches p first before → IsImplied p a w
-  by_own range first e before agent number some r =
+  pub by_own : AreInRange p → (first : ActionId) → first ≡ awaited w → 1 < a.number → Reaches p first (action_before a) → IsImplied p a w
+  by_own range first e some r =
       let known = range a.agent a.number w (k, slice_get_within (awaits_of p a.agent a.number) k w at, get_or_from_slice_get (awaits_of p a.agent a.number) k w w at) in (
-        before,
-        (λ same. known.other (ap (λ (x : ActionId). x.agent) (sym same) ∙ agent)),
-        inl (sym agent, sym number, omega arith),
-        subst (λ (x : ActionId). Reaches p x before) e r,
+        action_before a,
+        (λ same. known.other (ap (λ (x : ActionId). x.agent) (sym same))),
+        inl (refl, omega arith, omega arith),
+        subst (λ (x : ActionId). Reaches p x (action_before a)) e r,
       )
 
   pub none_implied : (first : ActionId) → first ≡ awaited w → NoneIsReached p first a (λ m. (m < length (awaits_of p a.agent a.number)) × (m ≢ k))
-      → ((before : ActionId) → before.agent ≡ a.agent → before.number + 1 ≡ a.number → 1 ≤ before.number → Reaches p first before → ⊥)
-      → IsImplied p a w → ⊥
-  none_implied first e awaits own (b, apart, inl (same, number, some), r) = own b (sym same) (sym number) some (subst (λ (x : ActionId). Reaches p x b) (sym e) r)
-  none_implied first e awaits own (b, apart, inr c, r) =
-      let m = await_is p a b c in
-      awaits m.0 (record { agent = b.agent; count = b.number }) (
-        slice_get_within (awaits_of p a.agent a.number) m.0 _ m.1,
-        (λ same. apart (ap awaited (same_Some (record { agent = b.agent; count = b.number }) w (sym m.1 ∙ ap (slice_get (awaits_of p a.agent a.number)) same ∙ at)))),
-      ) m.1 (subst (λ (x : ActionId). Reaches p x b) (sym e) r)
+      → (Reaches p first (action_before a) → ⊥) → IsImplied p a w → ⊥
+  none_implied first e awaits own (b, apart, inl (same, number, some), r) =
+      let before : b ≡ action_before a = (let less : b.number ≡ a.number - 1 = omega arith in λ t. record { agent = sym same t; number = less t }) in
+      own (subst (Reaches p first) before (subst (λ (x : ActionId). Reaches p x b) (sym e) r))
+  none_implied first e awaits own (b, apart, inr (m, l, is), r) =
+      let there : slice_get (awaits_of p a.agent a.number) m ≡ Some (await_of b) = slice_get-get_or (awaits_of p a.agent a.number) m (await_of b) l ∙ ap Some is in
+      awaits m (await_of b) (l, λ same. apart (ap awaited (same_Some (await_of b) w (sym there ∙ ap (slice_get (awaits_of p a.agent a.number)) same ∙ at)))) there (subst (λ (x : ActionId). Reaches p x b) (sym e) r)
 
 -- ---- an await that another action has too
 

@@ -6,6 +6,7 @@ use Rattle.fleet_model.specs.Program.{Program, awaits_of, total_moves}
 use Rattle.fleet_model.specs.Chain.{IsAction, IsLevel, Reaches, awaited}
 use Rattle.fleet_needs.specs.Asked.{IsSoonerAction}
 use Rattle.fleet_needs.specs.Places.{ArePlacesOf, place_of_action}
+use Rattle.fleet_needs.specs.Rows.{action_before}
 use Rattle.fleet_needs.specs.declared.await_places.ActionPlaces.{ActionPlaces}
 use Rattle.fleet_needs.specs.declared.joins.Join.{Join}
 use Rattle.fleet_needs.specs.declared.joins.Need.{Need}
@@ -174,7 +175,7 @@ pub record AreJoinsOf (p : Program) (places : ActionPlaces) (wanted : List Bool)
 pub record CanJoin (p : Program) (places : ActionPlaces) (m : Joins) (a : ActionId) : Type 0 where
   pub sound : AreSound p places m
   pub action : IsAction p a
-  pub before : (b : ActionId) → IsAction p b → b.agent ≡ a.agent → b.number + 1 ≡ a.number → IsStanding p places m b
+  pub before : 1 < a.number → IsStanding p places m (action_before a)
   pub awaited : (k : ℕ) (w : Await) → slice_get (awaits_of p a.agent a.number) k ≡ Some w → IsAction p (awaited w) × IsStanding p places m (awaited w)
 
 -- what the first n awaits of the action need has been listed, and no list has lost anything

@@ -8,6 +8,7 @@ ghost use Rattle.fleet_needs.specs.Implied.{IsImplied};
 ghost use Rattle.fleet_needs.specs.Flags.{AreFlags, flags_of};
 ghost use Rattle.fleet_needs.specs.Order.{IsWholeOrder};
 ghost use Rattle.fleet_needs.specs.Settled.{AreTicks, AreSettled, AreSettledOf, AreMoreAsked, IsActionSettled, IsUpTo};
+ghost use Rattle.fleet_needs.specs.Rows.{action_before};
 
 use crate::finish_order::{FinishOrder, FinishTicks};
 use crate::implied::ImpliedAwaits;
@@ -270,11 +271,14 @@ fn reaches_other<P: ProgramView>(
             }
         }
     }
-    if action.number <= 1 {
+    let is_first = action.number <= 1;
+    if is_first {
         return join_answers(known, Some(false));
     }
-    let before = before(action);
-    join_answers(known, reaches(program, ticks, first, before, &mut steps))
+    join_answers(
+        known,
+        reaches(program, ticks, first, before(action), &mut steps),
+    )
 }
 
 /// Whether a chain of needs begins with the first action and ends with the last, if so many steps back from the last
@@ -325,8 +329,7 @@ fn reaches<P: ProgramView>(
 /// The action of the same agent right before one that is not its first.
 pub(crate) fn before(action: ActionId) -> ActionId
     requires { 1 < action.number }
-    ensures agent { result.agent ≡ action.agent }
-    ensures number { result.number + 1 ≡ action.number }
+    ensures { result ≡ action_before action }
 {
     ActionId {
         agent: action.agent,

@@ -1,12 +1,12 @@
-use Rattle.std.proofs.Common.{◌≡◌, true, false, ℕ, length, sym, ap, ◌∙◌, subst, arith, leb-true, le-leb}
+use Rattle.std.proofs.Common.{◌≡◌, true, false, ℕ, length, sym, ap, ◌∙◌, subst, arith, inl, leb-true, le-leb}
 use Rattle.std.specs.Prelude.{Some}
 use Rattle.std.proofs.lemmas.Option.{same_Some}
 use Rattle.fleet_model.specs.declared.program.ActionId.{ActionId}
 use Rattle.fleet_model.specs.Program.{awaits_of}
 use Rattle.fleet_model.specs.Chain.{Reaches}
 use Rattle.fleet_needs.specs.Settled.{finish_tick}
-use Rattle.fleet_needs.proofs.Joining.{own_first, by_await, by_before}
-use Rattle.fleet_needs.proofs.Settling.{await_of, none_if_low, own_only, apart_more, none_reached, no_is_not_yes, yes_is_not_no}
+use Rattle.fleet_needs.proofs.Joining.{own_first, by_await, step_on}
+use Rattle.fleet_needs.proofs.Settling.{await_of, none_if_low, own_only, apart_more, none_before, none_reached, no_is_not_yes, yes_is_not_no}
 use Rattle.fleet_needs.proofs.settled.+reaches.Goals as goal
 use Rattle.fleet_needs.proofs.settled.+reaches.Goals.{in-Some-false, in-None}
 
@@ -49,12 +49,12 @@ returns-then-is_first-clause-no g t c = λ e.
     let whole : c.loop-k.k ≡ length (awaits_of p c.args.last.agent c.args.last.number) = omega (arith, c.loop-k-test.false, c.await_count-awaits.ensures, c.loop-k.auto.k-end) in
     none_reached p c.args.first c.args.last (λ s. omega (arith, s, c.if-is_own.false))
     (λ m w l. c.loop-k.invariant.apart (c.join_answers.ensures.no e).0 m w (omega (arith, l, whole)))
-    (λ b agent number some. absurd (omega (arith, number, some, c.if-is_first.true)))
+    (none_before p c.args.first c.args.last (omega (arith, c.if-is_first.true)))
 
 pub returns-clause-yes : goal.returns-clause-yes
 returns-clause-yes g t c = λ e.
-    by_before (g.P.ProgramView.program c.args.program.now) c.args.first c.args.last c.before-2.result.number c.requires.last (omega (arith, c.if-is_first.false, c.before-2.ensures.number))
-    c.before-2.ensures.number (subst (λ (i : ℕ). Reaches (g.P.ProgramView.program c.args.program.now) c.args.first (record { agent = i; number = c.before-2.result.number })) c.before-2.ensures.agent (c.reaches-2.ensures.yes (c.join_answers-2.ensures.yes e)))
+    let p = g.P.ProgramView.program c.args.program.now in
+    step_on p c.args.first c.args.last c.requires.last (inl (subst (Reaches p c.args.first) c.before-2.ensures (c.reaches-2.ensures.yes (c.join_answers-2.ensures.yes e))))
 
 pub returns-clause-no : goal.returns-clause-no
 returns-clause-no g t c = λ e.
@@ -62,9 +62,7 @@ returns-clause-no g t c = λ e.
     let whole : c.loop-k.k ≡ length (awaits_of p c.args.last.agent c.args.last.number) = omega (arith, c.loop-k-test.false, c.await_count-awaits.ensures, c.loop-k.auto.k-end) in
     none_reached p c.args.first c.args.last (λ s. omega (arith, s, c.if-is_own.false))
     (λ m w l. c.loop-k.invariant.apart (c.join_answers-2.ensures.no e).0 m w (omega (arith, l, whole)))
-    (λ b agent number some r. c.reaches-2.ensures.no (c.join_answers-2.ensures.no e).1 (subst (λ (x : ActionId). Reaches p c.args.first x)
-    (let f : b.number ≡ c.before-2.result.number = omega (arith, number, c.before-2.ensures.number) in
-    (λ s. record { agent = (agent ∙ sym c.before-2.ensures.agent) s; number = f s })) r))
+    (λ r. c.reaches-2.ensures.no (c.join_answers-2.ensures.no e).1 (subst (Reaches p c.args.first) (sym c.before-2.ensures) r))
 
 pub loop-k-init : goal.loop-k-init
 loop-k-init g t c = record {

@@ -3,7 +3,7 @@ use Rattle.std.specs.Prelude.{Some}
 use Rattle.fleet_model.specs.declared.program.ActionId.{ActionId}
 use Rattle.fleet_model.specs.Program.{awaits_of}
 use Rattle.fleet_model.specs.Chain.{Reaches}
-use Rattle.fleet_needs.proofs.Settling.{await_of, apart_but, by_other, by_own, none_implied}
+use Rattle.fleet_needs.proofs.Settling.{await_of, apart_but, none_before, by_other, by_own, none_implied}
 use Rattle.fleet_needs.proofs.settled.reaches_other.Goals as goal
 use Rattle.fleet_needs.proofs.settled.reaches_other.Goals.{then-is_other+in-Some-false, then-is_other+in-None, else-is_other}
 
@@ -26,19 +26,19 @@ loop-m-preserved g c =
       ];
     }
 
-pub returns-then-action-le1-clause-no : goal.returns-then-action-le1-clause-no
-returns-then-action-le1-clause-no g c = λ e.
+pub returns-then-is_first-clause-no : goal.returns-then-is_first-clause-no
+returns-then-is_first-clause-no g c = λ e.
     let p = g.P.ProgramView.program c.args.program.now in
     let whole : c.loop-m.m ≡ length (awaits_of p c.args.action.agent c.args.action.number) = omega (arith, c.loop-m-test.false, c.await_count-m-end.ensures, c.loop-m.auto.m-end) in
     none_implied p c.agents.ensures.well_formed c.args.action c.args.k (await_of c.args.first) c.requires.awaited c.args.first refl
     (λ m w l. c.loop-m.invariant.apart (c.join_answers.ensures.no e).0 m w (omega (arith, l.0, whole), l.1))
-    (λ b agent number some. absurd (omega (arith, number, some, c.if-action-le1.true)))
+    (none_before p c.args.first c.args.action (omega (arith, c.if-is_first.true)))
 
 pub returns-clause-yes : goal.returns-clause-yes
 returns-clause-yes g c = λ e.
-    by_own (g.P.ProgramView.program c.args.program.now) c.agents.ensures.well_formed c.args.action c.args.k (await_of c.args.first) c.requires.awaited c.requires.range
-    c.args.first refl c.before-before.result c.before-before.ensures.agent c.before-before.ensures.number (omega (arith, c.if-action-le1.false))
-    (c.reaches-2.ensures.yes (c.join_answers-2.ensures.yes e))
+    let p = g.P.ProgramView.program c.args.program.now in
+    by_own p c.agents.ensures.well_formed c.args.action c.args.k (await_of c.args.first) c.requires.awaited c.requires.range c.args.first refl (omega (arith, c.if-is_first.false))
+    (subst (Reaches p c.args.first) c.before-2.ensures (c.reaches-2.ensures.yes (c.join_answers-2.ensures.yes e)))
 
 pub returns-clause-no : goal.returns-clause-no
 returns-clause-no g c = λ e.
@@ -46,6 +46,4 @@ returns-clause-no g c = λ e.
     let whole : c.loop-m.m ≡ length (awaits_of p c.args.action.agent c.args.action.number) = omega (arith, c.loop-m-test.false, c.await_count-m-end.ensures, c.loop-m.auto.m-end) in
     none_implied p c.agents.ensures.well_formed c.args.action c.args.k (await_of c.args.first) c.requires.awaited c.args.first refl
     (λ m w l. c.loop-m.invariant.apart (c.join_answers-2.ensures.no e).0 m w (omega (arith, l.0, whole), l.1))
-    (λ b agent number some r. c.reaches-2.ensures.no (c.join_answers-2.ensures.no e).1 (subst (λ (x : ActionId). Reaches p c.args.first x)
-    (let f : b.number ≡ c.before-before.result.number = omega (arith, number, c.before-before.ensures.number) in
-    (λ s. record { agent = (agent ∙ sym c.before-before.ensures.agent) s; number = f s })) r))
+    (λ r. c.reaches-2.ensures.no (c.join_answers-2.ensures.no e).1 (subst (Reaches p c.args.first) (sym c.before-2.ensures) r))

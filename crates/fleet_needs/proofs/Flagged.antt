@@ -87,15 +87,6 @@ module _ (p : Program) (columns : Columns) (a : ActionId) (old new : List Bool) 
 pub flagged_none : (p : Program) (s : Schedule) (columns : Columns) (flags : List Bool) → AreFlaggedFor p columns (IsMade s 0) flags
 flagged_none p s columns flags a is (r, le, row) = absurd (omega (arith, le, row.some))
 
--- awaits are of actions that have rows, or whose flags are set
-pub flagged_all : (p : Program) (s : Schedule) (columns : Columns) (flags : List Bool) → HasRowOr (λ a. (k : ℕ) (w : Await) → slice_get (awaits_of p a.agent a.number) k ≡ Some w → IsImpliedFlag p a w (get_or flags (first_await p a + k) false)) p s.joins.items (IsAction p)
-    → AreFlaggedFor p columns (IsMade s (length s.joins.items)) flags
-    → (a : ActionId) → IsAction p a → (k c : ℕ) (w : Await) → slice_get (awaits_of p a.agent a.number) k ≡ Some w → HasColumn columns w.agent c → IsImpliedFlag p a w (get_or flags (first_await p a + k) false)
-flagged_all p s columns flags rows h a is k c w at has = elim (rows a is is) [
-  | inr told ↦ told k w at
-  | inl made ↦ h a is (made.0, made.1.upto, made.1) k c w at has
-]
-
 -- a flag is set only of an await that others imply
 pub sure_of : (p : Program) (asked flags : List Bool) → AreSettled p asked flags → (a : ActionId) → IsAction p a → (k : ℕ) (w : Await) → slice_get (awaits_of p a.agent a.number) k ≡ Some w → get_or flags (first_await p a + k) false ≡ true → IsImplied p a w
 sure_of p asked flags settled a is k w at set = elim (settled a is is k w at) [ inl it ↦ it.1 set | inr told ↦ told.0 set ]
@@ -107,31 +98,31 @@ passed_on p s asked columns old new settled left rows a is these = elim (rows a 
   | inr set ↦ inr (λ k w at. left.set a is k w at (sure_of p asked old settled a is k w at (set k w at)) (set k w at))
 ]
 
-pub passed_told : (p : Program) (s : Schedule) (asked : List Bool) (columns : Columns) (old new : List Bool) → AreSettled p asked old → AreLeft p columns old new → HasRowOr (AreSet p old) p s.joins.items (IsAction p)
-    → HasRowOr (λ a. (k : ℕ) (w : Await) → slice_get (awaits_of p a.agent a.number) k ≡ Some w → IsImpliedFlag p a w (get_or new (first_await p a + k) false)) p s.joins.items (IsAction p)
-passed_told p s asked columns old new settled left rows a is these = elim (rows a is these) [
-  | inl row ↦ inl row
-  | inr set ↦ inr (λ k w at. (let implied = sure_of p asked old settled a is k w at (set k w at) in ((λ f. implied), (λ i. left.set a is k w at implied (set k w at)))))
+-- once all rows are used, the flags of awaits of agents with a column say whether they are implied: they are of actions
+-- that have rows, or whose flags were set
+pub flagged_all : (p : Program) (s : Schedule) (asked : List Bool) (columns : Columns) (old new : List Bool) → AreSettled p asked old → AreLeft p columns old new → HasRowOr (AreSet p old) p s.joins.items (IsAction p)
+    → AreFlaggedFor p columns (IsMade s (length s.joins.items)) new → AreFlaggedFor p columns (IsAction p) new
+flagged_all p s asked columns old new settled left rows h a is these k c w at has = elim (rows a is is) [
+  | inl made ↦ h a is (made.0, made.1.upto, made.1) k c w at has
+  | inr set ↦ (let implied = sure_of p asked old settled a is k w at (set k w at) in ((λ f. implied), (λ i. left.set a is k w at implied (set k w at))))
 ]
 
 -- ---- the flags of one block more
 
 -- flags that tell of awaits of agents who are not asked for still do
 pub settled_after : (p : Program) (asked : List Bool) (columns : Columns) (old new : List Bool)
-    → ((a : ActionId) → IsAction p a → (k c : ℕ) (w : Await) → slice_get (awaits_of p a.agent a.number) k ≡ Some w → HasColumn columns w.agent c → IsImpliedFlag p a w (get_or new (first_await p a + k) false))
-    → AreLeft p columns old new → AreSettled p asked old → AreSettled p asked new
+    → AreFlaggedFor p columns (IsAction p) new → AreLeft p columns old new → AreSettled p asked old → AreSettled p asked new
 settled_after p asked columns old new here left before a is too k w at = elim (column_cases columns w.agent) [
-  | inl has ↦ inr (here a is k has.0 w at has.1)
+  | inl has ↦ inr (here a is is k has.0 w at has.1)
   | inr none ↦ subst (IsSettled p asked a w) (sym (left.others a is k w at none)) (before a is too k w at)
 ]
 
 pub flagged_to : (p : Program) (asked : List Bool) (from : ℕ) (columns : Columns) → AreColumns asked from columns → (old new : List Bool)
-    → ((a : ActionId) → IsAction p a → (k c : ℕ) (w : Await) → slice_get (awaits_of p a.agent a.number) k ≡ Some w → HasColumn columns w.agent c → IsImpliedFlag p a w (get_or new (first_await p a + k) false))
-    → AreLeft p columns old new → AreSettled p asked old
+    → AreFlaggedFor p columns (IsAction p) new → AreLeft p columns old new → AreSettled p asked old
     → ((a : ActionId) → IsAction p a → (k : ℕ) (w : Await) → slice_get (awaits_of p a.agent a.number) k ≡ Some w → w.agent < from → IsImpliedFlag p a w (get_or old (first_await p a + k) false))
     → (a : ActionId) → IsAction p a → (k : ℕ) (w : Await) → slice_get (awaits_of p a.agent a.number) k ≡ Some w → w.agent < columns.end → IsImpliedFlag p a w (get_or new (first_await p a + k) false)
 flagged_to p asked from columns h old new here left settled before a is k w at l = elim (column_cases columns w.agent) [
-  | inl has ↦ here a is k has.0 w at has.1
+  | inl has ↦ here a is is k has.0 w at has.1
   | inr none ↦ subst (IsImpliedFlag p a w) (sym (left.others a is k w at none)) (elim (cases_lt w.agent from) [
     | inl low ↦ before a is k w at low
     | inr high ↦ elim (settled a is is k w at) [ inl set ↦ absurd (h.chosen w.agent high l set.0 none) | inr was ↦ was ]
@@ -154,21 +145,16 @@ pub flags_begun : (p : Program) (s : Schedule) (asked : List Bool) (from : ℕ) 
 flags_begun p s asked from columns m h = record { flags = h.flags; flagged = flagged_none p s columns m.flags.items }
 
 -- one block more
-flags_on : (p : Program) (s : Schedule) (asked : List Bool) (from : ℕ) (columns : Columns) (old new : ImpliedAwaits) → IsSchedule p s → AreColumns asked from columns → AreFlaggedTo p s asked from old
-    → AreAwaitFlags p s columns (length s.joins.items) new → AreLeft p columns old.flags.items new.flags.items → AreFlaggedTo p s asked columns.end new
-flags_on p s asked from columns old new schedule chosen was made left =
-    let all = flagged_all p s columns new.flags.items (passed_told p s asked columns old.flags.items new.flags.items was.settled left was.passed) made.flagged in
-    record {
-      flags = made.flags;
-      settled = settled_after p asked columns old.flags.items new.flags.items all left was.settled;
-      passed = passed_on p s asked columns old.flags.items new.flags.items was.settled left was.passed;
-      flagged = flagged_to p asked from columns chosen old.flags.items new.flags.items all left was.settled was.flagged;
-    }
-
-pub flags_after : (p : Program) (s : Schedule) (now after : BlocksLeft) (columns : Columns) → IsNextBlock now after columns → (old new : ImpliedAwaits) → IsSchedule p s → AreFlaggedTo p s now.asked now.from old
+pub flags_after : (p : Program) (s : Schedule) (now after : BlocksLeft) (columns : Columns) → IsNextBlock now after columns → (old new : ImpliedAwaits) → AreFlaggedTo p s now.asked now.from old
     → AreAwaitFlags p s columns (length s.joins.items) new → AreLeft p columns old.flags.items new.flags.items → AreFlaggedTo p s after.asked after.from new
-flags_after p s now after columns next old new schedule was made left =
-    rw next.asked (rw next.from (flags_on p s now.asked now.from columns old new schedule next.chosen was made left))
+flags_after p s now after columns next old new was made left =
+    let all = flagged_all p s now.asked columns old.flags.items new.flags.items was.settled left was.passed made.flagged in
+    rw next.asked (rw next.from (record {
+      flags = made.flags;
+      settled = settled_after p now.asked columns old.flags.items new.flags.items all left was.settled;
+      passed = passed_on p s now.asked columns old.flags.items new.flags.items was.settled left was.passed;
+      flagged = flagged_to p now.asked now.from columns next.chosen old.flags.items new.flags.items all left was.settled was.flagged;
+    }))
 
 -- after the last block
 pub flags_end : (p : Program) → AreInRange p → (s : Schedule) (asked : List Bool) (from : ℕ) (m : ImpliedAwaits) → length p ≤ from → AreFlaggedTo p s asked from m → AreImplied p m

@@ -196,10 +196,6 @@ held p m n row rows fits i k l few e =
 pub row_alike : (m : SlotRows) (old new : Counts) → AreAlike old new → IsRowFor m old → IsRowFor m new
 row_alike m old new alike fits = record { width = alike.all ∙ fits.width; narrow = alike.narrow ∙ fits.narrow }
 
--- .. and its counts are of as many bytes as those that are kept
-pub same_bytes : (p : Program) (m : SlotRows) (n : ℕ) (row : Counts) → AreRowsTo p m n → IsRowFor m row → are_narrow m.counts ≡ are_narrow row
-same_bytes p m n row rows fits = rows.narrow ∙ sym fits.narrow
-
 -- ---- one row more in its slot
 
 module _ (p : Program) (new : SlotRows) (n : ℕ) (was : ℕ → ℕ → ℕ) (row : List ℕ) (schedule : IsSchedule p new.schedule.now) (columns : AreColumnsOf p new.columns)

@@ -17,7 +17,7 @@ loop-columns-preserved g c =
     let made = c.in_ok-use_joins.ensures in
     record {
       all = ap (λ (xs : List Bool). length xs) next.asked ∙ was.all;
-      flagged = flags_after (g.P.ProgramView.program c.args.program.now) c.args.schedule.now c.loop-columns.blocks c.next_block.new.self c.in-Some.columns next c.loop-columns.implied c.use_joins.new.uses c.requires.schedule was.flagged made.used
+      flagged = flags_after (g.P.ProgramView.program c.args.program.now) c.args.schedule.now c.loop-columns.blocks c.next_block.new.self c.in-Some.columns next c.loop-columns.implied c.use_joins.new.uses was.flagged made.used
           made.keeps;
     }
 

@@ -7,8 +7,8 @@ use Rattle.std.proofs.lemmas.List.{get_or_read}
 use Rattle.fleet_model.specs.declared.program.ActionId.{ActionId}
 use Rattle.fleet_model.specs.Program.{Program, AreInRange}
 use Rattle.fleet_model.specs.Machine.{run, is_finished}
-use Rattle.fleet_model.specs.Chain.{IsAction, IsLevel}
-use Rattle.fleet_needs.specs.Asked.{IsSoonerAction}
+use Rattle.fleet_model.specs.Chain.{IsAction}
+use Rattle.fleet_needs.specs.Asked.{AreLevels, IsSoonerAction}
 use Rattle.fleet_needs.specs.Order.{IsNextReady, AreNoneReady, IsCounted, IsMid, AreMid, IsNextAction, AreAllCounted}
 use Rattle.fleet_needs.proofs.Free.{count, count_start, stays, grows, level_done, done_level, all_finished, moved, next_action}
 
@@ -117,7 +117,7 @@ module _ (p : Program) (t from : ℕ) (counts : List ℕ) (mid : AreMid p t from
       sooner = λ level levels x is sooner. go level levels x is sooner;
     }
       where
-        go : (level : ActionId → ℕ) → ((x : ActionId) → IsAction p x → IsLevel p x (level x)) → (x : ActionId) → IsAction p x → IsSoonerAction level x one → IsCounted counts x
+        go : (level : ActionId → ℕ) → AreLevels p level → (x : ActionId) → IsAction p x → IsSoonerAction level x one → IsCounted counts x
         go level levels x is sooner = cases sooner
           where
             acts : IsAction p one

@@ -7,9 +7,9 @@ use Rattle.std.proofs.lemmas.List.{get_or-set_same, get_or-set_other, length-set
 use Rattle.fleet_model.specs.declared.program.ActionId.{ActionId}
 use Rattle.fleet_model.specs.declared.program.Await.{Await}
 use Rattle.fleet_model.specs.Program.{Program, awaits_of}
-use Rattle.fleet_model.specs.Chain.{IsAction, IsLevel, awaited}
+use Rattle.fleet_model.specs.Chain.{IsAction, awaited}
 use Rattle.fleet_needs.specs.Order.{IsCounted, IsNextAction}
-use Rattle.fleet_needs.specs.Asked.{IsSoonerAction}
+use Rattle.fleet_needs.specs.Asked.{AreLevels, IsSoonerAction}
 use Rattle.fleet_needs.specs.Places.{place_of_action}
 use Rattle.fleet_needs.specs.Joins.{AddsNone, HasRowOr, IsWanted, join_at, IsRow, StandsFor, need_at, need_of, IsNeed, IsJoin, AreJoins, Takes, AreLasts, row_of, IsStanding, AreSound, AreJoinsOf, CanJoin, AreTaken, AreRaised, HaveGrown, HasJoined, IsAdded}
 use Rattle.fleet_needs.specs.declared.await_places.ActionPlaces.{ActionPlaces}
@@ -312,7 +312,7 @@ module _ (p : Program) (places : ActionPlaces) (wanted : List Bool) (Passed : Ac
   kept : (x : ActionId) (r : ℕ) → IsRow old.joins.items r x → IsRow new.joins.items r x
   kept x r = row_kept a old.joins.items new.joins.items added.grown r x
 
-  module _ (level : ActionId → ℕ) (levels : (x : ActionId) → IsAction p x → IsLevel p x (level x)) where
+  module _ (level : ActionId → ℕ) (levels : AreLevels p level) where
     first_on : (x y : ActionId) → IsAction p x → IsAction p y → IsCounted (set counts a.agent a.number) y → IsSoonerAction level x y → IsCounted (set counts a.agent a.number) x
     first_on x y k m done sooner = elim (back y done) [
       | inl before ↦ stays x (h.first level levels x y k m before sooner)

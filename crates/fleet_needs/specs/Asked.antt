@@ -13,6 +13,10 @@ pub record IsQuestion (p : Program) (q : Question) : Type 0 where
   pub number : 1 ≤ q.first.number
   pub last : IsAction p q.last
 
+-- the level of each action of the program
+abbrev pub AreLevels : Program → (ActionId → ℕ) → Type 0
+AreLevels p level = (a : ActionId) → IsAction p a → IsLevel p a (level a)
+
 -- by level, then by agent
 abbrev pub IsSoonerAction : (ActionId → ℕ) → ActionId → ActionId → Type 0
 IsSoonerAction level a b = (level a < level b) ⊎ ((level a ≡ level b) × (a.agent < b.agent))
@@ -21,7 +25,7 @@ IsSoonerAction level a b = (level a < level b) ⊎ ((level a ≡ level b) × (a.
 pub record AreQuestions (p : Program) (questions : List Question) : Type 0 where
   pub each : All (IsQuestion p) questions
   pub level : ActionId → ℕ
-  pub levels : (a : ActionId) → IsAction p a → IsLevel p a (level a)
+  pub levels : AreLevels p level
   pub in_order : AllPairs (λ q r. IsSoonerAction level q.last r.last) questions
 
 -- a flag for each question, whether no chain begins with its first action and ends with its last

@@ -3,8 +3,8 @@ use Rattle.std.specs.Prelude.{◌≡◌, ◌≢◌, ℕ, ◌+◌, ◌-◌, ◌<�
 use Rattle.fleet_model.specs.declared.program.Await.{Await}
 use Rattle.fleet_model.specs.declared.program.ActionId.{ActionId}
 use Rattle.fleet_model.specs.Program.{Program, awaits_of, total_moves}
-use Rattle.fleet_model.specs.Chain.{IsAction, IsLevel, Reaches, awaited}
-use Rattle.fleet_needs.specs.Asked.{IsSoonerAction}
+use Rattle.fleet_model.specs.Chain.{IsAction, Reaches, awaited}
+use Rattle.fleet_needs.specs.Asked.{AreLevels, IsSoonerAction}
 use Rattle.fleet_needs.specs.Places.{ArePlacesOf, place_of_action}
 use Rattle.fleet_needs.specs.Rows.{action_before}
 use Rattle.fleet_needs.specs.declared.await_places.ActionPlaces.{ActionPlaces}
@@ -93,8 +93,7 @@ AreOwn p = (a : ActionId) (c : ℕ) → IsAction p a → Reaches p (record { age
 -- the rows stand in the order of a run without holds: by level, then by agent
 abbrev pub AreOrdered : Program → List Join → Type 0
 AreOrdered p joins =
-    (level : ActionId → ℕ) → ((x : ActionId) → IsAction p x → IsLevel p x (level x))
-    → (m n : ℕ) → m < length joins → n < length joins → IsSoonerAction level (join_at joins m).action (join_at joins n).action → m < n
+    (level : ActionId → ℕ) → AreLevels p level → (m n : ℕ) → m < length joins → n < length joins → IsSoonerAction level (join_at joins m).action (join_at joins n).action → m < n
 
 -- the rows of an agent rise with its actions
 abbrev pub AreRising : List Join → Type 0
@@ -169,7 +168,7 @@ pub record AreJoinsOf (p : Program) (places : ActionPlaces) (wanted : List Bool)
   pub ordered : AreOrdered p m.joins.items
   pub rising : AreRising m.joins.items
   pub made : (n : ℕ) → n < length m.joins.items → These (join_at m.joins.items n).action
-  pub first : (level : ActionId → ℕ) → ((x : ActionId) → IsAction p x → IsLevel p x (level x)) → (x y : ActionId) → IsAction p x → IsAction p y → These y → IsSoonerAction level x y → These x
+  pub first : (level : ActionId → ℕ) → AreLevels p level → (x y : ActionId) → IsAction p x → IsAction p y → These y → IsSoonerAction level x y → These x
 
 -- the action is the next to have a row: rows stand for all that it directly needs
 pub record CanJoin (p : Program) (places : ActionPlaces) (m : Joins) (a : ActionId) : Type 0 where

@@ -1,10 +1,9 @@
 -- The flags of awaits, one action and one block more.
-use Rattle.std.proofs.Common.{◌≡◌, ◌≢◌, ℕ, ◌+◌, ◌-◌, ◌<◌, ◌≤◌, Bool, true, false, List, [], ◌∷◌, length, get_or, set, refl, sym, ap, subst, ◌∙◌, arith, inl, inr, ◌⊎◌}
+use Rattle.std.proofs.Common.{◌≡◌, ◌≢◌, ℕ, ◌+◌, ◌-◌, ◌<◌, ◌≤◌, Bool, true, false, List, [], ◌∷◌, length, get_or, refl, sym, ap, subst, ◌∙◌, arith, inl, inr, ◌⊎◌}
 use Rattle.std.specs.Borrow.{Bor}
 use Rattle.std.specs.Prelude.{not, Contains, slice_get, slice_index, Some, None, Option, nat_le}
 use Rattle.std.proofs.lemmas.Bool.{cases_lt, cases_eq, false≢true}
 use Rattle.std.proofs.lemmas.Option.{slice_get_within, get_or_from_slice_get, same_Some}
-use Rattle.std.proofs.lemmas.List.{get_or-set_same, get_or-set_other}
 use Rattle.fleet_model.specs.declared.program.ActionId.{ActionId}
 use Rattle.fleet_model.specs.declared.program.Await.{Await}
 use Rattle.fleet_model.specs.Program.{Program, awaits_of, AreInRange, IsWellFormed}
@@ -21,7 +20,7 @@ use Rattle.fleet_needs.proofs.Passing.{same_or_not}
 use Rattle.fleet_needs.specs.Implied.{AreAwaitPlaces, IsImplied, IsImpliedFlag, first_await}
 use Rattle.fleet_needs.specs.Settled.{AreSettled, IsSettled}
 use Rattle.fleet_needs.proofs.AwaitOrder.{flag_apart, flags_more}
-use Rattle.fleet_needs.specs.Flags.{AreSure, AreSureIf, IsFirstSet, IsPassed, AreSet, AreFlags, IsFlagged, AreFlagged, AreAllFlaggedOf, AreFlaggedFor, AreLeft, AreAllFlagged, AreAwaitFlags, AreFlaggedTo, AreImplied, flags_of}
+use Rattle.fleet_needs.specs.Flags.{AreSure, AreSureIf, IsFirstSet, IsPassed, AreSet, AreFlags, IsFlagged, IsFlaggedAt, AreFlagged, AreAllFlaggedOf, AreFlaggedFor, AreLeft, AreAllFlagged, AreAwaitFlags, AreFlaggedTo, AreImplied, flags_of}
 use Rattle.fleet_needs.specs.Schedule.{IsSchedule}
 use Rattle.fleet_needs.specs.declared.implied.ImpliedAwaits.{ImpliedAwaits}
 use Rattle.fleet_needs.proofs.Joining.{awaited_action, adds_none_if_implied}
@@ -38,23 +37,14 @@ flagged_of p range formed columns a row is others c w known has =
 pub flagged_begun : (p : Program) (columns : Columns) (a : ActionId) (flags : List Bool) → AreFlagged p columns a 0 flags flags
 flagged_begun p columns a flags = record { each = λ k l. absurd (omega arith); others = λ n out. refl }
 
-pub flagged_next : (p : Program) (columns : Columns) (a : ActionId) (k : ℕ) (one : Await) → slice_get (awaits_of p a.agent a.number) k ≡ Some one → (old mid : List Bool) (at : ℕ) (flag : Bool) → at ≡ first_await p a + k → at < length mid
-    → IsFlagged p columns a one (get_or mid at false) flag → AreFlagged p columns a k old mid → AreFlagged p columns a (k + 1) old (set mid at flag)
-flagged_next p columns a k one there old mid at flag place within here h = record {
-  each = flags_more (λ m x. (w : Await) → slice_get (awaits_of p a.agent a.number) m ≡ Some w → IsFlagged p columns a w (get_or old (first_await p a + m) false) x) (first_await p a) k mid (set mid at flag) others h.each
-      (λ w at_w. subst (λ (v : Await). IsFlagged p columns a v (get_or old (first_await p a + k) false) (get_or (set mid at flag) (first_await p a + k) false)) (same_Some one w (sym there ∙ at_w))
-      (subst (IsFlagged p columns a one (get_or old (first_await p a + k) false)) (sym now) (subst (λ (was : Bool). IsFlagged p columns a one was flag) was here)));
-  others = λ n out. others n (λ e. elim out [ inl l ↦ omega arith | inr l ↦ omega arith ]) ∙ h.others n (elim out [ inl l ↦ inl l | inr l ↦ inr (omega arith) ]);
+pub flagged_next : (p : Program) (columns : Columns) (a : ActionId) (k : ℕ) (one : Await) → slice_get (awaits_of p a.agent a.number) k ≡ Some one → (old mid new : ImpliedAwaits) → IsFlaggedAt p columns a k one mid new → AreFlagged p columns a k (flags_of old) (flags_of mid)
+    → AreFlagged p columns a (k + 1) (flags_of old) (flags_of new)
+flagged_next p columns a k one there old mid new now h = record {
+  each = flags_more (λ m x. (w : Await) → slice_get (awaits_of p a.agent a.number) m ≡ Some w → IsFlagged p columns a w (get_or (flags_of old) (first_await p a + m) false) x) (first_await p a) k (flags_of mid) (flags_of new) now.others h.each
+      (λ w at. subst (λ (v : Await). IsFlagged p columns a v (get_or (flags_of old) (first_await p a + k) false) (get_or (flags_of new) (first_await p a + k) false)) (same_Some one w (sym there ∙ at))
+      (subst (λ (was : Bool). IsFlagged p columns a one was (get_or (flags_of new) (first_await p a + k) false)) (h.others (first_await p a + k) (inr (omega arith))) now.here));
+  others = λ n out. now.others n (λ e. elim out [ inl l ↦ omega arith | inr l ↦ omega arith ]) ∙ h.others n (elim out [ inl l ↦ inl l | inr l ↦ inr (omega arith) ]);
 }
-  where
-    others : (n : ℕ) → n ≢ first_await p a + k → get_or (set mid at flag) n false ≡ get_or mid n false
-    others n ne = get_or-set_other mid at n flag false (λ e. ne (e ∙ place))
-
-    now : get_or (set mid at flag) (first_await p a + k) false ≡ flag
-    now = ap (λ (n : ℕ). get_or (set mid at flag) n false) (sym place) ∙ get_or-set_same mid at flag false within
-
-    was : get_or mid at false ≡ get_or old (first_await p a + k) false
-    was = ap (λ (n : ℕ). get_or mid n false) place ∙ h.others (first_await p a + k) (inr (omega arith))
 
 -- ---- the flags of one action more
 

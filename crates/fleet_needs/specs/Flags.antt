@@ -1,7 +1,7 @@
 -- Flags of awaits: which of them say whether others imply their await.
 use Rattle.std.specs.Borrow.{Bor}
 use Rattle.std.proofs.Common.{refl, ◌∙◌}
-use Rattle.std.specs.Prelude.{◌≡◌, true, Option, IfSome, ℕ, ◌+◌, ◌<◌, ◌≤◌, Bool, false, List, length, get_or, slice_get, Some, None, ◌⊎◌}
+use Rattle.std.specs.Prelude.{◌≡◌, ◌≢◌, true, Option, IfSome, ℕ, ◌+◌, ◌<◌, ◌≤◌, Bool, false, List, length, get_or, slice_get, Some, None, ◌⊎◌}
 use Rattle.fleet_model.specs.declared.program.Await.{Await}
 use Rattle.fleet_model.specs.declared.program.ActionId.{ActionId}
 use Rattle.fleet_model.specs.Program.{Program, awaits_of, total_awaits}
@@ -30,6 +30,12 @@ pub record AreFlags (p : Program) (m : ImpliedAwaits) : Type 0 where
 pub record IsFlagged (p : Program) (columns : Columns) (a : ActionId) (w : Await) (was flag : Bool) : Type 0 where
   pub some : (c : ℕ) → HasColumn columns w.agent c → IsImpliedFlag p a w flag
   pub none : column_of columns w.agent ≡ None → flag ≡ was
+
+-- so does the flag of await k of the action, and no other one has changed
+pub record IsFlaggedAt (p : Program) (columns : Columns) (a : ActionId) (k : ℕ) (w : Await) (old new : ImpliedAwaits) : Type 0 where
+  pub flags : AreFlags p new
+  pub here : IsFlagged p columns a w (get_or (flags_of old) (first_await p a + k) false) (get_or (flags_of new) (first_await p a + k) false)
+  pub others : (n : ℕ) → n ≢ first_await p a + k → get_or (flags_of new) n false ≡ get_or (flags_of old) n false
 
 -- so do the flags of the action's first n awaits, and no other flag has changed
 pub record AreFlagged (p : Program) (columns : Columns) (a : ActionId) (n : ℕ) (old new : List Bool) : Type 0 where

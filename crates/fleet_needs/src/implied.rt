@@ -1,6 +1,6 @@
 //! Awaits that others imply, and the use of rows that flags them.
 
-ghost use Rattle.std.specs.Prelude.{◌≡◌, ◌<◌, ◌+◌, [], Some, false, get_or, length, slice_get, IfOk, OnOk, Contains};
+ghost use Rattle.std.specs.Prelude.{◌≡◌, ◌<◌, ◌+◌, [], Some, false, get_or, length, slice_get, IfOk, OnOk};
 ghost use Rattle.fleet_model.specs.declared.program.Await.{Await};
 ghost use Rattle.fleet_model.specs.Program.{AreInRange, awaits_of, total_awaits};
 ghost use Rattle.fleet_model.specs.Machine.{IsFinish};
@@ -9,7 +9,7 @@ ghost use Rattle.fleet_needs.specs.Implied.{IsImpliedFlag, AreAwaitPlaces, first
 ghost use Rattle.fleet_needs.specs.Joins.{HasRowOr};
 ghost use Rattle.fleet_needs.specs.Settled.{AreSettled};
 ghost use Rattle.fleet_needs.specs.Schedule.{IsSchedule, joins_of};
-ghost use Rattle.fleet_needs.specs.Flags.{AreImplied, AreSet, flags_of, AreFlags, IsFlagged, AreAllFlaggedOf};
+ghost use Rattle.fleet_needs.specs.Flags.{AreImplied, AreSet, flags_of, AreFlags, IsFlaggedAt, AreAllFlaggedOf};
 ghost use Rattle.fleet_needs.specs.JoinPass.{IsJoinRow, HasOthers};
 
 use crate::await_places::AwaitPlaces;
@@ -158,26 +158,32 @@ fn flag_awaits<P: ProgramView>(program: &P, row: &JoinRow, implied: &mut Implied
         (flags_of implied.old) (flags_of implied.new) }
 {
     let join = row.schedule.join_after(program, row.n);
-    let first = implied.places.first(program, row.action);
     for k in 0..join.count {
         let need = row.schedule.need(program, row.n, &join, k);
-        let place = first + usize::from(k);
-        flag_await(program, row, need.wait, &mut implied.flags[place]);
+        flag_await(program, row, k, need.wait, implied);
     }
 }
 
-/// Flags an await of the action whose agent has a column: whether others imply it.
-fn flag_await<P: ProgramView>(program: &P, row: &JoinRow, wait: Await, flag: &mut bool)
+/// Flags await `k` of the action, if its agent has a column: whether others imply it.
+fn flag_await<P: ProgramView>(
+    program: &P,
+    row: &JoinRow,
+    k: u16,
+    wait: Await,
+    implied: &mut ImpliedAwaits,
+)
     requires range { AreInRange (P.program program.now) }
     requires row { IsJoinRow (P.program program.now) row.now }
     requires others { HasOthers (P.program program.now) row.now }
-    requires waits { Contains
-        (awaits_of (P.program program.now) row.now.action.agent row.now.action.number) wait }
-    ensures { IsFlagged (P.program program.now)
-        row.now.columns.now row.now.action wait flag.old flag.new }
+    requires flags { AreFlags (P.program program.now) implied.old }
+    requires waits { slice_get (awaits_of (P.program program.now)
+        row.now.action.agent row.now.action.number) k ≡ Some wait }
+    ensures { IsFlaggedAt (P.program program.now)
+        row.now.columns.now row.now.action k wait implied.old implied.new }
 {
     let _ = program.agents();
-    if let Some(k) = row.columns.of(wait.agent) {
-        *flag = wait.count <= row.counts.get(usize::from(k));
+    if let Some(column) = row.columns.of(wait.agent) {
+        let place = implied.places.first(program, row.action) + usize::from(k);
+        implied.flags[place] = wait.count <= row.counts.get(usize::from(column));
     }
 }

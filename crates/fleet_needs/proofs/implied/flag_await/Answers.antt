@@ -1,31 +1,62 @@
-use Rattle.std.proofs.Common.{◌≡◌, ℕ, refl, sym, subst, ap, ◌∙◌, arith}
-use Rattle.std.specs.Prelude.{nat_le, slice_index}
-use Rattle.std.proofs.lemmas.Option.{same_Some, none-some}
+use Rattle.std.proofs.Common.{◌≡◌, ◌+◌, ◌<◌, ℕ, Bool, false, length, get_or, set, refl, sym, subst, ap, ◌∙◌, arith}
+use Rattle.std.specs.Prelude.{Contains, nat_le, slice_index}
+use Rattle.std.proofs.lemmas.List.{get_or-set_same, get_or-set_other, length-set}
+use Rattle.std.proofs.lemmas.Option.{same_Some, none-some, slice_get_within, get_or_from_slice_get}
+use Rattle.fleet_model.specs.Program.{awaits_of}
 use Rattle.fleet_needs.specs.Counts.{counts_of}
-use Rattle.fleet_needs.specs.Implied.{IsImpliedFlag}
+use Rattle.fleet_needs.specs.Flags.{IsFlagged, flags_of}
+use Rattle.fleet_needs.specs.Implied.{IsImpliedFlag, first_await}
 use Rattle.fleet_needs.proofs.Flagged.{flagged_of}
+use Rattle.fleet_needs.proofs.Joining.{awaited_action}
 use Rattle.fleet_needs.proofs.RowsMade.{row_of_action}
 use Rattle.fleet_needs.proofs.implied.flag_await.Goals as goal
 
 pub of-requires : goal.of-requires
-of-requires g c = omega (arith, (c.requires.range c.args.row.now.action.agent c.args.row.now.action.number c.args.wait c.requires.waits).agent, c.requires.row.columns.agents)
+of-requires g c =
+    let a = c.args.row.now.action in
+    omega (arith, (awaited_action (g.P.ProgramView.program c.args.program.now) c.requires.range a.agent a.number c.args.k c.args.wait c.requires.waits).agent, c.requires.row.columns.agents)
+
+pub first-requires-clause-action : goal.first-requires-clause-action
+first-requires-clause-action g c = row_of_action (g.P.ProgramView.program c.args.program.now) c.args.row.now c.requires.row
+
+pub index_mut-requires : goal.index_mut-requires
+index_mut-requires g c =
+    let a = c.args.row.now.action in
+    let l = slice_get_within (awaits_of (g.P.ProgramView.program c.args.program.now) a.agent a.number) c.args.k c.args.wait c.requires.waits in
+    omega (arith, l, c.from.ensures, c.first.ensures.place, c.first.ensures.within, c.requires.flags.all)
 
 pub get-requires : goal.get-requires
-get-requires g c = omega (arith, c.requires.row.columns.within c.args.wait.agent c.in-Some.k (sym c.of.ensures ∙ c.in-Some.is), c.requires.row.width, c.from.ensures)
+get-requires g c = omega (arith, c.requires.row.columns.within c.args.wait.agent c.in-Some.column (sym c.of.ensures ∙ c.in-Some.is), c.requires.row.width, c.from-in-Some.ensures)
 
 pub returns-in-Some : goal.returns-in-Some
 returns-in-Some g c =
     let p = g.P.ProgramView.program c.args.program.now in
     let a = c.args.row.now.action in
     let w = c.args.wait in
+    let ws = awaits_of p a.agent a.number in
     let row = counts_of c.args.row.now.counts.now in
+    let flags = flags_of c.args.implied.now in
+    let flag : Bool = nat_le w.count c.get.result in
+    let at : ℕ = c.first.result + c.from.result in
+    let l = slice_get_within ws c.args.k w c.requires.waits in
+    let place : at ≡ first_await p a + c.args.k = omega (arith, c.from.ensures, c.first.ensures.place) in
+    let within : at < length flags = omega (arith, l, place, c.first.ensures.place, c.first.ensures.within, c.requires.flags.all) in
+    let now : get_or (set flags at flag) (first_await p a + c.args.k) false ≡ flag = ap (λ (n : ℕ). get_or (set flags at flag) n false) (sym place) ∙ get_or-set_same flags at flag false within in
     record {
-      some = λ k has.
-          let count : c.get.result ≡ slice_index row k = c.get.ensures ∙ ap (slice_index row) (c.from.ensures ∙ same_Some c.in-Some.k k (sym c.in-Some.is ∙ c.of.ensures ∙ has)) in
-          subst (λ (n : ℕ). IsImpliedFlag p a w (nat_le w.count n)) (sym count)
-          (flagged_of p c.requires.range c.agents.ensures.well_formed c.args.row.now.columns.now a row (row_of_action p c.args.row.now c.requires.row) c.requires.others k w c.requires.waits has);
-      none = λ none. absurd (none-some c.in-Some.k (sym (c.of.ensures ∙ none) ∙ c.in-Some.is));
+      flags = record { places = c.requires.flags.places; all = length-set flags at flag ∙ c.requires.flags.all };
+      here = record {
+        some = λ k has.
+            let count : c.get.result ≡ slice_index row k = c.get.ensures ∙ ap (slice_index row) (c.from-in-Some.ensures ∙ same_Some c.in-Some.column k (sym c.in-Some.is ∙ c.of.ensures ∙ has)) in
+            subst (IsImpliedFlag p a w) (sym (now ∙ ap (nat_le w.count) count))
+            (flagged_of p c.requires.range c.agents.ensures.well_formed c.args.row.now.columns.now a row (row_of_action p c.args.row.now c.requires.row) c.requires.others k w (c.args.k, l, get_or_from_slice_get ws c.args.k w w c.requires.waits) has);
+        none = λ none. absurd (none-some c.in-Some.column (sym (c.of.ensures ∙ none) ∙ c.in-Some.is));
+      };
+      others = λ n ne. get_or-set_other flags at n flag false (λ e. ne (e ∙ place));
     }
 
 pub returns-in_default : goal.returns-in_default
-returns-in_default g c = record { some = λ k has. absurd (none-some k (sym c.in_default.is ∙ c.of.ensures ∙ has)); none = λ none. refl }
+returns-in_default g c = record {
+  flags = c.requires.flags;
+  here = record { some = λ k has. absurd (none-some k (sym c.in_default.is ∙ c.of.ensures ∙ has)); none = λ none. refl };
+  others = λ n ne. refl;
+}

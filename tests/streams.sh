@@ -4,13 +4,26 @@
 enter streams
 M=examples/corridor.map S=examples/corridor.scen P=examples/corridor.plan B=examples/corridor.program
 
-# A full and a closed standard output.
+# unread COMMAND..: standard output is a pipe whose reader has gone.
+script unread <<'EOF'
+#!/bin/sh
+rm -f unread.pipe
+mkfifo unread.pipe
+: < unread.pipe &
+exec > unread.pipe
+wait
+exec "$@"
+EOF
+
+# A full and a closed standard output, and one that nobody reads.
 grep -v '^#' "$root/tests/commands.list" > "$room/commands"
 while IFS='|' read -r line words; do
     words=$(echo "$words" | sed "s/OUT/out.${words%% *}/")
     check "standard output is full: $words" 3 '' "$line\n" "fleet $words > /dev/full"
     check "standard output is closed: $words" 3 '' "$line\n" "fleet $words >&-"
+    check "standard output is a pipe without a reader: $words" 3 '' "$line\n" "unread fleet $words"
 done < "$room/commands"
+check 'standard output is a pipe without a reader: no words' 3 '' 'run 4 Write\n' 'unread fleet < examples/corridor.hex'
 check 'standard output is full: help' 3 '' 'file -\n' 'fleet --help > /dev/full'
 check 'standard output is full: no words' 3 '' 'run 4 Write\n' 'fleet < examples/corridor.hex > /dev/full'
 check 'standard output is closed: no words' 3 '' 'run 4 Write\n' 'fleet < examples/corridor.hex >&-'
@@ -66,6 +79,24 @@ check 'a dispatch that is killed after each report goes on after its log' 0 '0 4
         tail -n +\$((n + 1)) each | fleet dispatch $pair --resume kept --log kept > rest 2>&5
         cmp kept each >&5 && tail -n 1 rest | grep -qx 'reports 4' && echo \$n \$(cat told rest | grep '^go ' | sort -u | wc -l)
     done"
+
+# A dispatch that is killed at times drawn by lot: its log has a front of the reports, the last one perhaps without its
+# end, and the next one goes on after it. In the end all are in the log, and each order was given that is due.
+script kill_loggers <<'EOF'
+#!/bin/sh
+W='examples/warehouse.map examples/warehouse.scen'
+fleet plan $W > plan && fleet compile $W plan many > said && fleet list many | awk -f tools/log.awk | head -n 40 > all || exit
+fleet dispatch $W many < all 2> /dev/null | sort > many.due
+: > many.log
+: > many.orders
+for after in $(awk 'BEGIN { s = 271; for (k = 0; k < 12; k++) { s = s * 16807 % 2147483647; printf "0.%05d\n", s % 6000 } }') 100; do
+    tail -n "+$(($(wc -l < many.log) + 1))" all |
+        timeout -s KILL "$after" fleet dispatch $W many --resume many.log --log many.log 2> /dev/null | grep '^go .* .*,.* .*,' >> many.orders
+    head -c "$(wc -c < many.log)" all | cmp - many.log || exit
+done
+cmp all many.log && sort -u many.orders | cmp - many.due && wc -l < many.due
+EOF
+check 'a log of a process that is killed' 0 "3900\n" '' 'kill_loggers 2> killed'
 check 'a log that is a folder' 3 '' 'file examples\n' "fleet dispatch $pair --log examples < each"
 check 'a log that goes to a pipe' 0 '0:1\n0:2\n1:1\n1:2\n' '' "fleet dispatch $pair --log /dev/stderr < each 2>&1 > told | cat"
 check 'reports are closed' 3 'go 0:1 1,0 2,0\n' 'file -\n' "fleet dispatch $pair <&-"
@@ -148,14 +179,9 @@ if has "${cc%% *}"; then
         check "standard output is cut ($way): ${words:-no words}" 0 'each\n' '' "input=$input output_cut $way '$line' fleet $words"
     done <<EOF
 32|run 4 Write|examples/pair.hex|
-32|run 4 Write|/dev/null|rehearse examples/pair.program
+$(sed '/|dispatch/d; s#|#|/dev/null|#; s/OUT OUT/tasks anew/; s/OUT/anew/; s/^/32|/; s/corridor/pair/g; s/pair.holds/corridor.holds/; s/examples.pair.log/lines/' "$room/commands")
 0|run 4 Write|/dev/null|rehearse examples/pair.program
-32|run 4 Write|/dev/null|run $pair
-32|run 4 Write|/dev/null|auto examples/pair.map examples/pair.scen
-32|file -|/dev/null|plan examples/pair.map examples/pair.scen
-32|file -|/dev/null|list examples/pair.program
 0|file -|/dev/null|list examples/pair.program
-32|file -|/dev/null|migrate examples/pair.program anew
 32|dispatch 5 Write|lines|dispatch $pair
 0|dispatch 5 Write|lines|dispatch $pair
 EOF
@@ -166,15 +192,36 @@ EOF
         check "standard input is cut ($way): dispatch" 0 '16: 16\n' '' "input=lines input_cut $way fleet dispatch $pair"
     done
 
-    # The map has 38 bytes, the scenario 78 and the program 40, and each is read to its end; 28 is a full disk.
-    for way in 4 5; do
-        check "the files are cut ($way): verify" 0 "39 3 file examples/pair.map\n78 3 file examples/pair.scen\n40 3 file examples/pair.program\n1 0 \n" '' \
-            "files_cut $way GIVES fleet verify $pair"
-    done
-    for way in 0 28; do
-        check "OUT is cut ($way): migrate" 0 '48 3 file anew\n1 0 \n' '' \
-            "files_cut $way TAKES fleet migrate examples/pair.program anew"
-    done
+    # Each file is read to its end, which is seen once there is a byte left to give.
+    printf '1 5\n' > "$room/costs"
+    while read -r way words; do
+        due=$(cd "$room" && for word in $words; do
+            case $word in */* | costs | lines) echo "$(wc -c < "$word") 3 file $word" ;; esac
+        done | awk '{ $1 += NR == 1; printf "%s\\n", $0 }')
+        check "the files are cut ($way): $words" 0 "${due}1 0 \n" '' "files_cut $way GIVES fleet $words"
+    done <<EOF
+4 verify $pair
+5 verify $pair
+5 check examples/pair.map examples/pair.scen examples/pair.plan
+5 rehearse examples/pair.program --holds examples/corridor.holds
+5 times $pair --costs costs
+5 rest $pair lines tasks anew
+5 dispatch $pair --resume lines
+EOF
+    # 28 is a full disk.
+    while read -r way bytes words; do
+        check "OUT is cut ($way): $words" 0 "$bytes 3 file anew\n1 0 \n" '' "files_cut $way TAKES fleet $words"
+    done <<EOF
+0 48 migrate examples/pair.program anew
+28 48 migrate examples/pair.program anew
+28 40 compile examples/pair.map examples/pair.scen examples/pair.plan anew
+28 40 thin $pair anew
+EOF
+    check 'a scenario and a program are left' 0 'agents 2\nmoves 3\nawaits 1\nbytes 34\n' '' "echo 0:1 > one && fleet rest $pair one tasks anew"
+    check 'each of two OUTs is cut (28): rest' 0 "$(wc -c < "$room/tasks" | tr -d ' ') 3 file tasks\n34 3 file anew\n1 0 \n" '' \
+        "files_cut 28 TAKES fleet rest $pair one tasks anew"
+    check 'a log is cut (28)' 0 '4 3 dispatch 8 LogWrite line 1\n8 3 dispatch 8 LogWrite line 2\n4 3 dispatch 8 LogWrite line 3\n1 0 \n' '' \
+        "files_cut 28 TAKES sh -c 'rm -f cut.log; fleet dispatch $pair --log cut.log < lines'"
 
     # The folder of a log is put on the disk when the log is begun, which may fail, and then each report. 5 is an error
     # of the disk.

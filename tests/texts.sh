@@ -328,3 +328,26 @@ x|run 3 Hold line 1
 12|run 3 Hold line 1
 \055\n1 0|run 3 Hold line 2
 EOF
+
+# Reports and costs that are changed in one byte, and what changed.awk says of each, which reads them by itself.
+CHANGED=$root/tests/changed.awk
+export CHANGED
+
+# changes KIND TEXT COMMAND..: prints `each`, and before it each changed text to which the command answers otherwise. It
+# reads the text as the file `changed`, or from standard input.
+script changes <<'EOF'
+#!/bin/sh
+od -An -v -t u1 "$2" | awk -v kind="$1" -f "$CHANGED" > dues
+shift 2
+while IFS='|' read -r octal due; do
+    printf "$octal" > changed
+    "$@" > got 2> told < changed
+    answer="$? $(cat told)$(sed -n '/^reports/p; /^[01]: /p' got | tr '\n' ' ')"
+    [ "${answer% }" = "$due" ] || echo "$octal: $answer, due $due"
+done < dues
+[ "$(wc -l < dues)" -gt 200 ] && echo each
+EOF
+check 'reports are changed in a byte' 0 'each\n' '' \
+    "printf '0:1\n0:2 1:1\n1:2\n' > reports && changes reports reports fleet dispatch pair.map pair.scen pair.program"
+check 'costs are changed in a byte' 0 'each\n' '' \
+    "printf '1:2 7\n1 5\n0:1 3\n' > costs && changes costs costs fleet times pair.map pair.scen pair.program --costs changed"

@@ -1,0 +1,109 @@
+# Changes a text in one byte: each byte is left out, comes twice, or is another one. Says of each changed text what the
+# program answers to it of the pair of examples/:
+#     od -An -v -t u1 TEXT | awk -v kind=KIND -f tests/changed.awk
+# A TEXT of the kind `reports` is read by `dispatch`, and one of the kind `costs` by `times --costs`. Each line has a
+# changed text in octal, a `|`, and the status with the refusal's line, or with the number of reports or when both
+# agents arrive. It is another reader of these texts, and takes nothing from the program.
+
+{ for (k = 1; k <= NF; k++) codes[++size] = $k }
+
+function is_number(word) {
+    return word ~ /^(0|[1-9][0-9]*)$/ && length(word) <= 10 && word + 0 < 4294967296
+}
+
+# The lines of a text, and in `ended` how many have an LF. Bytes that no reader takes stand as `x`.
+function split_lines(bytes, count,    k, c) {
+    lines = ended = 0
+    line[1] = ""
+    for (k = 1; k <= count; k++) {
+        c = bytes[k]
+        if (c == 10) {
+            sub(/\r$/, "", line[++ended])
+            line[lines = ended + 1] = ""
+        } else {
+            lines = ended + 1
+            line[lines] = line[lines] (c == 13 || (c >= 32 && c < 127) ? sprintf("%c", c) : "x")
+        }
+    }
+    sub(/\r$/, "", line[lines])
+    if (lines > ended && line[lines] == "") lines--
+}
+
+# Up to which action agent i may be told to go, one at a time: agent 1 follows agent 0.
+function told_to(i) {
+    if (done[i] >= 2 || (i == 1 && done[0] <= done[1])) return done[i]
+    return done[i] + 1
+}
+
+function report(l,    n, k, words, pair, before, is_new) {
+    if (line[l] == "?") return ""
+    if (line[l] == "-") { reports++; return "" }
+    n = split(line[l], words, / /)
+    if (n == 0) return "dispatch 2 Form line " l
+    before = -1
+    for (k = 1; k <= n; k++) {
+        if (split(words[k], pair, ":") != 2 || !is_number(pair[1]) || !is_number(pair[2]) || pair[1] + 0 <= before)
+            return "dispatch 2 Form line " l
+        before = pair[1] + 0
+    }
+    for (k = 1; k <= n; k++) {
+        split(words[k], pair, ":")
+        if (pair[1] + 0 > 1 || pair[2] + 0 > told_to(pair[1] + 0))
+            return "dispatch 3 NotOrdered line " l " agent " pair[1]
+    }
+    for (k = 1; k <= n; k++) {
+        split(words[k], pair, ":")
+        if (pair[2] + 0 > done[pair[1]]) { done[pair[1]] = pair[2] + 0; is_new = 1 }
+    }
+    reports += is_new
+    return ""
+}
+
+function answer_reports(    l, fault) {
+    done[0] = done[1] = reports = 0
+    for (l = 1; l <= ended; l++) {
+        fault = report(l)
+        if (fault != "") return "1 " fault
+        if (done[0] == 2 && done[1] == 2) return "0 reports " reports
+    }
+    return "1 dispatch 4 Ended line " (ended + 1)
+}
+
+function answer_costs(    l, words, pair, n, i, p, cost, end) {
+    split("", said)
+    for (l = 1; l <= lines; l++) {
+        n = split(line[l], words, / /)
+        i = n == 2 ? split(words[1], pair, ":") : 0
+        if (i == 1) pair[2] = 1
+        if (i < 1 || i > 2 || !is_number(pair[1]) || !is_number(pair[2]) || pair[1] + 0 > 1 || pair[2] + 0 < 1 || pair[2] + 0 > 2 \
+                || !is_number(words[2]) || words[2] + 0 < 1 || words[2] + 0 > 1000000000)
+            return "1 times 3 Cost line " l
+        said[i == 1 ? pair[1] : words[1]] = words[2] + 0
+    }
+    for (i = 0; i < 2; i++)
+        for (p = 1; p <= 2; p++)
+            cost[i, p] = (i ":" p) in said ? said[i ":" p] : i in said ? said[i] : 1
+    end = cost[0, 1] + cost[1, 1]
+    if (cost[0, 1] + cost[0, 2] > end) end = cost[0, 1] + cost[0, 2]
+    return "0 0: " (cost[0, 1] + cost[0, 2]) " 1: " (end + cost[1, 2])
+}
+
+# The text with the byte at a place left out (-2), twice (-1), or another one.
+function change(at, byte,    k, count, bytes, octal) {
+    count = 0
+    for (k = 1; k <= size; k++) {
+        if (k == at && byte == -2) continue
+        bytes[++count] = k == at && byte >= 0 ? byte : codes[k]
+        if (k == at && byte == -1) bytes[++count] = codes[k]
+    }
+    for (k = 1; k <= count; k++) octal = octal sprintf("\\%03o", bytes[k])
+    split_lines(bytes, count)
+    print octal "|" (kind == "reports" ? answer_reports() : answer_costs())
+}
+
+END {
+    n = split("-2 -1 0 9 10 13 32 45 48 49 50 51 57 58 63 120 255", others, " ")
+    for (at = 1; at <= size; at++)
+        for (k = 1; k <= n; k++)
+            if (others[k] != codes[at]) change(at, others[k] + 0)
+}

@@ -7,10 +7,10 @@ use Rattle.std.proofs.lemmas.List.Elements.{Contains-append_left, Contains-push,
 use Rattle.fleet_search.specs.declared.frontier.Node.{Node}
 use Rattle.fleet_search.specs.Rows.{bucket_of, lists_of, IsPut}
 use Rattle.fleet_search.specs.Frontier.{Exploration, AreNodePlaces, IsNodeTaken}
-use Rattle.fleet_search.proofs.RowLaws.{row-past}
+use Rattle.fleet_grid.proofs.Pages.{items-past}
 
 pub no-places : (nodes : List Node) (rows : List (Vec ℕ Global)) → rows ≡ [] → AreNodePlaces nodes (lists_of rows)
-no-places nodes rows e k i h = absurd (let l = (subst (λ z. Contains z i) (row-past rows k (let none = ap length e in omega arith)) h).1 in omega arith)
+no-places nodes rows e k i h = absurd (let l = (subst (λ z. Contains z i) (items-past rows k (let none = ap length e in omega arith)) h).1 in omega arith)
 
 -- the place of a new node is put on a bucket
 pub put-places : (nodes more : List Node) (old new : List (List ℕ)) (key : ℕ) → AreNodePlaces nodes old → length more ≡ length nodes + 1 → IsPut old new key (length nodes) → AreNodePlaces more new

@@ -24,7 +24,7 @@ use Rattle.fleet_grid.specs.Ground.{Ground, IsGround, cell_index}
 use Rattle.fleet_grid.proofs.StoredLaws.{off_map}
 use Rattle.fleet_plan.specs.Plan.{AreNeighbours}
 use Rattle.fleet_search.specs.declared.distances.Label.{Label}
-use Rattle.fleet_search.specs.Distance.{DistanceTable, no_label, label_in, label_of_search, manhattan, least_moves, heuristic, with_label, IsReady, AreDistances, IsOnGround, IsClosed, IsWaiting, IsSpread, IsSpreadOf, IsLabelled, LabelsFall, IsFoundTowards, IsPutFrom, IsLabelNear, IsLabelledTowards, label_weight, work_left}
+use Rattle.fleet_search.specs.Distance.{DistanceTable, no_label, label_in, label_of_search, manhattan, least_moves, heuristic, with_label, IsReady, AreDistances, IsOnGround, IsClosed, IsWaiting, IsSpread, IsSpreadOf, IsOnBound, IsLabelled, LabelsFall, IsFoundTowards, IsPutFrom, IsLabelNear, IsLabelledTowards, label_weight, work_left}
 
 -- ---- the places of cells in a table
 
@@ -333,7 +333,34 @@ spread-popped c t sp = record {
 pub taken : (c : Cell) (t : DistanceTable) → IsSpreadOf None (record t { layer = t.layer ++ c ∷ [] }) → IsOnGround t.grid c
 taken c t sp = sp.in_layer c (Contains-push t.layer c)
 
-module _ (s1 s2 s3 s4 : DistanceTable) (d : ℕ) (left : Cell) (sp : IsSpreadOf (Some left) s4) (g1 : s1.grid ≡ s4.grid) (g2 : s2.grid ≡ s4.grid) (g3 : s3.grid ≡ s4.grid) (n : IsFoundTowards s1 d left North) (e : IsFoundTowards s2 d left East) (s : IsFoundTowards s3 d left South) (w : IsFoundTowards s4 d left West) (t2 : LabelsFall s1 s2) (t3 : LabelsFall s2 s3) (t4 : LabelsFall s3 s4) where
+-- the cell that was left is closed, or waits no more
+left_done : (s : DistanceTable) (left : Cell) → IsSpreadOf (Some left) s → ((n : ℕ) → IsLabelled s left n → n + manhattan left s.start ≡ s.f_bound → IsClosed s.grid s.labels s.search left n) → IsSpreadOf None s
+left_done s left sp done = record {
+  goal_on_ground = sp.goal_on_ground;
+  at_goal = sp.at_goal;
+  apart = sp.apart;
+  in_layer = sp.in_layer;
+  in_next = sp.in_next;
+  closed = λ x k h l. elim (sp.closed x k h l) [
+    | inl y ↦ inl y
+    | inr y ↦ elim y [
+      | inl z ↦ elim z.1 [
+        | inl u ↦ inr (inl (z.0, inl u))
+        | inr u ↦
+            let same = same_Some left x u in
+            let closed = done k (subst (λ v. IsLabelled s v k) (sym same) l) (subst (λ v. k + manhattan v s.start ≡ s.f_bound) (sym same) z.0) in
+            inl (subst (λ v. IsClosed s.grid s.labels s.search v k) same closed)
+      ]
+      | inr z ↦ inr (inr z)
+    ]
+  ];
+}
+
+-- no path of `f_bound` moves leads over the cell that was left
+pub spread-passed : (s : DistanceTable) (left : Cell) → IsSpreadOf (Some left) s → ((n : ℕ) → IsLabelled s left n → n + manhattan left s.start ≢ s.f_bound) → IsSpreadOf None s
+spread-passed s left sp passed = left_done s left sp (λ n here over. absurd (passed n here over))
+
+module _ (s1 s2 s3 s4 : DistanceTable) (d : ℕ) (left : Cell) (o : IsOnBound d left s4) (g1 : s1.grid ≡ s4.grid) (g2 : s2.grid ≡ s4.grid) (g3 : s3.grid ≡ s4.grid) (n : IsFoundTowards s1 d left North) (e : IsFoundTowards s2 d left East) (s : IsFoundTowards s3 d left South) (w : IsFoundTowards s4 d left West) (t2 : LabelsFall s1 s2) (t3 : LabelsFall s2 s3) (t4 : LabelsFall s3 s4) where
   Found : DistanceTable → Cell → Type 0
   Found t x = (m : ℕ) × IsLabelled t x m × (m ≤ d + 1)
 
@@ -348,27 +375,8 @@ module _ (s1 s2 s3 s4 : DistanceTable) (d : ℕ) (left : Cell) (sp : IsSpreadOf 
   left-closed x (South, p) h = on s3 s4 g3 t4 x h (s x p (subst (λ g. IsOnGround g x) (sym g3) h))
   left-closed x (West, p) h = w x p h
 
-  pub spread-left : IsLabelled s4 left d → IsSpreadOf None s4
-  spread-left here = record {
-    goal_on_ground = sp.goal_on_ground;
-    at_goal = sp.at_goal;
-    apart = sp.apart;
-    in_layer = sp.in_layer;
-    in_next = sp.in_next;
-    closed = λ x k h l. elim (sp.closed x k h l) [
-      | inl y ↦ inl y
-      | inr y ↦ elim y [
-        | inl z ↦ elim z.1 [
-          | inl u ↦ inr (inl (z.0, inl u))
-          | inr u ↦
-              let same = same_Some left x u in
-              let at : k ≡ d = same_Some k d (sym l ∙ ap (label_in s4.grid s4.labels s4.search) (sym same) ∙ here) in
-              inl (subst (λ v. IsClosed s4.grid s4.labels s4.search x v) (sym at) (subst (λ v. IsClosed s4.grid s4.labels s4.search v d) same left-closed))
-        ]
-        | inr z ↦ inr (inr z)
-      ]
-    ];
-  }
+  pub spread-left : IsSpreadOf None s4
+  spread-left = left_done s4 left o.spread (λ k here over. let at : k ≡ d = same_Some k d (sym here ∙ o.labelled) in subst (IsClosed s4.grid s4.labels s4.search left) (sym at) left-closed)
 
 -- ---- the next list
 
@@ -550,13 +558,17 @@ module _ (s new : DistanceTable) (left : Cell) (sp : IsSpreadOf (Some left) s) (
   pub put_towards : (dir : Dir) → place_of b ≡ moved (place_of left) dir → IsLabelledTowards d left dir s new
   unfolding put_label
   put_towards dir h = record {
-    spread = put-spread;
-    stays = put-labels (λ t. IsLabelled t left d) (λ _ _. left-stays s.grid s.labels s.search s.start s.goal s.f_bound left s.layer s.next sp map d few on_left at_left over b beside on_b within more put_label.labels refl);
+    left_on_bound = record {
+      spread = put-spread;
+      labelled = put-labels (λ t. IsLabelled t left d) (λ _ _. left-stays s.grid s.labels s.search s.start s.goal s.f_bound left s.layer s.next sp map d few on_left at_left over b beside on_b within more put_label.labels refl);
+      on_ground = put-labels (λ t. IsOnGround t.grid left) (λ _ _. on_left);
+      over = put-labels (λ t. d + manhattan left t.start ≡ t.f_bound) (λ _ _. over);
+    };
     found = put-labels (λ t. IsFoundTowards t d left dir) (λ _ _. found-put s.grid s.labels s.search s.start s.goal s.f_bound left s.layer s.next sp map d few on_left at_left over b beside on_b within more put_label.labels refl dir h);
     fall = put-labels (LabelsFall s) (λ _ _. falls s.grid s.labels s.search s.start s.goal s.f_bound left s.layer s.next sp map d few on_left at_left over b beside on_b within more put_label.labels refl);
     work = put-works;
   }
 
 -- nothing is to be labelled in the direction
-pub none_towards : (s : DistanceTable) (left : Cell) (d : ℕ) (dir : Dir) → IsSpreadOf (Some left) s → IsLabelled s left d → IsFoundTowards s d left dir → IsLabelledTowards d left dir s s
-none_towards s left d dir sp at_left found = record { spread = sp; stays = at_left; found = found; fall = λ c n on e. (n, e, omega arith); work = (let w = work_left s in omega arith) }
+pub none_towards : (s : DistanceTable) (left : Cell) (d : ℕ) (dir : Dir) → IsOnBound d left s → IsFoundTowards s d left dir → IsLabelledTowards d left dir s s
+none_towards s left d dir on found = record { left_on_bound = on; found = found; fall = λ c n on e. (n, e, omega arith); work = (let w = work_left s in omega arith) }

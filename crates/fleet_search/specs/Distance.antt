@@ -125,11 +125,17 @@ pub record IsLabelNear (search : ℕ) (l : Label) (distance : ℕ) : Type 0 wher
   pub current : l.search ≡ search
   pub near : l.distance ≤ distance
 
--- the neighbour in the direction from the cell that is left, which stays labelled with so many moves, is labelled too;
--- no label rises, and no more is left to do
+-- over the cell that is left, which is labelled with so many moves, a path of `f_bound` moves leads
+pub record IsOnBound (distance : ℕ) (left : Cell) (d : DistanceTable) : Type 0 where
+  pub spread : IsSpreadOf (Some left) d
+  pub labelled : IsLabelled d left distance
+  pub on_ground : IsOnGround d.grid left
+  pub over : distance + manhattan left d.start ≡ d.f_bound
+
+-- the neighbour in the direction from the cell that is left, which stays as it is, is labelled; no label rises, and no
+-- more is left to do
 pub record IsLabelledTowards (distance : ℕ) (left : Cell) (dir : Dir) (old new : DistanceTable) : Type 0 where
-  pub spread : IsSpreadOf (Some left) new
-  pub stays : IsLabelled new left distance
+  pub left_on_bound : IsOnBound distance left new
   pub found : IsFoundTowards new distance left dir
   pub fall : LabelsFall old new
   pub work : work_left new ≤ work_left old

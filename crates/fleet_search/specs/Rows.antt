@@ -3,16 +3,12 @@ use Rattle.std.specs.Prelude.{◌≡◌, ℕ, ◌==◌, cond, List, [], ◌∷�
 use Rattle.std.specs.declared.alloc.Global.{Global}
 
 -- the row of this key, which is empty past the last one
-unfoldable pub bucket_of : List (List ℕ) → ℕ → List ℕ
+abbrev pub bucket_of : List (List ℕ) → ℕ → List ℕ
 bucket_of rows k = get_or rows k []
 
 -- the rows as lists
 abbrev pub lists_of : List (Vec ℕ Global) → List (List ℕ)
 lists_of rows = map (λ v. v.items) rows
-
--- the same of rows in memory
-abbrev pub bucket_in : List (Vec ℕ Global) → ℕ → List ℕ
-bucket_in rows k = bucket_of (lists_of rows) k
 
 -- the number is last in its row, and the others are as before
 abbrev pub IsPut : List (List ℕ) → List (List ℕ) → ℕ → ℕ → Type 0

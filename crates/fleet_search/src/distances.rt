@@ -5,7 +5,7 @@ ghost use Rattle.fleet_model.specs.Geometry.{place_of, moved};
 ghost use Rattle.fleet_model.specs.declared.geometry.Cell.{Cell};
 ghost use Rattle.fleet_model.specs.declared.limits.TheConstants.{MAX_COORDINATE, MAX_HORIZON};
 ghost use Rattle.fleet_grid.specs.Ground.{IsGround, cell_index};
-ghost use Rattle.fleet_search.specs.Distance.{no_label, label_in, manhattan, least_moves, heuristic, AreDistances, IsOnGround, IsSpreadOf, IsLabelled, IsLabelledTowards, IsSameSearch, IsLabelNear, IsPutFrom, with_label, work_left};
+ghost use Rattle.fleet_search.specs.Distance.{no_label, label_in, manhattan, least_moves, heuristic, AreDistances, IsOnGround, IsSpreadOf, IsOnBound, IsLabelledTowards, IsSameSearch, IsLabelNear, IsPutFrom, with_label, work_left};
 
 use fleet_grid::Grid;
 use fleet_model::{Cell, Dir, MAX_HORIZON, OutOfMemory};
@@ -266,10 +266,7 @@ impl<'g> Distances<'g> {
     #[inline(always)]
     fn label_towards(&mut self, distance: u16, left: Cell, dir: Dir) -> Result<(), OutOfMemory>
         requires few { distance < MAX_HORIZON }
-        requires spread { IsSpreadOf (Some left) self.old }
-        requires left { IsLabelled self.old left distance }
-        requires cell { IsOnGround self.old.grid left }
-        requires f_bound { distance + manhattan left self.old.start ≡ self.old.f_bound }
+        requires left { IsOnBound distance left self.old }
         ensures same { IsSameSearch self.old self.new }
         ensures labelled { OnOk result (IsLabelledTowards distance left dir self.old self.new) }
     {
@@ -301,6 +298,18 @@ impl<'g> Distances<'g> {
         if u32::from(distance) + manhattan(left, self.start) != self.f_bound {
             return Ok(());
         }
+        self.label_around(distance, left)
+    }
+
+    /// Labels the neighbours of a cell over which a path of `f_bound` moves leads.
+    #[inline(always)]
+    fn label_around(&mut self, distance: u16, left: Cell) -> Result<(), OutOfMemory>
+        requires few { distance < MAX_HORIZON }
+        requires left { IsOnBound distance left self.old }
+        ensures same { IsSameSearch self.old self.new }
+        ensures spread { OnOk result (IsSpreadOf None self.new) }
+        ensures work { OnOk result (work_left self.new ≤ work_left self.old) }
+    {
         self.label_towards(distance, left, Dir::North)?;
         self.label_towards(distance, left, Dir::East)?;
         self.label_towards(distance, left, Dir::South)?;

@@ -7,13 +7,14 @@
 ghost use Rattle.std.specs.Prelude.{◌≡◌, ◌+◌, ◌-◌, ◌<◌, ◌≤◌, ◌↔◌, ℕ, IsTrue, IfSome, IfNone, IfOk, OnOk, Some, None, [], length, get_or, ◌≢◌, ◌++◌, ◌∷◌, OnErr};
 ghost use Rattle.fleet_model.specs.Geometry.{place_of, moved};
 ghost use Rattle.fleet_grid.specs.Ground.{is_passable};
+ghost use Rattle.fleet_grid.specs.Table.{items_at};
 ghost use Rattle.fleet_model.specs.declared.geometry.Cell.{Cell};
 ghost use Rattle.fleet_model.specs.declared.limits.TheConstants.{MAX_HORIZON};
 ghost use Rattle.fleet_search.specs.Reserved.{IsUnoccupied};
 ghost use Rattle.fleet_search.specs.Way.{StepFits};
 ghost use Rattle.fleet_search.specs.Intervals.{IsInInterval};
 ghost use Rattle.fleet_search.specs.Labels.{earliest_in, IsSeen};
-ghost use Rattle.fleet_search.specs.Rows.{bucket_of, lists_of, bucket_in, IsPut};
+ghost use Rattle.fleet_search.specs.Rows.{bucket_of, lists_of, IsPut};
 ghost use Rattle.fleet_search.specs.Frontier.{IsAdded, IsNodeTaken, IsBucketDone};
 ghost use Rattle.fleet_search.specs.Search.{heuristic_of, no_node, occupancies_on, IsMeasured, IsGoalState, IsBucket, WasOpen, IsExpansion, ExpandsOn, IsFrontierOf, Grows, IsPosed, IsSearched, IsTrailOf, IsFreeUntil, IsFoundAt, IsFoundIn, IsFoundFrom, IsNeighbour, HasEnded, IsSuperseded};
 ghost use Rattle.fleet_search.specs.Links.{place_in};
@@ -544,7 +545,7 @@ fn put_in_row(
     requires { key < 4294967295 }
     ensures ok { OnOk result
         (IsPut (lists_of rows.old.items) (lists_of rows.new.items) key number) }
-    ensures err { OnErr result ((k : ℕ) → bucket_in rows.new.items k ≡ bucket_in rows.old.items k) }
+    ensures err { OnErr result ((k : ℕ) → items_at rows.new.items k ≡ items_at rows.old.items k) }
 {
     let key = key as usize;
     extend_to(alloc, rows, key)?;
@@ -554,11 +555,11 @@ fn put_in_row(
 
 /// Takes off the last number of the row, if it has one.
 fn take_from_row(rows: &mut Vec<Vec<u32>>, key: u32) -> Option<u32>
-    ensures some { IfSome result (λ m. bucket_in rows.old.items key
-        ≡ bucket_in rows.new.items key ++ m ∷ []) }
-    ensures none { IfNone result (bucket_in rows.new.items key ≡ []) }
-    ensures others { (k : ℕ) → k ≢ key → bucket_in rows.new.items k ≡ bucket_in rows.old.items k }
-    ensures kept { IfNone result (bucket_in rows.old.items key ≡ []) }
+    ensures some { IfSome result (λ m. items_at rows.old.items key
+        ≡ items_at rows.new.items key ++ m ∷ []) }
+    ensures none { IfNone result (items_at rows.new.items key ≡ []) }
+    ensures others { (k : ℕ) → k ≢ key → items_at rows.new.items k ≡ items_at rows.old.items k }
+    ensures kept { IfNone result (items_at rows.old.items key ≡ []) }
 {
     let key = key as usize;
     let is_past = key >= rows.len();
@@ -573,7 +574,7 @@ const KEPT_ROWS: usize = 8_192;
 
 /// Takes all numbers out of the rows, and drops the rows after the first `KEPT_ROWS`.
 fn clear_rows(rows: &mut Vec<Vec<u32>>)
-    ensures { (k : ℕ) → bucket_in rows.new.items k ≡ [] }
+    ensures { (k : ℕ) → items_at rows.new.items k ≡ [] }
 {
     rows.truncate(KEPT_ROWS);
     for row in rows.iter_mut() {

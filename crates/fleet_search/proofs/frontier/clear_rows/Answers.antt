@@ -2,8 +2,8 @@ use Rattle.std.proofs.Common.{◌≡◌, length, inl, inr, ap, ◌∙◌, arith}
 use Rattle.std.proofs.lemmas.Bool.{cases_eq, cases_lt}
 use Rattle.std.proofs.lemmas.List.{with_items_is}
 use Rattle.std.specs.Prelude.{set}
-use Rattle.fleet_search.specs.Rows.{bucket_in}
-use Rattle.fleet_search.proofs.RowLaws.{row-past, row-set, row-other}
+use Rattle.fleet_grid.specs.Table.{items_at}
+use Rattle.fleet_grid.proofs.Pages.{items-past, items-set, items-other}
 use Rattle.fleet_search.proofs.frontier.clear_rows.Goals as goal
 
 pub loop-row-preserved : goal.loop-row-preserved
@@ -11,15 +11,15 @@ loop-row-preserved c = λ k h.
     let rows = c.loop-row.row-items in
     let i = c.loop-row.row-index in
     elim (cases_eq k i) [
-      | inl e ↦ ap (bucket_in (set rows i c.clear.new.self)) e ∙ row-set rows i c.clear.new.self (omega (arith, c.loop-row.auto.row-items)) ∙ c.clear.ensures.items
-      | inr ne ↦ row-other rows i k c.clear.new.self ne ∙ c.loop-row.invariant k (omega arith)
+      | inl e ↦ ap (items_at (set rows i c.clear.new.self)) e ∙ items-set rows i c.clear.new.self (omega (arith, c.loop-row.auto.row-items)) ∙ c.clear.ensures.items
+      | inr ne ↦ items-other rows i k c.clear.new.self ne ∙ c.loop-row.invariant k (omega arith)
     ]
 
 pub returns : goal.returns
 returns c = λ k.
     let now = c.loop-row.row-items in
     let size : length now ≡ c.truncate.new.self.len = omega (arith, c.loop-row.auto.row-items, ap length c.deref_mut-row-items.ensures.value, c.truncate.new.self.ok.0) in
-    ap (λ z. bucket_in z k) (with_items_is c.truncate.new.self now size) ∙ elim (cases_lt k (length now)) [
+    ap (λ z. items_at z k) (with_items_is c.truncate.new.self now size) ∙ elim (cases_lt k (length now)) [
       | inl l ↦ c.loop-row.invariant k (omega (arith, c.loop-row.auto.row-items))
-      | inr l ↦ row-past now k l
+      | inr l ↦ items-past now k l
     ]

@@ -1,6 +1,6 @@
 use Rattle.std.proofs.Common.{◌≡◌, ℕ, ◌<◌, []}
-use Rattle.fleet_search.specs.Rows.{bucket_in}
+use Rattle.fleet_grid.specs.Table.{items_at}
 use Rattle.fleet_search.proofs.frontier.clear_rows.Given as goal
 
 abbrev pub invariant-loop-row : goal.invariant-loop-row
-invariant-loop-row l = (k : ℕ) → k < l.row-index → bucket_in l.row-items k ≡ []
+invariant-loop-row l = (k : ℕ) → k < l.row-index → items_at l.row-items k ≡ []

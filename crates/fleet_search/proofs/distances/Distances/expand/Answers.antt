@@ -1,17 +1,26 @@
-use Rattle.std.proofs.Common.{arith, sym, ◌∙◌}
-use Rattle.fleet_search.proofs.Spread.{spread-left}
+use Rattle.std.proofs.Common.{◌≡◌, sym, ap, ◌∙◌, arith}
+use Rattle.std.proofs.lemmas.Option.{none-some, same_Some}
+use Rattle.fleet_search.specs.Distance.{DistanceTable, manhattan}
+use Rattle.fleet_search.proofs.Spread.{spread-passed}
 use Rattle.fleet_search.proofs.distances.Distances.expand.Goals as goal
 
-pub returns-clause-spread : goal.returns-clause-spread
-returns-clause-spread c =
-    let n = c.in_ok-label_towards.ensures.labelled in
-    let e = c.in_ok-label_towards-2.ensures.labelled in
-    let s = c.in_ok-label_towards-3.ensures.labelled in
-    let w = c.in_ok-label_towards-4.ensures.labelled in
-    let g3 = sym c.label_towards-4.ensures.same.grid in
-    let g2 = sym c.label_towards-3.ensures.same.grid ∙ g3 in
-    let g1 = sym c.label_towards-2.ensures.same.grid ∙ g2 in
-    spread-left c.label_towards.new.self c.label_towards-2.new.self c.label_towards-3.new.self c.label_towards-4.new.self c.in-Some.distance c.args.left w.spread g1 g2 g3 n.found e.found s.found w.found e.fall s.fall w.fall w.stays
+pub returns-in_default-clause-spread : goal.returns-in_default-clause-spread
+returns-in_default-clause-spread c = spread-passed c.args.self.now c.args.left c.requires.spread (λ n here over. none-some n (c.in_default.ensures ∙ here))
 
-pub returns-clause-work : goal.returns-clause-work
-returns-clause-work c = omega (arith, c.in_ok-label_towards.ensures.labelled.work, c.in_ok-label_towards-2.ensures.labelled.work, c.in_ok-label_towards-3.ensures.labelled.work, c.in_ok-label_towards-4.ensures.labelled.work)
+pub returns-then-from-manhattan-clause-spread : goal.returns-then-from-manhattan-clause-spread
+returns-then-from-manhattan-clause-spread c = spread-passed c.args.self.now c.args.left c.requires.spread (λ n here over.
+    let same : c.in-Some.distance ≡ n = same_Some c.in-Some.distance n (c.in-Some.ensures ∙ here) in
+    let bound = ap (λ (d : DistanceTable). d.f_bound) c.self.view_is in
+    let begin = ap (λ (d : DistanceTable). manhattan c.args.left d.start) c.self.view_is in
+    omega (arith, same, over, bound, begin, c.from.ensures, c.manhattan.ensures.value))
+
+pub label_around-requires-clause-left : goal.label_around-requires-clause-left
+label_around-requires-clause-left c =
+    let bound = ap (λ (d : DistanceTable). d.f_bound) c.self.view_is in
+    let begin = ap (λ (d : DistanceTable). manhattan c.args.left d.start) c.self.view_is in
+    record {
+      spread = c.requires.spread;
+      labelled = sym c.in-Some.ensures;
+      on_ground = c.requires.cell;
+      over = omega (arith, bound, begin, c.if-from-manhattan.false, c.from.ensures, c.manhattan.ensures.value);
+    }

@@ -10,7 +10,7 @@ returns-then-is_near-clause-labelled c =
     let s = c.args.self.now in
     let near = yes_from_true c.is_near.result c.if-is_near.true c.is_near.ensures in
     let here : IsLabelNear s.search (get_or s.labels (cell_index s.grid c.in-Some.beside) no_label) (c.args.distance + 1) = subst (λ n. IsLabelNear s.search (get_or s.labels n no_label) (c.args.distance + 1)) c.place-place.ensures.value near in
-    none_towards s c.args.left c.args.distance c.args.dir c.requires.spread c.requires.left (near_before s c.args.distance c.args.left c.in-Some.beside here c.args.dir c.in-Some.ensures.some.0)
+    none_towards s c.args.left c.args.distance c.args.dir c.requires.left (near_before s c.args.distance c.args.left c.in-Some.beside here c.args.dir c.in-Some.ensures.some.0)
 
 pub returns-clause-labelled : goal.returns-clause-labelled
 returns-clause-labelled c =
@@ -22,4 +22,4 @@ returns-clause-labelled c =
     let within : cell_index s.grid b < length s.labels = subst (λ n. n < length s.labels) at c.place-place.ensures.within in
     let more : (n : ℕ) → IsLabelled s b n → d + 1 < n = not-near s.grid s.labels s.search d b (λ h. no_from_false c.is_near.result c.if-is_near.false c.is_near.ensures (subst (λ n. IsLabelNear s.search (get_or s.labels n no_label) (d + 1)) (sym at) h)) in
     let put = subst (λ n. IsPutFrom c.args.left b (with_label s n (d + 1)) c.put.new.self) at (subst (λ t. IsPutFrom c.args.left b t c.put.new.self) c.set_label.ensures c.in_ok-put.ensures.put) in
-    put_towards s c.put.new.self c.args.left c.requires.spread c.place-place.ensures.sizes d c.requires.few c.requires.cell c.requires.left c.requires.f_bound b (c.args.dir, c.in-Some.ensures.some.0) on within more put c.args.dir c.in-Some.ensures.some.0
+    put_towards s c.put.new.self c.args.left c.requires.left.spread c.place-place.ensures.sizes d c.requires.few c.requires.left.on_ground c.requires.left.labelled c.requires.left.over b (c.args.dir, c.in-Some.ensures.some.0) on within more put c.args.dir c.in-Some.ensures.some.0

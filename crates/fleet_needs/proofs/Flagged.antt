@@ -1,31 +1,28 @@
 -- The flags of awaits, one action and one block more.
-use Rattle.std.proofs.Common.{◌≡◌, ◌≢◌, ℕ, ◌+◌, ◌-◌, ◌<◌, ◌≤◌, Bool, true, false, List, [], ◌∷◌, length, get_or, refl, sym, ap, subst, ◌∙◌, arith, inl, inr, ◌⊎◌}
+use Rattle.std.proofs.Common.{◌≡◌, ◌≢◌, ℕ, ◌+◌, ◌<◌, ◌≤◌, Bool, true, false, List, [], ◌∷◌, length, get_or, refl, sym, ap, subst, ◌∙◌, arith, inl, inr, ◌⊎◌}
 use Rattle.std.specs.Borrow.{Bor}
-use Rattle.std.specs.Prelude.{not, Contains, slice_get, slice_index, Some, None, Option, nat_le}
-use Rattle.std.proofs.lemmas.Bool.{cases_lt, cases_eq, false≢true}
-use Rattle.std.proofs.lemmas.Option.{slice_get_within, get_or_from_slice_get, same_Some}
+use Rattle.std.specs.Prelude.{not, Contains, slice_get, slice_index, Some, Option, nat_le}
+use Rattle.std.proofs.lemmas.Bool.{cases_lt, false≢true}
+use Rattle.std.proofs.lemmas.Option.{slice_get_within, same_Some}
 use Rattle.fleet_model.specs.declared.program.ActionId.{ActionId}
 use Rattle.fleet_model.specs.declared.program.Await.{Await}
 use Rattle.fleet_model.specs.Program.{Program, awaits_of, AreInRange, IsWellFormed}
 use Rattle.fleet_model.specs.Chain.{IsAction}
 use Rattle.fleet_needs.specs.Block.{HasColumn}
 use Rattle.fleet_needs.specs.Columns.{AreColumns, BlocksLeft, IsNextBlock}
-use Rattle.fleet_needs.specs.JoinPass.{AreOthers, IsJoinRow, IsMade}
+use Rattle.fleet_needs.specs.JoinPass.{AreOthers, IsMade}
 use Rattle.fleet_needs.specs.Joins.{AddsNone, HasRowOr}
 use Rattle.fleet_needs.specs.declared.schedule.Columns.{Columns}
-use Rattle.fleet_needs.specs.declared.join_pass.JoinRow.{JoinRow}
 use Rattle.fleet_needs.specs.declared.schedule.Schedule.{Schedule}
 use Rattle.fleet_needs.proofs.NextBlock.{column_cases}
 use Rattle.fleet_needs.proofs.Passing.{same_or_not}
-use Rattle.fleet_needs.specs.Implied.{AreAwaitPlaces, IsImplied, IsImpliedFlag, first_await}
+use Rattle.fleet_needs.specs.Implied.{IsImplied, IsImpliedFlag, first_await}
 use Rattle.fleet_needs.specs.Settled.{AreSettled, IsSettled}
 use Rattle.fleet_needs.proofs.AwaitOrder.{flag_apart, flags_more}
 use Rattle.fleet_needs.specs.Flags.{AreSure, AreSureIf, IsFirstSet, IsPassed, AreSet, AreFlags, IsFlagged, IsFlaggedAt, AreFlagged, AreAllFlaggedOf, AreFlaggedFor, AreLeft, AreAllFlagged, AreAwaitFlags, AreFlaggedTo, AreImplied, flags_of}
-use Rattle.fleet_needs.specs.Schedule.{IsSchedule}
 use Rattle.fleet_needs.specs.declared.implied.ImpliedAwaits.{ImpliedAwaits}
 use Rattle.fleet_needs.proofs.Joining.{awaited_action, adds_none_if_implied}
 use Rattle.fleet_needs.proofs.RowFlags.{flagged}
-use Rattle.fleet_needs.proofs.RowsMade.{row_of_action, made_back}
 
 -- ---- the flags of one action, one after another
 

@@ -1,5 +1,5 @@
 -- The column of an action is made of those of the actions that it directly needs.
-use Rattle.std.proofs.Common.{◌≡◌, ◌≢◌, ℕ, zero, suc, ◌+◌, ◌-◌, ◌<◌, ◌≤◌, List, length, get_or, max, refl, sym, ap, subst, ◌∙◌, arith, inl, inr, ◌⊎◌}
+use Rattle.std.proofs.Common.{◌≡◌, ◌≢◌, ℕ, zero, suc, ◌+◌, ◌-◌, ◌<◌, ◌≤◌, length, max, refl, sym, ap, subst, ◌∙◌, arith, inl, inr, ◌⊎◌}
 use Rattle.std.specs.Prelude.{Contains, slice_get, Some}
 use Rattle.std.proofs.lemmas.Bool.{cases_lt}
 use Rattle.std.proofs.lemmas.Option.{slice_get-get_or, slice_get_within, get_or_from_slice_get, same_Some}
@@ -10,7 +10,7 @@ use Rattle.fleet_model.specs.Chain.{IsAction, DirectlyNeeds, Reaches, awaited}
 use Rattle.fleet_needs.specs.Implied.{IsImplied}
 use Rattle.fleet_needs.specs.Joins.{AddsNone, AreQuiet}
 use Rattle.fleet_needs.specs.Rows.{IsColumn, action_before, ByOneOf, IsJoined, OfFirst}
-use Rattle.fleet_model.proofs.Chains.{own_reach, LastStep, chain_ends_by_step, Reaches-trans, Reaches-first, Reaches-last, Reaches-need}
+use Rattle.fleet_model.proofs.Chains.{own_reach, chain_ends_by_step, Reaches-trans, Reaches-first, Reaches-last, Reaches-need}
 
 abbrev act : ℕ → ℕ → ActionId
 act j c = record { agent = j; number = c }

@@ -1,10 +1,10 @@
 use Rattle.std.proofs.Common.{◌≡◌, ◌+◌, ◌<◌, ℕ, Bool, false, length, get_or, set, refl, sym, subst, ap, ◌∙◌, arith}
-use Rattle.std.specs.Prelude.{Contains, nat_le, slice_index}
+use Rattle.std.specs.Prelude.{nat_le, slice_index}
 use Rattle.std.proofs.lemmas.List.{get_or-set_same, get_or-set_other, length-set}
 use Rattle.std.proofs.lemmas.Option.{same_Some, none-some, slice_get_within, get_or_from_slice_get}
 use Rattle.fleet_model.specs.Program.{awaits_of}
 use Rattle.fleet_needs.specs.Counts.{counts_of}
-use Rattle.fleet_needs.specs.Flags.{IsFlagged, flags_of}
+use Rattle.fleet_needs.specs.Flags.{flags_of}
 use Rattle.fleet_needs.specs.Implied.{IsImpliedFlag, first_await}
 use Rattle.fleet_needs.proofs.Flagged.{flagged_of}
 use Rattle.fleet_needs.proofs.Joining.{awaited_action}

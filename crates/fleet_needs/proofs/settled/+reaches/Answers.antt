@@ -1,7 +1,6 @@
-use Rattle.std.proofs.Common.{◌≡◌, true, false, ℕ, length, sym, ap, ◌∙◌, subst, arith, inl, leb-true, le-leb}
+use Rattle.std.proofs.Common.{◌≡◌, true, false, length, sym, ap, ◌∙◌, subst, arith, inl, leb-true, le-leb}
 use Rattle.std.specs.Prelude.{Some}
 use Rattle.std.proofs.lemmas.Option.{same_Some}
-use Rattle.fleet_model.specs.declared.program.ActionId.{ActionId}
 use Rattle.fleet_model.specs.Program.{awaits_of}
 use Rattle.fleet_model.specs.Chain.{Reaches}
 use Rattle.fleet_needs.specs.Settled.{finish_tick}

@@ -21,9 +21,8 @@ use Rattle.fleet_model.specs.Machine.{Configuration, standing_at, standing_after
 use Rattle.fleet_model.proofs.Tick.{length-tick, standing_at_tick}
 use Rattle.fleet_machine.specs.Machine.{MachineState, flag_of, moving_flags}
 use Rattle.fleet_machine.specs.AgentSet.{AreNoneFrom, IsNextFrom}
-use Rattle.fleet_run.specs.declared.line.Change.{Change}
 use Rattle.fleet_run.specs.Text.{place_text}
-use Rattle.fleet_run.specs.Line.{Numeral, numeral, numeral_text, numeral_before, numeral_after, numerals_of, numerals_text, HasNumerals, EndsWith, IsNumeralAt, IsLineKept, IsWrittenOver, WritesOver, IsBeside, IsChange, IsKeptBefore, places_of}
+use Rattle.fleet_run.specs.Line.{Numeral, numeral, numeral_text, numerals_of, numerals_text, HasNumerals, EndsWith, IsNumeralAt, IsLineKept, IsWrittenOver, WritesOver, AreClose, IsBeside, IsKeptBefore, places_of}
 
 -- what was written before a place leaves what is behind it
 drop_behind : (row row' text : List ℕ) (at m : ℕ) → drop at row' ≡ text ++ drop (at + length text) row
@@ -228,25 +227,36 @@ row_set (t ∷ c) (suc i) s l e =
     let two : 2 * suc i + 1 ≡ suc (suc (2 * i + 1)) = omega arith in
     rw two (ap (λ ns. numeral 32 t.place.x ∷ numeral 44 t.place.y ∷ ns) (row_set c i s (omega arith) e))
 
-pub column_numeral : (c : Configuration) (i : ℕ) → i < length c → IsNumeralAt (numerals_of c) (2 * i) (numeral 32 (standing_at c i).place.x)
-column_numeral c i l = record { inside = omega (arith, length-numerals_of c); is = column_at c i _ l }
+pub column_numeral : (c : Configuration) (i : ℕ) (q : Place) → i < length c → (standing_at c i).place ≡ q → IsNumeralAt (numerals_of c) (2 * i) (numeral 32 q.x)
+column_numeral c i q l here = subst (λ (p : Place). IsNumeralAt (numerals_of c) (2 * i) (numeral 32 p.x)) here (record { inside = omega (arith, length-numerals_of c); is = column_at c i _ l })
 
-pub row_numeral : (c : Configuration) (i : ℕ) → i < length c → IsNumeralAt (numerals_of c) (2 * i + 1) (numeral 44 (standing_at c i).place.y)
-row_numeral c i l = record { inside = omega (arith, length-numerals_of c); is = row_at c i _ l }
+pub row_numeral : (c : Configuration) (i : ℕ) (q : Place) → i < length c → (standing_at c i).place ≡ q → IsNumeralAt (numerals_of c) (2 * i + 1) (numeral 44 q.y)
+row_numeral c i q l here = subst (λ (p : Place). IsNumeralAt (numerals_of c) (2 * i + 1) (numeral 44 p.y)) here (record { inside = omega (arith, length-numerals_of c); is = row_at c i _ l })
 
--- the numeral that an agent's change changes
-pub changing : (c : Configuration) (i : ℕ) (q r : Place) (d : Change) → i < length c → (standing_at c i).place ≡ q → IsChange i q r d
-    → IsNumeralAt (numerals_of c) d.number (numeral_before d)
-changing c i q r d l here change = elim change [
-  | inl h ↦ rw (h.1, ← here) (column_numeral c i l)
-  | inr h ↦ rw (h.1, ← here) (row_numeral c i l)
+-- a line in which the column or the row of a place was written anew
+pub column_written : (c : Configuration) (i : ℕ) (old new : Place) (s : Standing) (row begins : List ℕ) → i < length c → (standing_at c i).place ≡ old → s.place ≡ new → old.y ≡ new.y
+    → HasNumerals (set (numerals_of c) (2 * i) (numeral 32 new.x)) row begins → IsLineKept (set c i s) row begins
+column_written c i old new s row begins l here there e kept =
+    let kept' = subst (λ (q : Place). HasNumerals (set (numerals_of c) (2 * i) (numeral 32 q.x)) row begins) (sym there) kept in
+    subst (λ ns. HasNumerals ns row begins) (column_set c i s l (ap (λ (q : Place). q.y) here ∙ (e ∙ ap (λ (q : Place). q.y) (sym there)))) kept'
+
+pub row_written : (c : Configuration) (i : ℕ) (old new : Place) (s : Standing) (row begins : List ℕ) → i < length c → (standing_at c i).place ≡ old → s.place ≡ new → old.x ≡ new.x
+    → HasNumerals (set (numerals_of c) (2 * i + 1) (numeral 44 new.y)) row begins → IsLineKept (set c i s) row begins
+row_written c i old new s row begins l here there e kept =
+    let kept' = subst (λ (q : Place). HasNumerals (set (numerals_of c) (2 * i + 1) (numeral 44 q.y)) row begins) (sym there) kept in
+    subst (λ ns. HasNumerals ns row begins) (row_set c i s l (ap (λ (q : Place). q.x) here ∙ (e ∙ ap (λ (q : Place). q.x) (sym there)))) kept'
+
+-- a place beside another lies in the same column, or in the same row
+pub in_column_if : (o q : Place) → IsBeside o q → o.y ≢ q.y → (o.x ≡ q.x) × AreClose o.y q.y
+in_column_if o q beside other = elim beside [
+  | inl same ↦ same
+  | inr same ↦ absurd (other same.0)
 ]
 
-pub changed : (c : Configuration) (i : ℕ) (s : Standing) (q : Place) (d : Change) → i < length c → (standing_at c i).place ≡ q → IsChange i q s.place d
-    → set (numerals_of c) d.number (numeral_after d) ≡ numerals_of (set c i s)
-changed c i s q d l here change = elim change [
-  | inl h ↦ rw h.1 (column_set c i s l (ap (λ (p : Place). p.y) here ∙ h.0))
-  | inr h ↦ rw h.1 (row_set c i s l (ap (λ (p : Place). p.x) here ∙ h.0))
+pub in_row_if : (o q : Place) → IsBeside o q → o.y ≡ q.y → AreClose o.x q.x
+in_row_if o q beside same = elim beside [
+  | inl column ↦ let e = column.0 in rw e (record { low = omega (arith, ints); high = omega (arith, ints) })
+  | inr row ↦ row.1
 ]
 
 -- a line of which only the end was written
@@ -350,15 +360,14 @@ pub stood : (m : MachineState) (from : ℕ) (row begins : List ℕ) (places : Li
 stood m from row begins places h i nowhere agent =
     sym (ap (λ l. get_or l i nowhere) h.placed ∙ place_of_agent h.now i nowhere (omega (arith, h.agents)))
 
-pub rewritten_next : (m : MachineState) (from i : ℕ) (row row' begins begins' : List ℕ) (places : List Place) (h : IsRewritten m from row begins places) (q : Place) (d : Change) → IsNextFrom m.moving from i
-    → i < length m.configuration → (standing_at h.now i).place ≡ q → IsChange i q (standing_at m.configuration i).place d
-    → HasNumerals (set (numerals_of h.now) d.number (numeral_after d)) row' begins' → IsRewritten m (i + 1) row' begins' (set places i (standing_at m.configuration i).place)
-rewritten_next m from i row row' begins begins' places h q d next agent here change kept =
+pub rewritten_next : (m : MachineState) (from i : ℕ) (row row' begins begins' : List ℕ) (places : List Place) (h : IsRewritten m from row begins places) → IsNextFrom m.moving from i → i < length m.configuration
+    → IsLineKept (set h.now i (standing_at m.configuration i)) row' begins' → IsRewritten m (i + 1) row' begins' (set places i (standing_at m.configuration i).place)
+rewritten_next m from i row row' begins begins' places h next agent kept =
     let s = standing_at m.configuration i in
     let within : i < length h.now = omega (arith, h.agents) in
     record {
       now = set h.now i s;
-      kept = subst (λ ns. HasNumerals ns row' begins') (changed h.now i s q d within here change) kept;
+      kept = kept;
       placed = ap (λ (l : List Place). set l i s.place) h.placed ∙ places_with h.now i s;
       agents = omega (arith, length-set h.now i s, h.agents);
       same = λ j none. elim (cases_eq j i) [

@@ -5,7 +5,6 @@ use Rattle.std.specs.Fmt.{signed_decimal}
 use Rattle.fleet_model.specs.declared.geometry.Place.{Place}
 use Rattle.fleet_model.specs.Machine.{Configuration, standing_at}
 use Rattle.fleet_machine.specs.Machine.{MachineState, flag_of}
-use Rattle.fleet_run.specs.declared.line.Change.{Change}
 use Rattle.fleet_run.specs.declared.line.TheConstants.{TIME, NUMERALS}
 use Rattle.fleet_run.specs.declared.trace.TheConstants.{LINE, NUMBER}
 
@@ -113,19 +112,6 @@ pub record IsDigitOver (old new : ℤ) (at : ℕ) (row row' : List ℕ) : Type 0
 -- one of the two coordinates is the same, and the other differs by one at most
 abbrev pub IsBeside : Place → Place → Type 0
 IsBeside q r = ((q.x ≡ r.x) × AreClose q.y r.y) ⊎ ((q.y ≡ r.y) × AreClose q.x r.x)
-
--- the numeral that changes, before and after
-abbrev pub numeral_before : Change → Numeral
-numeral_before d = numeral d.separator d.old
-
-abbrev pub numeral_after : Change → Numeral
-numeral_after d = numeral d.separator d.new
-
--- agent i goes from the one place to the other by this change of its column or of its row
-abbrev pub IsChange : ℕ → (q r : Place) → Change → Type 0
-IsChange i q r d =
-    ((q.y ≡ r.y) × (d ≡ record { number = 2 * i; separator = 32; old = q.x; new = r.x }))
-    ⊎ ((q.x ≡ r.x) × (d ≡ record { number = 2 * i + 1; separator = 44; old = q.y; new = r.y }))
 
 -- where the agents stand
 abbrev pub places_of : Configuration → List Place

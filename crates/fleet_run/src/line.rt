@@ -4,7 +4,9 @@
 ghost use Rattle.std.specs.Prelude.{◌≡◌, false, ◌+◌, ◌-◌, ◌*◌, ◌<◌, ◌≤◌, ◌^◌, ◌++◌, ◌∷◌, ℕ, List, true, length, take, drop, set, get_or, slice_index, IfSome, IfNone, IsTrue, ◌↔◌, ◌%◌, ◌≢◌, pos};
 ghost use Rattle.std.specs.List.{copy_within};
 ghost use Rattle.std.specs.Fmt.{decimal};
-ghost use Rattle.fleet_run.specs.Line.{AreClose, EndsWith, HasNumerals, IsBeside, IsChange, IsDigit, IsDigitOver, IsLineKept, IsKeptBefore, IsNumeralAt, IsResized, Numeral, WritesOver, numeral, numeral_after, numeral_before, numeral_text, places_of};
+ghost use Rattle.fleet_model.specs.declared.standing.Standing.{Standing};
+ghost use Rattle.fleet_model.specs.Machine.{Configuration, standing_at};
+ghost use Rattle.fleet_run.specs.Line.{AreClose, EndsWith, HasNumerals, IsBeside, IsDigit, IsDigitOver, IsLineKept, IsKeptBefore, IsNumeralAt, IsResized, Numeral, WritesOver, numeral, numeral_text, places_of};
 
 use crate::trace::{LINE, NUMBER, write_count, write_separated};
 use fleet_machine::Machine;
@@ -204,19 +206,18 @@ fn put_text(at: usize, text: &[u8], row: &mut [u8], begins: &mut [u16]) -> u32
     MOST_RESIZED + 1
 }
 
-/// Writes the number that a change leads to over the one from which it does, and answers as `put_text` does.
+/// Writes a number, after a byte, over a number of the line, and answers as `put_text` does.
 #[inline(never)]
-fn put_change(change: Change, row: &mut [u8], begins: &mut [u16]) -> u32
-    requires kept { (ns : List Numeral) × (HasNumerals ns row.old begins.old)
-        × (change.number < length ns) }
+fn put_numeral(at: usize, separator: u8, value: i32, row: &mut [u8], begins: &mut [u16]) -> u32
+    requires kept { (ns : List Numeral) × (HasNumerals ns row.old begins.old) × (at < length ns) }
     ensures few { result ≤ MOST_RESIZED + 1 }
     ensures kept { result ≤ MOST_RESIZED → (ns : List Numeral)
-        → HasNumerals ns row.old begins.old → change.number < length ns
-        → HasNumerals (set ns change.number (numeral_after change)) row.new begins.new }
+        → HasNumerals ns row.old begins.old → at < length ns
+        → HasNumerals (set ns at (numeral separator value)) row.new begins.new }
 {
     let mut text = [0; NUMBER];
-    let at = write_separated(change.separator, change.new, &mut text, NUMBER);
-    put_text(change.number, &text[at..], row, begins)
+    let begin = write_separated(separator, value, &mut text, NUMBER);
+    put_text(at, &text[begin..], row, begins)
 }
 
 /// Writes the time before the places, and answers where the line begins.
@@ -271,55 +272,62 @@ fn patch_digit(old: i32, new: i32, row: &mut [u8], at: usize) -> bool
     true
 }
 
-/// How a move changes a line: which number of the line it changes, the byte before that, and the number before and
-/// after.
-#[derive(Clone, Copy)]
-struct Change {
-    number: usize,
+/// Writes a number over one beside it, which stands there, if only its last digit changes, and answers whether it did.
+#[inline(always)]
+fn patch(at: usize, old: i32, new: i32, row: &mut [u8], begins: &[u16]) -> bool
+    requires kept { (ns : List Numeral) × (separator : ℕ) × (HasNumerals ns row.old begins.now)
+        × IsNumeralAt ns at (numeral separator old) }
+    requires close { AreClose old new }
+    ensures kept { result ≡ true → (ns : List Numeral) (separator : ℕ)
+        → HasNumerals ns row.old begins.now → IsNumeralAt ns at (numeral separator old)
+        → HasNumerals (set ns at (numeral separator new)) row.new begins.now }
+    ensures same { result ≡ false → row.new ≡ row.old }
+{
+    let end = usize::from(begins[at + 1]);
+    patch_digit(old, new, row, end - 1)
+}
+
+/// Writes a number over one beside it, which stands there after this byte, and answers as `put_text` does.
+#[inline(always)]
+fn change_numeral(
+    at: usize,
     separator: u8,
     old: i32,
     new: i32,
+    row: &mut [u8],
+    begins: &mut [u16],
+) -> u32
+    requires kept { (ns : List Numeral) × (HasNumerals ns row.old begins.old)
+        × IsNumeralAt ns at (numeral separator old) }
+    requires close { AreClose old new }
+    ensures few { result ≤ MOST_RESIZED + 1 }
+    ensures kept { result ≤ MOST_RESIZED → (ns : List Numeral)
+        → HasNumerals ns row.old begins.old → IsNumeralAt ns at (numeral separator old)
+        → HasNumerals (set ns at (numeral separator new)) row.new begins.new }
+{
+    if patch(at, old, new, row, begins) {
+        return 0;
+    }
+    put_numeral(at, separator, new, row, begins)
 }
 
-/// How the line changes where agent `i` goes from a place to one beside it.
+/// Writes the place of agent `i` over the one beside it where the agent stood, and answers as `put_text` does.
 #[inline(always)]
-fn change_of(i: usize, old: Place, new: Place) -> Change
+fn move_place(i: usize, old: Place, new: Place, row: &mut [u8], begins: &mut [u16]) -> u32
     requires agent { i < MAX_AGENTS }
+    requires kept { (c : Configuration) × (IsLineKept c row.old begins.old) × (i < length c)
+        × ((standing_at c i).place ≡ old) }
     requires beside { IsBeside old new }
-    ensures close { AreClose result.old result.new }
-    ensures change { IsChange i old new result }
+    ensures few { result ≤ MOST_RESIZED + 1 }
+    ensures kept { result ≤ MOST_RESIZED → (c : Configuration)
+        → IsLineKept c row.old begins.old → i < length c → (standing_at c i).place ≡ old
+        → (s : Standing) → s.place ≡ new → IsLineKept (set c i s) row.new begins.new }
 {
     let is_other_row = old.y != new.y;
     if is_other_row {
-        Change {
-            number: 2 * i + 1,
-            separator: b',',
-            old: old.y,
-            new: new.y,
-        }
-    } else {
-        Change {
-            number: 2 * i,
-            separator: b' ',
-            old: old.x,
-            new: new.x,
-        }
+        return change_numeral(2 * i + 1, b',', old.y, new.y, row, begins);
     }
-}
-
-/// Makes a change of the line if it changes a last digit alone, and answers whether it did.
-#[inline(always)]
-fn patch(change: Change, row: &mut [u8], begins: &[u16]) -> bool
-    requires kept { (ns : List Numeral) × (HasNumerals ns row.old begins.now)
-        × IsNumeralAt ns change.number (numeral_before change) }
-    requires close { AreClose change.old change.new }
-    ensures kept { result ≡ true → (ns : List Numeral) → HasNumerals ns row.old begins.now
-        → IsNumeralAt ns change.number (numeral_before change)
-        → HasNumerals (set ns change.number (numeral_after change)) row.new begins.now }
-    ensures same { result ≡ false → row.new ≡ row.old }
-{
-    let end = usize::from(begins[change.number + 1]);
-    patch_digit(change.old, change.new, row, end - 1)
+    change_numeral(2 * i, b' ', old.x, new.x, row, begins)
 }
 
 /// Writes the places of the agents that the last tick moved over those before, in the row and in the list of places;
@@ -337,11 +345,10 @@ pub fn write_moved(machine: &Machine, row: &mut [u8], begins: &mut [u16], places
     while let Some(i) = machine.moved_at(&mut cursor) {
         let i = usize::from(i);
         let place = rows[i].place;
-        let change = change_of(i, places[i], place);
+        let more = move_place(i, places[i], place, row, begins);
         places[i] = place;
-        let is_patched = patch(change, row, begins);
-        if !is_patched {
-            resized += put_change(change, row, begins);
+        if more > 0 {
+            resized += more;
             if resized > MOST_RESIZED {
                 write_places(rows, row, begins);
                 copy_places(rows, places);

@@ -1,4 +1,4 @@
-use Rattle.std.proofs.Common.{◌≡◌, ◌+◌, ◌*◌, ◌-◌, ◌<◌, arith, length, rules, ap, ◌∙◌, ◌∷◌, subst}
+use Rattle.std.proofs.Common.{◌≡◌, ◌+◌, ◌*◌, ◌-◌, ◌<◌, arith, length, refl, rules, ap, ◌∙◌, ◌∷◌, subst}
 use Rattle.std.proofs.lemmas.List.{drop_all}
 use Rattle.fleet_run.specs.Line.{EndsWith, numerals_of}
 use Rattle.fleet_run.proofs.Lines.{all_written, column_numeral, ends_empty, length-numerals_of, row_numeral}
@@ -19,8 +19,8 @@ loop-i-preserved c =
     let inside : i < length rows = omega arith in
     let next : 2 * c.loop-i.i ≡ 2 * i + 1 + 1 = omega arith in
     let old : EndsWith (numerals_of rows) (2 * i + 1 + 1) c.loop-i.at c.loop-i.row c.loop-i.begins = subst (λ k. EndsWith (numerals_of rows) k c.loop-i.at c.loop-i.row c.loop-i.begins) next c.loop-i.invariant in
-    c.write_numeral-at-in-loop-i.ensures.written (numerals_of rows) (search (rules, column_numeral rows i inside))
-    (c.write_numeral-at.ensures.written (numerals_of rows) (search (rules, row_numeral rows i inside)) old)
+    c.write_numeral-at-in-loop-i.ensures.written (numerals_of rows) (search (rules, column_numeral rows i _ inside refl))
+    (c.write_numeral-at.ensures.written (numerals_of rows) (search (rules, row_numeral rows i _ inside refl)) old)
 
 pub returns : goal.returns
 returns c =

@@ -20,7 +20,7 @@ pub enum FileFault {
 pub const MAX_BYTES: usize = 268_435_456;
 
 /// How many bytes are asked for at a time.
-pub(crate) const CHUNK: usize = 4_000;
+pub const CHUNK: usize = 4_096;
 
 /// Why an input was not read to its end.
 #[derive(Clone, Copy)]
@@ -64,23 +64,13 @@ fn read_to_limit<R: Read>(
     }
 }
 
-/// All bytes of the reader. Errors: `Failed` if a read fails or is interrupted, or if there are more than `MAX_BYTES`
-/// bytes, and `OutOfMemory`.
-pub fn read_whole<R: Read>(alloc: Global, reader: &mut R) -> Result<Vec<u8>, FileFault>
-    ensures whole { IfOk result (λ bytes. IfSome (R.remaining reader.old)
-        (λ rest. bytes.items ≡ rest)) }
-    ensures within { IfOk result (λ bytes. length bytes.items ≤ MAX_BYTES) }
-{
-    read_through(alloc, reader, &mut [0; CHUNK])
-}
-
-/// The same, by way of a chunk that is there.
-pub(crate) fn read_through<R: Read>(
+/// All bytes of the reader, by way of the chunk. Errors: `Failed` if a read fails or is interrupted, or if there are
+/// more than `MAX_BYTES` bytes, and `OutOfMemory`.
+pub fn read_whole<R: Read>(
     alloc: Global,
     reader: &mut R,
-    chunk: &mut [u8],
+    chunk: &mut [u8; CHUNK],
 ) -> Result<Vec<u8>, FileFault>
-    requires { 1 ≤ length chunk.old }
     ensures whole { IfOk result (λ bytes. IfSome (R.remaining reader.old)
         (λ rest. bytes.items ≡ rest)) }
     ensures within { IfOk result (λ bytes. length bytes.items ≤ MAX_BYTES) }

@@ -44,6 +44,6 @@ pub use fleet_args::{
     PlanRequest, ProgramFor, RehearseRequest, Request, RestRequest, RunRequest, Tasks, ThinRequest,
     TimesRequest, Tries, WordStop, read_words,
 };
-pub use input::{FileFault, MAX_BYTES, read_whole};
+pub use input::{CHUNK, FileFault, MAX_BYTES, read_whole};
 pub use mem_files::MemFiles;
 pub use run_commands::{auto_run, run_hex};

@@ -9,7 +9,7 @@ ghost use Rattle.fleet_cli.specs.RunCommands.{FlushesRun, Runs, AutoRuns, Answer
 
 use crate::fault::{AutoFault, Fault, finish, in_step, step_fault};
 use crate::files::FileTexts;
-use crate::input::{FileFault, read_whole};
+use crate::input::{CHUNK, FileFault, read_whole};
 use crate::output::{hand_on, put_counts};
 use crate::steps::{
     ONE_TRY, PlanNumbers, accept, accept_made, made_bytes, read_problem, view_program, view_subject,
@@ -217,7 +217,7 @@ fn read_hex_input<R: Read>(alloc: Global, input: &mut R) -> Result<Vec<u8>, Faul
     ensures bytes { IfOk result (λ bytes. ReadsInput (R.remaining input.old) bytes.items) }
     ensures fault { IfErr result (IsInputRefusal (R.remaining input.old)) }
 {
-    let text = match read_whole(alloc, input) {
+    let text = match read_whole(alloc, input, &mut [0; CHUNK]) {
         Ok(text) => text,
         Err(FileFault::OutOfMemory) => return Err(Fault::Memory),
         Err(FileFault::Failed) => return Err(Fault::File("-")),

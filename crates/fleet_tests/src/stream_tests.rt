@@ -8,7 +8,7 @@ ghost use Rattle.fleet_text.specs.Sink.{IsWorking};
 use crate::due::due_bytes;
 use crate::fleets::{PAIR_BYTES, PAIR_TEXT, PAIR_TRACE, accepted_pair, pair, pair_fleet};
 use crate::streams::{FailingSource, ShortReader, ShortWriter, given};
-use fleet_cli::{FileFault, read_whole};
+use fleet_cli::{CHUNK, FileFault, read_whole};
 use fleet_code::load;
 use fleet_dispatch::{
     DispatchFault, NoLog, Outset, Pace, ReportForm, ReportLog, SinkLog, dispatch_logged,
@@ -345,7 +345,10 @@ fn is_unread(alloc: Global, rest: &[u8], failing: ErrorKind) -> bool {
         rest,
         failing: Some(failing),
     };
-    matches!(read_whole(alloc, &mut input), Err(FileFault::Failed))
+    matches!(
+        read_whole(alloc, &mut input, &mut [0; CHUNK]),
+        Err(FileFault::Failed)
+    )
 }
 
 /// Whether a dispatch over such an input stops for that, or goes to its end once it has all reports.
@@ -371,7 +374,7 @@ fn inputs_fail_after_some_bytes(rt: HostRuntime) -> Result<(), Fail> {
             assert!(rt; is_unheard(rt.alloc(), rest, failing)?, "{len}");
         }
     }
-    let whole = read_whole(rt.alloc(), &mut given(REPORTS))?;
+    let whole = read_whole(rt.alloc(), &mut given(REPORTS), &mut [0; CHUNK])?;
     due_bytes(&rt, &whole, REPORTS);
     Ok(())
 }

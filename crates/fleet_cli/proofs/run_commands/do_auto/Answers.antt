@@ -1,4 +1,4 @@
-use Rattle.std.proofs.Common.{List, ℕ, Ok, Err, inl, inr, refl, subst}
+use Rattle.std.proofs.Common.{List, ℕ, Err, inl, inr, refl, subst}
 use Rattle.std.proofs.lemmas.Result.{err_from_is_err_and}
 use Rattle.fleet_cli.specs.Steps.{SpellsMade}
 use Rattle.fleet_cli.specs.RunCommands.{Runs}

@@ -5,9 +5,9 @@ enter memory
 on='examples/pair.map examples/pair.scen'
 many='examples/warehouse.map examples/warehouse.scen'
 
-# due COMMAND..: runs a command, and keeps what is due of it.
+# due COMMAND..: runs a command, and keeps what is due of it. The file `out` is there, and holds $held, or `kept`.
 script due <<'EOF'
-echo kept > out
+echo "${held:-kept}" > out
 "$@" > due.got 2> due.told < "$input"
 echo $? > due.status
 cp out due.out
@@ -17,13 +17,13 @@ EOF
 # then says which: 126 and 127 are the statuses of a program that could not be started, and those above 128 of one that
 # a signal ended.
 script judged <<'EOF'
-echo kept > out
+echo "${held:-kept}" > out
 $limits "$@" > got 2> told < "$input"
 status=$?
 line= more= bytes=
 { read -r line; read -r more; } < told
 [ -s got ] || read -r bytes < out
-if [ "$status $line$more $bytes" = '3 memory kept' ]; then was=lacking
+if [ "$status $line$more $bytes" = "3 memory ${held:-kept}" ]; then was=lacking
 elif [ "$status" = "$(cat due.status)" ] && cmp -s got due.got && cmp -s told due.told && cmp -s out due.out; then was=right
 elif [ "$status" -gt 128 ]; then was=killed
 elif [ "$status" -ge 126 ]; then was=unstarted
@@ -163,7 +163,7 @@ verify examples/corridor.map examples/corridor.scen examples/pair.program
 EOF
     check 'each growth refused: no words' 0 'each\n' '' 'input=examples/pair.hex growths fleet'
     check 'each growth refused: dispatch' 0 'each\n' '' "printf '%s\n' 0:1 '0:2 1:1' 1:2 > reports && input=reports spare=4 growths fleet dispatch $on examples/pair.program"
-    check '.. which keeps a log' 0 'each\n' '' "input=reports spare=4 growths fleet dispatch $on examples/pair.program --log out"
+    check '.. which keeps a log' 0 'each\n' '' "held=0:1 input=reports spare=4 growths fleet dispatch $on examples/pair.program --resume log --log out"
     check '.. which stops at a report' 0 'each\n' '' "printf '%s\n' 0:1 1:1 1:3 > reports && input=reports spare=4 growths fleet dispatch $on examples/pair.program"
     # The verifier says yes to most programs from a run ahead, for which it makes no machine, and goes through all
     # others again. No contract says which.

@@ -1,6 +1,6 @@
 -- What the command `dispatch` does: it verifies the program of a file, and dispatches its agents over an input and an
 -- output.
-use Rattle.std.specs.Prelude.{◌≡◌, ℕ, ◌⊎◌, List, Option, min, Ok, Err, Result, if◌then◌else◌}
+use Rattle.std.specs.Prelude.{◌≡◌, ℕ, ◌⊎◌, List, [], Option, IfSome, min, Ok, Err, Result, if◌then◌else◌}
 use Rattle.fleet_text.specs.Sink.{SinkState}
 use Rattle.fleet_model.specs.Program.{Program}
 use Rattle.fleet_dispatch.specs.Talk.{Talk}
@@ -8,13 +8,13 @@ use Rattle.fleet_dispatch.specs.Session.{first_course}
 use Rattle.fleet_dispatch.specs.declared.form.ReportForm.{ReportForm}
 use Rattle.fleet_dispatch.specs.declared.form.ReportForm.TheVariants.{Numbered, Unnumbered}
 use Rattle.fleet_dispatch.specs.declared.pace.Pace.{Pace}
-use Rattle.fleet_dispatch.specs.Replay.{DispatchesAfter}
+use Rattle.fleet_dispatch.specs.Replay.{GoesOn, DispatchesAfter}
 use Rattle.fleet_dispatch.specs.declared.run.DispatchReport.{DispatchReport}
 use Rattle.fleet_dispatch.specs.declared.fault.DispatchFault.{DispatchFault}
 use Rattle.fleet_args.specs.declared.commands.DispatchRequest.{DispatchRequest}
 use Rattle.fleet_cli.specs.declared.files.FileTexts.{FileTexts}
-use Rattle.fleet_cli.specs.Files.{Store, AreUnchanged}
-use Rattle.fleet_cli.specs.Journal.{ChangesOnlyLog, IsKept, IsLogFault}
+use Rattle.fleet_cli.specs.Files.{Store, AreUnchanged, IsOwnLog}
+use Rattle.fleet_cli.specs.Journal.{log_in, ChangesOnlyLog, IsKept, IsLogFault}
 use Rattle.fleet_cli.specs.Steps.{AcceptsTexts, IsTextsRefusal}
 use Rattle.fleet_cli.specs.declared.fault.Fault.{Fault}
 use Rattle.fleet_cli.specs.declared.fault.Fault.TheVariants as f
@@ -28,13 +28,19 @@ abbrev pub AnswersTold : Result DispatchReport DispatchFault → Result ℕ Faul
 AnswersTold (Ok report) result = result ≡ Ok 0
 AnswersTold (Err fault) result = result ≡ Err (f.Dispatch fault)
 
--- The agents of the program were told and heard, turn after turn, and what they reported was put behind the whole lines
--- of the log, until all had arrived or the dispatch stopped; or the log could not be begun, and nothing was told or
--- heard
+-- why nothing was told or heard: the reports of the past stopped the dispatch, or there was no memory for it, and every
+-- file is as before; or the log could not be begun, or held something else
+abbrev pub IsUntold : (files after : Option Store) → DispatchRequest → Program → (past : List ℕ) → Fault → Type 0
+IsUntold files after r p past fault =
+    ((stop : DispatchFault) × (fault ≡ f.Dispatch stop) × DispatchesAfter (first_course p (pace_of r)) past (λ talk. talk ≡ []) (Err stop) × AreUnchanged files after) ⊎ IsLogFault files after r.log past fault
+
+-- The log held nothing, or the bytes after which the dispatch goes on, and the agents of the program were told and
+-- heard, turn after turn, and what they reported was put behind its whole lines, until all had arrived or the dispatch
+-- stopped; or nothing was told or heard
 abbrev pub Leads : (files after : Option Store) → DispatchRequest → Program → (past : List ℕ) → (untold : Type 0) → ((log log' : SinkState) → ReportForm → Talk → Type 0) → Result ℕ Fault → Type 0
 Leads files after r p past untold talks result =
-    ((told : Result DispatchReport DispatchFault) × DispatchesAfter (first_course p (pace_of r)) past (IsKept files after r.log talks (pace_of r).form) told × AnswersTold told result)
-    ⊎ ((fault : Fault) × (result ≡ Err fault) × IsLogFault r.log fault × untold)
+    (IfSome (log_in files r.log) (IsOwnLog past) × (told : Result DispatchReport DispatchFault) × GoesOn (first_course p (pace_of r)) past (IsKept files after r.log talks (pace_of r).form) told × AnswersTold told result)
+    ⊎ ((fault : Fault) × (result ≡ Err fault) × IsUntold files after r p past fault × untold)
 
 -- What `dispatch` answers for the texts of its files. The texts and the bytes are refused, nothing was told or heard,
 -- and every file is as before; or the program is accepted, and its agents are led, and every file but the log is as

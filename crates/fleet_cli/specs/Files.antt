@@ -1,5 +1,5 @@
 -- What a store of files holds, if it says so.
-use Rattle.std.specs.Prelude.{◌≡◌, ◌≢◌, ◌<◌, ◌≤◌, ℕ, List, [], ◌∷◌, length, take, Option, Some, None, unwrap_or, option_map, Result, Ok, Err, ⊤, if◌then◌else◌}
+use Rattle.std.specs.Prelude.{◌≡◌, ◌≢◌, ◌<◌, ◌≤◌, ◌⊎◌, ℕ, Bool, true, false, IfSome, List, [], ◌∷◌, length, take, Option, Some, None, unwrap_or, option_map, Result, Ok, Err, ⊤, if◌then◌else◌}
 use Rattle.std.specs.List.{list_any}
 use Rattle.std.specs.Io.KnownBytes.{Appends}
 use Rattle.fleet_text.specs.Text.{is_lf}
@@ -55,6 +55,16 @@ whole_lines (b ∷ bytes) = if list_any is_lf (b ∷ bytes) then b ∷ whole_lin
 -- of the named file its whole lines are left
 abbrev pub HoldsLines : Option Store → Option Store → List ℕ → Type 0
 HoldsLines old new name = bytes_of new name ≡ option_map whole_lines (bytes_of old name)
+
+-- a log behind which a dispatch may go on after the bytes `past`: it holds nothing, or these
+abbrev pub IsOwnLog : (past held : List ℕ) → Type 0
+IsOwnLog past held = (held ≡ []) ⊎ (held ≡ past)
+
+-- the named file held nothing or the bytes `past`, of which the whole lines are left; or something else, and every file
+-- is as before
+abbrev pub BeginsLog : (old new : Option Store) → (name past : List ℕ) → (is_own : Bool) → Type 0
+BeginsLog old new name past true = IfSome (bytes_of old name) (IsOwnLog past) × HoldsLines old new name
+BeginsLog old new name past false = IfSome (bytes_of old name) (λ held. IsOwnLog past held → ⊥) × AreUnchanged old new
 
 -- all of the bytes were put behind those of the named file, or a front of them was
 abbrev pub PutsBehind : {T E : Type 0} → Option Store → Option Store → List ℕ → Result T E → List ℕ → Type 0

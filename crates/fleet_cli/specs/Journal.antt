@@ -1,12 +1,14 @@
 -- The log of a dispatch, in a file of a store.
-use Rattle.std.specs.Prelude.{ℕ, Bool, true, false, List, Option, Some, None, option_map}
+use Rattle.std.specs.Prelude.{◌≡◌, ◌⊎◌, ℕ, Bool, true, false, List, Option, Some, None, option_map}
 use Rattle.std.specs.Borrow.{Bor}
 use Rattle.fleet_text.specs.Sink.{SinkState}
 use Rattle.fleet_dispatch.specs.Talk.{Talk}
 use Rattle.fleet_dispatch.specs.declared.form.ReportForm.{ReportForm}
-use Rattle.fleet_cli.specs.Files.{Store, AreUnchanged, ChangesOnly, bytes_of, whole_lines}
+use Rattle.fleet_dispatch.specs.declared.fault.DispatchFault.TheVariants.{OtherLog}
+use Rattle.fleet_cli.specs.Files.{Store, AreUnchanged, ChangesOnly, BeginsLog, bytes_of, whole_lines}
 use Rattle.fleet_cli.specs.Named.{IsWriteFault}
 use Rattle.fleet_cli.specs.declared.fault.Fault.{Fault}
+use Rattle.fleet_cli.specs.declared.fault.Fault.TheVariants as f
 
 -- what a log holds, if one is named and the store says it
 abbrev pub log_in : Option Store → Option (Bor (List ℕ)) → Option (List ℕ)
@@ -34,7 +36,8 @@ IsKeptAfter held after name talks form talk = (failed : Bool) × talks (log_stat
 abbrev pub IsKept : (files after : Option Store) → Option (Bor (List ℕ)) → ((log log' : SinkState) → ReportForm → Talk → Type 0) → ReportForm → Talk → Type 0
 IsKept files after name talks form talk = IsKeptAfter (lines_in files name) after name talks form talk
 
--- the log could not be begun
-abbrev pub IsLogFault : Option (Bor (List ℕ)) → Fault → Type 0
-IsLogFault None fault = ⊥
-IsLogFault (Some name) fault = IsWriteFault name.now fault
+-- the log could not be begun; or it is none behind which a dispatch may go on after these bytes, and every file is as
+-- before
+abbrev pub IsLogFault : (files after : Option Store) → Option (Bor (List ℕ)) → (past : List ℕ) → Fault → Type 0
+IsLogFault files after None past fault = ⊥
+IsLogFault files after (Some name) past fault = IsWriteFault name.now fault ⊎ ((fault ≡ f.Dispatch OtherLog) × BeginsLog files after name.now past false)

@@ -2,9 +2,10 @@
 
 ghost use Rattle.std.specs.Prelude.{◌≡◌};
 ghost use Rattle.fleet_text.specs.Sink.{IsWorking};
+ghost use Rattle.fleet_model.specs.Program.{IsWellFormed};
 ghost use Rattle.fleet_dispatch.specs.Talk.{IsLogged};
-ghost use Rattle.fleet_dispatch.specs.Replay.{DispatchesAfter};
-ghost use Rattle.fleet_dispatch.specs.Session.{first_course};
+ghost use Rattle.fleet_dispatch.specs.Dispatch.{Dispatches};
+ghost use Rattle.fleet_dispatch.specs.Session.{IsReady, course_in, left_in};
 ghost use Rattle.fleet_cli.specs.Journal.{log_in, ChangesOnlyLog, IsKeptAfter};
 ghost use Rattle.fleet_cli.specs.DispatchCommand.{pace_of, AnswersDispatch};
 
@@ -14,11 +15,11 @@ use crate::journal::{Journal, begin_log};
 use crate::steps::{accept, read_problem};
 use fleet_args::DispatchRequest;
 use fleet_dispatch::{
-    DispatchFault, DispatchReport, NoLog, Outset, Pace, ReportForm, ReportsTo, dispatch_logged,
+    DispatchFault, DispatchReport, NoLog, Pace, ReportForm, ReportsTo, Session, dispatch_led,
+    lead_on,
 };
 use fleet_model::ProgramView;
 use fleet_run::Flush;
-use fleet_verify::Accepted;
 use std::alloc::Global;
 
 /// How the orders of a request are given.
@@ -34,36 +35,38 @@ fn pace_of(request: &DispatchRequest<'_>) -> Pace
     Pace { form, ahead }
 }
 
-/// How a dispatch begins, and the file in which it is logged, if one is named.
+/// How the orders of a dispatch are given, and the file in which it is logged, if one is named.
 #[derive(Clone, Copy)]
-struct Kept<'p, 'a> {
-    outset: Outset<'p>,
+struct Kept<'a> {
+    pace: Pace,
     log: Option<&'a str>,
 }
 
-/// Dispatches the agents of an accepted program, and puts each report that is taken behind the bytes of the log.
-fn dispatch_kept<P: ProgramView + Drop, R: ReportsTo<O>, F: Files, O: Flush>(
-    alloc: Global,
-    accepted: Accepted<'_, P>,
-    kept: Kept<'_, '_>,
+/// Dispatches the agents of a program from where the session is, and puts each report that is taken behind the bytes of
+/// the log.
+fn dispatch_kept<P: ProgramView, R: ReportsTo<O>, F: Files, O: Flush>(
+    session: &mut Session,
+    program: &P,
+    kept: Kept<'_>,
     input: &mut R,
     files: &mut F,
     out: &mut O,
 ) -> Result<DispatchReport, DispatchFault>
-    requires { IsWorking (O.state out.old) }
-    ensures outcome { DispatchesAfter
-        (first_course (P.program accepted.entry.program) kept.entry.outset.pace)
-        kept.entry.outset.past.now
+    requires well_formed { IsWellFormed (P.program program.now) }
+    requires ready { IsReady (P.program program.now) kept.pace session.old }
+    requires fresh { session.old.progress.told ≡ session.old.progress.done }
+    requires out { IsWorking (O.state out.old) }
+    ensures outcome { Dispatches (course_in (P.program program.now) kept.entry.pace session.old)
         (IsKeptAfter (log_in (F.contents files.old) kept.entry.log) (F.contents files.new)
         kept.entry.log (IsLogged R.talks input.old out.old input.new out.new)
-        kept.entry.outset.pace.form) result }
+        kept.entry.pace.form) (left_in session.new) result }
     ensures others { ChangesOnlyLog (F.contents files.old) (F.contents files.new) kept.entry.log }
 {
     match kept.log {
-        None => dispatch_logged(alloc, accepted, kept.outset, input, out, &mut NoLog),
+        None => dispatch_led(session, program, kept.pace, input, out, &mut NoLog),
         Some(name) => {
             let mut journal = Journal::new(files, name);
-            dispatch_logged(alloc, accepted, kept.outset, input, out, &mut journal)
+            dispatch_led(session, program, kept.pace, input, out, &mut journal)
         }
     }
 }
@@ -71,7 +74,8 @@ fn dispatch_kept<P: ProgramView + Drop, R: ReportsTo<O>, F: Files, O: Flush>(
 /// The command `dispatch`: verifies the program, and dispatches its agents, which report in the lines of `input`: each
 /// is told its orders over `out` as soon as they are due, before the next report is waited for. It goes on where the
 /// reports of the file `resume` led another, and each report that is taken is put behind the whole lines of the file
-/// `log` before anything follows from it. Answers 0.
+/// `log`, which holds nothing, or what `resume` does, before anything follows from it. Before the first order these two
+/// may be refused, and stay as they are. Answers 0.
 #[inline(never)]
 pub(crate) fn do_dispatch<'a, R: ReportsTo<O>, F: Files, O: Flush>(
     alloc: Global,
@@ -88,16 +92,18 @@ pub(crate) fn do_dispatch<'a, R: ReportsTo<O>, F: Files, O: Flush>(
 {
     let problem = read_problem(alloc, texts, request.subject.tasks.agents)?;
     let accepted = accept(alloc, texts, &problem)?;
-    begin_log(alloc, files, request.log)?;
-    let outset = Outset {
-        pace: pace_of(request),
-        past: &texts.log,
+    let program = accepted.program();
+    let pace = pace_of(request);
+    let mut session = match lead_on(alloc, program, pace, &texts.log) {
+        Ok(session) => session,
+        Err(fault) => return Err(Fault::Dispatch(fault)),
     };
+    begin_log(alloc, files, request.log, &texts.log)?;
     let kept = Kept {
-        outset,
+        pace,
         log: request.log,
     };
-    match dispatch_kept(alloc, accepted, kept, input, files, out) {
+    match dispatch_kept(&mut session, program, kept, input, files, out) {
         Ok(_) => Ok(0),
         Err(fault) => Err(Fault::Dispatch(fault)),
     }

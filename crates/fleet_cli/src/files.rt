@@ -1,11 +1,11 @@
 //! Stores of files, the disk, and the files that a command names.
 
-ghost use Rattle.std.specs.Prelude.{◌≡◌, ◌≤◌, Err, IfOk, IfErr, OnOk, length, take};
-ghost use Rattle.fleet_cli.specs.Files.{Store, HoldsBytes, IsRead, IsUnreadable, AreUnchanged, ChangesOnly, Replaces, HoldsLines, PutsBehind, whole_lines};
+ghost use Rattle.std.specs.Prelude.{◌≡◌, ◌≤◌, ◌↔◌, Err, IfOk, IfErr, IsTrue, OnOk, length, take};
+ghost use Rattle.fleet_cli.specs.Files.{Store, HoldsBytes, IsRead, IsUnreadable, AreUnchanged, ChangesOnly, Replaces, IsOwnLog, BeginsLog, PutsBehind, whole_lines};
 ghost use Rattle.fleet_cli.specs.Named.{IsRefusedAs, IsReadFault, IsWriteFault, IsUnread, IsGiven, given_name, given_names, AreTexts};
 
 use crate::fault::Fault;
-use crate::input::{CHUNK, FileFault, MAX_BYTES, read_through};
+use crate::input::{CHUNK, FileFault, MAX_BYTES, read_whole};
 use fleet_text::{WriteOut, put_all};
 use std::alloc::Global;
 use std::fs::{OpenFile, OpenOptions};
@@ -43,11 +43,12 @@ pub trait Files {
         ensures refused { IfErr result (refuses_write self.old name.now) }
         ensures others { ChangesOnly (contents self.old) (contents self.new) name.now };
 
-    /// Cuts off what stands behind the last LF of the file; a file that is not there is begun. After a refusal it may
-    /// hold any bytes.
-    fn cut_to_lines(&mut self, alloc: Global, name: &str) -> Result<(), FileFault>
-        ensures cut { OnOk result
-            (HoldsLines (contents self.old) (contents self.new) name.now) }
+    /// Begins the log of a dispatch that goes on after the bytes `past`: of a file that holds nothing or just these it
+    /// cuts off what stands behind the last LF, and one that is not there is begun. If it holds something else it answers
+    /// `false`, and every file is as it was. After a refusal it may hold any bytes.
+    fn begin_log(&mut self, alloc: Global, name: &str, past: &[u8]) -> Result<bool, FileFault>
+        ensures begun { IfOk result
+            (BeginsLog (contents self.old) (contents self.new) name.now past.now) }
         ensures refused { IfErr result (refuses_write self.old name.now) }
         ensures others { ChangesOnly (contents self.old) (contents self.new) name.now };
 
@@ -73,6 +74,13 @@ pub fn lines_end(bytes: &[u8]) -> usize
         end -= 1;
     }
     0
+}
+
+/// Whether a log that holds so much is one of a dispatch that goes on after the bytes `past`.
+pub fn is_own_log(held: &[u8], past: &[u8]) -> bool
+    ensures { IsTrue result ↔ IsOwnLog past.now held.now }
+{
+    held.is_empty() || held == past
 }
 
 /// The files of the disk, by their paths, and a chunk by way of which they are read.
@@ -101,7 +109,7 @@ impl<'r, R: rt::Files> Files for Disk<'r, R> {
         let Ok(mut file) = fs::open(self.runtime, name) else {
             return Err(FileFault::Failed);
         };
-        read_through(alloc, &mut file, &mut self.chunk)
+        read_whole(alloc, &mut file, &mut self.chunk)
     }
 
     fn write(&mut self, name: &str, bytes: &[u8]) -> Result<(), FileFault> {
@@ -111,20 +119,23 @@ impl<'r, R: rt::Files> Files for Disk<'r, R> {
         }
     }
 
-    /// Of what is no file, as a pipe or a terminal, nothing is cut off. The folder of a file is on the disk when it is
-    /// answered, so that a log that was begun is found there after a power cut.
-    fn cut_to_lines(&mut self, alloc: Global, name: &str) -> Result<(), FileFault> {
+    /// What is no file, as a pipe or a terminal, holds nothing. The folder of a file is on the disk when it is answered,
+    /// so that a log that was begun is found there after a power cut.
+    fn begin_log(&mut self, alloc: Global, name: &str, past: &[u8]) -> Result<bool, FileFault> {
         let mut file = open_to_append(self.runtime, name)?;
         if !is_file(&file)? {
-            return Ok(());
+            return Ok(true);
         }
-        let bytes = read_through(alloc, &mut file, &mut self.chunk)?;
+        let bytes = read_whole(alloc, &mut file, &mut self.chunk)?;
+        if !is_own_log(&bytes, past) {
+            return Ok(false);
+        }
         let end = lines_end(&bytes);
         if end < bytes.len() && file.set_len(end as u64).is_err() {
             return Err(FileFault::Failed);
         }
         sync_folder(self.runtime, name);
-        Ok(())
+        Ok(true)
     }
 
     /// What is put behind a file is on the disk when it is answered.

@@ -1,31 +1,39 @@
 //! The log of a dispatch: a file of a store, behind whose bytes the lines of its reports are put.
 
-ghost use Rattle.std.specs.Prelude.{◌≡◌, false, OnOk, IfErr};
+ghost use Rattle.std.specs.Prelude.{◌≡◌, false, OnOk, IfErr, IfSome};
+ghost use Rattle.fleet_cli.specs.Files.{IsOwnLog};
 ghost use Rattle.fleet_cli.specs.Journal.{log_in, lines_in, ChangesOnlyLog, IsLogFault};
 
 use crate::fault::Fault;
 use crate::files::Files;
 use crate::input::FileFault;
-use fleet_dispatch::ReportLog;
+use fleet_dispatch::{DispatchFault, ReportLog};
 use fleet_text::OutFault;
 use std::alloc::Global;
 
-/// Cuts off what stands behind the last LF of the log, if one is named.
+/// Begins the log, if one is named, of a dispatch that goes on after the bytes `past`: of one that holds nothing or just
+/// these it cuts off what stands behind the last LF. One that holds something else is refused, and every file is as it
+/// was.
 pub(crate) fn begin_log<'a, F: Files>(
     alloc: Global,
     files: &mut F,
     name: Option<&'a str>,
+    past: &[u8],
 ) -> Result<(), Fault<'a>>
+    ensures own { OnOk result
+        (IfSome (log_in (F.contents files.old) name.entry) (IsOwnLog past.now)) }
     ensures lines { OnOk result
         (log_in (F.contents files.new) name.entry ≡ lines_in (F.contents files.old) name.entry) }
-    ensures fault { IfErr result (IsLogFault name.entry) }
+    ensures fault { IfErr result (IsLogFault
+        (F.contents files.old) (F.contents files.new) name.entry past.now) }
     ensures others { ChangesOnlyLog (F.contents files.old) (F.contents files.new) name.entry }
 {
     let Some(name) = name else {
         return Ok(());
     };
-    match files.cut_to_lines(alloc, name) {
-        Ok(()) => Ok(()),
+    match files.begin_log(alloc, name, past) {
+        Ok(true) => Ok(()),
+        Ok(false) => Err(Fault::Dispatch(DispatchFault::OtherLog)),
         Err(FileFault::OutOfMemory) => Err(Fault::Memory),
         Err(FileFault::Failed) => Err(Fault::File(name)),
     }

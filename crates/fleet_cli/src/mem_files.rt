@@ -3,7 +3,7 @@
 ghost use Rattle.std.specs.Prelude.{◌≡◌, ◌≢◌, ◌≤◌, ◌<◌, ◌++◌, ℕ, List, [], length, Some, None, Err, OnOk, OnErr, IfOk, IfErr, IfSome, IfNone, unwrap_or};
 ghost use Rattle.fleet_cli.specs.Files.{Replaces};
 
-use crate::files::{Files, lines_end};
+use crate::files::{Files, is_own_log, lines_end};
 use crate::input::{FileFault, MAX_BYTES};
 use fleet_model::OutOfMemory;
 use indexmap::IndexMap;
@@ -118,11 +118,15 @@ impl Files for MemFiles {
         }
     }
 
-    fn cut_to_lines(&mut self, _: Global, name: &str) -> Result<(), FileFault> {
+    fn begin_log(&mut self, _: Global, name: &str, past: &[u8]) -> Result<bool, FileFault> {
         let Ok(bytes) = self.copy_of(name) else {
             return Err(FileFault::OutOfMemory);
         };
-        self.write(name, &bytes[..lines_end(&bytes)])
+        if !is_own_log(&bytes, past) {
+            return Ok(false);
+        }
+        self.write(name, &bytes[..lines_end(&bytes)])?;
+        Ok(true)
     }
 
     fn append(&mut self, name: &str, bytes: &[u8]) -> Result<(), FileFault> {

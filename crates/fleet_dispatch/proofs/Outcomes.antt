@@ -113,6 +113,7 @@ module _ (d : Course) (first then both : Talk → Type 0) (j : Joins first then 
     concludes agents moves number (Err f.ReportLimit) over e m n h = absurd h
     concludes agents moves number (Err (f.Log _)) over e m n h = absurd h
     concludes agents moves number (Err (f.LogWrite _)) over e m n h = absurd h
+    concludes agents moves number (Err f.OtherLog) over e m n h = absurd h
     concludes agents moves number (Err f.Input) over e m n h = absurd h
 
     module _ (left : is_all_done d.program s.progress.done ≡ false) where
@@ -175,6 +176,7 @@ module _ (d : Course) (first then both : Talk → Type 0) (j : Joins first then 
           )
       line_stops T pace works n f.ReportLimit same next h = absurd h
       line_stops T pace works n (f.Log line) same next h = absurd h
+      line_stops T pace works n f.OtherLog same next h = absurd h
 
       pub one_line_on : (pace : Pace) (works : Type 0) (line : Line) → pace.ahead ≡ d.ahead → IsLineTaken d.program pace then works s s' line
           → IsUnderWay d both s' (lines + 1) (more d reports line)

@@ -49,6 +49,7 @@ replays d log left (Err f.Write) h = absurd (elim h.1.told [
 replays d log left (Err f.ReportLimit) h = h
 replays d log left (Err (f.Log line)) h = absurd h
 replays d log left (Err (f.LogWrite line)) (lines, h, e) = absurd (unlogged d.form log _ (Heard h.report) _ h.talk.2)
+replays d log left (Err f.OtherLog) h = absurd h
 replays d log left (Err f.Input) h = absurd (unbroken d.form log _ h.1.talk)
 
 -- ---- what it has carried out
@@ -82,6 +83,7 @@ led_or_stopped p pace log past f.Write h = (past, h)
 led_or_stopped p pace log past f.ReportLimit h = (past, h)
 led_or_stopped p pace log past (f.Log line) h = (past, h)
 led_or_stopped p pace log past (f.LogWrite line) h = (past, h)
+led_or_stopped p pace log past f.OtherLog h = (past, h)
 led_or_stopped p pace log past f.Input h = (past, h)
 
 -- .. an error that is handed on

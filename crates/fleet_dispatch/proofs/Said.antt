@@ -43,6 +43,7 @@ module _ (talks talks' : Talk → Type 0) (more : (talk : Talk) → talks talk �
   dispatches_more left (Err f.ReportLimit) (reports, s, e) = (reports, record { taken = s.taken; left = s.left; talk = more _ s.talk; limit = s.limit }, e)
   dispatches_more left (Err (f.Log line)) s = s
   dispatches_more left (Err (f.LogWrite line)) (reports, s, e) = (reports, record { taken = s.taken; report = s.report; next = s.next; new = s.new; talk = (s.talk.0, s.talk.1, more _ s.talk.2); number = s.number }, e)
+  dispatches_more left (Err f.OtherLog) s = s
   dispatches_more left (Err f.Input) (reports, s, e) = (reports, line_more _ _ reports s, e)
 
 -- .. and of a dispatch that begins with a log
@@ -60,6 +61,7 @@ module _ (talks talks' : Talk → Type 0) (more : (talk : Talk) → talks talk �
   after_more (Err f.ReportLimit) s = elim s [ inl h ↦ inl (on (Err f.ReportLimit) h) | inr h ↦ inr (h.0, more _ h.1) ]
   after_more (Err (f.Log line)) s = (s.0, more _ s.1)
   after_more (Err (f.LogWrite line)) s = on (Err (f.LogWrite line)) s
+  after_more (Err f.OtherLog) s = on (Err f.OtherLog) s
   after_more (Err f.Input) s = on (Err f.Input) s
 
 -- ---- what holds of every talk holds of a dispatch
@@ -80,6 +82,7 @@ module _ (talks : Talk → Type 0) (K : Type 0) (gives : (talk : Talk) → talks
   dispatch_gives left (Err f.ReportLimit) (reports, s, e) = gives _ s.talk
   dispatch_gives left (Err (f.Log line)) s = absurd s
   dispatch_gives left (Err (f.LogWrite line)) (reports, s, e) = gives _ s.talk.2
+  dispatch_gives left (Err f.OtherLog) s = absurd s
   dispatch_gives left (Err f.Input) (reports, s, e) = gives _ s.talk
 
 -- a dispatch that took its memory, and went on from its log
@@ -100,6 +103,7 @@ from_there d log talks past left r replayed s = go r s
     go (Err f.ReportLimit) s = inl (there (Err f.ReportLimit) s)
     go (Err (f.Log line)) s = absurd s
     go (Err (f.LogWrite line)) s = there (Err (f.LogWrite line)) s
+    go (Err f.OtherLog) s = absurd s
     go (Err f.Input) s = there (Err f.Input) s
 
 -- a dispatch that its log stopped, or for which there was no memory
@@ -112,6 +116,7 @@ led_stops p pace log talks f.Write h silent = absurd h.1
 led_stops p pace log talks f.ReportLimit h silent = inr (h, silent)
 led_stops p pace log talks (f.Log line) h silent = (h, silent)
 led_stops p pace log talks (f.LogWrite line) h silent = absurd h.1
+led_stops p pace log talks f.OtherLog h silent = absurd h.1
 led_stops p pace log talks f.Input h silent = absurd h.1
 
 -- an error that is handed on

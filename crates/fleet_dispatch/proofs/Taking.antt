@@ -70,6 +70,7 @@ module _ (first then both : Talk → Type 0) (j : Joins first then both) (p : Pr
   report_refused T U words f.Write h t = absurd t
   report_refused T U words f.ReportLimit h t = absurd t
   report_refused T U words (f.Log line) h t = absurd t
+  report_refused T U words f.OtherLog h t = absurd t
   report_refused T U words f.Input h t = absurd t
 
   -- .. or either

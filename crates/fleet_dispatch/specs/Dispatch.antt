@@ -5,7 +5,7 @@ use Rattle.fleet_model.specs.Machine.{Configuration, indices}
 use Rattle.fleet_dispatch.specs.declared.form.ReportForm.{ReportForm}
 use Rattle.fleet_dispatch.specs.declared.run.TheConstants.{MAX_REPORTS}
 use Rattle.fleet_dispatch.specs.declared.fault.DispatchFault.{DispatchFault}
-use Rattle.fleet_dispatch.specs.declared.fault.DispatchFault.TheVariants.{OutOfMemory, Form, NotOrdered, Ended, Write, ReportLimit, Log, LogWrite, Input}
+use Rattle.fleet_dispatch.specs.declared.fault.DispatchFault.TheVariants.{OutOfMemory, Form, NotOrdered, Ended, Write, ReportLimit, Log, LogWrite, OtherLog, Input}
 use Rattle.fleet_dispatch.specs.declared.run.DispatchReport.{DispatchReport}
 use Rattle.fleet_dispatch.specs.Report.{Words, IsRising, Counts, count_of, counts_after, is_repeat, Line, Reports, Asks, words_in, is_taken}
 use Rattle.fleet_dispatch.specs.ReportText.{log_line}
@@ -181,4 +181,5 @@ Dispatches d talks left (Err Write) = (lines : List Line) × StopsAtTelling d ta
 Dispatches d talks left (Err ReportLimit) = (lines : List Line) × StopsAtLimit d talks lines × (left ≡ left_by d lines)
 Dispatches d talks left (Err (Log line)) = ⊥
 Dispatches d talks left (Err (LogWrite line)) = (lines : List Line) × StopsAtLogging d talks line lines × (left ≡ left_by d lines)
+Dispatches d talks left (Err OtherLog) = ⊥
 Dispatches d talks left (Err Input) = (lines : List Line) × StopsAtLine d talks Unheard (length lines + 1) lines × (left ≡ left_by d lines)

@@ -16,6 +16,7 @@ dispatch_words d.Write = named (codes "dispatch") 5 (codes "Write")
 dispatch_words d.ReportLimit = named (codes "dispatch") 6 (codes "ReportLimit")
 dispatch_words (d.Log line) = named_at (codes "dispatch") 7 (codes "Log") (codes "line") line
 dispatch_words (d.LogWrite line) = named_at (codes "dispatch") 8 (codes "LogWrite") (codes "line") line
+dispatch_words d.OtherLog = named (codes "dispatch") 9 (codes "OtherLog")
 dispatch_words d.Input = codes "file" ∷ codes "-" ∷ []
 
 -- whether memory, the reports, the orders or the log failed

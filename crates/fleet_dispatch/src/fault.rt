@@ -24,6 +24,8 @@ pub enum DispatchFault {
     Log { line: u64 },
     #[error("the report of line {line} cannot be logged")]
     LogWrite { line: u64 },
+    #[error("the log holds other bytes than the reports after which the dispatch goes on")]
+    OtherLog,
     #[error("the reports cannot be read")]
     Input,
 }
@@ -56,6 +58,7 @@ impl Refusal for DispatchFault {
             DispatchFault::LogWrite { line } => {
                 put_named_at(out, "dispatch", 8, "LogWrite", "line", line)
             }
+            DispatchFault::OtherLog => put_named(out, "dispatch", 9, "OtherLog"),
             DispatchFault::Input => put_line(out, &[Word::Text("file"), Word::Text("-")]),
         }
     }

@@ -2,8 +2,10 @@
 
 ghost use Rattle.std.specs.Prelude.{◌≡◌, []};
 ghost use Rattle.fleet_text.specs.Sink.{IsWorking};
+ghost use Rattle.fleet_model.specs.Program.{IsWellFormed};
 ghost use Rattle.fleet_dispatch.specs.Replay.{DispatchesAfter};
-ghost use Rattle.fleet_dispatch.specs.Session.{first_course};
+ghost use Rattle.fleet_dispatch.specs.Dispatch.{Dispatches};
+ghost use Rattle.fleet_dispatch.specs.Session.{IsReady, first_course, course_in, left_in};
 ghost use Rattle.fleet_dispatch.specs.Talk.{IsLogged, IsSaid};
 ghost use Rattle.fleet_dispatch.specs.Window.{window_rest};
 
@@ -16,7 +18,7 @@ use crate::report::Report;
 use crate::report_log::{NoLog, ReportLog};
 use crate::report_text::LineKind;
 use crate::reports_to::ReportsTo;
-use crate::run::DispatchReport;
+use crate::run::{DispatchReport, Session, run_session};
 use crate::window::Window;
 use fleet_model::ProgramView;
 use fleet_text::{Flush, OutFault};
@@ -144,7 +146,32 @@ pub fn dispatch_logged<P: ProgramView + Drop, R: ReportsTo<O>, O: Flush, L: Repo
     dispatch_accepted(alloc, accepted, outset.pace, outset.past, &mut floor)
 }
 
-/// The same without a log.
+/// The same of a session that the reports of the past have led (`lead_on`).
+///
+/// Errors: those of `run_session`.
+pub fn dispatch_led<P: ProgramView, R: ReportsTo<O>, O: Flush, L: ReportLog>(
+    session: &mut Session,
+    program: &P,
+    pace: Pace,
+    input: &mut R,
+    orders: &mut O,
+    log: &mut L,
+) -> Result<DispatchReport, DispatchFault>
+    requires well_formed { IsWellFormed (P.program program.now) }
+    requires ready { IsReady (P.program program.now) pace session.old }
+    requires fresh { session.old.progress.told ≡ session.old.progress.done }
+    requires orders { IsWorking (O.state orders.old) }
+    requires log { IsWorking (L.state log.old) }
+    ensures outcome { Dispatches (course_in (P.program program.now) pace session.old)
+        (IsLogged R.talks input.old orders.old input.new orders.new (L.state log.old)
+        (L.state log.new) pace.form) (left_in session.new) result }
+    ensures stays { L.stays log.old log.new }
+{
+    let mut floor = StreamFloor::new(pace.form, input, orders, log);
+    run_session(session, program, pace, &mut floor)
+}
+
+/// A dispatch without a log, from its start or where the reports of the past have led another.
 ///
 /// Errors: those of `dispatch_accepted`.
 pub fn dispatch_over<P: ProgramView + Drop, R: ReportsTo<O>, O: Flush>(

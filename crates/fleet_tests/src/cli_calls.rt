@@ -390,13 +390,15 @@ fn files_are_read_and_written(rt: HostRuntime) -> Result<(), Fail> {
     read_and_write(&rt, rt.alloc(), &mut MemFiles::new(rt.alloc()))
 }
 
-/// A file is cut to its whole lines, and grows behind them.
-fn cut_and_grow(rt: &impl Abort, alloc: Global, files: &mut MemFiles) -> Result<(), Fail> {
+/// A log is cut to its whole lines, and grows behind them; another one stays as it is.
+fn begin_and_grow(rt: &impl Abort, alloc: Global, files: &mut MemFiles) -> Result<(), Fail> {
     files.put("name", b"bytes")?;
-    files.cut_to_lines(alloc, "name")?;
+    assert!(*rt; !files.begin_log(alloc, "name", b"byte")?);
+    due_bytes(rt, files.get("name").unwrap_or(b"none"), b"bytes");
+    assert!(*rt; files.begin_log(alloc, "name", b"bytes")?);
     due_bytes(rt, files.get("name").unwrap_or(b"none"), b"");
     files.put("log", b"0:1\n1:1\n0")?;
-    files.cut_to_lines(alloc, "log")?;
+    assert!(*rt; files.begin_log(alloc, "log", b"0:1\n1:1\n0")?);
     files.append("log", b"0:2\n")?;
     files.append("new", b"1:1\n")?;
     due_bytes(rt, files.get("log").unwrap_or(b"none"), b"0:1\n1:1\n0:2\n");
@@ -405,8 +407,8 @@ fn cut_and_grow(rt: &impl Abort, alloc: Global, files: &mut MemFiles) -> Result<
 }
 
 #[test]
-fn logs_are_cut_and_grow(rt: HostRuntime) -> Result<(), Fail> {
-    cut_and_grow(&rt, rt.alloc(), &mut MemFiles::new(rt.alloc()))
+fn logs_are_begun_and_grow(rt: HostRuntime) -> Result<(), Fail> {
+    begin_and_grow(&rt, rt.alloc(), &mut MemFiles::new(rt.alloc()))
 }
 
 /// Whether a call on files failed.

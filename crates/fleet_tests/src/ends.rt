@@ -55,9 +55,9 @@ impl Files for FailingFiles {
         self.files.write(name, bytes)
     }
 
-    fn cut_to_lines(&mut self, alloc: Global, name: &str) -> Result<(), FileFault> {
+    fn begin_log(&mut self, alloc: Global, name: &str, past: &[u8]) -> Result<bool, FileFault> {
         self.count()?;
-        self.files.cut_to_lines(alloc, name)
+        self.files.begin_log(alloc, name, past)
     }
 
     fn append(&mut self, name: &str, bytes: &[u8]) -> Result<(), FileFault> {

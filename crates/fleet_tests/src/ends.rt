@@ -57,7 +57,12 @@ impl Files for FailingFiles {
 
     fn begin_log(&mut self, alloc: Global, name: &str, past: &[u8]) -> Result<bool, FileFault> {
         self.count()?;
-        self.files.begin_log(alloc, name, past)
+        // What is promised goes by the answer.
+        if self.files.begin_log(alloc, name, past)? {
+            Ok(true)
+        } else {
+            Ok(false)
+        }
     }
 
     fn append(&mut self, name: &str, bytes: &[u8]) -> Result<(), FileFault> {

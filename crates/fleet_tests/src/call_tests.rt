@@ -9,7 +9,7 @@ use fleet_adg::compile;
 use fleet_cli::{AutoFault, Files, MemFiles, auto_run};
 use fleet_code::{EncodeFault, encode, load, read_hex};
 use fleet_grid::{Grid, read_map};
-use fleet_model::{ActionId, Deps};
+use fleet_model::{ActionId, Deps, Program};
 use fleet_plan::{read_plan, write_plan};
 use fleet_run::{HoldList, RunFault, TraceOut, VecOut, rehearse, write_holds};
 use fleet_scen::{Instance, read_scen};
@@ -108,10 +108,15 @@ fn reach_counts(alloc: Global, reach: &Reach, last: u16) -> Option<Vec<u8>> {
     Some(counts)
 }
 
-/// How far the actions reach back of the program that is made for a map and an instance.
-fn reach_of(alloc: Global, grid: &Grid, instance: &Instance) -> Option<Reach> {
+/// The program that is made for a map and an instance.
+fn made_for(alloc: Global, grid: &Grid, instance: &Instance) -> Option<Program> {
     let checked = plan(alloc, grid, instance, 1024).ok()?;
-    let program = compile(alloc, &checked, Deps::Last).ok()?;
+    compile(alloc, &checked, Deps::Last).ok()
+}
+
+/// How far its actions reach back.
+fn reach_of(alloc: Global, grid: &Grid, instance: &Instance) -> Option<Reach> {
+    let program = made_for(alloc, grid, instance)?;
     let accepted = verify(alloc, program, grid, instance).ok()?;
     Reach::of(alloc, &accepted).ok()
 }

@@ -3,7 +3,7 @@
 
 use crate::code_calls::load_number;
 use crate::due::due_numbers;
-use crate::fleets::{PAIR_HEX, PAIR_MAP, PAIR_PLAN, PAIR_SCEN};
+use crate::fleets::{PAIR_BYTES, PAIR_HEX, PAIR_MAP, PAIR_PLAN, PAIR_SCEN, STAYING_BYTES};
 use fleet_code::{HexFault, read_hex, view};
 use fleet_grid::{MapFault, read_map};
 use fleet_plan::{TextFault, read_plan};
@@ -182,9 +182,24 @@ fn texts_are_changed_in_a_byte(rt: HostRuntime) -> Result<(), Fail> {
     Ok(())
 }
 
+/// The pair in version 1, and with stays in version 2.
+const PROGRAMS: [Changed<'static>; 2] = [
+    (
+        Reader::Program,
+        PAIR_BYTES,
+        [5110, 0, 1019, 770, 253, 0, 1506, 1522, 0, 2, 18, 0],
+    ),
+    (
+        Reader::Program,
+        STAYING_BYTES,
+        [6150, 0, 1019, 784, 253, 996, 2500, 1535, 0, 2, 21, 0],
+    ),
+];
+
 #[test]
 fn programs_are_changed_in_a_byte(rt: HostRuntime) -> Result<(), Fail> {
-    let bytes = read_hex(rt.alloc(), PAIR_HEX)?;
-    let due = [5110, 0, 1019, 770, 253, 0, 1506, 1522, 0, 2, 18, 0];
-    due_counts(&rt, rt.alloc(), &(Reader::Program, bytes.as_slice(), due))
+    for row in &PROGRAMS {
+        due_counts(&rt, rt.alloc(), row)?;
+    }
+    Ok(())
 }

@@ -13,6 +13,7 @@ use fleet_model::{ActionId, Cell};
 use fleet_scen::write_scen;
 use fleet_verify::ActionCosts;
 use std::alloc::Global;
+use std::process::Abort;
 use std::test::Fail;
 
 /// One row with each glyph.
@@ -59,19 +60,32 @@ fn logs_lead_on(rt: HostRuntime) -> Result<(), Fail> {
     Ok(())
 }
 
+/// The actions of a line, one of each agent of the pair, or 0.
+fn due_broken(rt: &impl Abort, alloc: Global, line: &[u8], due: [u32; 2]) -> Result<(), Fail> {
+    let program = view(alloc, PAIR_BYTES)?;
+    let Ok(breaks) = breaks_of(alloc, &program, line) else {
+        return Err(Fail::from("refused"));
+    };
+    due_numbers(rt, &breaks, &due);
+    Ok(())
+}
+
+/// Whether a line names no actions of the pair.
+fn is_no_list(alloc: Global, line: &[u8]) -> Result<bool, Fail> {
+    let program = view(alloc, PAIR_BYTES)?;
+    let fault = breaks_of(alloc, &program, line).err();
+    Ok(matches!(fault, Some(TimesFault::Broken)))
+}
+
+/// Lines that name no actions of the pair.
+const NO_LISTS: [&[u8]; 5] = [b"1:3", b"2:1", b"1:0", b"1:1 0:1", b"1"];
+
 #[test]
 fn robots_break_down_in_actions(rt: HostRuntime) -> Result<(), Fail> {
-    let alloc = rt.alloc();
-    let program = view(alloc, PAIR_BYTES)?;
-    for (line, due) in [(b"-".as_slice(), [0, 0]), (b"0:1 1:2", [1, 2])] {
-        let Ok(breaks) = breaks_of(alloc, &program, line) else {
-            return Err(Fail::from("refused"));
-        };
-        due_numbers(&rt, &breaks, &due);
-    }
-    for line in [b"1:3".as_slice(), b"2:1", b"1:0", b"1:1 0:1", b"1"] {
-        let fault = breaks_of(alloc, &program, line).err();
-        assert!(rt; matches!(fault, Some(TimesFault::Broken)));
+    due_broken(&rt, rt.alloc(), b"-", [0, 0])?;
+    due_broken(&rt, rt.alloc(), b"0:1 1:2", [1, 2])?;
+    for line in &NO_LISTS {
+        assert!(rt; is_no_list(rt.alloc(), line)?);
     }
     Ok(())
 }
@@ -85,16 +99,28 @@ fn cost_by(alloc: Global, text: &[u8], agent: u16, number: u32) -> Result<u32, F
     }
 }
 
+/// Costs of which some lines say the same, and what each action costs by them.
+const COSTS: &[u8] = b"1:2 7\n1 5\n0:1 3\n0:1 4";
+
+const COSTS_DUE: [(u16, u32, u32); 4] = [(0, 1, 4), (0, 2, 1), (1, 1, 5), (1, 2, 7)];
+
+/// Whether the second line of a text is no cost.
+fn is_no_cost(alloc: Global, text: &[u8]) -> Result<bool, Fail> {
+    let program = view(alloc, PAIR_BYTES)?;
+    let fault = costs_of(alloc, &program, text).err();
+    Ok(matches!(fault, Some(TimesFault::Cost { line: 2 })))
+}
+
 #[test]
 fn actions_cost_what_lines_say(rt: HostRuntime) -> Result<(), Fail> {
-    let alloc = rt.alloc();
-    let text = b"1:2 7\n1 5\n0:1 3\n0:1 4";
-    for (agent, number, due) in [(0, 1, 4), (0, 2, 1), (1, 1, 5), (1, 2, 7)] {
-        due_numbers(&rt, &[cost_by(alloc, text, agent, number)?], &[due]);
+    for row in &COSTS_DUE {
+        let (agent, number, due) = *row;
+        assert!(rt;
+            cost_by(rt.alloc(), COSTS, agent, number)? == due,
+            "{agent}:{number}"
+        );
     }
-    let program = view(alloc, PAIR_BYTES)?;
-    let fault = costs_of(alloc, &program, b"0 1\n0:3 1").err();
-    assert!(rt; matches!(fault, Some(TimesFault::Cost { line: 2 })));
+    assert!(rt; is_no_cost(rt.alloc(), b"0 1\n0:3 1")?);
     Ok(())
 }
 

@@ -1,15 +1,17 @@
 //! Programs that are made by hand, and what a view says of a program.
 
-ghost use Rattle.std.specs.Prelude.{◌<◌, length};
+ghost use Rattle.std.specs.Prelude.{◌<◌, ◌≤◌, ◌+◌, length};
+ghost use Rattle.fleet_model.specs.Program.{moves, awaits_of};
 
 use crate::due::{due_bytes, due_numbers};
 use crate::fleets::{PAIR_BYTES, STAYING_BYTES};
 use fleet_code::{encode, load, view};
 use fleet_model::{
     Action, Actions, AgentProgram, Await, Awaits, Cell, Dir, Instruction, OutOfMemory, Program,
-    ProgramView, Step, total_awaits, total_moves, well_formed,
+    ProgramView, Reading, Step, total_awaits, total_moves, well_formed,
 };
 use std::alloc::{AllocError, Global};
+use std::process::Abort;
 use std::test::Fail;
 
 /// A step to the east, after so many actions of agent 0, if there are any.
@@ -113,6 +115,34 @@ fn tell_instruction(one: Instruction, told: &mut Vec<u32>) -> Result<(), AllocEr
     Ok(())
 }
 
+/// Adds an instruction twice, as it is asked for and as it is read where it stands, and then whether the one after it,
+/// which has these numbers, stands where the reading says.
+fn tell_reading<P: ProgramView>(
+    program: &P,
+    i: u16,
+    finished: u32,
+    k: u16,
+    told: &mut Vec<u32>,
+) -> Result<(), AllocError>
+    requires agent { i < length (P.program program.now) }
+    requires left { finished < moves (P.program program.now) i }
+    requires place { k ≤ length (awaits_of (P.program program.now) i (finished + 1)) }
+{
+    // The view's answer shows that the program is within the limits.
+    let _ = program.agents();
+    let before = program.awaits_before(i, finished);
+    tell_instruction(program.instruction(i, finished, before, k), told)?;
+    let reading: Reading = program.read(i, finished, k, program.offset(i, finished, k));
+    tell_instruction(reading.instruction, told)?;
+    let next = if k < program.await_count(i, finished + 1) {
+        program.offset(i, finished, k + 1)
+    } else {
+        program.offset(i, finished + 1, 0)
+    };
+    told.push(u32::from(reading.after == next))?;
+    Ok(())
+}
+
 /// Adds the instructions of agent `i` from front to back, and last how many awaits it has.
 fn tell_instructions<P: ProgramView>(
     program: &P,
@@ -122,12 +152,11 @@ fn tell_instructions<P: ProgramView>(
     requires { i < length (P.program program.now) }
 {
     for finished in 0..program.moves(i) {
-        let before = program.awaits_before(i, finished);
         let awaits = program.await_count(i, finished + 1);
         for k in 0..awaits {
-            tell_instruction(program.instruction(i, finished, before, k), told)?;
+            tell_reading(program, i, finished, k, told)?;
         }
-        tell_instruction(program.instruction(i, finished, before, awaits), told)?;
+        tell_reading(program, i, finished, awaits, told)?;
     }
     told.push(program.awaits_before(i, program.moves(i)))?;
     Ok(())
@@ -142,45 +171,56 @@ fn read_by<P: ProgramView>(alloc: Global, program: &P) -> Result<Vec<u32>, Alloc
     Ok(told)
 }
 
+/// What is read of the pair, and of the pair that stays.
+const PAIR_READ: &[u32] = &[
+    1, 1, 1, 1, 1, 1, 0, 0, 1, 0, 1, 1, 1, 1, 1, 0, 2, 0, 2, 1, 1, 1, 1, 2,
+];
+
+const STAYING_READ: &[u32] = &[
+    1, 1, 1, 1, 1, 1, 4, 4, 1, 4, 4, 1, 0, 0, 1, 0, 1, 1, 1, 1, 1, 0, 2, 0, 2, 1, 1, 1, 1, 4, 4, 1,
+    4, 4, 1, 2,
+];
+
+/// This is due of the program that the bytes spell, in place and in memory.
+fn due_read(rt: &impl Abort, alloc: Global, bytes: &[u8], due: &[u32]) -> Result<(), Fail> {
+    due_numbers(rt, &read_by(alloc, &load(alloc, bytes)?)?, due);
+    due_numbers(rt, &read_by(alloc, &view(alloc, bytes)?)?, due);
+    Ok(())
+}
+
 #[test]
 fn views_are_read_from_front_to_back(rt: HostRuntime) -> Result<(), Fail> {
-    let alloc = rt.alloc();
-    let pair = [1, 1, 0, 0, 1, 1, 0, 2, 1, 2];
-    let staying = [1, 1, 4, 4, 0, 0, 1, 1, 0, 2, 1, 4, 4, 2];
-    for (bytes, due) in [
-        (PAIR_BYTES, pair.as_slice()),
-        (STAYING_BYTES, staying.as_slice()),
-    ] {
-        due_numbers(&rt, &read_by(alloc, &load(alloc, bytes)?)?, due);
-        due_numbers(&rt, &read_by(alloc, &view(alloc, bytes)?)?, due);
-    }
+    due_read(&rt, rt.alloc(), PAIR_BYTES, PAIR_READ)?;
+    due_read(&rt, rt.alloc(), STAYING_BYTES, STAYING_READ)
+}
+
+/// What a view says of the pair, and of the pair that stays.
+const PAIR_TOLD: &[u32] = &[
+    1, 0, 3, 0, 2, 0, 1, 0, 1, 0, 0, 2, 0, 2, 1, 0, 1, 1, 1, 0, 2, 1,
+];
+
+const STAYING_TOLD: &[u32] = &[
+    1, 0, 3, 0, 4, 0, 1, 0, 1, 0, 4, 0, 4, 0, 0, 2, 0, 4, 1, 0, 1, 1, 1, 0, 2, 1, 0, 4, 0, 4,
+];
+
+/// This is due of a view, and of it so many moves together, and two awaits.
+fn due_told<P: ProgramView>(
+    rt: &impl Abort,
+    alloc: Global,
+    program: &P,
+    due: &[u32],
+    moves: u32,
+) -> Result<(), Fail> {
+    due_numbers(rt, &told_by(alloc, program)?, due);
+    assert!(*rt; total_moves(program) == moves && total_awaits(program) == 2);
     Ok(())
 }
 
 #[test]
 fn views_tell_of_programs(rt: HostRuntime) -> Result<(), Fail> {
     let alloc = rt.alloc();
-    let pair = [
-        1, 0, 3, 0, 2, 0, 1, 0, 1, 0, 0, 2, 0, 2, 1, 0, 1, 1, 1, 0, 2, 1,
-    ];
-    let staying = [
-        1, 0, 3, 0, 4, 0, 1, 0, 1, 0, 4, 0, 4, 0, 0, 2, 0, 4, 1, 0, 1, 1, 1, 0, 2, 1, 0, 4, 0, 4,
-    ];
-    for (bytes, due, moves) in [
-        (PAIR_BYTES, pair.as_slice(), 4),
-        (STAYING_BYTES, staying.as_slice(), 8),
-    ] {
-        let program = load(alloc, bytes)?;
-        let view = view(alloc, bytes)?;
-        due_numbers(&rt, &told_by(alloc, &program)?, due);
-        due_numbers(&rt, &told_by(alloc, &view)?, due);
-        let totals = [
-            total_moves(&program),
-            total_awaits(&program),
-            total_moves(&view),
-            total_awaits(&view),
-        ];
-        due_numbers(&rt, &totals, &[moves, 2, moves, 2]);
-    }
-    Ok(())
+    due_told(&rt, alloc, &load(alloc, PAIR_BYTES)?, PAIR_TOLD, 4)?;
+    due_told(&rt, alloc, &view(alloc, PAIR_BYTES)?, PAIR_TOLD, 4)?;
+    due_told(&rt, alloc, &load(alloc, STAYING_BYTES)?, STAYING_TOLD, 8)?;
+    due_told(&rt, alloc, &view(alloc, STAYING_BYTES)?, STAYING_TOLD, 8)
 }

@@ -12,7 +12,7 @@ use fleet_adg::{
 use fleet_code::{EncodeFault, encode, encode2, load, view};
 use fleet_grid::{Grid, read_map};
 use fleet_model::{Cell, OutOfMemory, Program, ProgramView};
-use fleet_plan::{Checked, Path, write_plan};
+use fleet_plan::{Checked, Path, Plan, write_plan};
 use fleet_scen::Instance;
 use fleet_search::{
     PlanStop, Reservations, SearchFault, SumOfCosts, best_in_orders, bound, earliest,
@@ -146,8 +146,17 @@ const BAYS_MAP: &[u8] = b"type octile\nheight 2\nwidth 7\nmap\n.......\n@.@@.@@\
 
 const BAYS_SCEN: &[u8] = b"version 1\n0 m 7 2 6 0 0 0 6\n0 m 7 2 0 0 6 0 6\n";
 
-/// The measure of the best plan of two agents in so many orders, its sum of costs, that of its paths, its moves and its
-/// waits, and the bound.
+/// The sum of costs of a plan of two agents, that of its paths, its moves and its waits.
+fn plan_numbers(plan: &Plan) -> [u32; 4] {
+    let paths = if plan.agents() == 2 {
+        plan.path(0).cost() + plan.path(1).cost()
+    } else {
+        0
+    };
+    [plan.sum_of_costs(), paths, plan.moves(), plan.waits()]
+}
+
+/// The measure of the best plan of two agents in so many orders, the numbers of the plan, and the bound.
 fn best_numbers(
     alloc: Global,
     grid: &Grid,
@@ -155,18 +164,9 @@ fn best_numbers(
     tries: u32,
 ) -> Result<[u32; 6], Fail> {
     let best = best_in_orders(alloc, grid, instance, 1024, tries, &SumOfCosts)?;
-    let plan = best.checked.plan();
-    if plan.agents() < 2 {
-        return Err(Fail::from("no two agents"));
-    }
-    Ok([
-        best.measure,
-        plan.sum_of_costs(),
-        plan.path(0).cost() + plan.path(1).cost(),
-        plan.moves(),
-        plan.waits(),
-        bound(alloc, &best.checked)?,
-    ])
+    let [sum, paths, moves, waits] = plan_numbers(best.checked.plan());
+    let least = bound(alloc, &best.checked)?;
+    Ok([best.measure, sum, paths, moves, waits, least])
 }
 
 /// In how many orders the first plan was tried, and its sum of costs.

@@ -20,15 +20,19 @@ use std::alloc::Global;
 use std::process::Abort;
 use std::test::Fail;
 
+/// An action of the pair, by its agent and its number, and how many actions of an agent begin a chain to it.
+const REACHED: [(u16, u32, u16, u32); 5] = [
+    (0, 1, 0, 1),
+    (0, 2, 1, 0),
+    (1, 1, 0, 1),
+    (1, 2, 0, 2),
+    (1, 2, 1, 2),
+];
+
 /// How far the actions of the pair reach back.
 fn due_reach(rt: &impl Abort, reach: &Reach) {
-    for (agent, number, of, due) in [
-        (0, 1, 0, 1),
-        (0, 2, 1, 0),
-        (1, 1, 0, 1),
-        (1, 2, 0, 2),
-        (1, 2, 1, 2),
-    ] {
+    for row in &REACHED {
+        let (agent, number, of, due) = *row;
         assert!(*rt;
             reach.greatest(ActionId { agent, number }, of) == due,
             "{agent}:{number}"
@@ -160,10 +164,16 @@ const REFUSALS: [Refusal; 7] = [
     ),
 ];
 
+fn due_refused(rt: &impl Abort, alloc: Global, row: &Refusal) -> Result<(), Fail> {
+    let (map, scen, bytes, due) = *row;
+    due_bytes(rt, refusal_of(alloc, map, scen, bytes)?.bytes(), due);
+    Ok(())
+}
+
 #[test]
 fn programs_are_refused(rt: HostRuntime) -> Result<(), Fail> {
-    for (map, scen, bytes, due) in REFUSALS {
-        due_bytes(&rt, refusal_of(rt.alloc(), map, scen, bytes)?.bytes(), due);
+    for row in &REFUSALS {
+        due_refused(&rt, rt.alloc(), row)?;
     }
     Ok(())
 }
@@ -249,23 +259,37 @@ fn critical_paths_are_found(rt: HostRuntime) -> Result<(), Fail> {
     Ok(())
 }
 
+/// The action that each agent never ends, or 0; how many each still ends; and how many agents are stopped.
+type Break = ([u32; 2], [u32; 2], u16);
+
 /// Agent 1 awaits both actions of agent 0, and agent 0 none of agent 1.
-const BREAKS: [([u32; 2], [u32; 2], u16); 4] = [
+const BREAKS: [Break; 4] = [
     ([0, 0], [2, 2], 0),
     ([2, 0], [1, 1], 2),
     ([1, 0], [0, 0], 2),
     ([0, 2], [2, 1], 1),
 ];
 
+fn due_break<P: ProgramView>(
+    rt: &impl Abort,
+    alloc: Global,
+    accepted: &Accepted<'_, P>,
+    row: &Break,
+) -> Result<(), Fail> {
+    let (breaks, due, stopped) = *row;
+    let counts = reached_counts(alloc, accepted, &breaks)?;
+    due_numbers(rt, &counts, &due);
+    assert!(*rt; stopped_agents(accepted.program(), &counts) == stopped);
+    Ok(())
+}
+
 fn due_breaks<P: ProgramView>(
     rt: &impl Abort,
     alloc: Global,
     accepted: &Accepted<'_, P>,
 ) -> Result<(), Fail> {
-    for (breaks, due, stopped) in BREAKS {
-        let counts = reached_counts(alloc, accepted, &breaks)?;
-        due_numbers(rt, &counts, &due);
-        assert!(*rt; stopped_agents(accepted.program(), &counts) == stopped);
+    for row in &BREAKS {
+        due_break(rt, alloc, accepted, row)?;
     }
     Ok(())
 }

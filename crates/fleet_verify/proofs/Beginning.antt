@@ -27,7 +27,8 @@ use Rattle.fleet_verify.specs.declared.order.OpenPair.{OpenPair}
 use Rattle.fleet_verify.proofs.Begin.{begun_none, begun_more, begun_ground, begun_visits, begun_chained}
 use Rattle.fleet_verify.proofs.RunCounts.{longest_finishes}
 use Rattle.fleet_verify.proofs.Ordered.{none_ranked, all_counted, all_in_range, top_longest}
-use Rattle.fleet_verify.proofs.Levels.{counted_numbers}
+use Rattle.fleet_verify.specs.LevelRows.{HasLevels}
+use Rattle.fleet_verify.proofs.Levels.{counted_numbers, counted_levels}
 use Rattle.fleet_verify.proofs.Stays.{accepted_by}
 
 -- 1 for the agents below n, and 0 for the others
@@ -196,6 +197,9 @@ module _ (grid : Ground) (tasks : List Task) (p : Program) (a : Ahead) (n chain 
 
   pub done_visits : All (AreVisits p) a.pairs.items
   done_visits = begun_visits passable p begun (kept_at a.last) a.pairs.items h.begun come
+
+  pub done_levels : HasLevels p rows
+  done_levels = record { all = h.rows; whole = whole; each = counted_levels p level done_counted }
 
   pub ahead_accepted : ((k : ℕ) (o : OpenPair) → k < length a.pairs.items → IsChained p (get_or a.pairs.items k o)) → IsAcceptedFor grid tasks p chain
   ahead_accepted chained = record {

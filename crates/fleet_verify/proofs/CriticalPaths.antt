@@ -17,7 +17,11 @@ use Rattle.fleet_model.specs.Schedule.{Schedule, IsSchedule, HasBegunBy, HasEnde
 use Rattle.fleet_model.proofs.Chains.{chain_first, chain_last, chain_join, own_reach, Reaches-trans, ends_dearer, need_action, Reaches-need, Reaches-refl}
 use Rattle.fleet_needs.proofs.Costing.{but_last, one_cost, own_cost}
 use Rattle.fleet_verify.proofs.Timed.{ends_in_time, needs_unended, by_or_not}
-use Rattle.fleet_verify.specs.Times.{HaveArrivedAt, IsLatest, IsLater, IsAwaitedUntil, IsNeedUntil, LeadsBack, IsWayTo, IsStretchTo, of_agent, IsPathOfCost, IsCriticalPath, IsFreeTo, AreReached, StopsOthers, is_broken, broken_cost, last_action}
+use Rattle.fleet_needs.specs.Critical.{critical_cost}
+use Rattle.fleet_verify.specs.Ahead.{level_in}
+use Rattle.fleet_verify.specs.declared.times.Ends.{Ends}
+use Rattle.fleet_verify.specs.declared.times.Ends.TheVariants.{Costs, Levels}
+use Rattle.fleet_verify.specs.Times.{AreEnds, HaveArrivedAt, IsLatest, IsLater, IsAwaitedUntil, IsNeedUntil, LeadsBack, IsWayTo, IsStretchTo, of_agent, IsPathOfCost, IsCriticalPath, IsFreeTo, AreReached, StopsOthers, is_broken, broken_cost, last_action}
 use Rattle.fleet_verify.specs.Stretch.{first_of, stretch_actions, stretch_between, path_actions}
 use Rattle.fleet_verify.specs.declared.stretch.Stretch.{Stretch}
 use Rattle.fleet_verify.specs.declared.times.TheConstants.{LONGEST}
@@ -39,6 +43,11 @@ pub to_last : (p : Program) (cost : ActionId → ℕ) (b : ActionId) (m n : ℕ)
 to_last p cost b m n h k =
     let act = ends_action p cost m b h in
     costs_on p cost b (last_action p b.agent) m n (own_reach p b.agent b.number (moves p b.agent) act.agent act.first act.last (let l : moves p b.agent ≤ moves p b.agent = omega arith in l)) h k
+
+-- each action ends at some time
+pub ends_each : (p : Program) (cost : ActionId → ℕ) (ends : Ends) → AreEnds p cost ends → (b : ActionId) → IsAction p b → (m : ℕ) × IsCriticalCost p cost b m
+ends_each p cost (Costs m) h b act = (critical_cost m b, h.each b act)
+ends_each p cost (Levels rows) h b act = (level_in rows.now b, h.0.each b act)
 
 -- ---- the latest of the first agents
 

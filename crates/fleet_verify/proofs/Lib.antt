@@ -43,4 +43,5 @@ pub mod LastVisits
 pub mod Promised
 pub mod Remains
 pub mod CriticalPaths
+pub mod ClimbingBack
 pub mod Stretches

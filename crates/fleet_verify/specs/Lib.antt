@@ -14,6 +14,7 @@ pub mod Broken
 pub mod RefusalWords
 pub mod Reach
 pub mod Ahead
+pub mod LevelRows
 pub mod Outlook
 pub mod Chained
 pub mod Pieces

@@ -8,18 +8,25 @@ use Rattle.fleet_model.specs.Schedule.{Schedule, IsSchedule, HasBegunBy, HasEnde
 use Rattle.fleet_needs.specs.Critical.{AreCriticalCosts}
 use Rattle.fleet_verify.specs.Stretch.{stretch_actions, stretch_between}
 use Rattle.fleet_verify.specs.declared.times.TheConstants.{LONGEST}
-use Rattle.fleet_needs.specs.declared.critical.CriticalCosts.{CriticalCosts}
+use Rattle.fleet_verify.specs.LevelRows.{AreCostRows}
+use Rattle.fleet_verify.specs.declared.times.Ends.{Ends}
+use Rattle.fleet_verify.specs.declared.times.Ends.TheVariants.{Costs, Levels}
 
 -- a program, and what its actions cost
 pub record TimesParts (P C : Type 0) : Type 0 where
   pub program : P
   pub costs : C
 
--- the program has no ring of needs, and the entries are the costs of its actions' critical paths
-pub record AreTimes (p : Program) (cost : ActionId → ℕ) (m : CriticalCosts) : Type 0 where
+-- the entries are the costs of the critical paths of the program's actions
+abbrev pub AreEnds : Program → (ActionId → ℕ) → Ends → Type 0
+AreEnds p cost (Costs m) = AreCriticalCosts p cost m
+AreEnds p cost (Levels rows) = AreCostRows p cost rows.now × ((a : ActionId) → cost a ≡ 1)
+
+-- the program has no ring of needs, and its actions end then
+pub record AreTimes (p : Program) (cost : ActionId → ℕ) (ends : Ends) : Type 0 where
   pub in_range : AreInRange p
   pub numbering : (number : ActionId → ℕ) × IsNumbering p number
-  pub critical : AreCriticalCosts p cost m
+  pub critical : AreEnds p cost ends
 
 -- the last action of agent i
 abbrev pub last_action : Program → ℕ → ActionId

@@ -17,6 +17,7 @@ ghost use Rattle.fleet_verify.specs.Outlook.{IsOutlook};
 
 use crate::agents::ends_right;
 use crate::chained::{Answers, unless_chained};
+use crate::kept_levels::Levels;
 use crate::last_visits::LastVisits;
 use crate::level_order::AllLevels;
 use crate::level_row::{LevelRow, row_of};
@@ -731,14 +732,14 @@ fn finished_chain<P: ProgramView>(
 
 /// What is found of a program by agents that ran ahead.
 pub enum Outlook {
-    /// It is accepted, and its longest chain has so many actions.
-    Accepted(u32),
+    /// It is accepted, its longest chain has so many actions, and these are their levels, unless they were let go.
+    Accepted(u32, Option<Levels>),
     /// It may be accepted or not, and this was answered.
     Unknown(Answers),
 }
 
 /// Whether all has been found right. Chains are asked for at open pairs alone, once the memory of all else is given
-/// back.
+/// back. If there are none, the levels are handed on.
 #[tactic(auto, using(crate::proofs::AskedByLevel::known_none))]
 fn judge_ahead<P: ProgramView>(
     alloc: Global,
@@ -763,9 +764,12 @@ fn judge_ahead<P: ProgramView>(
     } = ahead;
     drop(cells);
     last.let_go();
+    if pairs.is_empty() {
+        return Ok(Outlook::Accepted(chain, Some(Levels::of(rows))));
+    }
     let levels = AllLevels { rows, most: chain };
     match unless_chained(alloc, program, levels, pairs)? {
-        None => Ok(Outlook::Accepted(chain)),
+        None => Ok(Outlook::Accepted(chain, None)),
         Some(known) => Ok(Outlook::Unknown(known)),
     }
 }

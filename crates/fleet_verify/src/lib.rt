@@ -20,10 +20,10 @@
 //! finds which is reported. `runs`, `orders`, `schedules`, `exactness`, `promises`, `counting`, `ahead_laws`, `reduced`
 //! and `rest` are laws: their functions do nothing. What `verify` promises stands in the spec `Promises`. `reach`
 //! keeps, of an accepted program, where chains begin (`Reach`): the pieces of `fleet_needs`. `times` has when its
-//! actions end at the soonest (`Times`), by the critical costs of `fleet_needs`, and a chain that takes so long, in
-//! stretches of one agent's actions, which `stretch` also writes; `stopped` how far each agent comes if some actions
-//! are never ended: each of these costs one and all others nothing, so that what costs nothing needs none of them.
-//! `fault` has the refusals.
+//! actions end at the soonest (`Times`), by the critical costs of `fleet_needs`, or by the levels if each costs one and
+//! no pair was open (`kept_levels`), and a chain that takes so long, in stretches of one agent's actions, which
+//! `stretch` also writes; `stopped` how far each agent comes if some actions are never ended: each of these costs one
+//! and all others nothing, so that what costs nothing needs none of them. `fault` has the refusals.
 //!
 //! `needed` finds for two visits how many actions of each agent they need, and `breaking` runs the counts of the
 //! machine, tick by tick, and says whom each tick holds: those whose next action is not needed.
@@ -39,6 +39,7 @@ mod chained;
 mod counting;
 mod exactness;
 mod fault;
+mod kept_levels;
 mod last_visits;
 mod level_order;
 mod level_row;

@@ -1,13 +1,14 @@
 //! When the actions of an accepted program end at the soonest, if each takes a time of its own: the critical path
 //! method (Kelley and Walker 1959).
 
-ghost use Rattle.std.specs.Prelude.{◌≡◌, ℕ, ◌+◌, ◌<◌, ◌≤◌, IfOk, IfSome, IfNone, length};
+ghost use Rattle.std.specs.Prelude.{◌≡◌, ℕ, ◌+◌, ◌-◌, ◌<◌, ◌≤◌, IfOk, IfSome, IfNone, length};
 ghost use Rattle.fleet_model.specs.declared.program.ActionId.{ActionId};
 ghost use Rattle.fleet_model.specs.Program.{moves, AreInRange};
 ghost use Rattle.fleet_model.specs.Chain.{IsAction, IsCriticalCost};
-ghost use Rattle.fleet_verify.specs.Times.{ArrivesAt, EachArrivesAt, HaveArrivedAt, IsCriticalPath, IsLatest, IsLater, LeadsBack, IsAwaitedUntil, IsOwnUntil, FollowsOwn, IsNeedUntil, IsFreeTo, IsWayTo, IsStretchTo, IsWholeTo};
+ghost use Rattle.fleet_verify.specs.Times.{ArrivesAt, EachArrivesAt, HaveArrivedAt, IsCriticalPath, IsLatest, IsLater, LeadsBack, IsAwaitedUntil, IsOwnUntil, FollowsOwn, IsNeedUntil, IsFreeTo, IsWayTo, IsStretchTo, IsWholeTo, of_agent};
 ghost use Rattle.fleet_verify.specs.Stretch.{first_of, stretch_actions, path_actions};
 
+use crate::kept_levels::Levels;
 use crate::stretch::Stretch;
 use crate::verifier::Accepted;
 use fleet_model::{ActionId, Instruction, OutOfMemory, ProgramView};
@@ -31,6 +32,15 @@ impl ActionCosts for OneEach {
     }
 }
 
+/// When each action ends.
+#[derive(Drop)]
+enum Ends<'a> {
+    /// As its place says.
+    Costs(CriticalCosts),
+    /// At its level, since each costs one.
+    Levels(&'a Levels),
+}
+
 /// When the actions of a program end, if each begins as soon as all that it needs has ended, and takes the time that it
 /// costs. Times count from 0, in the unit of the costs. By `schedules_end_in_time` no action ends sooner if each takes
 /// at least its cost, and none later if each ends within its cost once nothing keeps it.
@@ -38,7 +48,7 @@ impl ActionCosts for OneEach {
 pub struct Times<'a, P: ProgramView, C: ActionCosts> {
     program: &'a P,
     costs: &'a C,
-    ends: CriticalCosts,
+    ends: Ends<'a>,
 }
 
 impl<'a, P: ProgramView, C: ActionCosts> Model for Times<'a, P, C> {
@@ -52,6 +62,28 @@ impl<'a, P: ProgramView, C: ActionCosts> Model for Times<'a, P, C> {
     } };
 
     ghost invariant = { λ t. AreTimes (P.program t.program.now) (C.cost t.costs.now) t.ends };
+}
+
+impl<'a, P: ProgramView> Times<'a, P, OneEach> {
+    /// The times of an accepted program, whose actions cost one each: the levels that the verifier has counted, if it
+    /// has kept them. It fails only if memory is refused.
+    pub fn by_levels(
+        alloc: Global,
+        accepted: &'a Accepted<'_, P>,
+        costs: &'a OneEach,
+    ) -> Result<Times<'a, P, OneEach>, OutOfMemory>
+        ensures program { IfOk result (λ t. t.program ≡ accepted.now.program) }
+        ensures costs { IfOk result (λ t. t.costs ≡ costs.now) }
+    {
+        match accepted.levels() {
+            Some(levels) => Ok(Times {
+                program: accepted.program(),
+                costs,
+                ends: Ends::Levels(levels),
+            }),
+            None => Times::of(alloc, accepted, costs),
+        }
+    }
 }
 
 impl<'a, P: ProgramView, C: ActionCosts> Times<'a, P, C> {
@@ -70,17 +102,21 @@ impl<'a, P: ProgramView, C: ActionCosts> Times<'a, P, C> {
         Ok(Times {
             program,
             costs,
-            ends,
+            ends: Ends::Costs(ends),
         })
     }
 
     /// When an action ends. Takes no memory.
+    #[inline(always)]
     pub fn end(&self, action: ActionId) -> u64
         requires { IsAction (P.program self.now.program) action }
         ensures { IsCriticalCost (P.program self.now.program) (C.cost self.now.costs) action
             result }
     {
-        self.ends.cost(self.program, action)
+        match &self.ends {
+            Ends::Costs(costs) => costs.cost(self.program, action),
+            Ends::Levels(levels) => levels.level(action),
+        }
     }
 
     /// When agent `i` arrives. Takes no memory.
@@ -260,13 +296,45 @@ impl<'a, P: ProgramView, C: ActionCosts> Times<'a, P, C> {
                 agent,
                 number: first,
             };
-            let Some((before, begun)) = self.longer(here, time) else {
-                return (first, time);
-            };
-            first = before.number;
-            time = begun;
+            let (low, then) = self.climbed_to(here, time, least);
+            if low < first {
+                first = low;
+                time = then;
+            } else {
+                let Some((before, begun)) = self.longer(here, time) else {
+                    return (first, time);
+                };
+                first = before.number;
+                time = begun;
+            }
         }
         (first, time)
+    }
+
+    /// The number of the first action of the agent, from the least one on, from which each begins when the one before
+    /// it ends, up to this one, which ends then, as far as that is known at once; and when that action ends.
+    #[inline(always)]
+    fn climbed_to(&self, action: ActionId, end: u64, least: u32) -> (u32, u64)
+        requires action { IsAction (P.program self.now.program) action }
+        requires end { IsCriticalCost (P.program self.now.program) (C.cost self.now.costs) action
+            end }
+        requires first { 1 ≤ least }
+        requires least { least ≤ action.number }
+        ensures within { result.0 ≤ action.number }
+        ensures least { least ≤ result.0 }
+        ensures end { IsCriticalCost (P.program self.now.program) (C.cost self.now.costs)
+            (of_agent action result.0) result.1 }
+        ensures follows { (n : ℕ) → result.0 < n → n ≤ action.number
+            → LeadsBack (P.program self.now.program) (C.cost self.now.costs)
+            (of_agent action n) (of_agent action (n - 1)) }
+    {
+        match &self.ends {
+            Ends::Costs(_) => (action.number, end),
+            Ends::Levels(levels) => {
+                let first = levels.climb_begin(action).max(least);
+                (first, end - u64::from(action.number - first))
+            }
+        }
     }
 
     /// The action of the same agent before this one, which ends then, and when that one ends, if this one begins as it

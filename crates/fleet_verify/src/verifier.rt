@@ -1,12 +1,13 @@
 //! The verifier: all that is judged of a program, in the order of the faults, and its answers: an accepted program, or
 //! a refused one.
 
-ghost use Rattle.std.specs.Prelude.{◌≡◌, IfOk, IfErr};
+ghost use Rattle.std.specs.Prelude.{◌≡◌, IfOk, IfErr, IfSome};
 ghost use Rattle.fleet_model.specs.Program.{IsWellFormed};
 ghost use Rattle.fleet_grid.specs.Ground.{is_passable};
 ghost use Rattle.fleet_verify.specs.Chained.{AreKnown};
 ghost use Rattle.fleet_verify.specs.Faults.{HasStarts, IsFault};
 ghost use Rattle.fleet_verify.specs.Walk.{LeavesGround, IsAtStart, IsRunOnGround, HasArrived};
+ghost use Rattle.fleet_verify.specs.LevelRows.{HasLevels};
 ghost use Rattle.fleet_verify.specs.Parts.{IsAcceptedFor};
 ghost use Rattle.fleet_verify.specs.Promises.{Promises, IsRefusedRightly};
 
@@ -14,6 +15,7 @@ use crate::agents::{check_paths, check_starts, has_arrived};
 use crate::ahead::{Outlook, look_ahead};
 use crate::chained::Answers;
 use crate::fault::VerifyFault;
+use crate::kept_levels::Levels;
 use crate::order::check_order;
 use crate::ring::find_ring;
 use crate::unheld_run::{Stop, UnheldRun, run_unheld};
@@ -57,38 +59,50 @@ pub fn verify<'g, P: ProgramView>(
         (P.program program) r.fault) }
 {
     match judge(alloc, &program, grid, instance) {
-        Ok(chain) => Ok(Accepted::new(program, grid, instance, chain)),
+        Ok(judged) => Ok(Accepted::new(program, grid, instance, judged)),
         Err(fault) => Err(Refused { fault, program }),
     }
 }
 
-/// The number of actions of the longest chain, if the program is accepted. A run in which nobody is held passes each
-/// action of such a program once. If that run goes wrong, the first fault is searched for in the order of the faults.
-/// Before it the agents are let run ahead, which is faster, and finds most accepted programs right. What is answered
-/// there is not asked again.
+/// What is known of a program that is accepted: how many actions its longest chain has, and the levels of its actions,
+/// unless they were let go.
+#[derive(Drop)]
+struct Judged {
+    chain: u32,
+    levels: Option<Levels>,
+}
+
+/// What is known of the program, if it is accepted. A run in which nobody is held passes each action of such a program
+/// once. If that run goes wrong, the first fault is searched for in the order of the faults. Before it the agents are
+/// let run ahead, which is faster, and finds most accepted programs right. What is answered there is not asked again.
 fn judge<P: ProgramView>(
     alloc: Global,
     program: &P,
     grid: &Grid,
     instance: &Instance,
-) -> Result<u32, VerifyFault>
-    ensures ok { IfOk result (λ chain. IsAcceptedFor grid.now instance.now
-        (P.program program.now) chain) }
+) -> Result<Judged, VerifyFault>
+    ensures ok { IfOk result (λ j. IsAcceptedFor grid.now instance.now
+        (P.program program.now) j.chain) }
+    ensures levels { IfOk result (λ j. IfSome j.levels (HasLevels (P.program program.now))) }
     ensures err { IfErr result (λ f. IsFault (is_passable grid.now) instance.now
         (P.program program.now) f) }
     ensures formed { IsWellFormed (P.program program.now) }
 {
     check_starts(program, instance)?;
     match look_ahead(alloc, program, grid, instance)? {
-        Outlook::Accepted(chain) => Ok(chain),
+        Outlook::Accepted(chain, levels) => Ok(Judged { chain, levels }),
         Outlook::Unknown(known) => {
             let mut run = UnheldRun::start(alloc, program)?;
-            judge_started(alloc, program, grid, instance, &mut run, &known)
+            let chain = judge_started(alloc, program, grid, instance, &mut run, &known)?;
+            Ok(Judged {
+                chain,
+                levels: None,
+            })
         }
     }
 }
 
-/// The same as `judge`, from the start of the run in which nobody is held.
+/// The number of actions of the longest chain, judged from the start of the run in which nobody is held.
 fn judge_started<P: ProgramView>(
     alloc: Global,
     program: &P,
@@ -124,7 +138,7 @@ fn path_fault<P: ProgramView>(program: &P, grid: &Grid, instance: &Instance) -> 
     }
 }
 
-/// The same as `judge`, from the end of that run, which stayed on passable ground.
+/// The same, from the end of that run, which stayed on passable ground.
 fn judge_run<P: ProgramView>(
     alloc: Global,
     program: &P,
@@ -179,9 +193,12 @@ pub struct Accepted<'g, P: ProgramView> {
     grid: &'g Grid,
     instance: &'g Instance,
     chain: u32,
+    levels: Option<Levels>,
 }
 
 impl<'g, P: ProgramView> Model for Accepted<'g, P> {
+    ghost use Rattle.std.specs.Prelude.{IfSome};
+    ghost use Rattle.fleet_verify.specs.LevelRows.{HasLevels};
     ghost use Rattle.fleet_verify.specs.Parts.{AcceptedParts, IsAcceptedFor};
 
     ghost Value = { AcceptedParts P };
@@ -194,26 +211,37 @@ impl<'g, P: ProgramView> Model for Accepted<'g, P> {
     } };
 
     ghost invariant = { λ a. IsAcceptedFor a.grid.now a.instance.now
-        (P.program a.program) a.chain };
+        (P.program a.program) a.chain × IfSome a.levels (HasLevels (P.program a.program)) };
 }
 
 impl<'g, P: ProgramView> Accepted<'g, P> {
-    ghost use Rattle.std.specs.Prelude.{◌≡◌};
+    ghost use Rattle.std.specs.Prelude.{◌≡◌, IfSome};
+    ghost use Rattle.fleet_verify.specs.LevelRows.{HasLevels};
     ghost use Rattle.fleet_verify.specs.Parts.{IsAcceptedFor};
 
-    pub(crate) fn new(program: P, grid: &'g Grid, instance: &'g Instance, chain: u32) -> Self
-        requires { IsAcceptedFor grid.now instance.now (P.program program) chain }
+    fn new(program: P, grid: &'g Grid, instance: &'g Instance, judged: Judged) -> Self
+        requires accepted { IsAcceptedFor grid.now instance.now (P.program program) judged.chain }
+        requires levels { IfSome judged.levels (HasLevels (P.program program)) }
         ensures program { result.program ≡ program }
         ensures grid { result.grid ≡ grid.now }
         ensures instance { result.instance ≡ instance.now }
-        ensures chain { result.chain ≡ chain }
+        ensures chain { result.chain ≡ judged.chain }
     {
+        let Judged { chain, levels } = judged;
         Accepted {
             program,
             grid,
             instance,
             chain,
+            levels,
         }
+    }
+
+    /// The levels of all actions, unless they were let go. Takes no memory.
+    pub(crate) fn levels(&self) -> Option<&Levels>
+        ensures { IfSome result (λ l. HasLevels (P.program self.now.program) l.now) }
+    {
+        self.levels.as_ref()
     }
 
     /// How many actions the longest chain of needs has. Takes no memory.

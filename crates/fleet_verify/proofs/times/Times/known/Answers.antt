@@ -1,6 +1,6 @@
 use Rattle.std.proofs.Common.{subst}
-use Rattle.fleet_needs.specs.Critical.{critical_cost}
 use Rattle.fleet_verify.specs.Times.{TimesParts, AreTimes}
+use Rattle.fleet_verify.proofs.CriticalPaths.{ends_each}
 use Rattle.fleet_verify.proofs.times.Times.known.Goals as goal
 
 pub returns-clause-in_range : goal.returns-clause-in_range
@@ -10,4 +10,4 @@ returns-clause-in_range g c =
 pub returns-clause-critical : goal.returns-clause-critical
 returns-clause-critical g c =
     let h = subst (λ (v : TimesParts _ _). AreTimes (g.P.ProgramView.program v.program) (g.C.ActionCosts.cost v.costs) c.self.inside.ends) c.self.view_is c.self.invariant in
-    λ b act. (critical_cost c.self.inside.ends b, h.critical.each b act)
+    ends_each (g.P.ProgramView.program c.args.self.now.program) (g.C.ActionCosts.cost c.args.self.now.costs) c.self.inside.ends h.critical

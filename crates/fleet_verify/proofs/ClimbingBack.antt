@@ -1,0 +1,66 @@
+-- Stretches that are followed back along levels that rise by one.
+use Rattle.std.proofs.Common.{◌≡◌, ℕ, zero, suc, ◌+◌, ◌-◌, ◌<◌, ◌≤◌, List, refl, ap, subst, arith, inl}
+use Rattle.fleet_model.specs.declared.program.ActionId.{ActionId}
+use Rattle.fleet_model.specs.Program.{Program}
+use Rattle.fleet_model.specs.Chain.{IsAction, IsCriticalCost}
+use Rattle.fleet_needs.proofs.Costing.{one_cost}
+use Rattle.fleet_verify.specs.Ahead.{level_in}
+use Rattle.fleet_verify.specs.LevelRows.{AreCostRows}
+use Rattle.fleet_verify.specs.Times.{LeadsBack, IsStretchTo, of_agent}
+use Rattle.fleet_verify.specs.declared.times.TheConstants.{LONGEST}
+use Rattle.fleet_verify.proofs.CriticalPaths.{stretch_on}
+
+-- a stretch goes on to an action from which on each leads back to the one before
+pub stretch_down : (p : Program) (cost : ActionId → ℕ) (last : ActionId) (total low time : ℕ) → last.number < low + LONGEST → IsCriticalCost p cost (of_agent last low) time
+    → (d first end : ℕ) → low + d ≡ first → IsStretchTo p cost last total first end → ((n : ℕ) → low < n → n ≤ first → LeadsBack p cost (of_agent last n) (of_agent last (n - 1))) → IsStretchTo p cost last total low time
+stretch_down p cost last total low time room critical zero first end is h leads =
+    let same : first ≡ low = omega (arith, is) in
+    let when : end ≡ time = one_cost p cost (of_agent last low) end time (subst (λ (n : ℕ). IsCriticalCost p cost (of_agent last n) end) same h.way.critical) critical in
+    subst (IsStretchTo p cost last total low) when (subst (λ (n : ℕ). IsStretchTo p cost last total n end) same h)
+stretch_down p cost last total low time room critical (suc d) first end is h leads =
+    let back = leads first (omega (arith, is)) (omega arith) in
+    stretch_down p cost last total low time room critical d (first - 1) back.end (omega (arith, is))
+    (stretch_on p cost last total first end h (omega (arith, room, is)) (of_agent last (first - 1)) refl (omega (arith, is)) back back.end back.critical)
+    (λ n l m. leads n l (omega (arith, m)))
+
+-- ---- levels
+
+-- from one action of the agent of a on, each level up to that of a is one above the one before
+abbrev pub Climbs : List (List ℕ) → ActionId → ℕ → Type 0
+Climbs rows a first = (n : ℕ) → first < n → n ≤ a.number → level_in rows (of_agent a n) ≡ level_in rows (of_agent a (n - 1)) + 1
+
+pub level_climbed : (rows : List (List ℕ)) (a : ActionId) (first : ℕ) → Climbs rows a first → (d k : ℕ) → first + d ≡ k → k ≤ a.number → level_in rows (of_agent a k) ≡ level_in rows (of_agent a first) + d
+level_climbed rows a first climbs zero k is l =
+    let same : k ≡ first = omega (arith, is) in
+    let e : level_in rows (of_agent a k) ≡ level_in rows (of_agent a first) = ap (λ (n : ℕ). level_in rows (of_agent a n)) same in
+    omega (arith, e)
+level_climbed rows a first climbs (suc d) k is l =
+    let up = climbs k (omega (arith, is)) l in
+    let rest = level_climbed rows a first climbs d (k - 1) (omega (arith, is)) (omega (arith, l)) in
+    omega (arith, up, rest)
+
+module _ (p : Program) (cost : ActionId → ℕ) (rows : List (List ℕ)) (h : AreCostRows p cost rows) (ones : (a : ActionId) → cost a ≡ 1) (a : ActionId) (act : IsAction p a) (first : ℕ) (some : 1 ≤ first) (climbs : Climbs rows a first) where
+  act_at : (n : ℕ) → 1 ≤ n → n ≤ a.number → IsAction p (of_agent a n)
+  act_at n l m = record { agent = act.agent; first = l; last = omega (arith, m, act.last) }
+
+  pub leads_back : (n : ℕ) → first < n → n ≤ a.number → LeadsBack p cost (of_agent a n) (of_agent a (n - 1))
+  leads_back n l m =
+      let here : level_in rows (of_agent a n) ≡ level_in rows (of_agent a (n - 1)) + cost (of_agent a n) = omega (arith, climbs n l m, ones (of_agent a n)) in
+      record {
+        action = act_at (n - 1) (omega (arith, l, some)) (omega (arith, m));
+        needs = inl (refl, omega (arith, l), omega (arith, l, some));
+        end = level_in rows (of_agent a (n - 1));
+        critical = h.each (of_agent a (n - 1)) (act_at (n - 1) (omega (arith, l, some)) (omega (arith, m)));
+        all = subst (IsCriticalCost p cost (of_agent a n)) here (h.each (of_agent a n) (act_at n (omega (arith, l)) m));
+      }
+
+  pub climbed_few : (end : ℕ) → IsCriticalCost p cost a end → first ≤ a.number → a.number - first ≤ end
+  climbed_few end critical within =
+      omega (arith, one_cost p cost a end (level_in rows a) critical (h.each a act), level_climbed rows a first climbs (a.number - first) a.number (omega (arith, within)) (omega arith))
+
+  pub climbed_end : (end : ℕ) → IsCriticalCost p cost a end → first ≤ a.number → IsCriticalCost p cost (of_agent a first) (end - (a.number - first))
+  climbed_end end critical within =
+      let top = one_cost p cost a end (level_in rows a) critical (h.each a act) in
+      let up = level_climbed rows a first climbs (a.number - first) a.number (omega (arith, within)) (omega arith) in
+      let low : level_in rows (of_agent a first) ≡ end - (a.number - first) = omega (arith, top, up) in
+      subst (IsCriticalCost p cost (of_agent a first)) low (h.each (of_agent a first) (act_at first some within))

@@ -282,37 +282,35 @@ fn reading_of(alloc: Global, line: &str) -> Result<[bool; 3], Fail> {
     Ok(reading)
 }
 
+/// A line of words, and how it is read.
+const READINGS: [(&str, [bool; 3]); 3] = [
+    ("run a b c --agents 7 --holds d", [true, false, false]),
+    ("run a b c --agents x", [false, true, false]),
+    ("run --help", [false, false, true]),
+];
+
 #[test]
 fn words_are_read(rt: HostRuntime) -> Result<(), Fail> {
-    for (line, due) in [
-        ("run a b c --agents 7 --holds d", [true, false, false]),
-        ("run a b c --agents x", [false, true, false]),
-        ("run --help", [false, false, true]),
-    ] {
+    for row in &READINGS {
+        let (line, due) = *row;
         assert!(rt; reading_of(rt.alloc(), line)? == due, "{line}");
     }
     Ok(())
 }
 
+/// The run without words ends so on this input.
+fn due_hex(rt: &impl Abort, alloc: Global, rest: &[u8], due: Ended<'_>) {
+    let mut out = VecOut::new(alloc);
+    let mut err = VecOut::new(alloc);
+    let status = run_hex(alloc, &mut given(rest), &mut out, &mut err);
+    due_end(rt, "hexadecimal", (status, out.bytes(), err.bytes()), due);
+}
+
 #[test]
-fn hexadecimal_is_run(rt: HostRuntime) -> Result<(), Fail> {
-    let alloc = rt.alloc();
-    for (rest, status, text, line) in [
-        (PAIR_HEX, 0, PAIR_TEXT, b"".as_slice()),
-        (b"", 1, b"", b"load 3 Truncated\n"),
-        (b"4G", 1, b"", b"hex 2 Digit at 1\n"),
-    ] {
-        let mut out = VecOut::new(alloc);
-        let mut err = VecOut::new(alloc);
-        let done = run_hex(alloc, &mut given(rest), &mut out, &mut err);
-        due_end(
-            &rt,
-            "hexadecimal",
-            (done, out.bytes(), err.bytes()),
-            (status, text, line),
-        );
-    }
-    Ok(())
+fn hexadecimal_is_run(rt: HostRuntime) {
+    due_hex(&rt, rt.alloc(), PAIR_HEX, (0, PAIR_TEXT, b""));
+    due_hex(&rt, rt.alloc(), b"", (1, b"", b"load 3 Truncated\n"));
+    due_hex(&rt, rt.alloc(), b"4G", (1, b"", b"hex 2 Digit at 1\n"));
 }
 
 /// This status and this line are due of the refusal.

@@ -2,6 +2,7 @@
 
 ghost use Rattle.std.specs.Prelude.{◌≤◌, IfOk, IfErr};
 ghost use Rattle.fleet_model.specs.declared.program.ActionId.{ActionId};
+ghost use Rattle.fleet_model.specs.Chain.{unit_cost};
 ghost use Rattle.fleet_text.specs.Sink.{IsWorking};
 ghost use Rattle.fleet_verify.specs.Stretch.{path_actions};
 ghost use Rattle.fleet_cli.specs.TimesCommand.{IsTimetable, HasTimetable, HasReached, IsCostsRefusal, IsBreaksRefusal, TellsTimes, TellsReached, AnswersTimes};
@@ -27,8 +28,39 @@ struct Timetable {
     path: Vec<Stretch>,
 }
 
-/// The timetable of an accepted program, whose actions cost so much.
+/// The timetable of a program, whose actions end then.
 fn timetable_of<P: ProgramView, C: ActionCosts>(
+    alloc: Global,
+    times: &Times<'_, P, C>,
+) -> Result<Timetable, OutOfMemory>
+    requires { (a : ActionId) → 1 ≤ C.cost times.now.costs a }
+    ensures { IfOk result (λ t. IsTimetable (P.program times.now.program)
+        (C.cost times.now.costs) t.arrivals.items t.last (path_actions t.path.items)) }
+{
+    let arrivals = times.arrivals(alloc)?;
+    let path = times.critical_path(alloc)?;
+    let last = times.last_arrival();
+    Ok(Timetable {
+        arrivals,
+        last,
+        path,
+    })
+}
+
+/// The timetable of an accepted program, whose actions cost one each.
+fn timetable_of_ones<P: ProgramView>(
+    alloc: Global,
+    accepted: &Accepted<'_, P>,
+) -> Result<Timetable, OutOfMemory>
+    ensures { IfOk result (λ t. IsTimetable (P.program accepted.now.program) unit_cost
+        t.arrivals.items t.last (path_actions t.path.items)) }
+{
+    let times = Times::by_levels(alloc, accepted, &OneEach)?;
+    timetable_of(alloc, &times)
+}
+
+/// The timetable of an accepted program, whose actions cost so much.
+fn timetable_with<P: ProgramView, C: ActionCosts>(
     alloc: Global,
     accepted: &Accepted<'_, P>,
     costs: &C,
@@ -38,14 +70,7 @@ fn timetable_of<P: ProgramView, C: ActionCosts>(
         t.arrivals.items t.last (path_actions t.path.items)) }
 {
     let times = Times::of(alloc, accepted, costs)?;
-    let arrivals = times.arrivals(alloc)?;
-    let path = times.critical_path(alloc)?;
-    let last = times.last_arrival();
-    Ok(Timetable {
-        arrivals,
-        last,
-        path,
-    })
+    timetable_of(alloc, &times)
 }
 
 /// The same by the costs of a text, if one is given, and else with one for each action.
@@ -61,9 +86,9 @@ fn timetable_by<'a, P: ProgramView>(
         (IsCostsRefusal (P.program accepted.now.program) costs.entry text.now) }
 {
     let made = match costs {
-        None => timetable_of(alloc, accepted, &OneEach),
+        None => timetable_of_ones(alloc, accepted),
         Some(_) => match costs_of(alloc, accepted.program(), text) {
-            Ok(table) => timetable_of(alloc, accepted, &table),
+            Ok(table) => timetable_with(alloc, accepted, &table),
             Err(fault) => return Err(Fault::Times(fault)),
         },
     };

@@ -246,7 +246,7 @@ fn due_times<P: ProgramView>(
 
 /// When the last agent arrives, if each action costs one.
 fn last_arrival<P: ProgramView>(alloc: Global, accepted: &Accepted<'_, P>) -> Result<u64, Fail> {
-    let times = Times::of(alloc, accepted, &OneEach)?;
+    let times = Times::by_levels(alloc, accepted, &OneEach)?;
     Ok(times.last_arrival())
 }
 

@@ -147,8 +147,7 @@ fn needs_of<P: ProgramView>(
     }
 }
 
-/// Finishes the agent's next action, whose awaits are met, if it leads to passable ground, and answers how far the
-/// agent has come then.
+/// Finishes the agent's next action, whose awaits are met, if it leads to passable ground; how far it has come then.
 #[inline(always)]
 fn finish_next<P: ProgramView>(
     program: &P,
@@ -179,8 +178,7 @@ fn finish_next<P: ProgramView>(
     })
 }
 
-/// The agent's next action has this level. It is noted in its row only if it is not the one above the level before: a
-/// row climbs by itself.
+/// The agent's next action has this level, which its row notes only if it is not one above the level before it.
 #[inline(always)]
 fn raise(
     rows: &mut Vec<LevelRow>,

@@ -12,7 +12,7 @@ trap 'rm -rf "$room"' EXIT
 trap 'exit 2' INT TERM HUP
 LC_ALL=C
 export LC_ALL
-# Of 32 changes so many may be refused.
+# So many may be refused.
 most_refused=4
 
 (cd "$root" && tar -cf - --exclude=out --exclude=must-fail crates.txt HANDLES crates) | tar -xf - -C "$room" || exit 2

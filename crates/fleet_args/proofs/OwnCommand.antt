@@ -1,26 +1,18 @@
 -- Words that begin with the name of a command are read as that command by itself reads the words after it.
 use Rattle.std.proofs.Common.{◌≡◌, ◌≢◌, ◌⊎◌, inl, inr, ◌<◌, ◌∙◌, ◌++◌, ℕ, Bool, List, [], ◌∷◌, Option, Some, None, cond, get_or, map, true, false, refl, sym, ap, subst, arith, ltb-false, append_assoc, append-nil, ◌≤◌, length, drop, take, ◌-◌}
 use Rattle.std.specs.List.{fold, find, list_any, position, position_or_len}
-use Rattle.std.specs.Str.{bytes_eq}
-use Rattle.std.proofs.lemmas.List.{get_or-map, length-map, take_all}
-use Rattle.std.proofs.lemmas.List.Quantifiers.{position-Some}
-use Rattle.std.proofs.lemmas.List.Folds.{list_any_none}
-use Rattle.std.proofs.lemmas.List.Sums.{fails_before_first}
-use Rattle.std.proofs.lemmas.Slice.Eq.{bytes_eq-Decides}
-use Rattle.std.specs.Option.{option_map, option_map_or}
+use Rattle.std.specs.{Str.bytes_eq, Option.option_map, Option.option_map_or}
+use Rattle.std.proofs.lemmas.{List.get_or-map, List.length-map, List.take_all, List.Quantifiers.position-Some, List.Folds.list_any_none, List.Sums.fails_before_first, Slice.Eq.bytes_eq-Decides}
 use Rattle.clap.specs.Kinds.{Kinds, or_else}
 use Rattle.clap.specs.Words.{App, Shape, Rule, Text, HasMatchesOf, IsAmong, found_of, is_simple_and_free, fault_of, matches_of, rows_of, subcommand_of}
 use Rattle.clap.specs.Simple.{built, entered, label_of, names_of, rows_at}
 use Rattle.clap.specs.Walk.{Names, Walk, answers_to, finished, idle, nothing_held, settled, stop_after, subcommand_met, walk, walk_from, walked}
 use Rattle.clap.specs.Faults.{built_fault, check_fault, defaults_fault, entered_fault, level_fault, other_fault, settle_fault, walk_fault}
-use Rattle.clap.specs.declared.parser.ArgMatches.{ArgMatches}
-use Rattle.clap.specs.declared.error.kind.ErrorKind.{ErrorKind}
+use Rattle.clap.specs.declared.{parser.ArgMatches.ArgMatches, error.kind.ErrorKind.ErrorKind}
 use Rattle.clap.specs.declared.error.kind.ErrorKind.TheVariants as kind
 use Rattle.clap.proofs.FaultLemmas.{leaf_fault, stopped_fault}
 use Rattle.clap.proofs.WalkLemmas.{both, list_any-map}
-use Rattle.fleet_args.specs.declared.arguments.Argument.{Argument}
-use Rattle.fleet_args.specs.declared.arguments.CommandText.{CommandText}
-use Rattle.fleet_args.specs.declared.arguments.OptionNames.{OptionNames}
+use Rattle.fleet_args.specs.declared.{arguments.Argument.Argument, arguments.CommandText.CommandText, arguments.OptionNames.OptionNames}
 use Rattle.fleet_args.specs.Arguments.{own, said, shape_in}
 use Rattle.fleet_args.specs.Commands.{commands, fleet}
 use Rattle.fleet_args.proofs.NoCommand.{unnamed}

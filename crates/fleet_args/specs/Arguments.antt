@@ -1,19 +1,11 @@
 -- The words and options of the commands, as what a parse reads of them.
 use Rattle.std.specs.Prelude.{◌≡◌, true, false, List, [], ◌∷◌, Option, None, Some, codes, pos, map}
 use Rattle.clap.specs.Words.{App, Shape, Rule, Text, app_of, new_app, new_rule, rule_of}
-use Rattle.clap.specs.declared.builder.Arg.{Arg}
-use Rattle.clap.specs.declared.builder.Command.TheViews.{out-Command as fields_of}
-use Rattle.clap.specs.declared.builder.Command.{Command}
-use Rattle.clap.specs.declared.builder.action.ArgAction.TheVariants.{Set, SetTrue}
-use Rattle.clap.specs.declared.builder.ValueParser.{ValueParser}
+use Rattle.clap.specs.declared.{builder.Arg.Arg, builder.Command.TheViews.out-Command as fields_of, builder.Command.Command, builder.action.ArgAction.TheVariants.Set, builder.action.ArgAction.TheVariants.SetTrue, builder.ValueParser.ValueParser}
 use Rattle.clap.specs.declared.builder.ValueParser.TheVariants as parser
 use Rattle.fleet_model.specs.declared.limits.TheConstants.{MAX_MOVES, MAX_TRIES}
-use Rattle.fleet_args.specs.declared.arguments.OptionNames.{OptionNames}
-use Rattle.fleet_args.specs.declared.arguments.Argument.{Argument}
+use Rattle.fleet_args.specs.declared.{arguments.OptionNames.OptionNames, arguments.Argument.Argument, arguments.ArgumentText.ArgumentText, arguments.CommandText.CommandText, arguments.Form.Form}
 use Rattle.fleet_args.specs.declared.arguments.Argument.TheVariants as a
-use Rattle.fleet_args.specs.declared.arguments.ArgumentText.{ArgumentText}
-use Rattle.fleet_args.specs.declared.arguments.CommandText.{CommandText}
-use Rattle.fleet_args.specs.declared.arguments.Form.{Form}
 use Rattle.fleet_args.specs.declared.arguments.Form.TheVariants as form
 
 -- the names that options take: `all` and `last` are those of the kinds of awaits, and `chain` and `cost` those of what

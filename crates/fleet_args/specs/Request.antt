@@ -6,8 +6,7 @@ use Rattle.clap.specs.declared.error.ErrorKind.{ErrorKind}
 use Rattle.clap.specs.declared.error.ErrorKind.TheVariants as kind
 use Rattle.fleet_args.specs.Commands.{OptionNames, AreNames, AsksCommand, fleet}
 use Rattle.fleet_args.specs.Values.{values_of}
-use Rattle.fleet_args.specs.declared.commands.Request.{Request}
-use Rattle.fleet_args.specs.declared.request.WordStop.{WordStop}
+use Rattle.fleet_args.specs.declared.{commands.Request.Request, request.WordStop.WordStop}
 use Rattle.fleet_args.specs.declared.request.WordStop.TheVariants as stop
 
 -- the words ask for help or for the version

@@ -1,17 +1,11 @@
 -- The values that the words of a command give to its arguments.
 use Rattle.std.specs.Prelude.{◌≡◌, ℕ, Bool, true, false, List, Option, Some, None, Ok, MatchBool, is_some, codes, nat_lt, option_map, unwrap_or, if◌then◌else◌, ⊤}
-use Rattle.std.specs.Borrow.{Bor}
-use Rattle.std.specs.Option.{option_map_or}
-use Rattle.std.specs.Str.{bytes_eq}
-use Rattle.std.specs.Str.Parse.{ParsesUnsigned}
+use Rattle.std.specs.{Borrow.Bor, Option.option_map_or, Str.bytes_eq, Str.Parse.ParsesUnsigned}
 use Rattle.clap.specs.Words.{Row, Text, first_of, one_of, first_value, one_text, found_of}
-use Rattle.clap.specs.declared.parser.ArgMatches.{ArgMatches}
-use Rattle.clap.specs.declared.parser.matches.Found.{Found}
-use Rattle.fleet_args.specs.declared.arguments.Argument.{Argument}
-use Rattle.fleet_args.specs.declared.arguments.Form.{Form}
+use Rattle.clap.specs.declared.{parser.ArgMatches.ArgMatches, parser.matches.Found.Found}
+use Rattle.fleet_args.specs.declared.{arguments.Argument.Argument, arguments.Form.Form, commands.Best.Best}
 use Rattle.fleet_args.specs.declared.arguments.Form.TheVariants as form
 use Rattle.fleet_args.specs.Arguments.{described}
-use Rattle.fleet_args.specs.declared.commands.Best.{Best}
 use Rattle.fleet_args.specs.declared.commands.Best.TheVariants as best
 use Rattle.fleet_model.specs.declared.deps.Deps.{Deps}
 use Rattle.fleet_model.specs.declared.deps.Deps.TheVariants as deps

@@ -296,6 +296,7 @@ fn arg_of<'a>(alloc: Global, names: OptionNames<'a>, argument: Argument) -> Arg<
 }
 
 /// The command with these arguments after those that it has.
+#[tactic(auto, using(std::proofs::lemmas::Grind::common_steps))]
 fn with_arguments<'a>(
     alloc: Global,
     command: Command<'a>,

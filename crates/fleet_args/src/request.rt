@@ -102,6 +102,16 @@ static DEPS: [&str; 2] = ["all", "last"];
 
 static BEST: [&str; 2] = ["chain", "cost"];
 
+/// The names that options take.
+fn option_names() -> OptionNames<'static>
+    ensures { AreNames result }
+{
+    OptionNames {
+        deps: DEPS.as_slice(),
+        best: BEST.as_slice(),
+    }
+}
+
 /// Reads the words after the program's name, as `clap` reads them by the definition of the command line.
 ///
 /// Errors: `Usage` and `Help` only if that definition does not take the words, and `Help` only if they ask for help or
@@ -109,14 +119,13 @@ static BEST: [&str; 2] = ["chain", "cost"];
 pub fn read_words<'a>(alloc: Global, words: &'a [String]) -> Result<Request<'a>, WordStop>
     ensures { ReadsFleet (map string_bytes words.entry.now) result }
 {
-    let names = OptionNames {
-        deps: DEPS.as_slice(),
-        best: BEST.as_slice(),
+    let names = option_names();
+    let Ok(read) = read_alone(alloc, names, words) else {
+        return Err(WordStop::OutOfMemory);
     };
-    match read_alone(alloc, names, words) {
-        Ok(Some(request)) => Ok(request),
-        Ok(None) => Err(stop_by_line(alloc, names, words)),
-        Err(AllocError) => Err(WordStop::OutOfMemory),
+    match read {
+        Some(request) => Ok(request),
+        None => Err(stop_by_line(alloc, names, words)),
     }
 }
 
@@ -159,6 +168,7 @@ fn with_command<'a>(
 }
 
 /// The command line with these commands after those that it has.
+#[tactic(auto, using(std::proofs::lemmas::Grind::common_steps))]
 fn with_commands<'a>(
     alloc: Global,
     line: Command<'a>,

@@ -1,4 +1,5 @@
 pub mod FieldLaws
+pub mod WordLaws
 pub mod NumberLaws
 pub mod LineLaws
 pub mod ScenLoop

@@ -1,6 +1,6 @@
 -- The fields of an agent's line that are read.
 use Rattle.std.specs.Prelude.{ℕ, Bool, true, false, List, [], ◌∷◌, Option, Some, None, option_map}
-use Rattle.fleet_text.specs.Text.{Bytes, small_number}
+use Rattle.fleet_text.specs.Text.{Bytes, is_blank, small_number}
 use Rattle.fleet_scen.specs.declared.reading.Fields.{Fields}
 
 -- the first two words, and those after them
@@ -8,6 +8,16 @@ abbrev pub two_words : List Bytes → Option (Bytes × Bytes × List Bytes)
 two_words [] = None
 two_words (first ∷ []) = None
 two_words (first ∷ second ∷ others) = Some (first, second, others)
+
+-- a word ends before these bytes
+abbrev pub ends_word : Bytes → Bool
+ends_word [] = true
+ends_word (b ∷ rest) = is_blank b
+
+-- the number that the first word spells, and the words after it
+abbrev pub next_number : List Bytes → Option (Option ℕ × List Bytes)
+next_number [] = None
+next_number (first ∷ others) = Some (small_number first, others)
 
 -- the numbers that the first two words spell, and the words after them
 abbrev pub two_numbers : List Bytes → Option (Option ℕ × Option ℕ × List Bytes)

@@ -1,18 +1,18 @@
 //! Reading a scenario from its text.
 
-ghost use Rattle.std.specs.Prelude.{◌≡◌, ◌≢◌, ◌<◌, ◌+◌, ◌^◌, List, [], length, All, IfOk, IfErr, IsOkUnless, option_map};
+ghost use Rattle.std.specs.Prelude.{◌≡◌, ◌≢◌, ◌<◌, ◌+◌, ◌^◌, List, [], length, All, Some, IfSome, IfOk, IfErr, IsOkUnless, option_map};
 ghost use Rattle.fleet_model.specs.declared.task.Task.{Task};
 ghost use Rattle.fleet_model.specs.Answer.{IsDueUnless};
 ghost use Rattle.fleet_text.specs.Text.{lines, words};
 ghost use Rattle.fleet_scen.specs.ScenText.{is_filled, is_version, HasPassableEnds, IsScenText, IsFirstScenFault};
 ghost use Rattle.fleet_scen.specs.ScenReading.{pair_at, numbers_at, task_at, lacks, enough_tasks, tasks_at, after_version, judge_asked, scen_at};
-ghost use Rattle.fleet_scen.specs.Fields.{two_words, two_numbers, is_one_word, fields_of};
+ghost use Rattle.fleet_scen.specs.Fields.{two_words, ends_word, next_number, two_numbers, is_one_word, fields_of};
 
 use crate::fault::ScenFault;
 use crate::instance::Instance;
 use fleet_grid::Grid;
 use fleet_model::{Cell, MAX_AGENTS, Task};
-use fleet_text::{Cursor, next_word, small_number_of};
+use fleet_text::{Cursor, is_blank, next_word, small_number_front, small_number_of};
 use std::alloc::Global;
 use std::collections::HashSet;
 
@@ -249,12 +249,60 @@ fn two_words(line: &[u8]) -> Option<(&[u8], &[u8], &[u8])>
     Some((first, second, rest))
 }
 
+/// The line without one blank in front.
+#[inline(always)]
+fn past_blank(line: &[u8]) -> &[u8]
+    ensures { words result.now ≡ words line.now }
+{
+    match line {
+        [first, after @ ..] if is_blank(*first) => after,
+        _ => line,
+    }
+}
+
+/// Whether a word ends before these bytes.
+#[inline(always)]
+fn ends_word(rest: &[u8]) -> bool
+    ensures { result ≡ ends_word rest.now }
+{
+    match rest {
+        [next, ..] => is_blank(*next),
+        [] => true,
+    }
+}
+
+/// The number that the first word of a line spells, and the line after it, if one blank at most stands before it. Its
+/// end is found as it is read.
+#[inline(always)]
+fn number_word(line: &[u8]) -> Option<(u16, &[u8])>
+    ensures { IfSome result (λ x. next_number (words line.now) ≡ Some (Some x.0, words x.1.now)) }
+{
+    let (number, rest) = small_number_front(past_blank(line))?;
+    if ends_word(rest) {
+        Some((number, rest))
+    } else {
+        None
+    }
+}
+
+/// What the first word of a line spells, a number or `None`, and the line after it, if it has a word.
+fn next_number(line: &[u8]) -> Option<(Option<u16>, &[u8])>
+    ensures { option_map (λ x. (x.0, words x.1.now)) result ≡ next_number (words line.now) }
+{
+    if let Some((number, rest)) = number_word(line) {
+        return Some((Some(number), rest));
+    }
+    let (word, rest) = next_word(line)?;
+    Some((small_number_of(word), rest))
+}
+
 /// What the first two words of a line spell, each a number or `None`, and the line after them, if it has so many.
 fn two_numbers(line: &[u8]) -> Option<(Option<u16>, Option<u16>, &[u8])>
     ensures { option_map (λ x. (x.0, x.1, words x.2.now)) result ≡ two_numbers (words line.now) }
 {
-    let (first, second, rest) = two_words(line)?;
-    Some((small_number_of(first), small_number_of(second), rest))
+    let (first, rest) = next_number(line)?;
+    let (second, rest) = next_number(rest)?;
+    Some((first, second, rest))
 }
 
 /// Whether the line has one word.

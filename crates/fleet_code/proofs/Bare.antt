@@ -19,7 +19,7 @@ past_steps : (v : Version) (b : ℕ) → b + 5 ≤ last_step v → ⊥
 past_steps One b le = omega (arith, le)
 past_steps Two b le = omega (arith, le)
 
-step_there : (v : Version) (b : ℕ) → b ≤ last_step v → (s : Step) × (step_at v b ≡ Some s)
+pub step_there : (v : Version) (b : ℕ) → b ≤ last_step v → (s : Step) × (step_at v b ≡ Some s)
 step_there v zero le = (Go North, refl)
 step_there v (suc zero) le = (Go East, refl)
 step_there v (suc (suc zero)) le = (Go South, refl)

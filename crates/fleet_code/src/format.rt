@@ -20,7 +20,7 @@ pub const MAGIC_LEN: usize = 4;
 pub const AWAIT: u8 = 0x10;
 
 /// The greatest opcode of a move.
-const LAST_MOVE: u8 = 3;
+pub const LAST_MOVE: u8 = 3;
 
 /// The opcode of a stay.
 const DWELL: u8 = 4;

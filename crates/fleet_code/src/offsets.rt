@@ -10,7 +10,7 @@ ghost use Rattle.fleet_code.specs.Offsets.{Finds, AreBare, head_len, opcodes, en
 ghost use Rattle.std.specs.List.{range_with_len};
 
 use crate::fault::LoadFault;
-use crate::format::{AWAIT, HEAD_LEN, LEAST_AGENT_LEN, Version, step_of};
+use crate::format::{AWAIT, HEAD_LEN, LAST_MOVE, LEAST_AGENT_LEN, Version, step_of};
 use crate::loader::{after_magic, await_of, cell_of, count_of, number_of};
 use fleet_model::{Cell, MAX_AGENTS, MAX_MOVES, MAX_MOVES_IN_ALL, OutOfMemory};
 use std::alloc::Global;
@@ -91,10 +91,54 @@ struct Head {
     agents: u16,
 }
 
+/// The bytes after the next action of agent `own`, if it is seen at one look to be right: one await and a move in version
+/// 1, of which most programs are made.
+#[inline(always)]
+fn after_short_action(head: Head, own: u16, bytes: &[u8]) -> Option<&[u8]>
+    ensures found { IfSome result (λ after. (a : Action) × (opcodes a ≡ 2)
+        × (action_at head.version (length bytes.now) head.whole head.agents own 0 bytes.now
+        ≡ Ok (a, after.now))) }
+    ensures shorter { IfSome result (λ after. length bytes.now ≡ 6 + length after.now) }
+{
+    let Version::One = head.version else {
+        return None;
+    };
+    let [opcode, a, b, c, d, step, after @ ..] = bytes else {
+        return None;
+    };
+    if *opcode != AWAIT || *step > LAST_MOVE {
+        return None;
+    }
+    let agent = u16::from_be_bytes([*a, *b]);
+    let count = u16::from_be_bytes([*c, *d]);
+    if agent < head.agents && agent != own && count != 0 {
+        return Some(after);
+    }
+    None
+}
+
 /// Judges the awaits and the step of an action of agent `own`, and answers how many opcodes the action has, and the
 /// bytes after it.
 #[inline(always)]
 fn after_action(head: Head, own: u16, bytes: &[u8]) -> Result<(u32, &[u8]), LoadFault>
+    requires whole { length bytes.now ≤ head.whole }
+    requires few { head.agents ≤ MAX_AGENTS }
+    ensures value { Finds
+        (λ x due. (x.0 ≡ opcodes due.0) × (x.1.now ≡ due.1)
+        × (length bytes.now ≡ length (action head.version due.0) + length x.1.now))
+        result (action_at head.version (length bytes.now) head.whole head.agents own 0 bytes.now) }
+    ensures few { IfOk result (λ x. x.0 ≤ MAX_AGENTS + 1) }
+    ensures shorter { IfOk result (λ x. length x.1.now < length bytes.now) }
+{
+    match after_short_action(head, own, bytes) {
+        Some(after) => Ok((2, after)),
+        None => after_any_action(head, own, bytes),
+    }
+}
+
+/// The same of any action, opcode by opcode.
+#[inline(always)]
+fn after_any_action(head: Head, own: u16, bytes: &[u8]) -> Result<(u32, &[u8]), LoadFault>
     requires whole { length bytes.now ≤ head.whole }
     requires few { head.agents ≤ MAX_AGENTS }
     ensures value { Finds

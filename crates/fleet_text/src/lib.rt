@@ -29,4 +29,4 @@ pub use numbers::{
 pub use refusal::{Refusal, put_memory, put_named, put_named_at, put_named_by};
 pub use row::Row;
 pub use sink::{Flush, OutFault, TraceOut, VecOut, WriteOut, deliver, put_all};
-pub use writing::{Word, put_count, put_line, put_next_word, put_words};
+pub use writing::{Word, add_line, put_count, put_line, put_next_word, put_words};

@@ -114,7 +114,7 @@ impl Row {
     }
 
     /// Has the sink take what is in the row.
-    fn hand_on<O: TraceOut>(&mut self, out: &mut O) -> Result<(), OutFault>
+    pub fn hand_on<O: TraceOut>(&mut self, out: &mut O) -> Result<(), OutFault>
         requires { IsWorking (O.state out.old) }
         ensures taken { TakesAll (O.state out.old) (O.state out.new) result self.old }
         ensures empty { OnOk result (self.new ≡ []) }

@@ -107,6 +107,16 @@ pub fn put_words<O: TraceOut>(
     Ok(())
 }
 
+/// Adds the words to the row as a line.
+pub fn add_line<O: TraceOut>(row: &mut Row, out: &mut O, words: &[Word<'_>]) -> Result<(), OutFault>
+    requires { IsWorking (O.state out.old) }
+    ensures { Gathers (O.state out.old) (O.state out.new) result row.old row.new
+        (line_text (map word_text words.now)) }
+{
+    put_words(row, out, words)?;
+    row.add(out, b"\n")
+}
+
 /// Writes the words as a line, in one piece if a row has room for it.
 pub fn put_line<O: TraceOut>(out: &mut O, words: &[Word<'_>]) -> Result<(), OutFault>
     requires { IsWorking (O.state out.old) }
@@ -114,8 +124,8 @@ pub fn put_line<O: TraceOut>(out: &mut O, words: &[Word<'_>]) -> Result<(), OutF
         (line_text (map word_text words.now)) }
 {
     let mut row = Row::new();
-    put_words(&mut row, out, words)?;
-    row.end_line(out)
+    add_line(&mut row, out, words)?;
+    row.hand_on(out)
 }
 
 /// Writes a word and a number as a line.

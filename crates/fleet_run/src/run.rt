@@ -239,8 +239,8 @@ fn tick_row<P: ProgramView>(
     tick.ready_held
 }
 
-/// What a run keeps from tick to tick: the bytes of the line of the time, and where each number of a place begins in them; and of
-/// each agent whether it is held, and its place.
+/// What a run keeps from tick to tick: the bytes of the line of the time, and where each number of a place begins in
+/// them; and of each agent whether it is held, and its place.
 struct Rows<'r> {
     row: &'r mut [u8],
     begins: &'r mut [u16],

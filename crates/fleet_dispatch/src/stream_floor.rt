@@ -9,11 +9,11 @@ ghost use Rattle.fleet_dispatch.specs.Session.{IsReady, first_course, course_in,
 ghost use Rattle.fleet_dispatch.specs.Talk.{IsLogged, IsSaid};
 ghost use Rattle.fleet_dispatch.specs.Window.{window_rest};
 
-use crate::dispatch::dispatch_accepted;
 use crate::fault::DispatchFault;
 use crate::floor::{Floor, HearFault};
 use crate::form::ReportForm;
 use crate::pace::Pace;
+use crate::replay::lead_on;
 use crate::report::Report;
 use crate::report_log::{NoLog, ReportLog};
 use crate::report_text::LineKind;
@@ -142,8 +142,10 @@ pub fn dispatch_logged<P: ProgramView + Drop, R: ReportsTo<O>, O: Flush, L: Repo
         (L.state log.new) outset.entry.pace.form) result }
     ensures stays { L.stays log.old log.new }
 {
-    let mut floor = StreamFloor::new(outset.pace.form, input, orders, log);
-    dispatch_accepted(alloc, accepted, outset.pace, outset.past, &mut floor)
+    let Outset { pace, past } = outset;
+    let program = accepted.program();
+    let mut session = lead_on(alloc, program, pace, past)?;
+    dispatch_led(&mut session, program, pace, input, orders, log)
 }
 
 /// The same of a session that the reports of the past have led (`lead_on`).

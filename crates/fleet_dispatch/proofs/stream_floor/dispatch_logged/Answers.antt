@@ -1,14 +1,21 @@
-use Rattle.std.proofs.Common.{◌≡◌, rules, subst}
-use Rattle.fleet_dispatch.specs.Talk.{Talk}
-use Rattle.fleet_dispatch.specs.Window.{window_rest}
-use Rattle.fleet_dispatch.specs.declared.form.ReportForm.{ReportForm}
-use Rattle.fleet_dispatch.proofs.Said.{after_more}
+use Rattle.std.proofs.Common.{[]}
+use Rattle.fleet_dispatch.specs.Session.{first_course, left_in}
+use Rattle.fleet_dispatch.specs.Talk.{IsLogged}
+use Rattle.fleet_dispatch.proofs.Said.{from_there, led_stops, after_err}
 use Rattle.fleet_dispatch.proofs.stream_floor.dispatch_logged.Goals as goal
+
+pub returns-in_err-session-clause-outcome : goal.returns-in_err-session-clause-outcome
+returns-in_err-session-clause-outcome g c =
+    let log = g.L.ReportLog.state c.args.log.now in
+    let talks = IsLogged g.R.ReportsTo.talks c.args.input.now c.args.orders.now c.args.input.now c.args.orders.now log log c.args.outset.pace.form in
+    rw (← c.program-program.ensures.program) (after_err _ _ talks _ _ c.from_residual.ensures.1
+    (led_stops _ c.args.outset.pace c.args.outset.past.now talks c.in_err-session.field-0.0 c.in_err-session.ensures ([], g.met.R.ReportsTo.silent c.args.outset.pace.form c.args.input.now [] c.args.orders.now log)))
+
+pub returns-in_err-session-clause-stays : goal.returns-in_err-session-clause-stays
+returns-in_err-session-clause-stays g c = g.met.L.ReportLog.same c.args.log.now
 
 pub returns-clause-outcome : goal.returns-clause-outcome
 returns-clause-outcome g c =
-    let f = c.new-floor.result in
-    let h = c.dispatch_accepted.new.floor in
-    let over : ReportForm → Talk → Type 0 = λ form talk. g.R.ReportsTo.talks form f.input.now (window_rest f.window) f.orders.now (g.L.ReportLog.state f.log.now) h.input.now (window_rest h.window) h.orders.now (g.L.ReportLog.state h.log.now) talk in
-    after_more (λ talk. over f.form talk × (h.form ≡ f.form) × (h.input.ghost_name ≡ f.input.ghost_name) × (h.orders.ghost_name ≡ f.orders.ghost_name) × (h.log.ghost_name ≡ f.log.ghost_name) × g.L.ReportLog.stays f.log.now h.log.now) _
-    (λ talk said. let here : over c.args.outset.pace.form talk = subst (λ form. over form talk) c.new-floor.ensures.form said.0 in (window_rest h.window, search rules)) _ _ _ c.dispatch_accepted.ensures.outcome
+    let p = g.P.ProgramView.program c.program-program.result.now in
+    rw (← c.program-program.ensures.program)
+    (from_there (first_course p c.args.outset.pace) c.args.outset.past.now _ (left_in c.in_ok-session.session) (left_in c.dispatch_led.new.session) c.dispatch_led.result c.in_ok-session.ensures.replayed c.dispatch_led.ensures.outcome)

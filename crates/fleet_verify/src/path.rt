@@ -1,6 +1,6 @@
 //! The judgement of an agent's path, by one walk along it.
 
-ghost use Rattle.std.specs.Prelude.{◌≡◌, ◌<◌, ◌≤◌, ◌+◌, ◌↔◌, false, length, IfSome, IfNone, IsTrue};
+ghost use Rattle.std.specs.Prelude.{◌≡◌, ◌<◌, ◌≤◌, ◌+◌, ◌<ℤ◌, ◌↔◌, false, length, pos, IfSome, IfNone, IsTrue};
 ghost use Rattle.fleet_model.specs.Geometry.{place_of, stepped};
 ghost use Rattle.fleet_model.specs.Program.{moves, IsWellFormed};
 ghost use Rattle.fleet_grid.specs.Ground.{is_passable};
@@ -145,6 +145,10 @@ pub fn next_number(number: u32, step: Step) -> u32
         → place_of (numbered_cell result) ≡ stepped (place_of (numbered_cell number)) step }
     ensures cell { (c : Cell) → place_of c ≡ stepped (place_of (numbered_cell number)) step
         → numbered_cell result ≡ c }
+    ensures west { (stepped (place_of (numbered_cell number)) step).x <ℤ pos 0
+        → (numbered_cell result).x ≡ u16.MAX }
+    ensures north { (stepped (place_of (numbered_cell number)) step).y <ℤ pos 0
+        → (numbered_cell result).y ≡ u16.MAX }
 {
     match step {
         Step::Go(dir) => number.wrapping_add(LEADS[dir as usize]),

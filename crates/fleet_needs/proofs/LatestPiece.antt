@@ -47,11 +47,8 @@ module _ (pieces : List Piece) (i j n bound end : ℕ) (sorted : AreSorted piece
     below y c of_pair begun =
         let l = begun_before c.0 y c.1 c.2 of_pair begun in
         let up : key_of (get_or pieces c.0 d) ≤ key_of (get_or pieces (end - 1) d) = sorted c.0 (end - 1) d (omega arith) (omega arith) in
-        let here : get_or pieces c.0 d ≡ y = same_default c.0 d y c.1 ∙ c.2 in
+        let here : get_or pieces c.0 d ≡ y = get_or_default pieces c.0 d y c.1 ∙ c.2 in
         subst (λ (x : Piece). key_of x ≤ key_of (get_or pieces (end - 1) d)) here up
-      where
-        same_default : (k : ℕ) (a b : Piece) → k < length pieces → get_or pieces k a ≡ get_or pieces k b
-        same_default k a b l = get_or_default pieces k a b l
 
     pub latest_found : IsOf i j (get_or pieces (end - 1) d) → IsLatest pieces i j n (get_or pieces (end - 1) d)
     latest_found of_pair = record {

@@ -32,14 +32,6 @@ pub record AreBegun (p : Program) (t : ℕ) (old new : List ℕ) (from : ℕ) : 
   pub place : from ≡ after_place new (length old) (length new)
   pub next : (k : ℕ) → length old ≤ k → k < length new → IsNextReady p t (after_place new (length old) k) (slice_index new k)
 
-pub begun_none : (p : Program) (t : ℕ) (old : List ℕ) → AreBegun p t old old 0
-begun_none p t old = record {
-  more = omega arith;
-  kept = λ k l. refl;
-  place = sym (after_first old (length old));
-  next = λ k l less. absurd (omega arith);
-}
-
 pub begun_on : (p : Program) (t : ℕ) (old mid : List ℕ) (from i : ℕ) → AreBegun p t old mid from → IsNextReady p t from i → AreBegun p t old (mid ++ i ∷ []) (i + 1)
 begun_on p t old mid from i h next = record {
   more = omega (arith, h.more, long);

@@ -1,6 +1,7 @@
 -- The tick that finishes each action if nobody is held, and awaits for which a few steps back show whether others imply
 -- them.
-use Rattle.std.specs.Prelude.{◌≡◌, ℕ, ◌+◌, ◌-◌, ◌<◌, ◌≤◌, ◌⊎◌, Bool, true, false, List, [], length, get_or, slice_get, slice_index, Some}
+use Rattle.std.specs.Prelude.{◌≡◌, ℕ, ◌+◌, ◌-◌, ◌<◌, ◌≤◌, ◌⊎◌, Bool, true, false, List, [], length, get_or, slice_get, slice_index, Some, Vec}
+use Rattle.std.specs.declared.alloc.Global.{Global}
 use Rattle.fleet_model.specs.declared.program.Await.{Await}
 use Rattle.fleet_model.specs.declared.program.ActionId.{ActionId}
 use Rattle.fleet_model.specs.Program.{Program, awaits_of, total_moves}
@@ -56,6 +57,11 @@ AreSettledOf p asked These flags =
 -- it is so of all awaits of the program
 abbrev pub AreSettled : Program → List Bool → List Bool → Type 0
 AreSettled p asked flags = AreSettledOf p asked (IsAction p) flags
+
+-- it is so by these flags, one for each agent
+pub record AreSettledBy (p : Program) (asked : Vec Bool Global) (flags : List Bool) : Type 0 where
+  pub all : length asked.items ≡ length p
+  pub settled : AreSettled p asked.items flags
 
 -- each agent that was asked for still is
 abbrev pub AreMoreAsked : List Bool → List Bool → Type 0

@@ -7,7 +7,7 @@ ghost use Rattle.fleet_model.specs.Chain.{IsAction, Reaches};
 ghost use Rattle.fleet_needs.specs.Implied.{IsImplied};
 ghost use Rattle.fleet_needs.specs.Flags.{AreFlags, flags_of};
 ghost use Rattle.fleet_needs.specs.Order.{IsWholeOrder};
-ghost use Rattle.fleet_needs.specs.Settled.{AreTicks, AreSettled, AreSettledOf, AreMoreAsked, IsActionSettled, IsUpTo};
+ghost use Rattle.fleet_needs.specs.Settled.{AreTicks, AreSettledBy, AreSettledOf, AreMoreAsked, IsActionSettled, IsUpTo};
 ghost use Rattle.fleet_needs.specs.Rows.{action_before};
 
 use crate::finish_order::{FinishOrder, FinishTicks};
@@ -30,9 +30,8 @@ pub fn settle_all<P: ProgramView>(
     requires order { IsWholeOrder (P.program program.now) order.now }
     requires flags { AreFlags (P.program program.now) implied.old }
     ensures flags { OnOk result (AreFlags (P.program program.now) implied.new) }
-    ensures all { IfOk result (λ asked. length asked.items ≡ length (P.program program.now)) }
-    ensures settled { IfOk result (λ asked. AreSettled
-        (P.program program.now) asked.items (flags_of implied.new)) }
+    ensures asked { IfOk result (λ asked. AreSettledBy
+        (P.program program.now) asked (flags_of implied.new)) }
 {
     let mut finish = FinishTicks::of(alloc, program, order)?;
     let agents = program.agents();

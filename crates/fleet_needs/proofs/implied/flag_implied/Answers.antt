@@ -7,11 +7,11 @@ pub returns-then-not-is_any : goal.returns-then-not-is_any
 returns-then-not-is_any g c = record {
   flags = c.in_ok-asked.ensures.flags;
   flagged = flagged_if_none (g.P.ProgramView.program c.args.program.now) c.in_ok-asked.asked.items (flags_of c.settle_all.new.implied)
-      (λ j. ap (λ (xs : List Bool). get_or xs j false) (sym c.deref.ensures.value) ∙ c.is_any.ensures.0 c.if-not-is_any.true j) c.in_ok-asked.ensures.settled;
+      (λ j. ap (λ (xs : List Bool). get_or xs j false) (sym c.deref.ensures.value) ∙ c.is_any.ensures.0 c.if-not-is_any.true j) c.in_ok-asked.ensures.asked.settled;
 }
 
 pub of-requires-2-clause-sure : goal.of-requires-2-clause-sure
 of-requires-2-clause-sure g c = record {
   flags = c.in_ok-asked.ensures.flags;
-  sure = sure_of (g.P.ProgramView.program c.args.program.now) c.in_ok-asked.asked.items _ c.in_ok-asked.ensures.settled;
+  sure = sure_of (g.P.ProgramView.program c.args.program.now) c.in_ok-asked.asked.items _ c.in_ok-asked.ensures.asked.settled;
 }

@@ -24,8 +24,8 @@ module _ (p : Program) (places : ActionPlaces) (right : ArePlacesOf p places) (I
 
   -- one action more
   pub noted_more : (Old New : ActionId → Type 0) (here : ActionId) → IsAction p here → ((a : ActionId) → IsAction p a → New a → Old a ⊎ (a ≡ here)) → (Old here → ⊥)
-      → (x : ℕ) → x + 1 ≡ slice_index firsts here.agent + here.number → (old : List ℕ) → length old ≡ total_moves p → (v : ℕ) → Is here v → AreEntries p places Is Old old → AreEntries p places Is New (set old x v)
-  noted_more Old New here is split not_before x at old all v right_here before a k done = elim (split a k done) [
+      → (x : ℕ) → x ≡ place_of_action places here → (old : List ℕ) → length old ≡ total_moves p → (v : ℕ) → Is here v → AreEntries p places Is Old old → AreEntries p places Is New (set old x v)
+  noted_more Old New here is split not_before x place old all v right_here before a k done = elim (split a k done) [
     | inl was ↦
         let ne : action_place firsts a ≢ x = (λ same. place_apart p firsts right a here k is (λ e. not_before (subst Old e was)) (same ∙ place)) in
         subst (Is a) (sym (get_or-set_other old x (action_place firsts a) v 0 ne)) (before a k was)
@@ -35,9 +35,6 @@ module _ (p : Program) (places : ActionPlaces) (right : ArePlacesOf p places) (I
         subst (Is a) (sym entry) (subst (λ (y : ActionId). Is y v) (sym same) right_here)
   ]
     where
-      place : x ≡ action_place firsts here
-      place = omega (arith, at)
-
       within : x < length old
       within = (let l = place_within p firsts right here is in omega (arith, l, all, place))
 

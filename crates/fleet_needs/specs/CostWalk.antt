@@ -1,19 +1,24 @@
 -- Actions finished in any order that respects needs, and the costs of their critical paths.
-use Rattle.std.specs.Prelude.{◌≡◌, ℕ, zero, suc, ◌+◌, ◌<◌, ◌≤◌, ◌⊎◌, List, [], length, set, slice_index, slice_get, Some, Contains}
+use Rattle.std.specs.Prelude.{◌≡◌, ℕ, ◌+◌, ◌^◌, ◌<◌, ◌≤◌, ◌⊎◌, Bool, true, List, length, set, get_or, slice_index, Vec, Contains}
+use Rattle.std.specs.declared.alloc.Global.{Global}
 use Rattle.fleet_model.specs.declared.program.ActionId.{ActionId}
 use Rattle.fleet_model.specs.declared.program.Await.{Await}
-use Rattle.fleet_model.specs.Program.{Program, moves, awaits_of, awaits_before, agent_awaits, total_moves, AreInRange}
-use Rattle.fleet_model.specs.Machine.{IsFinish}
-use Rattle.fleet_model.specs.Chain.{DirectlyNeeds, IsCriticalCost, awaited}
+use Rattle.fleet_model.specs.Program.{Program, moves, awaits_of, awaits_before, agent_awaits, total_moves}
+use Rattle.fleet_model.specs.Chain.{DirectlyNeeds, IsCriticalCost}
 use Rattle.fleet_needs.specs.Places.{ArePlacesOf}
 use Rattle.fleet_needs.specs.Order.{IsCounted}
-use Rattle.fleet_needs.specs.CostTable.{costs_of}
-use Rattle.fleet_needs.specs.Critical.{AreNotedCosts}
-use Rattle.fleet_needs.specs.declared.await_places.ActionPlaces.{ActionPlaces}
+use Rattle.fleet_needs.specs.Critical.{EndsInTime, AreNotedCosts}
 use Rattle.fleet_needs.specs.declared.cost_walk.Stage.{Stage}
 use Rattle.fleet_needs.specs.declared.cost_walk.Standing.{Standing}
-use Rattle.fleet_needs.specs.declared.cost_walk.CostWalk.{CostWalk}
-use Rattle.fleet_needs.specs.declared.finish_order.TheConstants.{MAX_TICKS}
+
+-- what agents have finished: how many actions each of them, how far it has come with the next one, and by the places of
+-- the actions what their critical paths cost, and whether each cost has four bytes
+pub record Walked : Type 0 where
+  pub counts : List ℕ
+  pub stages : List Stage
+  pub places : List ℕ
+  pub costs : List ℕ
+  pub narrow : Bool
 
 -- ---- what an agent may do next
 
@@ -25,51 +30,58 @@ after i n = record { agent = i; number = n + 1 }
 abbrev pub next_in : List ℕ → ℕ → ActionId
 next_in counts i = after i (slice_index counts i)
 
--- m is the greatest cost of the critical paths of the action right before a and of those that its first k awaits name,
--- or 0 if there are none
-pub record IsGreatestTo (p : Program) (cost : ActionId → ℕ) (a : ActionId) (k m : ℕ) : Type 0 where
-  pub some : (m ≡ 0) ⊎ ((b : ActionId) × DirectlyNeeds p a b × IsCriticalCost p cost b m)
-  pub own : (b : ActionId) (n : ℕ) → a.agent ≡ b.agent → a.number ≡ b.number + 1 → 1 ≤ b.number → IsCriticalCost p cost b n → n ≤ m
-  pub awaits : (j n : ℕ) (w : Await) → j < k → slice_get (awaits_of p a.agent a.number) j ≡ Some w → IsCriticalCost p cost (awaited w) n → n ≤ m
+-- a directly needs b: b is the action of the same agent right before a, or one that its first k awaits name
+abbrev pub NeedsFirst : Program → ActionId → ℕ → ActionId → Type 0
+NeedsFirst p a k b =
+    ((a.agent ≡ b.agent) × (a.number ≡ b.number + 1) × (1 ≤ b.number))
+    ⊎ ((j : ℕ) × (j < k) × (get_or (awaits_of p a.agent a.number) j (record { agent = b.agent; count = b.number }) ≡ record { agent = b.agent; count = b.number }))
 
--- agent i has finished n actions, and come so far with the next one: what its first awaits name is among These
+-- what a needs so is among These, and m is the greatest cost of the critical paths of that, or 0 if a needs nothing so
+pub record IsGreatestTo (p : Program) (cost : ActionId → ℕ) (These : ActionId → Type 0) (a : ActionId) (k m : ℕ) : Type 0 where
+  pub some : (m ≡ 0) ⊎ ((b : ActionId) × DirectlyNeeds p a b × IsCriticalCost p cost b m)
+  pub needs : (b : ActionId) → NeedsFirst p a k b → These b × ((n : ℕ) → IsCriticalCost p cost b n → n ≤ m)
+
+-- agent i has finished n actions, and come so far with the next one
 pub record IsStage (p : Program) (cost : ActionId → ℕ) (offset : (i finished k : ℕ) → ℕ) (These : ActionId → Type 0) (i n : ℕ) (s : Stage) : Type 0 where
   pub at : s.at ≡ offset i n s.met
   pub within : s.met ≤ length (awaits_of p i (n + 1))
   pub left : awaits_before p i n + s.met + s.left ≡ agent_awaits p i
-  pub met : (j : ℕ) (w : Await) → j < s.met → slice_get (awaits_of p i (n + 1)) j ≡ Some w → These (awaited w)
-  pub greatest : IsGreatestTo p cost (after i n) s.met s.greatest
+  pub greatest : IsGreatestTo p cost These (after i n) s.met s.greatest
 
 -- all that the action of agent i after n directly needs is among These, the greatest cost is that of all of it, and the
 -- action after it stands there
 pub record IsReadyStage (p : Program) (cost : ActionId → ℕ) (offset : (i finished k : ℕ) → ℕ) (These : ActionId → Type 0) (i n : ℕ) (s : Stage) : Type 0 where
   pub at : s.at ≡ offset i (n + 1) 0
   pub left : awaits_before p i (n + 1) + s.left ≡ agent_awaits p i
-  pub met : (b : ActionId) → DirectlyNeeds p (after i n) b → These b
-  pub greatest : IsGreatestTo p cost (after i n) (length (awaits_of p i (n + 1))) s.greatest
+  pub greatest : IsGreatestTo p cost These (after i n) (length (awaits_of p i (n + 1))) s.greatest
 
 -- ---- all agents
 
--- so many actions of each agent are finished, and the costs of their critical paths are noted by their places
-pub record IsWalkBy (p : Program) (cost : ActionId → ℕ) (offset : (i finished k : ℕ) → ℕ) (counts : List ℕ) (stages : List Stage) (places : ActionPlaces) (costs : List ℕ) : Type 0 where
-  pub all_counts : length counts ≡ length p
-  pub all_stages : length stages ≡ length p
-  pub are_places : ArePlacesOf p places
-  pub all_costs : length costs ≡ total_moves p
-  pub within : (i : ℕ) → i < length p → slice_index counts i ≤ moves p i
-  pub each : (i : ℕ) (s : Stage) → slice_get stages i ≡ Some s → IsStage p cost offset (IsCounted counts) i (slice_index counts i) s
-  pub noted : AreNotedCosts p cost places (IsCounted counts) costs
+abbrev pub no_stage : Stage
+no_stage = record { met = 0; left = 0; at = 0; greatest = 0 }
 
--- so many ticks finish the program if nobody is held
-pub record FinishesAfter (p : Program) (ticks : ℕ) : Type 0 where
-  pub range : AreInRange p
-  pub finish : IsFinish p [] ticks
-  pub few : ticks ≤ MAX_TICKS
+-- how far agent i has come
+abbrev pub stage_in : Walked → ℕ → Stage
+stage_in w i = get_or w.stages i no_stage
 
--- it is so with these agents
-pub record IsCostWalk (p : Program) (cost : ActionId → ℕ) (offset : (i finished k : ℕ) → ℕ) (w : CostWalk) : Type 0 where
-  pub finishes : FinishesAfter p w.ticks
-  pub walk : IsWalkBy p cost offset w.counts.items w.stages.items w.places (costs_of w.costs)
+-- there is an entry for each agent of the program, and for each action
+pub record HasAll (p : Program) (w : Walked) : Type 0 where
+  pub counts : length w.counts ≡ length p
+  pub stages : length w.stages ≡ length p
+  pub places : ArePlacesOf p w.places
+  pub costs : length w.costs ≡ total_moves p
+
+-- the agents have come so far in a program that ends, and the costs of what is finished are noted
+pub record IsCostWalk (p : Program) (cost : ActionId → ℕ) (offset : (i finished k : ℕ) → ℕ) (w : Walked) : Type 0 where
+  pub ends : EndsInTime p
+  pub all : HasAll p w
+  pub within : (i : ℕ) → i < length p → slice_index w.counts i ≤ moves p i
+  pub each : (i : ℕ) → i < length p → IsStage p cost offset (IsCounted w.counts) i (slice_index w.counts i) (stage_in w i)
+  pub noted : AreNotedCosts p cost w.places (IsCounted w.counts) w.costs
+
+-- the walk once agent i has gone on so far, with these costs
+abbrev pub gone_on : Walked → (i finished : ℕ) → Stage → List ℕ → Walked
+gone_on w i finished s costs = record { counts = set w.counts i finished; stages = set w.stages i s; places = w.places; costs = costs; narrow = w.narrow }
 
 -- ---- how it goes on
 
@@ -89,15 +101,25 @@ pub record IsUnmet (p : Program) (counts : List ℕ) (i : ℕ) (w : Await) : Typ
 
 -- ---- an agent that has no await left
 
--- what the critical path of the agent's last action costs, so many actions on, if each adds its own cost
-abbrev pub cost_after : (ActionId → ℕ) → ℕ → Standing → ℕ → ℕ
-cost_after cost i from zero = from.greatest
-cost_after cost i from (suc k) = cost_after cost i from k + cost (after i (from.finished + k))
+-- the walk once agent i, which awaits nothing any more, stands there, with these costs
+abbrev pub rested : ((i finished k : ℕ) → ℕ) → Walked → ℕ → Standing → List ℕ → Walked
+rested offset w i to costs = gone_on w i to.finished (record { met = 0; left = 0; at = offset i to.finished 0; greatest = to.greatest }) costs
 
--- the table with these costs of its next k actions, where its first action has that place
-abbrev pub filled : (ActionId → ℕ) → (begin i : ℕ) → Standing → List ℕ → ℕ → List ℕ
-filled cost begin i from table zero = table
-filled cost begin i from table (suc k) = set (filled cost begin i from table k) (begin + (from.finished + k)) (cost_after cost i from (suc k))
+-- agent i awaits nothing any more, and each cost has four bytes
+pub record IsFree (w : Walked) (i : ℕ) : Type 0 where
+  pub left : (stage_in w i).left ≡ 0
+  pub met : (stage_in w i).met ≡ 0
+  pub narrow : w.narrow ≡ true
+
+-- agent i has finished all of its actions, or the cost of the next one's critical path does not fit four bytes
+abbrev pub IsAtEnd : Program → (ActionId → ℕ) → Walked → ℕ → Type 0
+IsAtEnd p cost w i = (slice_index w.counts i ≡ moves p i) ⊎ (2 ^ 32 ≤ (stage_in w i).greatest + cost (next_in w.counts i))
+
+-- the first action of agent i has the place x, and it has n actions or more
+pub record IsRow (p : Program) (w : Walked) (i x n : ℕ) : Type 0 where
+  pub agent : i < length p
+  pub begin : x ≡ slice_index w.places i
+  pub last : n ≤ moves p i
 
 -- ---- goals
 
@@ -105,3 +127,13 @@ filled cost begin i from table (suc k) = set (filled cost begin i from table k) 
 pub record IsGoal (p : Program) (w : Await) : Type 0 where
   pub agent : w.agent < length p
   pub within : w.count ≤ moves p w.agent
+
+-- the goals, in their order
+abbrev pub goals_of : Vec Await Global → List Await
+goals_of goals = goals.items
+
+-- the last goal is the last one of the old ones that is open, or the first of all if none is; it is gone, and those
+-- behind it
+pub record IsLastOpen (counts : List ℕ) (old new : List Await) (first last : Await) : Type 0 where
+  pub latest : (k : ℕ) (d : Await) → k < length old → IsOpen counts (get_or old k d) → (k ≤ length new) × (last ≡ get_or old (length new) d)
+  pub still : IsOpen counts first → IsOpen counts last

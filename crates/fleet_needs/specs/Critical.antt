@@ -1,12 +1,21 @@
 -- The cost of the critical path of each action, as it is noted.
-use Rattle.std.specs.Prelude.{◌≡◌, ℕ, ◌*◌, ◌≤◌, List, length, slice_index}
+use Rattle.std.specs.Prelude.{◌≡◌, ℕ, ◌*◌, ◌≤◌, List, [], length, slice_index}
 use Rattle.fleet_model.specs.declared.program.ActionId.{ActionId}
-use Rattle.fleet_model.specs.Program.{Program, total_moves}
+use Rattle.fleet_model.specs.Program.{Program, total_moves, AreInRange}
+use Rattle.fleet_model.specs.Machine.{IsFinish}
 use Rattle.fleet_model.specs.Chain.{IsAction, IsCriticalCost}
 use Rattle.fleet_needs.specs.Places.{ArePlacesOf, place_of_action}
 use Rattle.fleet_needs.specs.Settled.{IsFinishedBy}
 use Rattle.fleet_needs.specs.declared.await_places.ActionPlaces.{ActionPlaces}
 use Rattle.fleet_needs.specs.declared.critical.TheConstants.{MAX_COST}
+use Rattle.fleet_needs.specs.declared.finish_order.TheConstants.{MAX_TICKS}
+
+-- the program, whose awaits are in range, is finished after so many ticks if nobody is held
+pub record EndsInTime (p : Program) : Type 0 where
+  pub ticks : ℕ
+  pub range : AreInRange p
+  pub finish : IsFinish p [] ticks
+  pub few : ticks ≤ MAX_TICKS
 
 -- the action's critical path costs so much; and no more than so many of the dearest actions as ticks finish it
 pub record IsNotedCost (p : Program) (cost : ActionId → ℕ) (a : ActionId) (m : ℕ) : Type 0 where

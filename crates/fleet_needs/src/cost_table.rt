@@ -1,7 +1,7 @@
 //! Costs by place, in four bytes each as long as all of them fit.
 
-ghost use Rattle.std.specs.Prelude.{◌≡◌, ◌<◌, ◌^◌, length, replicate, set, slice_index, IfOk, OnOk};
-ghost use Rattle.fleet_needs.specs.CostTable.{costs_of, HasRoomFor};
+ghost use Rattle.std.specs.Prelude.{◌≡◌, ◌<◌, ◌^◌, false, length, replicate, set, slice_index, IfOk, OnOk};
+ghost use Rattle.fleet_needs.specs.CostTable.{costs_of, is_narrow, HasRoomFor};
 
 use fleet_model::OutOfMemory;
 use std::alloc::Global;
@@ -56,8 +56,7 @@ impl CostTable {
             return Ok(());
         }
         if let CostTable::Narrow(costs) = self {
-            let wide = widened(alloc, costs)?;
-            *self = CostTable::Wide(wide);
+            *self = widened(alloc, costs)?;
         }
         Ok(())
     }
@@ -65,12 +64,13 @@ impl CostTable {
 
 /// The same costs, in eight bytes each.
 #[inline(never)]
-fn widened(alloc: Global, costs: &[u32]) -> Result<Vec<u64>, OutOfMemory>
-    ensures { IfOk result (λ wide. wide.items ≡ costs.now) }
+fn widened(alloc: Global, costs: &[u32]) -> Result<CostTable, OutOfMemory>
+    ensures same { IfOk result (λ wide. costs_of wide ≡ costs.now) }
+    ensures wide { IfOk result (λ wide. is_narrow wide ≡ false) }
 {
     let mut wide = Vec::with_capacity(alloc, costs.len())?;
     for cost in costs {
         wide.push(u64::from(*cost))?;
     }
-    Ok(wide)
+    Ok(CostTable::Wide(wide))
 }

@@ -1,16 +1,11 @@
 //! Agents that go on as far as their awaits allow, and the costs of the critical paths of what they have finished.
 
-ghost use Rattle.std.specs.Prelude.{◌≡◌, ◌+◌, ◌-◌, ◌^◌, ◌<◌, ◌≤◌, ◌↔◌, ℕ, [], set, All, IsTrue, IfOk, IfErr, IfSome, IfNone, OnOk, length, slice_index};
-ghost use Rattle.fleet_model.specs.declared.program.ActionId.{ActionId};
-ghost use Rattle.fleet_model.specs.Program.{AreInRange, moves, total_moves};
-ghost use Rattle.fleet_model.specs.Machine.{IsFinish};
+ghost use Rattle.std.specs.Prelude.{◌≡◌, ◌+◌, ◌^◌, ◌<◌, ◌≤◌, ◌↔◌, ℕ, All, IsTrue, IfOk, IfErr, IfSome, IfNone, OnOk, length, set, slice_index};
+ghost use Rattle.fleet_model.specs.Program.{Program, AreInRange, moves};
 ghost use Rattle.fleet_model.specs.Chain.{IsAction, awaited};
-ghost use Rattle.fleet_needs.specs.Places.{ArePlacesOf};
-ghost use Rattle.fleet_needs.specs.CostTable.{costs_of};
-ghost use Rattle.fleet_needs.specs.Critical.{value_at};
-ghost use Rattle.fleet_needs.specs.declared.critical.TheConstants.{MAX_COST};
+ghost use Rattle.fleet_needs.specs.Critical.{EndsInTime, value_at};
 ghost use Rattle.fleet_needs.specs.Order.{IsCounted, AreAllCounted};
-ghost use Rattle.fleet_needs.specs.CostWalk.{IsCostWalk, IsStage, IsReadyStage, HaveGrown, IsUnmet, IsOpen, IsGoal, after, cost_after, filled};
+ghost use Rattle.fleet_needs.specs.CostWalk.{Walked, HasAll, IsCostWalk, IsStage, IsReadyStage, HaveGrown, IsUnmet, IsOpen, IsGoal, IsRow, IsFree, IsAtEnd, IsLastOpen, after, stage_in, gone_on, rested, goals_of};
 
 use crate::await_places::ActionPlaces;
 use crate::cost_table::CostTable;
@@ -19,6 +14,7 @@ use fleet_model::{
     ActionId, Await, Instruction, MAX_AGENTS, OutOfMemory, ProgramView, agent_awaits, total_moves,
 };
 use std::alloc::Global;
+use std::marker::Model;
 
 /// How far an agent has come with its next action.
 #[derive(Clone, Copy)]
@@ -42,8 +38,57 @@ pub struct CostWalk {
     pub places: ActionPlaces,
     /// The costs, by the places of the actions.
     pub costs: CostTable,
-    /// So many ticks finish all actions if nobody is held.
-    pub ticks: u32,
+}
+
+impl Model for CostWalk {
+    ghost use Rattle.fleet_needs.specs.CostTable.{costs_of, is_narrow};
+    ghost use Rattle.fleet_needs.specs.CostWalk.{Walked};
+
+    ghost Value = { Walked };
+
+    ghost view = { λ m. record {
+      counts = m.counts.items;
+      stages = m.stages.items;
+      places = m.places;
+      costs = costs_of m.costs;
+      narrow = is_narrow m.costs;
+    } };
+}
+
+impl CostWalk {
+    /// How many actions an agent has finished.
+    fn count(&self, agent: u16) -> u32
+        requires { agent < length self.now.counts }
+        ensures { result ≡ slice_index self.now.counts agent }
+    {
+        self.counts[usize::from(agent)]
+    }
+
+    /// How far an agent has come with its next action.
+    fn stage(&self, agent: u16) -> Stage
+        requires { agent < length self.now.stages }
+        ensures { result ≡ stage_in self.now agent }
+    {
+        self.stages[usize::from(agent)]
+    }
+
+    /// Whether the action that the await names is not finished.
+    fn is_open(&self, goal: Await) -> bool
+        requires { goal.agent < length self.now.counts }
+        ensures { IsTrue result ↔ IsOpen self.now.counts goal }
+    {
+        self.count(goal.agent) < goal.count
+    }
+
+    /// An agent goes on until it has finished so many actions, and come so far with the next one.
+    fn go_on(&mut self, agent: u16, finished: u32, stage: Stage)
+        requires counts { agent < length self.old.counts }
+        requires stages { agent < length self.old.stages }
+        ensures { self.new ≡ gone_on self.old agent finished stage self.old.costs }
+    {
+        self.counts[usize::from(agent)] = finished;
+        self.stages[usize::from(agent)] = stage;
+    }
 }
 
 /// An await of an agent's next action that is not met, and how far the agent has come before it.
@@ -54,61 +99,46 @@ pub struct Block {
 }
 
 /// Nothing is finished.
-fn begin<P: ProgramView>(alloc: Global, program: &P, ticks: u32) -> Result<CostWalk, OutOfMemory>
-    requires range { AreInRange (P.program program.now) }
-    requires finish { IsFinish (P.program program.now) [] ticks }
+fn begin<P: ProgramView>(alloc: Global, program: &P) -> Result<CostWalk, OutOfMemory>
+    requires { EndsInTime (P.program program.now) }
     ensures { IfOk result (λ w. (cost : ActionId → ℕ)
         → IsCostWalk (P.program program.now) cost (P.offset program.now) w) }
 {
     let agents = program.agents();
     let mut stages = Vec::with_capacity(alloc, usize::from(agents))?;
     for i in 0..agents {
-        let at = program.offset(i, 0, 0);
-        let left = agent_awaits(program, i);
         stages.push(Stage {
             met: 0,
-            left,
-            at,
+            left: agent_awaits(program, i),
+            at: program.offset(i, 0, 0),
             greatest: 0,
         })?;
     }
-    let counts = vec![in alloc; 0; usize::from(agents)]?;
-    let places = ActionPlaces::of(alloc, program)?;
-    let costs = CostTable::zeros(alloc, total_moves(program) as usize)?;
     Ok(CostWalk {
-        counts,
+        counts: vec![in alloc; 0; usize::from(agents)]?,
         stages,
-        places,
-        costs,
-        ticks,
+        places: ActionPlaces::of(alloc, program)?,
+        costs: CostTable::zeros(alloc, total_moves(program) as usize)?,
     })
-}
-
-/// Whether the action that the await names is not finished.
-fn is_open(walk: &CostWalk, goal: Await) -> bool
-    requires { goal.agent < length walk.now.counts.items }
-    ensures { IsTrue result ↔ IsOpen walk.now.counts.items goal }
-{
-    walk.counts[usize::from(goal.agent)] < goal.count
 }
 
 /// The cost that is noted of the action that an await names, if that is finished.
 fn cost_of<P: ProgramView>(program: &P, walk: &CostWalk, goal: Await) -> Option<u64>
-    requires counts { length walk.now.counts.items ≡ length (P.program program.now) }
-    requires places { ArePlacesOf (P.program program.now) walk.now.places }
-    requires costs { length (costs_of walk.now.costs) ≡ total_moves (P.program program.now) }
+    requires all { HasAll (P.program program.now) walk.now }
     requires goal { IsAction (P.program program.now) (awaited goal) }
-    ensures met { IfSome result (λ _. IsCounted walk.now.counts.items (awaited goal)) }
+    ensures met { IfSome result (λ _. IsCounted walk.now.counts (awaited goal)) }
     ensures cost { IfSome result (λ m. m
-        ≡ value_at walk.now.places (costs_of walk.now.costs) (awaited goal)) }
-    ensures none { IfNone result (IsOpen walk.now.counts.items goal) }
+        ≡ value_at walk.now.places walk.now.costs (awaited goal)) }
+    ensures none { IfNone result (IsOpen walk.now.counts goal) }
 {
-    let _ = program.agents();
-    if is_open(walk, goal) {
+    if walk.is_open(goal) {
         return None;
     }
-    let place = walk.places.place(goal.agent, goal.count);
-    Some(walk.costs.get(place))
+    let action = ActionId {
+        agent: goal.agent,
+        number: goal.count,
+    };
+    Some(walk.costs.get(walk.places.place_of(program, action)))
 }
 
 /// An action has an instruction for each await, of which there are fewer than agents, and one for its step.
@@ -124,19 +154,19 @@ fn next_stage<P: ProgramView, C: ActionCosts>(
     requires walk { IsCostWalk (P.program program.now) (C.cost costs.now) (P.offset program.now)
         walk.now }
     requires agent { agent < length (P.program program.now) }
-    requires left { slice_index walk.now.counts.items agent < moves (P.program program.now) agent }
+    requires left { slice_index walk.now.counts agent < moves (P.program program.now) agent }
     ensures ready { IfOk result (IsReadyStage (P.program program.now) (C.cost costs.now)
-        (P.offset program.now) (IsCounted walk.now.counts.items) agent
-        (slice_index walk.now.counts.items agent)) }
+        (P.offset program.now) (IsCounted walk.now.counts) agent
+        (slice_index walk.now.counts agent)) }
     ensures stage { IfErr result (λ b. IsStage (P.program program.now) (C.cost costs.now)
-        (P.offset program.now) (IsCounted walk.now.counts.items) agent
-        (slice_index walk.now.counts.items agent) b.stage) }
-    ensures unmet { IfErr result (λ b. IsUnmet (P.program program.now) walk.now.counts.items agent
+        (P.offset program.now) (IsCounted walk.now.counts) agent
+        (slice_index walk.now.counts agent) b.stage) }
+    ensures unmet { IfErr result (λ b. IsUnmet (P.program program.now) walk.now.counts agent
         b.awaited) }
 {
     let _ = program.agents();
-    let finished = walk.counts[usize::from(agent)];
-    let mut stage = walk.stages[usize::from(agent)];
+    let finished = walk.count(agent);
+    let mut stage = walk.stage(agent);
     for k in stage.met..MOST_INSTRUCTIONS {
         let reading = program.read(agent, finished, k, stage.at);
         match reading.instruction {
@@ -176,30 +206,32 @@ fn finish<P: ProgramView, C: ActionCosts>(
     requires walk { IsCostWalk (P.program program.now) (C.cost costs.now) (P.offset program.now)
         walk.old }
     requires agent { agent < length (P.program program.now) }
-    requires left { slice_index walk.old.counts.items agent < moves (P.program program.now) agent }
+    requires left { slice_index walk.old.counts agent < moves (P.program program.now) agent }
     requires ready { IsReadyStage (P.program program.now) (C.cost costs.now)
-        (P.offset program.now) (IsCounted walk.old.counts.items) agent
-        (slice_index walk.old.counts.items agent) ready }
+        (P.offset program.now) (IsCounted walk.old.counts) agent
+        (slice_index walk.old.counts agent) ready }
     ensures walk { OnOk result (IsCostWalk (P.program program.now) (C.cost costs.now)
         (P.offset program.now) walk.new) }
-    ensures finished { OnOk result (walk.new.counts.items ≡ set walk.old.counts.items agent
-        (slice_index walk.old.counts.items agent + 1)) }
-    ensures ticks { OnOk result (walk.new.ticks ≡ walk.old.ticks) }
+    ensures finished { OnOk result (walk.new.counts ≡ set walk.old.counts agent
+        (slice_index walk.old.counts agent + 1)) }
 {
     let _ = program.agents();
-    let number = walk.counts[usize::from(agent)] + 1;
-    let own = costs.cost(ActionId { agent, number });
-    let greatest = ready.greatest + u64::from(own);
-    let place = walk.places.place(agent, number);
+    let number = walk.count(agent) + 1;
+    let action = ActionId { agent, number };
+    let greatest = ready.greatest + u64::from(costs.cost(action));
+    let place = walk.places.place_of(program, action);
     walk.costs.make_room_for(alloc, greatest)?;
     walk.costs.set(place, greatest);
-    walk.counts[usize::from(agent)] = number;
-    walk.stages[usize::from(agent)] = Stage {
-        met: 0,
-        left: ready.left,
-        at: ready.at,
-        greatest,
-    };
+    walk.go_on(
+        agent,
+        number,
+        Stage {
+            met: 0,
+            left: ready.left,
+            at: ready.at,
+            greatest,
+        },
+    );
     Ok(())
 }
 
@@ -225,14 +257,12 @@ fn fill<C: ActionCosts>(
     requires short { from.greatest < 2 ^ 32 }
     ensures within { result.finished ≤ last }
     ensures more { from.finished ≤ result.finished }
-    ensures table { table.new ≡ filled (C.cost costs.now) begin agent from table.old
-        (result.finished - from.finished) }
-    ensures greatest { result.greatest ≡ cost_after (C.cost costs.now) agent from
-        (result.finished - from.finished) }
+    ensures walk { (p : Program) (offset : (i finished k : ℕ) → ℕ) (w : Walked)
+        → IsRow p w agent begin last
+        → IsCostWalk p (C.cost costs.now) offset (rested offset w agent from table.old)
+        → IsCostWalk p (C.cost costs.now) offset (rested offset w agent result table.new) }
     ensures stops { result.finished < last → 2 ^ 32
         ≤ result.greatest + C.cost costs.now (after agent result.finished) }
-    ensures low { (k : ℕ) → k < result.finished - from.finished
-        → C.cost costs.now (after agent (from.finished + k)) ≤ MAX_COST }
 {
     let mut come = from;
     while come.finished < last {
@@ -259,10 +289,11 @@ fn run_rest<P: ProgramView, C: ActionCosts>(program: &P, costs: &C, walk: &mut C
     requires agent { agent < length (P.program program.now) }
     ensures walk { IsCostWalk (P.program program.now) (C.cost costs.now) (P.offset program.now)
         walk.new }
-    ensures grown { HaveGrown walk.old.counts.items walk.new.counts.items }
-    ensures ticks { walk.new.ticks ≡ walk.old.ticks }
+    ensures grown { HaveGrown walk.old.counts walk.new.counts }
+    ensures end { IsFree walk.old agent
+        → IsAtEnd (P.program program.now) (C.cost costs.now) walk.new agent }
 {
-    let stage = walk.stages[usize::from(agent)];
+    let stage = walk.stage(agent);
     let has_awaits = stage.left > 0;
     let is_within = stage.met > 0;
     let is_long = stage.greatest > u64::from(u32::MAX);
@@ -270,7 +301,7 @@ fn run_rest<P: ProgramView, C: ActionCosts>(program: &P, costs: &C, walk: &mut C
         return;
     }
     let from = Standing {
-        finished: walk.counts[usize::from(agent)],
+        finished: walk.count(agent),
         greatest: stage.greatest,
     };
     let begin = walk.places.place(agent, 1);
@@ -279,13 +310,16 @@ fn run_rest<P: ProgramView, C: ActionCosts>(program: &P, costs: &C, walk: &mut C
         CostTable::Narrow(table) => fill(costs, table, begin, agent, from, last),
         CostTable::Wide(_) => return,
     };
-    walk.counts[usize::from(agent)] = to.finished;
-    walk.stages[usize::from(agent)] = Stage {
-        met: 0,
-        left: 0,
-        at: program.offset(agent, to.finished, 0),
-        greatest: to.greatest,
-    };
+    walk.go_on(
+        agent,
+        to.finished,
+        Stage {
+            met: 0,
+            left: 0,
+            at: program.offset(agent, to.finished, 0),
+            greatest: to.greatest,
+        },
+    );
 }
 
 /// Lets the agent of a goal go on as far as its awaits allow, until the goal is reached, and answers the await that it
@@ -302,21 +336,20 @@ fn run_agent<P: ProgramView, C: ActionCosts>(
     requires goal { IsGoal (P.program program.now) goal }
     ensures walk { OnOk result (IsCostWalk (P.program program.now) (C.cost costs.now)
         (P.offset program.now) walk.new) }
-    ensures grown { OnOk result (HaveGrown walk.old.counts.items walk.new.counts.items) }
+    ensures grown { OnOk result (HaveGrown walk.old.counts walk.new.counts) }
     ensures waits { IfOk result (λ waits. IfSome waits
-        (IsUnmet (P.program program.now) walk.new.counts.items goal.agent)) }
+        (IsUnmet (P.program program.now) walk.new.counts goal.agent)) }
     ensures reached { IfOk result (λ waits. IfNone waits
-        (goal.count ≤ slice_index walk.new.counts.items goal.agent)) }
-    ensures ticks { OnOk result (walk.new.ticks ≡ walk.old.ticks) }
+        (goal.count ≤ slice_index walk.new.counts goal.agent)) }
 {
-    while walk.counts[usize::from(goal.agent)] < goal.count {
+    while walk.is_open(goal) {
         match next_stage(program, costs, walk, goal.agent) {
             Ok(ready) => {
                 finish(alloc, program, costs, walk, goal.agent, ready)?;
                 run_rest(program, costs, walk, goal.agent);
             }
             Err(block) => {
-                walk.stages[usize::from(goal.agent)] = block.stage;
+                walk.go_on(goal.agent, walk.count(goal.agent), block.stage);
                 return Ok(Some(block.awaited));
             }
         }
@@ -331,53 +364,20 @@ fn last_open<P: ProgramView>(
     goals: &mut Vec<Await>,
     first: Await,
 ) -> Await
-    requires counts { length walk.now.counts.items ≡ length (P.program program.now) }
-    requires goals { All (IsGoal (P.program program.now)) goals.old.items }
+    requires counts { length walk.now.counts ≡ length (P.program program.now) }
+    requires goals { All (IsGoal (P.program program.now)) (goals_of goals.old) }
     requires first { IsGoal (P.program program.now) first }
-    ensures goals { All (IsGoal (P.program program.now)) goals.new.items }
+    ensures goals { All (IsGoal (P.program program.now)) (goals_of goals.new) }
     ensures goal { IsGoal (P.program program.now) result }
-    ensures still { IsOpen walk.now.counts.items first → IsOpen walk.now.counts.items result }
+    ensures last { IsLastOpen walk.now.counts (goals_of goals.old) (goals_of goals.new) first
+        result }
 {
-    let _ = program.agents();
     while let Some(goal) = goals.pop() {
-        if is_open(walk, goal) {
+        if walk.is_open(goal) {
             return goal;
         }
     }
     first
-}
-
-/// What is to be finished next, once the agent of the last goal has gone on: what that agent waits for, if the goal is
-/// still open.
-fn next_goal<P: ProgramView>(
-    program: &P,
-    walk: &CostWalk,
-    goals: &mut Vec<Await>,
-    first: Await,
-    last: Await,
-    waits: Option<Await>,
-) -> Result<Await, OutOfMemory>
-    requires range { AreInRange (P.program program.now) }
-    requires counts { length walk.now.counts.items ≡ length (P.program program.now) }
-    requires goals { All (IsGoal (P.program program.now)) goals.old.items }
-    requires first { IsGoal (P.program program.now) first }
-    requires last { IsGoal (P.program program.now) last }
-    requires waits { IfSome waits
-        (IsUnmet (P.program program.now) walk.now.counts.items last.agent) }
-    ensures goals { OnOk result (All (IsGoal (P.program program.now)) goals.new.items) }
-    ensures goal { IfOk result (IsGoal (P.program program.now)) }
-    ensures still { IfOk result (λ goal. IsOpen walk.now.counts.items first
-        → IsOpen walk.now.counts.items goal) }
-    ensures down { IfOk result (λ goal. IsOpen walk.now.counts.items last
-        → IfSome waits (λ w. goal ≡ w)) }
-{
-    if let Some(awaited) = waits {
-        if is_open(walk, last) {
-            goals.push(last)?;
-            return Ok(awaited);
-        }
-    }
-    Ok(last_open(program, walk, goals, first))
 }
 
 /// Lets agents go on until the action that the goal names is finished: its agent, and while that waits, the agents for
@@ -394,14 +394,19 @@ fn reach<P: ProgramView, C: ActionCosts>(
     requires goal { IsGoal (P.program program.now) goal }
     ensures walk { OnOk result (IsCostWalk (P.program program.now) (C.cost costs.now)
         (P.offset program.now) walk.new) }
-    ensures grown { OnOk result (HaveGrown walk.old.counts.items walk.new.counts.items) }
-    ensures reached { OnOk result (goal.count ≤ slice_index walk.new.counts.items goal.agent) }
+    ensures grown { OnOk result (HaveGrown walk.old.counts walk.new.counts) }
+    ensures reached { OnOk result (goal.count ≤ slice_index walk.new.counts goal.agent) }
 {
     let mut goals = Vec::new(alloc);
     let mut last = goal;
-    while is_open(walk, goal) {
-        let waits = run_agent(alloc, program, costs, walk, last)?;
-        last = next_goal(program, walk, &mut goals, goal, last, waits)?;
+    while walk.is_open(goal) {
+        last = match run_agent(alloc, program, costs, walk, last)? {
+            Some(awaited) => {
+                goals.push(last)?;
+                awaited
+            }
+            None => last_open(program, walk, &mut goals, goal),
+        };
     }
     Ok(())
 }
@@ -411,15 +416,13 @@ pub(crate) fn walk_all<P: ProgramView, C: ActionCosts>(
     alloc: Global,
     program: &P,
     costs: &C,
-    ticks: u32,
 ) -> Result<CostWalk, OutOfMemory>
-    requires range { AreInRange (P.program program.now) }
-    requires finish { IsFinish (P.program program.now) [] ticks }
+    requires { EndsInTime (P.program program.now) }
     ensures walk { IfOk result (IsCostWalk (P.program program.now) (C.cost costs.now)
         (P.offset program.now)) }
-    ensures all { IfOk result (λ w. AreAllCounted (P.program program.now) w.counts.items) }
+    ensures all { IfOk result (λ w. AreAllCounted (P.program program.now) w.counts) }
 {
-    let mut walk = begin(alloc, program, ticks)?;
+    let mut walk = begin(alloc, program)?;
     for agent in 0..program.agents() {
         let count = program.moves(agent);
         reach(alloc, program, costs, &mut walk, Await { agent, count })?;

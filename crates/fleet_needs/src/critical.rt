@@ -1,12 +1,10 @@
 //! The cost of the critical path of each action: the greatest cost of a chain of needs that ends with it. What an
 //! action costs may be the time that it takes (Kelley and Walker 1959), or one if it matters and nothing if not.
 
-ghost use Rattle.std.specs.Prelude.{◌≡◌, ℕ, ◌≤◌, [], IfOk};
+ghost use Rattle.std.specs.Prelude.{◌≡◌, ℕ, ◌≤◌, IfOk};
 ghost use Rattle.fleet_model.specs.declared.program.ActionId.{ActionId};
-ghost use Rattle.fleet_model.specs.Program.{AreInRange};
-ghost use Rattle.fleet_model.specs.Machine.{IsFinish};
 ghost use Rattle.fleet_model.specs.Chain.{IsAction};
-ghost use Rattle.fleet_needs.specs.Critical.{HasEntries, AreCriticalCosts, critical_cost};
+ghost use Rattle.fleet_needs.specs.Critical.{EndsInTime, HasEntries, AreCriticalCosts, critical_cost};
 
 use crate::await_places::ActionPlaces;
 use crate::cost_table::CostTable;
@@ -46,18 +44,16 @@ impl Model for CriticalCosts {
 }
 
 impl CriticalCosts {
-    /// The costs of a program that so many ticks finish if nobody is held.
+    /// The costs of a program that ends if nobody is held.
     pub fn of<P: ProgramView, C: ActionCosts>(
         alloc: Global,
         program: &P,
-        ticks: u32,
         costs: &C,
     ) -> Result<CriticalCosts, OutOfMemory>
-        requires range { AreInRange (P.program program.now) }
-        requires finish { IsFinish (P.program program.now) [] ticks }
+        requires { EndsInTime (P.program program.now) }
         ensures { IfOk result (AreCriticalCosts (P.program program.now) (C.cost costs.now)) }
     {
-        let walk = walk_all(alloc, program, costs, ticks)?;
+        let walk = walk_all(alloc, program, costs)?;
         let CostWalk { places, costs, .. } = walk;
         Ok(CriticalCosts { places, costs })
     }
@@ -68,8 +64,6 @@ impl CriticalCosts {
         requires action { IsAction (P.program program.now) action }
         ensures { result ≡ critical_cost self.now action }
     {
-        let _ = program.agents();
-        self.costs
-            .get(self.places.place(action.agent, action.number))
+        self.costs.get(self.places.place_of(program, action))
     }
 }

@@ -97,8 +97,9 @@ impl<'a, P: ProgramView, C: ActionCosts> Times<'a, P, C> {
         ensures program { IfOk result (λ t. t.program ≡ accepted.now.program) }
         ensures costs { IfOk result (λ t. t.costs ≡ costs.now) }
     {
+        let _ = accepted.chain();
         let program = accepted.program();
-        let ends = CriticalCosts::of(alloc, program, accepted.chain(), costs)?;
+        let ends = CriticalCosts::of(alloc, program, costs)?;
         Ok(Times {
             program,
             costs,

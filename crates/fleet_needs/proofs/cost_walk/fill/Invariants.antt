@@ -1,6 +1,6 @@
-use Rattle.std.proofs.Common.{◌≡◌, ◌-◌, ◌<◌, ◌≤◌, ◌+◌, ◌^◌, ℕ, length}
-use Rattle.fleet_needs.specs.declared.critical.TheConstants.{MAX_COST}
-use Rattle.fleet_needs.specs.CostWalk.{after, cost_after, filled}
+use Rattle.std.proofs.Common.{◌≡◌, ◌-◌, ◌<◌, ◌≤◌, ◌^◌, ℕ, length}
+use Rattle.fleet_model.specs.Program.{Program}
+use Rattle.fleet_needs.specs.CostWalk.{Walked, IsCostWalk, IsRow, rested}
 use Rattle.fleet_needs.proofs.cost_walk.fill.Given as goal
 
 abbrev pub invariant-loop-come : goal.invariant-loop-come
@@ -9,9 +9,8 @@ invariant-loop-come g l = record {
   more : l.fn.from.finished ≤ l.come.finished;
   short : l.come.greatest < 2 ^ 32;
   len : length l.table ≡ length l.fn.table;
-  table : l.table ≡ filled (g.C.ActionCosts.cost l.costs) l.begin l.agent l.fn.from l.fn.table (l.come.finished - l.fn.from.finished);
-  low : (k : ℕ) → k < l.come.finished - l.fn.from.finished → g.C.ActionCosts.cost l.costs (after l.agent (l.fn.from.finished + k)) ≤ MAX_COST;
-  greatest : l.come.greatest ≡ cost_after (g.C.ActionCosts.cost l.costs) l.agent l.fn.from (l.come.finished - l.fn.from.finished);
+  walk : (p : Program) (offset : (i finished k : ℕ) → ℕ) (w : Walked) → IsRow p w l.agent l.begin l.last → IsCostWalk p (g.C.ActionCosts.cost l.costs) offset (rested offset w l.agent l.fn.from l.fn.table)
+      → IsCostWalk p (g.C.ActionCosts.cost l.costs) offset (rested offset w l.agent l.come l.table);
 }
 
 abbrev pub decreases-loop-come : goal.decreases-loop-come

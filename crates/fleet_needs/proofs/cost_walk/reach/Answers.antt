@@ -1,16 +1,38 @@
-use Rattle.std.proofs.Common.{◌<◌, ℕ, sym, subst, arith}
-use Rattle.fleet_needs.proofs.Walking.{goes_on, waits_for, to_go}
+use Rattle.std.proofs.Common.{refl, sym, subst, arith}
+use Rattle.std.specs.Prelude.{All}
+use Rattle.std.proofs.lemmas.List.Elements.{All-push}
+use Rattle.fleet_needs.specs.CostWalk.{IsGoal}
+use Rattle.fleet_needs.proofs.Walking.{goes_on, unmet_goal}
 use Rattle.fleet_needs.proofs.cost_walk.reach.Goals as goal
+
+pub loop-alloc-smaller-in_ok-push-in-Some : goal.loop-alloc-smaller-in_ok-push-in-Some
+loop-alloc-smaller-in_ok-push-in-Some g c =
+    let before = c.loop-alloc.invariant in
+    let after = c.in_ok-awaited.ensures in
+    let last = c.loop-alloc.last in
+    let w = c.in-Some.awaited in
+    let unmet = rw c.in-Some.is at after.waits in
+    goes_on (g.P.ProgramView.program c.args.program.now) before.walk.ends c.loop-alloc.walk.counts c.run_agent.new.walk.counts after.grown after.walk.within last.agent w.agent before.last.agent (λ same. (w, unmet, refl))
+
+pub loop-alloc-preserved-in_ok-push-in-Some : goal.loop-alloc-preserved-in_ok-push-in-Some
+loop-alloc-preserved-in_ok-push-in-Some g c =
+    let after = c.in_ok-awaited.ensures in
+    let unmet = rw c.in-Some.is at after.waits in
+    let IsOne = IsGoal (g.P.ProgramView.program c.args.program.now) in
+    record {
+      walk = after.walk;
+      grown = λ i. omega (arith, c.loop-alloc.invariant.grown i, after.grown i);
+      goals = subst (All IsOne) (sym c.in_ok-push-in-Some.ensures.items) (All-push IsOne c.loop-alloc.goals.items c.loop-alloc.last c.loop-alloc.invariant.goals c.loop-alloc.invariant.last);
+      last = unmet_goal (g.P.ProgramView.program c.args.program.now) after.walk.ends.range c.run_agent.new.walk.counts c.loop-alloc.last.agent c.in-Some.awaited unmet;
+      still = λ _. unmet.unfinished;
+    }
 
 pub loop-alloc-smaller : goal.loop-alloc-smaller
 loop-alloc-smaller g c =
-    let p = g.P.ProgramView.program c.args.program.now in
     let before = c.loop-alloc.invariant in
-    let old = c.loop-alloc.walk.counts.items in
-    let new = c.run_agent.new.walk.counts.items in
-    let after = c.in_ok-waits.ensures in
+    let after = c.in_ok-awaited.ensures in
     let last = c.loop-alloc.last in
     let unfinished = before.still (c.is_open.ensures.0 c.loop-alloc-test.true) in
-    subst (λ (t : ℕ). to_go p t new c.in_ok-last.last.agent < to_go p c.loop-alloc.walk.ticks old last.agent) (sym after.ticks)
-    (goes_on p c.loop-alloc.walk.ticks before.walk.finishes old new before.walk.walk.all_counts after.walk.walk.all_counts after.grown after.walk.walk.within last.agent c.in_ok-last.last.agent before.last.agent
-    (λ same. waits_for p new last.agent last.count c.in_ok-waits.waits c.in_ok-last.last after.waits after.reached (omega (arith, same, unfinished)) (c.in_ok-last.ensures.down (omega (arith, same, unfinished)))))
+    let reached = rw c.in-None.is at after.reached in
+    goes_on (g.P.ProgramView.program c.args.program.now) before.walk.ends c.loop-alloc.walk.counts c.run_agent.new.walk.counts after.grown after.walk.within last.agent c.last_open-last.result.agent before.last.agent
+    (λ same. absurd (omega (arith, same, unfinished, reached)))

@@ -1,55 +1,43 @@
-use Rattle.std.proofs.Common.{◌≡◌, ◌-◌, ℕ, List, length, slice_index, refl, sym, ap, ◌∙◌, arith}
-use Rattle.std.specs.Prelude.{slice_get, Some}
-use Rattle.std.specs.Vec.{with_items}
-use Rattle.std.proofs.lemmas.List.{get_or_read, with_items_is}
-use Rattle.std.proofs.lemmas.Option.{slice_get_read}
-use Rattle.fleet_needs.specs.CostTable.{costs_of}
-use Rattle.fleet_needs.specs.CostWalk.{filled}
+use Rattle.std.proofs.Common.{◌≡◌, ℕ, true, List, length, set, slice_index, sym, ap, subst, ◌∙◌, arith}
+use Rattle.std.proofs.lemmas.List.{with_items_is}
+use Rattle.fleet_needs.specs.CostTable.{costs_of, is_narrow}
+use Rattle.fleet_needs.specs.CostWalk.{IsCostWalk, rested}
 use Rattle.fleet_needs.specs.declared.cost_walk.Stage.{Stage}
 use Rattle.fleet_needs.specs.declared.cost_walk.Standing.{Standing}
-use Rattle.fleet_needs.proofs.Walking.{places_within, rest_at}
+use Rattle.fleet_needs.proofs.Walking.{places_within, rest_begins}
 use Rattle.fleet_needs.proofs.cost_walk.run_rest.Goals as goal
 
 pub fill-to-requires-clause-room : goal.fill-to-requires-clause-room
 fill-to-requires-clause-room g c =
     let p = g.P.ProgramView.program c.args.program.now in
-    let walk = c.requires.walk.walk in
-    omega (
-      arith,
-      c.place-begin.ensures,
-      c.moves-last.ensures,
-      places_within p c.args.walk.now.places walk.are_places c.args.agent c.requires.agent,
-      walk.all_costs,
-      ap (λ t. length (costs_of t)) c.in-Narrow.is,
-      ap length c.deref_mut.ensures.value,
-    )
+    let w = c.args.walk.now in
+    let at : slice_index c.walk.inside.places c.args.agent ≡ slice_index w.places c.args.agent = (λ t. slice_index (c.walk.view_is t).places c.args.agent) in
+    let long : length (costs_of c.walk.inside.costs) ≡ length w.costs = (λ t. length (c.walk.view_is t).costs) in
+    omega (arith, c.place-begin.ensures, at, c.moves-last.ensures, places_within p w.places c.requires.walk.all.places c.args.agent c.requires.agent, c.requires.walk.all.costs, long, ap (λ t. length (costs_of t)) c.in-Narrow.is, ap length c.deref_mut.ensures.value)
 
 pub returns-clause-walk : goal.returns-clause-walk
 returns-clause-walk g c =
     let p = g.P.ProgramView.program c.args.program.now in
     let cost = g.C.ActionCosts.cost c.args.costs.now in
     let offset = g.P.ProgramView.offset c.args.program.now in
-    let walk = c.requires.walk.walk in
+    let w = c.args.walk.now in
     let i = c.args.agent in
-    let counts = c.args.walk.now.counts.items in
-    let stages = c.args.walk.now.stages.items in
-    let places = c.args.walk.now.places in
-    let costs = costs_of c.args.walk.now.costs in
-    let s = c.index-stage.result.now in
-    let from : Standing = record { finished = c.index.result.now; greatest = s.greatest } in
+    let s = c.stage-stage.result in
+    let from : Standing = record { finished = c.count.result; greatest = s.greatest } in
     let to = c.fill-to.result in
-    let count : c.index.result.now ≡ slice_index counts i =
-    get_or_read counts _ _ (omega (arith, c.from-3.ensures, c.requires.agent, walk.all_counts)) c.index.ensures 0 ∙ ap (slice_index counts) c.from-3.ensures in
-    let there : slice_get stages i ≡ Some s =
-    ap (slice_get stages) (sym c.from.ensures) ∙ slice_get_read stages (length stages) c.from.result s refl (omega (arith, c.from.ensures, c.requires.agent, walk.all_stages)) c.index-stage.ensures in
-    let table : c.fill-to.new.table ≡ filled cost c.place-begin.result i from costs (to.finished - from.finished) =
-    c.fill-to.ensures.table ∙ ap (λ (t : List ℕ). filled cost c.place-begin.result i from t (to.finished - from.finished)) (c.deref_mut.ensures.value ∙ sym (ap costs_of c.in-Narrow.is)) in
+    let at : slice_index c.walk.inside.places i ≡ slice_index w.places i = (λ t. slice_index (c.walk.view_is t).places i) in
+    let costs : costs_of c.walk.inside.costs ≡ w.costs = (λ t. (c.walk.view_is t).costs) in
+    let narrow : is_narrow c.walk.inside.costs ≡ w.narrow = (λ t. (c.walk.view_is t).narrow) in
+    let begun = rest_begins p cost offset w i c.requires.walk c.requires.agent from c.count.ensures (ap (λ (x : Stage). x.greatest) c.stage-stage.ensures)
+    (omega (arith, c.if-is_within.false, ap (λ (x : Stage). x.met) c.stage-stage.ensures)) (omega (arith, c.if-has_awaits.false, ap (λ (x : Stage). x.left) c.stage-stage.ensures)) in
+    let done = c.fill-to.ensures.walk p offset w (record { agent = c.requires.agent; begin = omega (arith, c.place-begin.ensures, at); last = omega (arith, c.moves-last.ensures) })
+    (subst (λ (cs : List ℕ). IsCostWalk p cost offset (rested offset w i from cs)) (sym (c.deref_mut.ensures.value ∙ sym (ap costs_of c.in-Narrow.is) ∙ costs)) begun) in
     let kept = with_items_is c.in-Narrow.table c.fill-to.new.table (omega (arith, c.fill-to.auto.table, c.deref_mut.ensures.len, c.in-Narrow.table.ok)) in
-    let stage : Stage = record { met = 0; left = 0; at = c.offset.result; greatest = to.greatest } in
-    record {
-      finishes = c.requires.walk.finishes;
-      walk = rest_at p cost offset c.args.walk.now.ticks c.requires.walk.finishes counts stages places costs walk i c.requires.agent from count s there
-          (omega (arith, c.if-is_within.false)) (omega (arith, c.if-has_awaits.false)) refl c.place-begin.result (omega (arith, c.place-begin.ensures))
-          to.finished c.from-4.result c.from-5.result c.fill-to.ensures.more (omega (arith, c.fill-to.ensures.within, c.moves-last.ensures)) c.fill-to.ensures.low c.from-4.ensures c.from-5.ensures
-          stage refl refl c.offset.ensures c.fill-to.ensures.greatest (with_items c.in-Narrow.table c.fill-to.new.table).items (kept ∙ table);
-    }
+    let wide : true ≡ w.narrow = sym (ap is_narrow c.in-Narrow.is) ∙ narrow in
+    subst (IsCostWalk p cost offset) (sym (c.go_on.ensures ∙ (λ t. record {
+      counts = set (c.walk.view_is t).counts i to.finished;
+      stages = set (c.walk.view_is t).stages i (record { met = 0; left = 0; at = c.offset.ensures t; greatest = to.greatest });
+      places = (c.walk.view_is t).places;
+      costs = kept t;
+      narrow = wide t;
+    }))) done

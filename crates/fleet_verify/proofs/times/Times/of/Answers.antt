@@ -1,13 +1,14 @@
-use Rattle.std.proofs.Common.{[], sym, subst}
-use Rattle.fleet_model.specs.Machine.{IsFinish}
+use Rattle.std.proofs.Common.{arith}
 use Rattle.fleet_verify.proofs.RunCounts.{longest_finishes}
 use Rattle.fleet_verify.proofs.times.Times.of.Goals as goal
 
-pub of-requires-clause-range : goal.of-requires-clause-range
-of-requires-clause-range g c = c.program-program.ensures.accepted.accepted.right.in_range
-
-pub of-requires-clause-finish : goal.of-requires-clause-finish
-of-requires-clause-finish g c =
+pub of-requires : goal.of-requires
+of-requires g c =
     let p = g.P.ProgramView.program c.program-program.result.now in
     let accepted = c.program-program.ensures.accepted in
-    subst (IsFinish p []) (sym c.chain.ensures.chain) (longest_finishes p accepted.accepted.right.in_range c.args.accepted.now.chain accepted.longest)
+    record {
+      ticks = c.args.accepted.now.chain;
+      range = accepted.accepted.right.in_range;
+      finish = longest_finishes p accepted.accepted.right.in_range c.args.accepted.now.chain accepted.longest;
+      few = omega (arith, c.chain.ensures.chain);
+    }

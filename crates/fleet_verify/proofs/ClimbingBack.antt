@@ -1,14 +1,15 @@
 -- Stretches that are followed back along levels that rise by one.
-use Rattle.std.proofs.Common.{◌≡◌, ℕ, zero, suc, ◌+◌, ◌-◌, ◌<◌, ◌≤◌, List, refl, ap, subst, arith, inl}
+use Rattle.std.proofs.Common.{◌≡◌, ◌≢◌, ℕ, zero, suc, ◌+◌, ◌-◌, ◌<◌, ◌≤◌, List, refl, sym, ap, subst, arith, inl}
 use Rattle.fleet_model.specs.declared.program.ActionId.{ActionId}
 use Rattle.fleet_model.specs.Program.{Program}
 use Rattle.fleet_model.specs.Chain.{IsAction, IsCriticalCost}
 use Rattle.fleet_needs.proofs.Costing.{one_cost}
 use Rattle.fleet_verify.specs.Ahead.{level_in}
 use Rattle.fleet_verify.specs.LevelRows.{AreCostRows}
-use Rattle.fleet_verify.specs.Times.{LeadsBack, IsStretchTo, of_agent}
+use Rattle.fleet_verify.specs.Times.{LeadsBack, IsStretchTo, IsWholeTo, of_agent}
 use Rattle.fleet_verify.specs.declared.times.TheConstants.{LONGEST}
-use Rattle.fleet_verify.proofs.CriticalPaths.{stretch_on}
+use Rattle.fleet_verify.proofs.CriticalPaths.{stretch_begins, stretch_on}
+use Rattle.fleet_verify.proofs.Members.{same_action}
 
 -- a stretch goes on to an action from which on each leads back to the one before
 pub stretch_down : (p : Program) (cost : ActionId → ℕ) (last : ActionId) (total low time : ℕ) → last.number < low + LONGEST → IsCriticalCost p cost (of_agent last low) time
@@ -39,11 +40,12 @@ level_climbed rows a first climbs (suc d) k is l =
     let rest = level_climbed rows a first climbs d (k - 1) (omega (arith, is)) (omega (arith, l)) in
     omega (arith, up, rest)
 
-module _ (p : Program) (cost : ActionId → ℕ) (rows : List (List ℕ)) (h : AreCostRows p cost rows) (ones : (a : ActionId) → cost a ≡ 1) (a : ActionId) (act : IsAction p a) (first : ℕ) (some : 1 ≤ first) (climbs : Climbs rows a first) where
+module _ (p : Program) (cost : ActionId → ℕ) (rows : List (List ℕ)) (h : AreCostRows p cost rows) (ones : (a : ActionId) → cost a ≡ 1) (a : ActionId) (act : IsAction p a) (end : ℕ) (critical : IsCriticalCost p cost a end)
+    (first : ℕ) (some : 1 ≤ first) (within : first ≤ a.number) (climbs : Climbs rows a first) where
   act_at : (n : ℕ) → 1 ≤ n → n ≤ a.number → IsAction p (of_agent a n)
   act_at n l m = record { agent = act.agent; first = l; last = omega (arith, m, act.last) }
 
-  pub leads_back : (n : ℕ) → first < n → n ≤ a.number → LeadsBack p cost (of_agent a n) (of_agent a (n - 1))
+  leads_back : (n : ℕ) → first < n → n ≤ a.number → LeadsBack p cost (of_agent a n) (of_agent a (n - 1))
   leads_back n l m =
       let here : level_in rows (of_agent a n) ≡ level_in rows (of_agent a (n - 1)) + cost (of_agent a n) = omega (arith, climbs n l m, ones (of_agent a n)) in
       record {
@@ -54,13 +56,23 @@ module _ (p : Program) (cost : ActionId → ℕ) (rows : List (List ℕ)) (h : A
         all = subst (IsCriticalCost p cost (of_agent a n)) here (h.each (of_agent a n) (act_at n (omega (arith, l)) m));
       }
 
-  pub climbed_few : (end : ℕ) → IsCriticalCost p cost a end → first ≤ a.number → a.number - first ≤ end
-  climbed_few end critical within =
-      omega (arith, one_cost p cost a end (level_in rows a) critical (h.each a act), level_climbed rows a first climbs (a.number - first) a.number (omega (arith, within)) (omega arith))
+  climbed : end ≡ level_in rows (of_agent a first) + (a.number - first)
+  climbed = omega (arith, one_cost p cost a end (level_in rows a) critical (h.each a act), level_climbed rows a first climbs (a.number - first) a.number (omega (arith, within)) (omega arith))
 
-  pub climbed_end : (end : ℕ) → IsCriticalCost p cost a end → first ≤ a.number → IsCriticalCost p cost (of_agent a first) (end - (a.number - first))
-  climbed_end end critical within =
-      let top = one_cost p cost a end (level_in rows a) critical (h.each a act) in
-      let up = level_climbed rows a first climbs (a.number - first) a.number (omega (arith, within)) (omega arith) in
-      let low : level_in rows (of_agent a first) ≡ end - (a.number - first) = omega (arith, top, up) in
+  climbed_end : IsCriticalCost p cost (of_agent a first) (end - (a.number - first))
+  climbed_end =
+      let low : level_in rows (of_agent a first) ≡ end - (a.number - first) = omega (arith, climbed) in
       subst (IsCriticalCost p cost (of_agent a first)) low (h.each (of_agent a first) (act_at first some within))
+
+  -- the actions up to a are a stretch, which has no room for one more or cannot begin sooner
+  pub climbed_back : a.number < first + LONGEST → (a.number + 1 < first + LONGEST → 1 < first → level_in rows (of_agent a first) ≢ level_in rows (of_agent a (first - 1)) + 1) → (m : ℕ) → m ≡ a.number - first
+      → (a.number - first ≤ end) × IsStretchTo p cost a end first (end - m) × IsWholeTo p cost a first (end - m)
+  climbed_back few jump m is = subst (λ (k : ℕ). (a.number - first ≤ end) × IsStretchTo p cost a end first (end - k) × IsWholeTo p cost a first (end - k)) (sym is) (
+    (omega (arith, climbed)),
+    stretch_down p cost a end first (end - (a.number - first)) few climbed_end (a.number - first) a.number end (omega (arith, within)) (stretch_begins p cost a end act critical) leads_back,
+    (λ room b f.
+        let at : b ≡ of_agent a (first - 1) = same_action b (of_agent a (first - 1)) (sym f.2.agent) (omega (arith, f.2.before)) in
+        let before = one_cost p cost (of_agent a (first - 1)) f.0 (level_in rows (of_agent a (first - 1))) (subst (λ (x : ActionId). IsCriticalCost p cost x f.0) at f.2.critical)
+        (h.each (of_agent a (first - 1)) (act_at (first - 1) (omega (arith, f.2.before, f.2.some)) (omega (arith, within)))) in
+        jump room (omega (arith, f.2.before, f.2.some)) (omega (arith, f.1, before, ones (of_agent a first), climbed))),
+  )

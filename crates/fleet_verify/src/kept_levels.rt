@@ -1,6 +1,6 @@
 //! The levels of all actions of an accepted program, as the verifier has counted them.
 
-ghost use Rattle.std.specs.Prelude.{◌≡◌, ◌<◌, ◌≤◌, ◌+◌, ◌-◌, ℕ, length};
+ghost use Rattle.std.specs.Prelude.{◌≡◌, ◌≢◌, ◌<◌, ◌≤◌, ◌+◌, ◌-◌, ℕ, length};
 ghost use Rattle.fleet_verify.specs.Ahead.{IsRanked, level_in};
 ghost use Rattle.fleet_verify.specs.Times.{of_agent};
 
@@ -43,7 +43,7 @@ impl Levels {
         }
     }
 
-    /// The number of an action of the agent from which on each level is one above the one before, up to this action.
+    /// The least number of an action of the agent from which on each level is one above the one before, up to this one.
     #[inline(always)]
     pub fn climb_begin(&self, action: ActionId) -> u32
         requires agent { action.agent < length self.now }
@@ -52,6 +52,8 @@ impl Levels {
         ensures within { result ≤ action.number }
         ensures climbs { (n : ℕ) → result < n → n ≤ action.number
             → level_in self.now (of_agent action n) ≡ level_in self.now (of_agent action (n - 1)) + 1 }
+        ensures whole { 1 < result → level_in self.now (of_agent action result)
+            ≢ level_in self.now (of_agent action (result - 1)) + 1 }
     {
         row_of(&self.rows, action.agent).climb_begin(action.number)
     }

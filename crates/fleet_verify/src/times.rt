@@ -1,8 +1,9 @@
 //! When the actions of an accepted program end at the soonest, if each takes a time of its own: the critical path
 //! method (Kelley and Walker 1959).
 
-ghost use Rattle.std.specs.Prelude.{◌≡◌, ℕ, ◌+◌, ◌-◌, ◌<◌, ◌≤◌, IfOk, IfSome, IfNone, length};
+ghost use Rattle.std.specs.Prelude.{◌≡◌, ℕ, ◌+◌, ◌-◌, ◌<◌, ◌≤◌, IfOk, IfSome, IfNone, IsOk, IsTrue, length, max};
 ghost use Rattle.fleet_model.specs.declared.program.ActionId.{ActionId};
+ghost use Rattle.fleet_verify.specs.declared.times.TheConstants.{LONGEST};
 ghost use Rattle.fleet_model.specs.Program.{moves, AreInRange};
 ghost use Rattle.fleet_model.specs.Chain.{IsAction, IsCriticalCost};
 ghost use Rattle.fleet_verify.specs.Times.{ArrivesAt, EachArrivesAt, HaveArrivedAt, IsCriticalPath, IsLatest, IsLater, LeadsBack, IsAwaitedUntil, IsOwnUntil, FollowsOwn, IsNeedUntil, IsFreeTo, IsWayTo, IsStretchTo, IsWholeTo, of_agent};
@@ -66,7 +67,7 @@ impl<'a, P: ProgramView, C: ActionCosts> Model for Times<'a, P, C> {
 
 impl<'a, P: ProgramView> Times<'a, P, OneEach> {
     /// The times of an accepted program, whose actions cost one each: the levels that the verifier has counted, if it
-    /// has kept them. It fails only if memory is refused.
+    /// has kept them; then it takes no memory. It fails only if memory is refused.
     pub fn by_levels(
         alloc: Global,
         accepted: &'a Accepted<'_, P>,
@@ -74,6 +75,7 @@ impl<'a, P: ProgramView> Times<'a, P, OneEach> {
     ) -> Result<Times<'a, P, OneEach>, OutOfMemory>
         ensures program { IfOk result (λ t. t.program ≡ accepted.now.program) }
         ensures costs { IfOk result (λ t. t.costs ≡ costs.now) }
+        ensures kept { IsTrue accepted.now.has_levels → IsOk result }
     {
         match accepted.levels() {
             Some(levels) => Ok(Times {
@@ -261,7 +263,8 @@ impl<'a, P: ProgramView, C: ActionCosts> Times<'a, P, C> {
         (stretch, time)
     }
 
-    /// The number of the first action of such a stretch, and when that action ends.
+    /// The number of the first action of such a stretch, and when that action ends: by levels as far back as they rise
+    /// by one, and else action by action.
     #[inline(always)]
     fn way_to(&self, action: ActionId, end: u64) -> (u32, u64)
         requires action { IsAction (P.program self.now.program) action }
@@ -272,9 +275,16 @@ impl<'a, P: ProgramView, C: ActionCosts> Times<'a, P, C> {
         ensures whole { IsWholeTo (P.program self.now.program) (C.cost self.now.costs) action
             result.0 result.1 }
     {
-        match self.longer(action, end) {
-            Some((before, time)) => self.way_on(action, end, before.number, time),
-            None => (action.number, end),
+        match &self.ends {
+            Ends::Costs(_) => match self.longer(action, end) {
+                Some((before, time)) => self.way_on(action, end, before.number, time),
+                None => (action.number, end),
+            },
+            Ends::Levels(levels) => {
+                let least = least_first(action.number);
+                let first = levels.climb_begin(action).max(least);
+                (first, end - u64::from(action.number - first))
+            }
         }
     }
 
@@ -288,7 +298,7 @@ impl<'a, P: ProgramView, C: ActionCosts> Times<'a, P, C> {
         ensures whole { IsWholeTo (P.program self.now.program) (C.cost self.now.costs) action
             result.0 result.1 }
     {
-        let least = action.number.saturating_sub(LONGEST - 1).max(1);
+        let least = least_first(action.number);
         let agent = action.agent;
         let mut first = number;
         let mut time = time;
@@ -297,45 +307,13 @@ impl<'a, P: ProgramView, C: ActionCosts> Times<'a, P, C> {
                 agent,
                 number: first,
             };
-            let (low, then) = self.climbed_to(here, time, least);
-            if low < first {
-                first = low;
-                time = then;
-            } else {
-                let Some((before, begun)) = self.longer(here, time) else {
-                    return (first, time);
-                };
-                first = before.number;
-                time = begun;
-            }
+            let Some((before, begun)) = self.longer(here, time) else {
+                return (first, time);
+            };
+            first = before.number;
+            time = begun;
         }
         (first, time)
-    }
-
-    /// The number of the first action of the agent, from the least one on, from which each begins when the one before
-    /// it ends, up to this one, which ends then, as far as that is known at once; and when that action ends.
-    #[inline(always)]
-    fn climbed_to(&self, action: ActionId, end: u64, least: u32) -> (u32, u64)
-        requires action { IsAction (P.program self.now.program) action }
-        requires end { IsCriticalCost (P.program self.now.program) (C.cost self.now.costs) action
-            end }
-        requires first { 1 ≤ least }
-        requires least { least ≤ action.number }
-        ensures within { result.0 ≤ action.number }
-        ensures least { least ≤ result.0 }
-        ensures end { IsCriticalCost (P.program self.now.program) (C.cost self.now.costs)
-            (of_agent action result.0) result.1 }
-        ensures follows { (n : ℕ) → result.0 < n → n ≤ action.number
-            → LeadsBack (P.program self.now.program) (C.cost self.now.costs)
-            (of_agent action n) (of_agent action (n - 1)) }
-    {
-        match &self.ends {
-            Ends::Costs(_) => (action.number, end),
-            Ends::Levels(levels) => {
-                let first = levels.climb_begin(action).max(least);
-                (first, end - u64::from(action.number - first))
-            }
-        }
     }
 
     /// The action of the same agent before this one, which ends then, and when that one ends, if this one begins as it
@@ -459,4 +437,12 @@ impl<'a, P: ProgramView, C: ActionCosts> Times<'a, P, C> {
             }
         }
     }
+}
+
+/// The least number of a first action of a stretch up to the action of this number.
+#[inline(always)]
+fn least_first(number: u32) -> u32
+    ensures { result ≡ max 1 (number + 1 - LONGEST) }
+{
+    number.saturating_sub(LONGEST - 1).max(1)
 }

@@ -197,7 +197,7 @@ pub struct Accepted<'g, P: ProgramView> {
 }
 
 impl<'g, P: ProgramView> Model for Accepted<'g, P> {
-    ghost use Rattle.std.specs.Prelude.{IfSome};
+    ghost use Rattle.std.specs.Prelude.{IfSome, is_some};
     ghost use Rattle.fleet_verify.specs.LevelRows.{HasLevels};
     ghost use Rattle.fleet_verify.specs.Parts.{AcceptedParts, IsAcceptedFor};
 
@@ -208,6 +208,7 @@ impl<'g, P: ProgramView> Model for Accepted<'g, P> {
       grid = a.grid.now;
       instance = a.instance.now;
       chain = a.chain;
+      has_levels = is_some a.levels;
     } };
 
     ghost invariant = { λ a. IsAcceptedFor a.grid.now a.instance.now
@@ -215,7 +216,7 @@ impl<'g, P: ProgramView> Model for Accepted<'g, P> {
 }
 
 impl<'g, P: ProgramView> Accepted<'g, P> {
-    ghost use Rattle.std.specs.Prelude.{◌≡◌, IfSome};
+    ghost use Rattle.std.specs.Prelude.{◌≡◌, IfSome, is_some};
     ghost use Rattle.fleet_verify.specs.LevelRows.{HasLevels};
     ghost use Rattle.fleet_verify.specs.Parts.{IsAcceptedFor};
 
@@ -226,6 +227,7 @@ impl<'g, P: ProgramView> Accepted<'g, P> {
         ensures grid { result.grid ≡ grid.now }
         ensures instance { result.instance ≡ instance.now }
         ensures chain { result.chain ≡ judged.chain }
+        ensures has_levels { result.has_levels ≡ is_some judged.levels }
     {
         let Judged { chain, levels } = judged;
         Accepted {
@@ -239,7 +241,8 @@ impl<'g, P: ProgramView> Accepted<'g, P> {
 
     /// The levels of all actions, unless they were let go. Takes no memory.
     pub(crate) fn levels(&self) -> Option<&Levels>
-        ensures { IfSome result (λ l. HasLevels (P.program self.now.program) l.now) }
+        ensures levels { IfSome result (λ l. HasLevels (P.program self.now.program) l.now) }
+        ensures kept { is_some result ≡ self.now.has_levels }
     {
         self.levels.as_ref()
     }

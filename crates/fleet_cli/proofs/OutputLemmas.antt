@@ -2,8 +2,9 @@
 use Rattle.std.proofs.Common.{◌≡◌, ◌∙◌, ℕ, ◌+◌, ◌<◌, List, [], ◌∷◌, ◌++◌, length, take, drop, get_or, ap, refl, sym, subst, append_assoc, append-nil}
 use Rattle.std.proofs.lemmas.List.{take_more, map-append, take-append-drop}
 use Rattle.std.specs.Borrow.{Bor}
-use Rattle.fleet_text.specs.Sink.{SinkState, IsWorking, IsUnwritten, Takes, StopsWithin}
-use Rattle.fleet_text.proofs.SinkLemmas.{takes_more, stops_after, stops_within_more}
+use Rattle.fleet_text.specs.Sink.{SinkState, IsWorking, IsUnwritten, StopsWithin}
+use Rattle.fleet_text.specs.Row.{PassesOn}
+use Rattle.fleet_text.proofs.SinkLemmas.{passes_more, stops_past, stops_before}
 use Rattle.fleet_text.specs.Words.{count_line}
 use Rattle.fleet_cli.specs.Output.{with_labels, count_lines}
 use Rattle.fleet_cli.proofs.RunLemmas.{keeps_self}
@@ -27,14 +28,14 @@ module _ (counts : List (Bor (List ℕ) × ℕ)) (i : ℕ) (d : Bor (List ℕ) �
       ∙ ap count_lines (sym (map-append (λ c. (c.0.now, c.1)) (take (i + 1) counts) (drop (i + 1) counts)))
       ∙ ap (λ cs. count_lines (with_labels cs)) (take-append-drop (i + 1) counts)
 
-  module _ (a b c : SinkState) (so_far : Takes a b (count_lines (with_labels (take i counts)))) where
-    pub one_count_more : Takes b c (count_line (get_or counts i d).0.now (get_or counts i d).1) → Takes a c (count_lines (with_labels (take (i + 1) counts)))
-    one_count_more h = subst (Takes a c) (sym one_more) (takes_more a b c _ _ so_far h)
+  module _ (a b c : SinkState) (r s t : List ℕ) (so_far : PassesOn a b r s (count_lines (with_labels (take i counts)))) where
+    pub one_count_more : PassesOn b c s t (count_line (get_or counts i d).0.now (get_or counts i d).1) → PassesOn a c r t (count_lines (with_labels (take (i + 1) counts)))
+    one_count_more h = subst (PassesOn a c r t) (sym one_more) (passes_more a b c r s t _ _ so_far h)
 
-    pub stops_in_count : StopsWithin b c (count_line (get_or counts i d).0.now (get_or counts i d).1) → StopsWithin a c (count_lines (with_labels counts))
+    pub stops_in_count : StopsWithin b c (s ++ count_line (get_or counts i d).0.now (get_or counts i d).1) → StopsWithin a c (r ++ count_lines (with_labels counts))
     stops_in_count h =
-        let here : StopsWithin a c (count_lines (with_labels (take (i + 1) counts))) = subst (StopsWithin a c) (sym one_more) (stops_after a b c _ _ so_far h) in
-        subst (StopsWithin a c) all (stops_within_more a c _ (count_lines (with_labels (drop (i + 1) counts))) here)
+        let here : StopsWithin a c (r ++ count_lines (with_labels (take (i + 1) counts))) = subst (λ l. StopsWithin a c (r ++ l)) (sym one_more) (stops_past a b c r s _ _ so_far h) in
+        subst (λ l. StopsWithin a c (r ++ l)) all (stops_before a c r _ (count_lines (with_labels (drop (i + 1) counts))) here)
 
 -- nothing was written to a sink that is as before
 pub nothing_written : (out : SinkState) → IsWorking out → IsUnwritten out out

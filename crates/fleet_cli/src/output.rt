@@ -2,12 +2,29 @@
 
 ghost use Rattle.std.specs.Prelude.{ℕ, List, Some, [], ◌∷◌};
 ghost use Rattle.fleet_text.specs.Sink.{IsWorking, SinkState, TakesAll};
+ghost use Rattle.fleet_text.specs.Row.{Gathers};
 ghost use Rattle.fleet_cli.specs.Output.{with_labels, count_lines, report, Prints, WritesFiles};
 
 use crate::fault::Fault;
 use crate::files::{Files, write_file};
 use fleet_run::{Flush, OutFault, TraceOut};
-use fleet_text::{Word, put_count, put_line};
+use fleet_text::{Row, Word, add_line};
+
+/// Adds a line for each count to the row: its label and its number.
+fn add_counts<O: TraceOut>(
+    row: &mut Row,
+    out: &mut O,
+    counts: &[(&'static str, u64)],
+) -> Result<(), OutFault>
+    requires { IsWorking (O.state out.old) }
+    ensures { Gathers (O.state out.old) (O.state out.new) result row.old row.new
+        (count_lines (with_labels counts.now)) }
+{
+    for (label, number) in counts {
+        add_line(row, out, &[Word::Text(label), Word::Number(*number)])?;
+    }
+    Ok(())
+}
 
 /// Writes a line for each count: its label and its number.
 pub(crate) fn put_counts<O: TraceOut>(
@@ -18,10 +35,9 @@ pub(crate) fn put_counts<O: TraceOut>(
     ensures { TakesAll (O.state out.old) (O.state out.new) result
         (count_lines (with_labels counts.now)) }
 {
-    for (label, number) in counts {
-        put_count(out, label, *number)?;
-    }
-    Ok(())
+    let mut row = Row::new();
+    add_counts(&mut row, out, counts)?;
+    row.hand_on(out)
 }
 
 /// Writes a word in a line of its own, and then a line for each count.
@@ -34,8 +50,10 @@ pub(crate) fn put_report<O: TraceOut>(
     ensures { TakesAll (O.state out.old) (O.state out.new) result
         (report title.now (with_labels counts.now)) }
 {
-    put_line(out, &[Word::Text(title)])?;
-    put_counts(out, counts)
+    let mut row = Row::new();
+    add_line(&mut row, out, &[Word::Text(title)])?;
+    add_counts(&mut row, out, counts)?;
+    row.hand_on(out)
 }
 
 /// Has the sink hand on the text that was written. Answers 0, or the refusal of the standard output.

@@ -1,25 +1,33 @@
 -- Answers of questions, one after another.
-use Rattle.std.proofs.Common.{◌≡◌, ◌≢◌, ℕ, ◌+◌, ◌-◌, ◌<◌, ◌≤◌, Bool, true, false, List, length, get_or, set, Some, refl, sym, ap, subst, ◌∙◌, arith, inl, inr, ◌⊎◌}
+use Rattle.std.proofs.Common.{◌≡◌, ◌≢◌, ℕ, ◌+◌, ◌-◌, ◌<◌, ◌≤◌, Bool, true, false, List, [], ◌∷◌, ◌++◌, length, get_or, set, Some, refl, sym, ap, subst, ◌∙◌, arith, inl, inr, ◌⊎◌}
+use Rattle.std.specs.Borrow.{Bor}
 use Rattle.std.specs.Prelude.{slice_get, slice_index, nat_lt, All, None}
-use Rattle.std.proofs.lemmas.Grind.{common_steps}
-use Rattle.std.proofs.lemmas.Option.{slice_get_within, get_or_from_slice_get, slice_get-get_or, same_Some}
+use Rattle.std.proofs.lemmas.List.{get_or-set_same, get_or-set_other, length-set, get_or_append_left, get_or_push}
+use Rattle.std.proofs.lemmas.Option.{slice_get_within, get_or_from_slice_get, same_Some}
 use Rattle.std.proofs.lemmas.Bool.{cases_lt, cases_eq, cases_order, ltb-true, lt-ltb, false≢true}
 use Rattle.fleet_model.specs.declared.program.ActionId.{ActionId}
 use Rattle.fleet_model.specs.Program.{Program}
 use Rattle.fleet_model.specs.Chain.{Reaches}
 use Rattle.fleet_needs.specs.Rows.{IsColumn}
-use Rattle.fleet_needs.specs.Asked.{IsQuestion, IsSoonerAction, AreQuestions, AreAnswers}
+use Rattle.fleet_needs.specs.Asked.{IsQuestion, AreAnswers}
 use Rattle.fleet_needs.specs.Block.{HasColumn, IsAnswer, AreAnswered, AreKnown}
-use Rattle.fleet_needs.specs.Columns.{AreColumns}
-use Rattle.fleet_needs.specs.JoinPass.{IsJoinRow, IsMade}
-use Rattle.fleet_needs.specs.Joins.{AreOwn}
-use Rattle.fleet_needs.specs.Schedule.{AreCounts, HasRows, next_action}
-use Rattle.fleet_needs.specs.Answering.{AreAnsweredTo, IsNextAnswered, IsAsked}
+use Rattle.fleet_needs.specs.Columns.{AreColumns, column_of}
+use Rattle.fleet_needs.specs.Counts.{counts_of}
+use Rattle.fleet_needs.specs.JoinPass.{IsJoinRow, HasWhole}
+use Rattle.fleet_needs.specs.Joins.{AreOwn, StandsFor, row_of}
+use Rattle.fleet_needs.specs.Schedule.{AreCounts, AreRowCounts, next_action}
+use Rattle.fleet_needs.specs.Answering.{IsLastOf, IsAnswering, IsAnsweringRow, AreOthersLeft}
 use Rattle.fleet_needs.specs.declared.schedule.Columns.{Columns}
+use Rattle.fleet_needs.specs.declared.schedule.Schedule.{Schedule}
+use Rattle.fleet_needs.specs.declared.await_places.ActionPlaces.{ActionPlaces}
 use Rattle.fleet_needs.specs.declared.join_pass.JoinRow.{JoinRow}
+use Rattle.fleet_needs.specs.declared.joins.Joins.{Joins}
+use Rattle.fleet_needs.specs.declared.questions.Answering.{Answering}
+use Rattle.fleet_needs.specs.declared.questions.ListedQuestions.{ListedQuestions}
 use Rattle.fleet_needs.specs.declared.questions.Question.{Question}
 use Rattle.fleet_needs.proofs.Joining.{own_column}
 use Rattle.fleet_needs.proofs.NextBlock.{column_cases}
+use Rattle.fleet_needs.proofs.RowsMade.{counts_none, counts_row}
 
 -- a count of the row that is below the number of the first action says that no chain begins with it
 pub answer_is : (p : Program) (q : Question) (n : ℕ) → 1 ≤ q.first.number → IsColumn p q.last q.first.agent n → IsAnswer p q (nat_lt n q.first.number)
@@ -75,127 +83,171 @@ answered_to p asked from columns h questions old new a known before m q e l = el
 pub question_at : (p : Program) (questions : List Question) → All (IsQuestion p) questions → (k : ℕ) (q : Question) → slice_get questions k ≡ Some q → IsQuestion p q
 question_at p questions h k q e = subst (IsQuestion p) (get_or_from_slice_get questions k q q e) (h k q (slice_get_within questions k q e))
 
--- ---- an action more
+-- ---- the questions of a row, one after another
 
-module _ (p : Program) (columns : Columns) (questions : List Question) (asked : AreQuestions p questions) (Done Next : ActionId → Type 0) (a : ActionId) (here : Next a) (still : (x : ActionId) → Done x → Next x)
-    (back : (x : ActionId) → Next x → Done x ⊎ (x ≡ a)) (sooner : (k : ℕ) (q : Question) → slice_get questions k ≡ Some q → IsSoonerAction asked.level q.last a → Done q.last) where
-  ordered : (k n : ℕ) (q r : Question) → slice_get questions k ≡ Some q → slice_get questions n ≡ Some r → k < n → IsSoonerAction asked.level q.last r.last
-  ordered k n q r at there l =
-      subst (λ (x : Question). IsSoonerAction asked.level x.last r.last) (get_or_from_slice_get questions k q q at)
-      (subst (λ (y : Question). IsSoonerAction asked.level (get_or questions k q).last y.last) (get_or_from_slice_get questions n r q there)
-      (asked.in_order k n q l (slice_get_within questions n r there)))
-
-  not_sooner : (x : ActionId) → IsSoonerAction asked.level x x → ⊥
-  not_sooner x (inl l) = omega arith
-  not_sooner x (inr (e, l)) = omega arith
-
-  pub answers_on : (n m : ℕ) (old new : List Bool) → AreAnsweredTo p columns questions Done old n → IsAsked p columns questions a n old new m
-      → AreAnsweredTo p columns questions Next new m
-  answers_on n m old new r s = go s.step
-    where
-      earlier : (k c : ℕ) (q : Question) → slice_get questions k ≡ Some q → k < n → HasColumn columns q.first.agent c → IsAnswer p q (get_or new k false)
-      earlier k c q at l has = subst (λ (b : Bool). IsAnswer p q b) (sym (s.others k (λ e. omega arith))) (r.answered k c q at l has)
-
-      go : ((m ≡ n + 1) × IsNextAnswered p columns questions a n old new) ⊎ ((m ≡ n) × (get_or new n false ≡ get_or old n false) × ((q : Question) → slice_get questions n ≡ Some q → q.last ≢ a))
-          → AreAnsweredTo p columns questions Next new m
-      go (inl (e, one)) = record {
-        before = λ k q at done. elim (back q.last done) [
-          | inl was ↦ (let l : k < n = r.before k q at was in omega arith)
-          | inr same ↦ elim (cases_order k n) [
-            | inl at_n ↦ omega arith
-            | inr (inl less) ↦ omega arith
-            | inr (inr more) ↦ absurd (not_sooner a (subst (λ (x : ActionId). IsSoonerAction asked.level x a) one.last (subst (λ (y : ActionId). IsSoonerAction asked.level one.question.last y) same (ordered n k one.question q one.at at more))))
-          ]
-        ];
-        done = λ k q at l. elim (cases_eq k n) [
-          | inl at_n ↦
-              let is : q ≡ one.question = same_Some q one.question (sym at ∙ ap (slice_get questions) at_n ∙ one.at) in
-              subst Next (sym (ap (λ (x : Question). x.last) is ∙ one.last)) here
-          | inr ne ↦ still q.last (r.done k q at (omega arith))
-        ];
-        answered = λ k c q at l has. elim (cases_eq k n) [
-          | inl at_n ↦
-              let is : q ≡ one.question = same_Some q one.question (sym at ∙ ap (slice_get questions) at_n ∙ one.at) in
-              subst (λ (x : ℕ). IsAnswer p q (get_or new x false)) (sym at_n)
-              (subst (λ (x : Question). IsAnswer p x (get_or new n false)) (sym is) (one.answer c (subst (λ (x : Question). HasColumn columns x.first.agent c) is has)))
-          | inr ne ↦ earlier k c q at (omega arith) has
-        ];
-      }
-      go (inr (e, same, none)) = record {
-        before = λ k q at done. elim (back q.last done) [
-          | inl was ↦ (let l : k < n = r.before k q at was in omega arith)
-          | inr is ↦ elim (cases_order k n) [
-            | inl at_n ↦ absurd (none q (ap (slice_get questions) (sym at_n) ∙ at) is)
-            | inr (inl less) ↦ omega arith
-            | inr (inr more) ↦ absurd (
-                let first : Question = get_or questions n q in
-                let within : k < length questions = slice_get_within questions k q at in
-                let there : slice_get questions n ≡ Some first = slice_get-get_or questions n q (omega arith) in
-                let earlier : IsSoonerAction asked.level first.last a = subst (λ (y : ActionId). IsSoonerAction asked.level first.last y) is (ordered n k first q there at more) in
-                let low : n < n = r.before n first there (sooner n first there earlier) in
-                omega arith)
-          ]
-        ];
-        done = λ k q at l. still q.last (r.done k q at (omega arith));
-        answered = λ k c q at l has. earlier k c q at (omega arith) has;
-      }
-
--- the flags of questions whose agents have no column stay
-pub others_on : (p : Program) (columns : Columns) (questions : List Question) (a : ActionId) (n m : ℕ) (old new : List Bool) → IsAsked p columns questions a n old new m
-    → (k : ℕ) (q : Question) → slice_get questions k ≡ Some q → get_or columns.of_agent.items q.first.agent None ≡ None → get_or new k false ≡ get_or old k false
-others_on p columns questions a n m old new s k q at none = elim (cases_eq k n) [
-  | inr ne ↦ s.others k ne
-  | inl e ↦ elim s.step [
-    | inr (same, left, other) ↦ subst (λ (x : ℕ). get_or new x false ≡ get_or old x false) (sym e) left
-    | inl (same, next) ↦
-        let is : q ≡ next.question = same_Some q next.question (sym at ∙ ap (slice_get questions) e ∙ next.at) in
-        subst (λ (x : ℕ). get_or new x false ≡ get_or old x false) (sym e) (next.none (subst (λ (x : Question). get_or columns.of_agent.items x.first.agent None ≡ None) is none))
-  ]
-]
-
--- ---- the question that comes next
-
-module _ (p : Program) (columns : Columns) (questions : List Question) (a : ActionId) (n : ℕ) (d : Question) (asked : (q : Question) × (slice_get questions n ≡ Some q) × (q.last ≡ a)) where
-  there : get_or questions n d ≡ asked.0
-  there = get_or_from_slice_get questions n asked.0 d asked.1
-
-  pub asked_row : (row : List ℕ) → AreCounts p columns a.agent a.number (slice_index row) → AreCounts p columns (get_or questions n d).last.agent (get_or questions n d).last.number (slice_index row)
-  asked_row row h = subst (λ (x : ActionId). AreCounts p columns x.agent x.number (slice_index row)) (sym (ap (λ (q : Question). q.last) there ∙ asked.2)) h
-
-  -- its flag is set, and no other one
-  pub next_asked : (flags : List Bool) → length flags ≡ length questions → (flag : Bool)
-      → ((k : ℕ) → HasColumn columns (get_or questions n d).first.agent k → IsAnswer p (get_or questions n d) flag)
-      → (get_or columns.of_agent.items (get_or questions n d).first.agent None ≡ None → flag ≡ get_or flags n false)
-      → IsAsked p columns questions a n flags (set flags n flag) (n + 1)
-  next_asked flags long flag answer none = record {
-    others = λ k ne. grind (arith, common_steps);
-    step = inl (
-      refl,
+module _ (p : Program) (s : Schedule) (columns : Columns) (r : ℕ) where
+  -- from the last one on
+  pub row_begun : (m : Answering) → r ≤ length s.joins.items → IsAnswering p s columns r m → IsAnsweringRow p s columns r (slice_index m.listed.now.lasts.items r) m
+  row_begun m within h =
+      let last = h.linked.last r within in
       record {
-        question = asked.0;
-        at = asked.1;
-        last = asked.2;
-        answer = λ c h. subst (IsAnswer p asked.0) (sym set_here) (subst (λ (q : Question). IsAnswer p q flag) there (answer c (subst (λ (q : Question). HasColumn columns q.first.agent c) (sym there) h)));
-        none = λ h. set_here ∙ none (subst (λ (q : Question). get_or columns.of_agent.items q.first.agent None ≡ None) (sym there) h);
-      },
-    );
+        answers = h;
+        upto = last.upto;
+        here = last.here;
+        after = λ k c q at of from has. absurd (last.none k from (slice_get_within m.listed.now.questions.now k q at) of);
+      }
+
+  -- until none is left
+  pub row_ended : (left : ℕ) (m : Answering) → left ≡ 0 → IsAnsweringRow p s columns r left m → IsAnswering p s columns (r + 1) m
+  row_ended left m none h = record {
+    row = h.answers.row;
+    linked = h.answers.linked;
+    questions = h.answers.questions;
+    flags = h.answers.flags;
+    answered = λ k c q at l has. elim (cases_lt (h.answers.row k) r) [
+      | inl less ↦ h.answers.answered k c q at less has
+      | inr high ↦ h.after k c q at (omega (arith, l, high)) (omega (arith, none)) has
+    ];
   }
-    where
-      set_here : get_or (set flags n flag) n false ≡ flag
-      set_here = (let l : n < length questions = slice_get_within questions n asked.0 asked.1 in grind (arith, common_steps))
 
--- ---- one row more
+  -- one more
+  module _ (left k : ℕ) (old : Answering) (h : IsAnsweringRow p s columns r left old) (some : 1 ≤ left) (here : k + 1 ≡ left) (question : Question) (at : slice_get old.listed.now.questions.now k ≡ Some question) where
+    own : h.answers.row k ≡ r
+    own = (let e : left - 1 ≡ k = omega arith in subst (λ (n : ℕ). h.answers.row n ≡ r) e (h.here some))
 
--- rows of questions that are to be asked sooner were made before
-pub made_sooner : (p : Program) (row : JoinRow) → IsJoinRow p row → (questions : List Question) (asked : AreQuestions p questions) → HasRows row.schedule.now questions
-    → (k : ℕ) (q : Question) → slice_get questions k ≡ Some q → IsSoonerAction asked.level q.last row.action → IsMade row.schedule.now row.n q.last
-made_sooner p row is questions asked rows k q there sooner =
-    let made = rows k q there in
-    let some : 1 ≤ made.0 = made.1.some in
-    let upto : made.0 ≤ length row.schedule.now.joins.items = made.1.upto in
-    let first : IsSoonerAction asked.level (next_action row.schedule.now (made.0 - 1)) row.action = subst (λ (x : ActionId). IsSoonerAction asked.level x row.action) (sym made.1.of) sooner in
-    let l : made.0 - 1 < row.n = is.schedule.ordered asked.level asked.levels (made.0 - 1) row.n (omega arith) is.next (subst (IsSoonerAction asked.level (next_action row.schedule.now (made.0 - 1))) is.of first) in
-    (made.0, omega arith, made.1)
+    -- its row has the counts of its last action
+    pub row_counts : (count : ℕ → ℕ) → AreRowCounts p s columns r count → AreCounts p columns question.last.agent question.last.number count
+    row_counts count counts =
+        let is = (question_at p old.listed.now.questions.now h.answers.questions k question at).last in
+        counts question.last.agent question.last.number (record {
+          agent = is.agent;
+          last = is.last;
+          stands = subst (λ (x : ℕ). StandsFor p s.joins.items x question.last.agent question.last.number) own (h.answers.linked.stands k question at);
+        })
+
+    module _ (new : Answering) (flag : Bool) (listed : new.listed ≡ old.listed) (put : new.flags.items ≡ set old.flags.items k flag) (answer : (c : ℕ) → HasColumn columns question.first.agent c → IsAnswer p question flag)
+        (none : column_of columns question.first.agent ≡ None → flag ≡ get_or old.flags.items k false) where
+      within : k < length old.flags.items
+      within = omega (arith, slice_get_within old.listed.now.questions.now k question at, h.answers.flags)
+
+      at_own : get_or new.flags.items k false ≡ flag
+      at_own = ap (λ (xs : List Bool). get_or xs k false) put ∙ get_or-set_same old.flags.items k flag false within
+
+      at_other : (n : ℕ) → n ≢ k → get_or new.flags.items n false ≡ get_or old.flags.items n false
+      at_other n ne = ap (λ (xs : List Bool). get_or xs n false) put ∙ get_or-set_other old.flags.items k n flag false ne
+
+      answers_on : IsAnswering p s columns r (record { listed = old.listed; flags = new.flags })
+      answers_on = record {
+        row = h.answers.row;
+        linked = h.answers.linked;
+        questions = h.answers.questions;
+        flags = ap (λ (xs : List Bool). length xs) put ∙ length-set old.flags.items k flag ∙ h.answers.flags;
+        answered = λ n c q there l has. subst (λ (b : Bool). IsAnswer p q b) (sym (at_other n (λ e. let f : h.answers.row n ≡ r = ap h.answers.row e ∙ own in omega (arith, f, l)))) (h.answers.answered n c q there l has);
+      }
+
+      pub row_more : IsAnsweringRow p s columns r (slice_index old.listed.now.befores.items k) new
+      unfolding answers_on
+      row_more =
+          let before = h.answers.linked.before k (slice_get_within old.listed.now.questions.now k question at) in
+          subst (λ (l : Bor ListedQuestions). IsAnsweringRow p s columns r (slice_index old.listed.now.befores.items k) (record { listed = l; flags = new.flags })) (sym listed) (record {
+            answers = answers_on;
+            upto = omega (arith, before.upto, slice_get_within old.listed.now.questions.now k question at);
+            here = λ l. before.here l ∙ own;
+            after = λ n c q there of from has. elim (cases_order n k) [
+              | inl e ↦
+                  let is : q ≡ question = same_Some q question (sym there ∙ ap (slice_get old.listed.now.questions.now) e ∙ at) in
+                  subst (λ (b : Bool). IsAnswer p q b) (sym (ap (λ (x : ℕ). get_or new.flags.items x false) e ∙ at_own))
+                  (subst (λ (x : Question). IsAnswer p x flag) (sym is) (answer c (subst (λ (x : Question). HasColumn columns x.first.agent c) is has)))
+              | inr (inl less) ↦ absurd (before.none n from less (of ∙ sym own))
+              | inr (inr more) ↦ subst (λ (b : Bool). IsAnswer p q b) (sym (at_other n (λ e. omega (arith, e, more)))) (h.after n c q there of (omega arith) has)
+            ];
+          })
+
+      pub others_more : AreOthersLeft p columns old new
+      others_more = record {
+        listed = listed;
+        flags = λ n q there free. elim (cases_eq n k) [
+          | inr ne ↦ at_other n ne
+          | inl e ↦
+              let is : q ≡ question = same_Some q question (sym there ∙ ap (slice_get old.listed.now.questions.now) e ∙ at) in
+              ap (λ (x : ℕ). get_or new.flags.items x false) e ∙ at_own ∙ none (subst (λ (x : Question). column_of columns x.first.agent ≡ None) is free) ∙ ap (λ (x : ℕ). get_or old.flags.items x false) (sym e)
+        ];
+      }
+
+-- ---- rows
+
+-- no row has no counts
+pub none_counts : (p : Program) (s : Schedule) (columns : Columns) (count : ℕ → ℕ) → ((k : ℕ) → count k ≡ 0) → AreRowCounts p s columns 0 count
+none_counts p s columns count zeros i n stands = counts_none p s columns 0 i n stands refl count zeros
+
+-- the row of an action has those that it stands for
+pub row_has_counts : (p : Program) (row : JoinRow) → IsJoinRow p row → HasWhole p row → AreRowCounts p row.schedule.now row.columns.now (row.n + 1) (slice_index (counts_of row.counts.now))
+row_has_counts p row is whole i n stands =
+    let e : row.n + 1 - 1 ≡ row.n = omega arith in
+    let of : row.action ≡ next_action row.schedule.now (row.n + 1 - 1) = is.of ∙ ap (next_action row.schedule.now) (sym e) in
+    counts_row p row.schedule.now row.columns.now (row.n + 1) i n stands (omega arith) (slice_index (counts_of row.counts.now))
+    (subst (λ (a : ActionId). AreCounts p row.columns.now a.agent a.number (slice_index (counts_of row.counts.now))) of whole)
+
+-- once all rows are used, all questions whose agents have a column are answered
+pub answered_all : (p : Program) (s : Schedule) (columns : Columns) (old new : Answering) → length old.flags.items ≡ length old.listed.now.questions.now → IsAnswering p s columns (length s.joins.items + 1) new → AreOthersLeft p columns old new
+    → AreAnswered p columns old.listed.now.questions.now old.flags.items new.flags.items
+answered_all p s columns old new long is left = record {
+  all = is.flags ∙ ap (λ l. length l.now.questions.now) left.listed ∙ sym long;
+  answered = λ m c q at has.
+      let there : slice_get new.listed.now.questions.now m ≡ Some q = ap (λ l. slice_get l.now.questions.now m) left.listed ∙ at in
+      is.answered m c q there (let l = is.linked.within m (slice_get_within new.listed.now.questions.now m q there) in omega arith) has;
+  others = left.flags;
+}
+
+-- ---- questions listed by their rows
+
+-- what is read past the questions
+abbrev pub no_question : Question
+no_question = record { first = record { agent = 0; number = 0 }; last = record { agent = 0; number = 0 } }
+
+-- the row that is noted for the last action of question k
+abbrev pub listed_row : ActionPlaces → Joins → List Question → ℕ → ℕ
+listed_row places m questions k = row_of places m (get_or questions k no_question).last
+
+module _ (row : ℕ → ℕ) (r n x : ℕ) (h : IsLastOf row r n x) where
+  -- a further question of another row
+  last_other : row n ≢ r → IsLastOf row r (n + 1) x
+  last_other ne = record {
+    upto = omega (arith, h.upto);
+    here = h.here;
+    none = λ k from less. elim (cases_eq k n) [
+      | inl e ↦ (λ f. ne (ap row (sym e) ∙ f))
+      | inr other ↦ h.none k from (omega arith)
+    ];
+  }
+
+-- a further question is the last one of its row
+last_here : (row : ℕ → ℕ) (n : ℕ) → IsLastOf row (row n) (n + 1) (n + 1)
+last_here row n = record {
+  upto = omega arith;
+  here = λ some. (let e : n + 1 - 1 ≡ n = omega arith in ap row e);
+  none = λ k from less. absurd (omega arith);
+}
+
+-- question n of row r, the last one of which was the taken one
+module _ (row : ℕ → ℕ) (n : ℕ) (lasts : List ℕ) where
+  pub last_on : (r count : ℕ) → r ≡ row n → r < length lasts → count ≡ n + 1 → ((x : ℕ) → x < length lasts → IsLastOf row x n (slice_index lasts x)) → (x : ℕ) → x < length lasts → IsLastOf row x (n + 1) (slice_index (set lasts r count) x)
+  last_on r count here within is last x l = elim (cases_eq x r) [
+    | inl e ↦
+        let at : slice_index (set lasts r count) x ≡ n + 1 = ap (slice_index (set lasts r count)) e ∙ get_or-set_same lasts r count 0 within ∙ is in
+        subst (IsLastOf row x (n + 1)) (sym at) (subst (λ (z : ℕ). IsLastOf row z (n + 1) (n + 1)) (sym (e ∙ here)) (last_here row n))
+    | inr ne ↦ subst (IsLastOf row x (n + 1)) (sym (get_or-set_other lasts r x count 0 ne)) (last_other row x n (slice_index lasts x) (last x l) (λ f. ne (sym (here ∙ f))))
+  ]
+
+  pub before_on : (befores : List ℕ) (r taken : ℕ) → r ≡ row n → taken ≡ slice_index lasts r → length befores ≡ n → IsLastOf row r n (slice_index lasts r) → ((k : ℕ) → k < n → IsLastOf row (row k) k (slice_index befores k))
+      → (k : ℕ) → k < n + 1 → IsLastOf row (row k) k (slice_index (befores ++ taken ∷ []) k)
+  before_on befores r taken here read all last before k l = elim (cases_lt k n) [
+    | inl less ↦ subst (IsLastOf row (row k) k) (sym (get_or_append_left befores (taken ∷ []) 0 k (omega (arith, all)))) (before k less)
+    | inr high ↦
+        let e : k ≡ n = omega (arith, l, high) in
+        let at : slice_index (befores ++ taken ∷ []) k ≡ slice_index lasts r = ap (slice_index (befores ++ taken ∷ [])) (e ∙ sym all) ∙ get_or_push befores taken 0 (length befores) refl ∙ read in
+        subst (IsLastOf row (row k) k) (sym at) (subst (λ (m : ℕ). IsLastOf row (row m) m (slice_index lasts r)) (sym e) (subst (λ (z : ℕ). IsLastOf row z n (slice_index lasts r)) here last))
+  ]
 
 -- the count of a question's first agent at its last action
 pub asked_column : (p : Program) (columns : Columns) (q : Question) (f : ℕ → ℕ) → AreOwn p → IsQuestion p q → AreCounts p columns q.last.agent q.last.number f → (k : ℕ) → HasColumn columns q.first.agent k → (count : ℕ)

@@ -5,12 +5,11 @@ use Rattle.std.proofs.lemmas.List.{get_or-set_same, get_or-set_other, length-set
 use Rattle.std.specs.Prelude.{get_or}
 use Rattle.std.proofs.lemmas.List.{get_or_read}
 use Rattle.fleet_model.specs.declared.program.ActionId.{ActionId}
-use Rattle.fleet_model.specs.Program.{Program, AreInRange}
+use Rattle.fleet_model.specs.Program.{Program}
 use Rattle.fleet_model.specs.Machine.{run, is_finished}
 use Rattle.fleet_model.specs.Chain.{IsAction}
-use Rattle.fleet_needs.specs.Asked.{AreLevels, IsSoonerAction}
 use Rattle.fleet_needs.specs.Order.{IsNextReady, AreNoneReady, IsCounted, IsMid, AreMid, IsNextAction, AreAllCounted}
-use Rattle.fleet_needs.proofs.Free.{count, count_start, stays, grows, level_done, done_level, all_finished, moved, next_action}
+use Rattle.fleet_needs.proofs.Free.{count, count_start, stays, grows, all_finished, moved}
 
 -- a count that is read at a place
 pub count_read : (counts : List ℕ) (x y v : ℕ) → x ≡ y → y < length counts → v ≡ get_or counts x v → v ≡ get_or counts y 0
@@ -110,30 +109,8 @@ module _ (p : Program) (t from : ℕ) (counts : List ℕ) (mid : AreMid p t from
       ];
     }
 
-    pub next_counted : AreInRange p → IsNextAction p counts one
-    next_counted range = record {
-      agent = one_within;
-      number = more;
-      sooner = λ level levels x is sooner. go level levels x is sooner;
-    }
-      where
-        go : (level : ActionId → ℕ) → AreLevels p level → (x : ActionId) → IsAction p x → IsSoonerAction level x one → IsCounted counts x
-        go level levels x is sooner = cases sooner
-          where
-            acts : IsAction p one
-            acts = next_action p t from i next n number_is
-
-            top : level one ≤ t + 1
-            top = done_level p (t + 1) (level one) one acts (levels one acts) (omega (arith, moved p t from i next n number_is))
-
-            cases : IsSoonerAction level x one → IsCounted counts x
-            cases (inl less) = counted_before x is (level_done p range t (level x) x is (levels x is) (omega (arith, top)))
-            cases (inr (same, agent)) =
-                let done : x.number ≤ count p (t + 1) x.agent = level_done p range (t + 1) (level x) x is (levels x is) (omega (arith, top, same)) in
-                elim (mid.each x.agent is.agent) [
-                  | inl (l, e) ↦ omega (arith, e, done)
-                  | inr (l, e) ↦ (let still : count p (suc t) x.agent ≡ count p t x.agent = stays p t x.agent is.agent (next.between x.agent l agent) in omega (arith, e, done, still, next_on x.agent))
-                ]
+    pub next_counted : IsNextAction counts one
+    next_counted = record { agent = one_within; number = more }
 
 -- ---- the first tick and the last
 

@@ -82,7 +82,7 @@ module _ (p : Program) (f : Finishing) (h : IsFinishing p f) where
         → IsNextFinish p f (record { order = f.order; counts = new.counts; ticks = f.ticks; place = f.place + 1 }) (record { action = record { agent = i; number = n }; tick = f.ticks + 1 })
     one_come new come = record {
       action = come_action;
-      next = next_counted p t from (come_in f) h.mid i ready n number h.whole.range;
+      next = next_counted p t from (come_in f) h.mid i ready n number;
       needs = needs;
       tick = finished_here p t from i ready n one;
       come = come;
@@ -102,7 +102,7 @@ module _ (p : Program) (f : Finishing) (h : IsFinishing p f) where
 pub next_after : (p : Program) (old mid new : Finishing) (f : Finish) → HasSameCome old mid → IsNextFinish p mid new f → IsNextFinish p old new f
 next_after p old mid new f same h = record {
   action = h.action;
-  next = subst (λ (xs : List ℕ). IsNextAction p xs f.action) counts h.next;
+  next = subst (λ (xs : List ℕ). IsNextAction xs f.action) counts h.next;
   needs = λ b is need. subst (λ (xs : List ℕ). IsCounted xs b) counts (h.needs b is need);
   tick = h.tick;
   come = h.come ∙ ap (λ (xs : List ℕ). set xs f.action.agent f.action.number) counts;

@@ -9,9 +9,8 @@ use Rattle.fleet_model.specs.declared.program.Await.{Await}
 use Rattle.fleet_model.specs.Program.{Program, awaits_of}
 use Rattle.fleet_model.specs.Chain.{IsAction, awaited}
 use Rattle.fleet_needs.specs.Order.{IsCounted, IsNextAction}
-use Rattle.fleet_needs.specs.Asked.{AreLevels, IsSoonerAction}
 use Rattle.fleet_needs.specs.Places.{place_of_action}
-use Rattle.fleet_needs.specs.Joins.{AddsNone, HasRowOr, IsWanted, join_at, IsRow, StandsFor, need_at, need_of, IsNeed, IsJoin, AreJoins, Takes, AreLasts, row_of, IsStanding, AreSound, AreJoinsOf, CanJoin, AreTaken, AreRaised, HaveGrown, HasJoined, IsAdded}
+use Rattle.fleet_needs.specs.Joins.{AddsNone, HasRowOr, join_at, IsRow, StandsFor, need_at, need_of, IsNeed, IsJoin, AreJoins, Takes, AreLasts, row_of, IsStanding, AreSound, AreJoinsOf, CanJoin, AreTaken, AreRaised, HaveGrown, HasJoined, IsAdded}
 use Rattle.fleet_needs.specs.declared.await_places.ActionPlaces.{ActionPlaces}
 use Rattle.fleet_needs.specs.declared.joins.Join.{Join}
 use Rattle.fleet_needs.specs.declared.joins.Need.{Need}
@@ -298,8 +297,8 @@ by_flag : (R S : Type 0) (flag : Bool) → (flag ≡ true → R) → (flag ≡ f
 by_flag R S true f g = inl (f refl)
 by_flag R S false f g = inr (g refl)
 
-module _ (p : Program) (places : ActionPlaces) (wanted : List Bool) (Passed : ActionId → Type 0) (counts : List ℕ) (a : ActionId) (is : IsAction p a) (next : IsNextAction p counts a) (old new : Joins) (made : Bool)
-    (none : made ≡ false → AddsNone p a.agent a.number) (passed : made ≡ false → Passed a) (asked : IsWanted places wanted a → made ≡ true) (h : AreJoinsOf p places wanted Passed (IsCounted counts) old) (added : IsAdded p places a made old new) where
+module _ (p : Program) (places : ActionPlaces) (Passed : ActionId → Type 0) (counts : List ℕ) (a : ActionId) (is : IsAction p a) (next : IsNextAction counts a) (old new : Joins) (made : Bool)
+    (none : made ≡ false → AddsNone p a.agent a.number) (passed : made ≡ false → Passed a) (h : AreJoinsOf p places Passed (IsCounted counts) old) (added : IsAdded p places a made old new) where
   back : (x : ActionId) → IsCounted (set counts a.agent a.number) x → IsCounted counts x ⊎ (x ≡ a)
   back = counted_back counts a next.agent next.number
 
@@ -311,34 +310,6 @@ module _ (p : Program) (places : ActionPlaces) (wanted : List Bool) (Passed : Ac
 
   kept : (x : ActionId) (r : ℕ) → IsRow old.joins.items r x → IsRow new.joins.items r x
   kept x r = row_kept a old.joins.items new.joins.items added.grown r x
-
-  module _ (level : ActionId → ℕ) (levels : AreLevels p level) where
-    first_on : (x y : ActionId) → IsAction p x → IsAction p y → IsCounted (set counts a.agent a.number) y → IsSoonerAction level x y → IsCounted (set counts a.agent a.number) x
-    first_on x y k m done sooner = elim (back y done) [
-      | inl before ↦ stays x (h.first level levels x y k m before sooner)
-      | inr e ↦ stays x (next.sooner level levels x k (subst (IsSoonerAction level x) e sooner))
-    ]
-
-    not_sooner : (x : ActionId) → IsSoonerAction level x x → ⊥
-    not_sooner x (inl l) = omega arith
-    not_sooner x (inr (e, l)) = omega arith
-
-    ordered_on : (m n : ℕ) → m < length new.joins.items → n < length new.joins.items → IsSoonerAction level (join_at new.joins.items m).action (join_at new.joins.items n).action → m < n
-    ordered_on m n l k sooner = elim (added.grown.last n k) [
-      | inr (f, also) ↦ elim (added.grown.last m l) [
-        | inl low ↦ omega (arith, low, f)
-        | inr (e, same) ↦ absurd (not_sooner a (subst (λ (x : ActionId). IsSoonerAction level x a) same (subst (IsSoonerAction level (join_at new.joins.items m).action) also sooner)))
-      ]
-      | inl less ↦
-          let y = join_at old.joins.items n in
-          let to : IsSoonerAction level (join_at new.joins.items m).action y.action = subst (λ (j : Join). IsSoonerAction level (join_at new.joins.items m).action j.action) (added.grown.same n less) sooner in
-          elim (added.grown.last m l) [
-            | inl low ↦ h.ordered level levels m n low less (subst (λ (j : Join). IsSoonerAction level j.action y.action) (added.grown.same m low) to)
-            | inr (e, same) ↦
-                let done : IsCounted counts a = h.first level levels a y.action is (h.sound.joins n less).action (h.made n less) (subst (λ (x : ActionId). IsSoonerAction level x y.action) same to) in
-                absurd (counted_apart counts a next.agent next.number a done refl)
-          ]
-    ]
 
   rising_on : (m n : ℕ) → m < n → n < length new.joins.items → (join_at new.joins.items m).action.agent ≡ (join_at new.joins.items n).action.agent → (join_at new.joins.items m).action.number < (join_at new.joins.items n).action.number
   rising_on m n l k agents = elim (added.grown.last n k) [
@@ -362,7 +333,7 @@ module _ (p : Program) (places : ActionPlaces) (wanted : List Bool) (Passed : Ac
     | inr e ↦ subst (λ (y : ActionId). ((r : ℕ) × IsRow new.joins.items r y) ⊎ Else y) (sym e) (by_flag ((r : ℕ) × IsRow new.joins.items r a) (Else a) made added.row or)
   ]
 
-  pub joins_more : AreJoinsOf p places wanted Passed (IsCounted (set counts a.agent a.number)) new
+  pub joins_more : AreJoinsOf p places Passed (IsCounted (set counts a.agent a.number)) new
   joins_more = record {
     sound = added.sound;
     standing = λ x k done. elim (back x done) [
@@ -371,17 +342,11 @@ module _ (p : Program) (places : ActionPlaces) (wanted : List Bool) (Passed : Ac
     ];
     rows = rows_on (λ x. AddsNone p x.agent x.number) none h.rows;
     passed = rows_on Passed passed h.passed;
-    asked = λ x k done set. elim (back x done) [
-      | inl before ↦ (let was = h.asked x k before set in (was.0, kept x was.0 was.1))
-      | inr e ↦ (let row = added.row (asked (subst (IsWanted places wanted) e set)) in (row.0, subst (IsRow new.joins.items row.0) (sym e) row.1))
-    ];
-    ordered = ordered_on;
     rising = rising_on;
     made = λ n l. elim (added.grown.last n l) [
       | inl low ↦ subst (λ (j : Join). IsCounted (set counts a.agent a.number) j.action) (sym (added.grown.same n low)) (stays (join_at old.joins.items n).action (h.made n low))
       | inr e ↦ subst (IsCounted (set counts a.agent a.number)) (sym e.1) here
     ];
-    first = first_on;
   }
 
 -- a row that is taken was made before

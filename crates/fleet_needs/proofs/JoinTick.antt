@@ -1,5 +1,5 @@
 -- Rows that are made in the order in which actions finish.
-use Rattle.std.proofs.Common.{◌≡◌, ℕ, ◌-◌, Bool, List, length, replicate, arith, inr}
+use Rattle.std.proofs.Common.{◌≡◌, ℕ, ◌-◌, List, length, replicate, arith, inr}
 use Rattle.std.proofs.lemmas.Option.{slice_get_within, get_or_from_slice_get}
 use Rattle.fleet_model.specs.declared.program.ActionId.{ActionId}
 use Rattle.fleet_model.specs.Program.{Program, awaits_of, total_moves}
@@ -18,9 +18,9 @@ use Rattle.fleet_needs.proofs.GatheredAll.{own_later}
 use Rattle.fleet_needs.proofs.Joining.{awaited_action, is_before}
 use Rattle.fleet_needs.specs.Rows.{action_before}
 
-pub joins_none : (p : Program) (places : ActionPlaces) (wanted : List Bool) (Passed : ActionId → Type 0) (m : Joins) (n : ℕ) → ArePlacesOf p places → length m.joins.items ≡ 0 → length m.lasts.items ≡ 1 → length m.standing.items ≡ total_moves p
-    → AreJoinsOf p places wanted Passed (IsCounted (replicate n 0)) m
-joins_none p places wanted Passed m n right empty one room = record {
+pub joins_none : (p : Program) (places : ActionPlaces) (Passed : ActionId → Type 0) (m : Joins) (n : ℕ) → ArePlacesOf p places → length m.joins.items ≡ 0 → length m.lasts.items ≡ 1 → length m.standing.items ≡ total_moves p
+    → AreJoinsOf p places Passed (IsCounted (replicate n 0)) m
+joins_none p places Passed m n right empty one room = record {
   sound = record {
     right = right;
     joins = λ k l. absurd (omega (arith, l, empty));
@@ -30,30 +30,28 @@ joins_none p places wanted Passed m n right empty one room = record {
   standing = λ a is done. absurd (none_counted n a is.first done);
   rows = λ a is done. absurd (none_counted n a is.first done);
   passed = λ a is done. absurd (none_counted n a is.first done);
-  asked = λ a is done set. absurd (none_counted n a is.first done);
-  ordered = λ level levels k l low. absurd (omega (arith, low, empty));
   rising = λ k l less low. absurd (omega (arith, low, empty));
   made = λ k l. absurd (omega (arith, l, empty));
-  first = λ level levels x y k is done. absurd (none_counted n y is.first done);
 }
 
-pub joins_end : (p : Program) (o : Finishes) (counts : List ℕ) (places : ActionPlaces) (wanted : List Bool) (Passed : ActionId → Type 0) (m : Joins) → IsWholeOrder p o → AreAllCounted p counts → AreJoinsOf p places wanted Passed (IsCounted counts) m
-    → AreJoinsEnd p places wanted Passed m
-joins_end p o counts places wanted Passed m whole all h = record {
-  joins = h.sound.joins;
-  lasts = h.sound.lasts;
-  rows = λ a is these. h.rows a is (all a is);
+pub joins_end : (p : Program) (o : Finishes) (counts : List ℕ) (places : ActionPlaces) (Passed : ActionId → Type 0) (m : Joins) → IsWholeOrder p o → AreAllCounted p counts → AreJoinsOf p places Passed (IsCounted counts) m
+    → AreJoinsEnd p places Passed m
+joins_end p o counts places Passed m whole all h = record {
+  all = record {
+    joins = h.sound.joins;
+    lasts = h.sound.lasts;
+    rows = λ a is these. h.rows a is (all a is);
+    rising = h.rising;
+    own = λ a c is r. own_later p (length o.ends - 1) a is (all_finished p (length o.ends - 1) whole.finish.holds a is) c r;
+  };
+  standing = record { sound = h.sound; each = λ a is. h.standing a is (all a is) };
   passed = λ a is these. h.passed a is (all a is);
-  asked = λ a is set. h.asked a is (all a is) set;
-  ordered = h.ordered;
-  rising = h.rising;
-  own = λ a c is r. own_later p (length o.ends - 1) a is (all_finished p (length o.ends - 1) whole.finish.holds a is) c r;
 }
 
 -- rows stand for all that the next action directly needs
-pub can_join : (p : Program) (places : ActionPlaces) (wanted : List Bool) (Passed : ActionId → Type 0) (old new : Finishing) (f : Finish) → IsNextFinish p old new f → IsFinishing p old → (m : Joins) → AreJoinsOf p places wanted Passed (IsCounted (come_in old)) m
+pub can_join : (p : Program) (places : ActionPlaces) (Passed : ActionId → Type 0) (old new : Finishing) (f : Finish) → IsNextFinish p old new f → IsFinishing p old → (m : Joins) → AreJoinsOf p places Passed (IsCounted (come_in old)) m
     → CanJoin p places m f.action
-can_join p places wanted Passed old new f next state m h = record {
+can_join p places Passed old new f next state m h = record {
   sound = h.sound;
   action = next.action;
   before = λ some. h.standing (action_before f.action) (is_before p f.action next.action some) (omega (arith, next.next.number));

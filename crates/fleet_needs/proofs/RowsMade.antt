@@ -33,9 +33,9 @@ quiet_to p i j agent ne q n v =
 
 -- ---- what row r stands for
 
-module _ (p : Program) (m : SlotRows) (n : ℕ) (rows : AreRowsTo p m n) (r i b : ℕ) (s : StandsThere p m.schedule.now r i b) where
+module _ (p : Program) (schedule : Schedule) (columns : Columns) (r i b : ℕ) (s : StandsThere p schedule r i b) where
   -- zeros, if there is no row
-  pub counts_none : r ≡ 0 → (count : ℕ → ℕ) → ((k : ℕ) → count k ≡ 0) → AreCounts p m.columns i b count
+  pub counts_none : r ≡ 0 → (count : ℕ → ℕ) → ((k : ℕ) → count k ≡ 0) → AreCounts p columns i b count
   counts_none none count zeros j k has = (
     (λ ne. subst (λ (v : ℕ). IsColumn p (record { agent = i; number = b }) j v) (sym (zeros k)) (quiet_to p i j s.agent ne s.stands.number b 0 s.stands.upto s.last s.stands.quiet (first j))),
     (λ e. zeros k),
@@ -47,18 +47,20 @@ module _ (p : Program) (m : SlotRows) (n : ℕ) (rows : AreRowsTo p m n) (r i b 
         | inr k ↦ absurd (omega (arith, k.some, none))
       ]
 
-  -- else those in its slot, if it is still there
-  pub counts_some : 1 ≤ r → IsThere m.schedule.now n r → AreCounts p m.columns i b (count_in_slot m r)
-  counts_some some there j k has = elim s.stands.row [
+  -- else those of the row
+  pub counts_row : 1 ≤ r → (count : ℕ → ℕ) → AreCounts p columns (next_action schedule (r - 1)).agent (next_action schedule (r - 1)).number count → AreCounts p columns i b count
+  counts_row some count of j k has = elim s.stands.row [
     | inl e ↦ absurd (let z : r ≡ 0 = e.0 in omega arith)
     | inr is ↦
-        let right : AreCounts p m.columns i s.stands.number (count_in_slot m r) =
-        subst (λ (a : ActionId). AreCounts p m.columns a.agent a.number (count_in_slot m r)) is.of (rows.right r some there.made is.upto (there.still some)) in
-        let here = right j k has in (
-          (λ ne. quiet_to p i j s.agent ne s.stands.number b (count_in_slot m r k) s.stands.upto s.last s.stands.quiet (here.0 ne)),
+        let here = subst (λ (a : ActionId). AreCounts p columns a.agent a.number count) is.of of j k has in (
+          (λ ne. quiet_to p i j s.agent ne s.stands.number b (count k) s.stands.upto s.last s.stands.quiet (here.0 ne)),
           here.1,
         )
   ]
+
+-- they are in its slot, if the row is still there
+pub counts_some : (p : Program) (m : SlotRows) (n : ℕ) → AreRowsTo p m n → (r i b : ℕ) → StandsThere p m.schedule.now r i b → 1 ≤ r → IsThere m.schedule.now n r → AreCounts p m.columns i b (count_in_slot m r)
+counts_some p m n rows r i b s some there = counts_row p m.schedule.now m.columns r i b s some (count_in_slot m r) (rows.right r some there.made (omega (arith, there.made, there.within)) (there.still some))
 
 -- where they stand there is room for a whole row
 pub slot_room : (p : Program) (m : SlotRows) (n : ℕ) → AreRowsTo p m n → (r : ℕ) → 1 ≤ r → IsThere m.schedule.now n r → slice_index m.schedule.now.outs.items (r - 1) * m.columns.width + m.columns.width ≤ length (counts_of m.counts)

@@ -43,7 +43,7 @@ module _ (p : Program) (places : ActionPlaces) (right : ArePlacesOf p places) (I
 pub ticks_none : (p : Program) (places : ActionPlaces) (n : ℕ) (entries : List ℕ) → AreFinishTicks p places (IsCounted (replicate n 0)) entries
 ticks_none p places n entries a is done = absurd (none_counted n a is.first done)
 
-pub ticks_more : (p : Program) (places : ActionPlaces) → ArePlacesOf p places → (counts : List ℕ) (here : ActionId) → IsAction p here → IsNextAction p counts here → (t : ℕ) → IsFinishTick p here t → (old : List ℕ) → length old ≡ total_moves p
+pub ticks_more : (p : Program) (places : ActionPlaces) → ArePlacesOf p places → (counts : List ℕ) (here : ActionId) → IsAction p here → IsNextAction counts here → (t : ℕ) → IsFinishTick p here t → (old : List ℕ) → length old ≡ total_moves p
     → AreFinishTicks p places (IsCounted counts) old → (x : ℕ) → x ≡ place_of_action places here → AreFinishTicks p places (IsCounted (set counts here.agent here.number)) (set old x t)
 ticks_more p places right counts here is next t finished old all before x place =
     noted_more p places right (IsFinishTick p) (IsCounted counts) (IsCounted (set counts here.agent here.number)) here is (λ a k done. counted_back counts here next.agent next.number a done)

@@ -1,66 +1,66 @@
 -- Answers of questions by the rows of a block: the questions that are answered so far.
-use Rattle.std.specs.Prelude.{◌≡◌, ◌≢◌, ℕ, ◌+◌, ◌<◌, ◌⊎◌, Bool, false, List, length, get_or, slice_get, Some, None}
-use Rattle.std.proofs.Common.{refl, sym, subst, ◌∙◌}
-use Rattle.fleet_model.specs.declared.program.ActionId.{ActionId}
+use Rattle.std.specs.Prelude.{◌≡◌, ◌≢◌, ℕ, ◌+◌, ◌-◌, ◌<◌, ◌≤◌, false, All, List, length, get_or, slice_get, slice_index, Some, None}
+use Rattle.std.proofs.Common.{refl, ◌∙◌, ap}
 use Rattle.fleet_model.specs.Program.{Program}
-use Rattle.fleet_needs.specs.Asked.{AreQuestions}
+use Rattle.fleet_needs.specs.Asked.{IsQuestion}
 use Rattle.fleet_needs.specs.Block.{HasColumn, IsAnswer}
 use Rattle.fleet_needs.specs.Columns.{column_of}
-use Rattle.fleet_needs.specs.JoinPass.{IsMade}
-use Rattle.fleet_needs.specs.Schedule.{HasRows}
-use Rattle.fleet_needs.specs.declared.schedule.Columns.{Columns}
+use Rattle.fleet_needs.specs.Joins.{StandsFor}
+use Rattle.fleet_needs.specs.declared.joins.Join.{Join}
+use Rattle.fleet_needs.specs.declared.questions.Answering.{Answering}
+use Rattle.fleet_needs.specs.declared.questions.ListedQuestions.{ListedQuestions}
 use Rattle.fleet_needs.specs.declared.questions.Question.{Question}
+use Rattle.fleet_needs.specs.declared.schedule.Columns.{Columns}
 use Rattle.fleet_needs.specs.declared.schedule.Schedule.{Schedule}
 
--- the questions, a flag for each, and the place of the next one
-pub record AnswersSoFar : Type 0 where
-  pub questions : List Question
-  pub flags : List Bool
-  pub next : ℕ
+-- x is the last of the first n questions that has row r, counted from 1, or 0 if none has
+pub record IsLastOf (row : ℕ → ℕ) (r n x : ℕ) : Type 0 where
+  pub upto : x ≤ n
+  pub here : 1 ≤ x → row (x - 1) ≡ r
+  pub none : (k : ℕ) → x ≤ k → k < n → row k ≢ r
 
--- the questions before the next one are those for chains that end with finished actions, and are answered if their
--- agents have a column
-pub record AreAnsweredTo (p : Program) (columns : Columns) (questions : List Question) (Done : ActionId → Type 0) (flags : List Bool) (next : ℕ) : Type 0 where
-  pub before : (k : ℕ) (q : Question) → slice_get questions k ≡ Some q → Done q.last → k < next
-  pub done : (k : ℕ) (q : Question) → slice_get questions k ≡ Some q → k < next → Done q.last
-  pub answered : (k c : ℕ) (q : Question) → slice_get questions k ≡ Some q → k < next → HasColumn columns q.first.agent c → IsAnswer p q (get_or flags k false)
+-- the questions are listed by these rows, which stand for their last actions
+pub record AreLinked (p : Program) (joins : List Join) (row : ℕ → ℕ) (l : ListedQuestions) : Type 0 where
+  pub within : (k : ℕ) → k < length l.questions.now → row k ≤ length joins
+  pub stands : (k : ℕ) (q : Question) → slice_get l.questions.now k ≡ Some q → StandsFor p joins (row k) q.last.agent q.last.number
+  pub rows : length l.lasts.items ≡ length joins + 1
+  pub all : length l.befores.items ≡ length l.questions.now
+  pub last : (r : ℕ) → r ≤ length joins → IsLastOf row r (length l.questions.now) (slice_index l.lasts.items r)
+  pub before : (k : ℕ) → k < length l.questions.now → IsLastOf row (row k) k (slice_index l.befores.items k)
 
--- the state of the answers once so many rows of the schedule were used
-pub record IsAnswering (p : Program) (s : Schedule) (columns : Columns) (n : ℕ) (m : AnswersSoFar) : Type 0 where
-  pub questions : AreQuestions p m.questions
-  pub rows : HasRows s m.questions
-  pub flags : length m.flags ≡ length m.questions
-  pub answers : AreAnsweredTo p columns m.questions (IsMade s n) m.flags m.next
+-- they are listed by some rows that do so
+abbrev pub AreListed : Program → List Join → ListedQuestions → Type 0
+AreListed p joins l = (row : ℕ → ℕ) × AreLinked p joins row l
+
+-- the questions of the first n rows, from row 0 on, are answered if their agents have a column
+pub record IsAnswering (p : Program) (s : Schedule) (columns : Columns) (n : ℕ) (m : Answering) : Type 0 where
+  pub row : ℕ → ℕ
+  pub linked : AreLinked p s.joins.items row m.listed.now
+  pub questions : All (IsQuestion p) m.listed.now.questions.now
+  pub flags : length m.flags.items ≡ length m.listed.now.questions.now
+  pub answered : (k c : ℕ) (q : Question) → slice_get m.listed.now.questions.now k ≡ Some q → row k < n → HasColumn columns q.first.agent c → IsAnswer p q (get_or m.flags.items k false)
+
+-- .. and so are those of row r from the question after `left` on, which is of row r too, or 0
+pub record IsAnsweringRow (p : Program) (s : Schedule) (columns : Columns) (r left : ℕ) (m : Answering) : Type 0 where
+  pub answers : IsAnswering p s columns r m
+  pub upto : left ≤ length m.listed.now.questions.now
+  pub here : 1 ≤ left → answers.row (left - 1) ≡ r
+  pub after : (k c : ℕ) (q : Question) → slice_get m.listed.now.questions.now k ≡ Some q → answers.row k ≡ r → left ≤ k → HasColumn columns q.first.agent c
+      → IsAnswer p q (get_or m.flags.items k false)
 
 -- the questions are the same, and the flags of those whose agents have no column are as before
-pub record AreOthersLeft (p : Program) (columns : Columns) (old new : AnswersSoFar) : Type 0 where
-  pub questions : new.questions ≡ old.questions
-  pub flags : (k : ℕ) (q : Question) → slice_get old.questions k ≡ Some q → column_of columns q.first.agent ≡ None
-      → get_or new.flags k false ≡ get_or old.flags k false
+pub record AreOthersLeft (p : Program) (columns : Columns) (old new : Answering) : Type 0 where
+  pub listed : new.listed ≡ old.listed
+  pub flags : (k : ℕ) (q : Question) → slice_get old.listed.now.questions.now k ≡ Some q → column_of columns q.first.agent ≡ None
+      → get_or new.flags.items k false ≡ get_or old.flags.items k false
 
 -- the others are left as they were if nothing was answered
-pub others_same : (p : Program) (c : Columns) (s : AnswersSoFar) → AreOthersLeft p c s s
-others_same p c s = record { questions = refl; flags = λ k q at none. refl }
+pub others_same : (p : Program) (c : Columns) (s : Answering) → AreOthersLeft p c s s
+others_same p c s = record { listed = refl; flags = λ k q at none. refl }
 
 -- the others are left as they were if answers follow on others that leave them so
-pub others_joined : (p : Program) (c : Columns) (s t u : AnswersSoFar) → AreOthersLeft p c s t → AreOthersLeft p c t u → AreOthersLeft p c s u
+pub others_joined : (p : Program) (c : Columns) (s t u : Answering) → AreOthersLeft p c s t → AreOthersLeft p c t u → AreOthersLeft p c s u
 others_joined p c s t u h k = record {
-  questions = k.questions ∙ h.questions;
-  flags = λ n q at none. k.flags n q (subst (λ (x : List Question). slice_get x n ≡ Some q) (sym h.questions) at) none ∙ h.flags n q at none;
+  listed = k.listed ∙ h.listed;
+  flags = λ n q at none. k.flags n q (ap (λ l. slice_get l.now.questions.now n) h.listed ∙ at) none ∙ h.flags n q at none;
 }
-
--- ---- one action
-
--- the next question ends with the action, and is answered if its agent has a column
-pub record IsNextAnswered (p : Program) (columns : Columns) (questions : List Question) (a : ActionId) (n : ℕ) (old new : List Bool) : Type 0 where
-  pub question : Question
-  pub at : slice_get questions n ≡ Some question
-  pub last : question.last ≡ a
-  pub answer : (c : ℕ) → HasColumn columns question.first.agent c → IsAnswer p question (get_or new n false)
-  pub none : column_of columns question.first.agent ≡ None → get_or new n false ≡ get_or old n false
-
--- the next question is answered so, and passed, or it does not end with the action; all other flags stay
-pub record IsAsked (p : Program) (columns : Columns) (questions : List Question) (a : ActionId) (n : ℕ) (old new : List Bool) (m : ℕ) : Type 0 where
-  pub others : (k : ℕ) → k ≢ n → get_or new k false ≡ get_or old k false
-  pub step : ((m ≡ n + 1) × IsNextAnswered p columns questions a n old new)
-      ⊎ ((m ≡ n) × (get_or new n false ≡ get_or old n false) × ((q : Question) → slice_get questions n ≡ Some q → q.last ≢ a))

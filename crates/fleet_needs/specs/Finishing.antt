@@ -43,7 +43,7 @@ pub record HasSameCome (old new : Finishing) : Type 0 where
 -- the next one has come, which all that have come are sooner than
 pub record IsNextFinish (p : Program) (old new : Finishing) (f : Finish) : Type 0 where
   pub action : IsAction p f.action
-  pub next : IsNextAction p (come_in old) f.action
+  pub next : IsNextAction (come_in old) f.action
   pub needs : (b : ActionId) → IsAction p b → DirectlyNeeds p f.action b → IsCounted (come_in old) b
   pub tick : IsFinishTick p f.action f.tick
   pub come : come_in new ≡ set (come_in old) f.action.agent f.action.number

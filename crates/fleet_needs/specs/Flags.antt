@@ -9,13 +9,12 @@ use Rattle.fleet_model.specs.Chain.{IsAction}
 use Rattle.fleet_needs.specs.Block.{HasColumn}
 use Rattle.fleet_needs.specs.Columns.{column_of}
 use Rattle.fleet_needs.specs.JoinPass.{IsMade}
-use Rattle.fleet_needs.specs.Joins.{HasRowOr, IsWanted}
+use Rattle.fleet_needs.specs.Joins.{HasRowOr}
 use Rattle.fleet_needs.specs.declared.schedule.Schedule.{Schedule}
 use Rattle.fleet_needs.specs.declared.schedule.Columns.{Columns}
 use Rattle.fleet_needs.specs.Implied.{AreAwaitPlaces, IsImplied, IsImpliedFlag, first_await}
 use Rattle.fleet_needs.specs.Settled.{AreSettled}
 use Rattle.fleet_needs.specs.declared.implied.ImpliedAwaits.{ImpliedAwaits}
-use Rattle.fleet_needs.specs.declared.joins.Course.{Course}
 
 -- the flags of all awaits, by their places
 abbrev pub flags_of : ImpliedAwaits → List Bool
@@ -94,11 +93,9 @@ pub record IsFirstSet (p : Program) (implied : Option (Bor ImpliedAwaits)) (a : 
 abbrev pub IsPassed : Program → Option (Bor ImpliedAwaits) → ActionId → Type 0
 IsPassed p implied a = IfSome implied (λ m. AreSet p (flags_of m.now) a)
 
--- the action is to have a row: it is wanted to have one, or awaits something, but not one await alone whose flag is set
-abbrev pub NeedsRow : Program → Course → ActionId → Type 0
-NeedsRow p course a =
-    IsWanted course.places.now course.wanted.now a
-    ⊎ ((1 ≤ length (awaits_of p a.agent a.number)) × (length (awaits_of p a.agent a.number) ≡ 1 → IsFirstSet p course.implied a → ⊥))
+-- the action is to have a row: it awaits something, but not one await alone whose flag is set
+abbrev pub NeedsRow : Program → Option (Bor ImpliedAwaits) → ActionId → Type 0
+NeedsRow p implied a = (1 ≤ length (awaits_of p a.agent a.number)) × (length (awaits_of p a.agent a.number) ≡ 1 → IsFirstSet p implied a → ⊥)
 
 -- the flags of all awaits of the program say whether they are implied
 abbrev pub AreAllFlagged : Program → List Bool → Type 0

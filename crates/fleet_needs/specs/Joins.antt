@@ -1,10 +1,9 @@
 -- Rows that are made, and the rows that they are joined of.
-use Rattle.std.specs.Prelude.{◌≡◌, ◌≢◌, ℕ, ◌+◌, ◌-◌, ◌<◌, ◌≤◌, ◌⊎◌, Bool, true, false, List, length, get_or, slice_index, slice_get, Some}
+use Rattle.std.specs.Prelude.{◌≡◌, ◌≢◌, ℕ, ◌+◌, ◌-◌, ◌<◌, ◌≤◌, ◌⊎◌, Bool, true, List, length, get_or, slice_index, slice_get, Some}
 use Rattle.fleet_model.specs.declared.program.Await.{Await}
 use Rattle.fleet_model.specs.declared.program.ActionId.{ActionId}
 use Rattle.fleet_model.specs.Program.{Program, awaits_of, total_moves}
 use Rattle.fleet_model.specs.Chain.{IsAction, Reaches, awaited}
-use Rattle.fleet_needs.specs.Asked.{AreLevels, IsSoonerAction}
 use Rattle.fleet_needs.specs.Places.{ArePlacesOf, place_of_action}
 use Rattle.fleet_needs.specs.Rows.{action_before}
 use Rattle.fleet_needs.specs.declared.await_places.ActionPlaces.{ActionPlaces}
@@ -90,21 +89,16 @@ HasAllRows p joins These = HasRowOr (λ a. AddsNone p a.agent a.number) p joins 
 abbrev pub AreOwn : Program → Type 0
 AreOwn p = (a : ActionId) (c : ℕ) → IsAction p a → Reaches p (record { agent = a.agent; number = c }) a → c ≤ a.number
 
--- the rows stand in the order of a run without holds: by level, then by agent
-abbrev pub AreOrdered : Program → List Join → Type 0
-AreOrdered p joins =
-    (level : ActionId → ℕ) → AreLevels p level → (m n : ℕ) → m < length joins → n < length joins → IsSoonerAction level (join_at joins m).action (join_at joins n).action → m < n
-
 -- the rows of an agent rise with its actions
 abbrev pub AreRising : List Join → Type 0
 AreRising joins =
     (m n : ℕ) → m < n → n < length joins → (join_at joins m).action.agent ≡ (join_at joins n).action.agent → (join_at joins m).action.number < (join_at joins n).action.number
 
--- the action is to have a row though it may await nothing
-abbrev pub IsWanted : ActionPlaces → List Bool → ActionId → Type 0
-IsWanted places wanted a = get_or wanted (place_of_action places a) false ≡ true
-
 -- ---- while they are made
+
+-- the joins so far
+abbrev pub joins_made : Joins → List Join
+joins_made m = m.joins.items
 
 -- how many rows there are so far
 abbrev pub rows_made : Joins → ℕ
@@ -159,16 +153,13 @@ pub record AreSound (p : Program) (places : ActionPlaces) (m : Joins) : Type 0 w
   pub room : length m.standing.items ≡ total_moves p
 
 -- the joins of these actions, which are the first ones of a run without holds
-pub record AreJoinsOf (p : Program) (places : ActionPlaces) (wanted : List Bool) (Passed These : ActionId → Type 0) (m : Joins) : Type 0 where
+pub record AreJoinsOf (p : Program) (places : ActionPlaces) (Passed These : ActionId → Type 0) (m : Joins) : Type 0 where
   pub sound : AreSound p places m
   pub standing : (a : ActionId) → IsAction p a → These a → IsStanding p places m a
   pub rows : HasAllRows p m.joins.items These
   pub passed : HasRowOr Passed p m.joins.items These
-  pub asked : (a : ActionId) → IsAction p a → These a → IsWanted places wanted a → (r : ℕ) × IsRow m.joins.items r a
-  pub ordered : AreOrdered p m.joins.items
   pub rising : AreRising m.joins.items
   pub made : (n : ℕ) → n < length m.joins.items → These (join_at m.joins.items n).action
-  pub first : (level : ActionId → ℕ) → AreLevels p level → (x y : ActionId) → IsAction p x → IsAction p y → These y → IsSoonerAction level x y → These x
 
 -- the action is the next to have a row: rows stand for all that it directly needs
 pub record CanJoin (p : Program) (places : ActionPlaces) (m : Joins) (a : ActionId) : Type 0 where
@@ -213,12 +204,20 @@ pub record IsAdded (p : Program) (places : ActionPlaces) (a : ActionId) (made : 
   pub row : made ≡ true → (r : ℕ) × IsRow new.joins.items r a
 
 -- the joins of all actions of the program, in which no action needs a later one of its agent
-pub record AreJoinsEnd (p : Program) (places : ActionPlaces) (wanted : List Bool) (Passed : ActionId → Type 0) (m : Joins) : Type 0 where
+pub record AreAllJoins (p : Program) (m : Joins) : Type 0 where
   pub joins : AreJoins p m.joins.items m.needs.items
   pub lasts : AreLasts p m.joins.items m.needs.items m.lasts.items
   pub rows : HasAllRows p m.joins.items (IsAction p)
-  pub passed : HasRowOr Passed p m.joins.items (IsAction p)
-  pub asked : (a : ActionId) → IsAction p a → IsWanted places wanted a → (r : ℕ) × IsRow m.joins.items r a
-  pub ordered : AreOrdered p m.joins.items
   pub rising : AreRising m.joins.items
   pub own : AreOwn p
+
+-- of each action of the program it is noted which row stands for it
+pub record AreStanding (p : Program) (places : ActionPlaces) (m : Joins) : Type 0 where
+  pub sound : AreSound p places m
+  pub each : (a : ActionId) → IsAction p a → IsStanding p places m a
+
+-- .. and an action without a row is passed
+pub record AreJoinsEnd (p : Program) (places : ActionPlaces) (Passed : ActionId → Type 0) (m : Joins) : Type 0 where
+  pub all : AreAllJoins p m
+  pub standing : AreStanding p places m
+  pub passed : HasRowOr Passed p m.joins.items (IsAction p)

@@ -6,14 +6,13 @@ use Rattle.fleet_model.specs.Chain.{IsAction, awaited}
 use Rattle.fleet_needs.specs.Block.{HasColumn}
 use Rattle.fleet_needs.specs.Columns.{agents_in}
 use Rattle.fleet_needs.specs.Counts.{counts_of, are_narrow}
-use Rattle.fleet_needs.specs.Joins.{AreJoins, join_at, IsRow, Takes, StandsFor, HasAllRows, AreOrdered, AreRising, AreOwn}
+use Rattle.fleet_needs.specs.Joins.{AreJoins, join_at, Takes, StandsFor, HasAllRows, AreRising, AreOwn}
 use Rattle.fleet_needs.specs.Rows.{IsColumn}
 use Rattle.fleet_needs.specs.Slots.{IsStill}
 use Rattle.fleet_needs.specs.declared.counts.Counts.{Counts}
 use Rattle.fleet_needs.specs.declared.schedule.Columns.{Columns}
 use Rattle.fleet_needs.specs.declared.joins.Join.{Join}
 use Rattle.fleet_needs.specs.declared.joins.Need.{Need}
-use Rattle.fleet_needs.specs.declared.questions.Question.{Question}
 use Rattle.fleet_needs.specs.declared.schedule.Schedule.{Schedule}
 use Rattle.fleet_needs.specs.declared.join_pass.SlotRows.{SlotRows}
 
@@ -24,7 +23,6 @@ pub record IsSchedule (p : Program) (s : Schedule) : Type 0 where
   pub all : length s.outs.items ≡ length s.joins.items
   pub within : (n : ℕ) → n < length s.outs.items → slice_index s.outs.items n < s.slots
   pub still : (n r : ℕ) → n < length s.joins.items → Takes p s.needs.items (join_at s.joins.items n) r → 1 ≤ r → IsStill s.outs.items r n
-  pub ordered : AreOrdered p s.joins.items
   pub rising : AreRising s.joins.items
   pub own : AreOwn p
   pub narrow : s.is_narrow ≡ true → (i : ℕ) → i < length p → moves p i ≤ 65535
@@ -52,10 +50,6 @@ HasSlot s r = r ≤ length s.outs.items
 -- .. which is this one
 abbrev pub slot_of : Schedule → ℕ → ℕ
 slot_of s r = slice_index s.outs.items (r - 1)
-
--- the last actions of the questions have rows
-abbrev pub HasRows : Schedule → List Question → Type 0
-HasRows s questions = (k : ℕ) (q : Question) → slice_get questions k ≡ Some q → (r : ℕ) × IsRow s.joins.items r q.last
 
 -- the columns are of agents of the program, no two in one
 pub record AreColumnsOf (p : Program) (columns : Columns) : Type 0 where
@@ -97,6 +91,10 @@ pub record StandsThere (p : Program) (s : Schedule) (r i n : ℕ) : Type 0 where
   pub agent : i < length p
   pub last : n ≤ moves p i
   pub stands : StandsFor p s.joins.items r i n
+
+-- the counts, by column, are those of what row r stands for
+abbrev pub AreRowCounts : Program → Schedule → Columns → ℕ → (ℕ → ℕ) → Type 0
+AreRowCounts p s columns r count = (i n : ℕ) → StandsThere p s r i n → AreCounts p columns i n count
 
 -- the join after n others, which is made for action a: how many awaits that has, and what the join's base stands for
 pub record IsNextJoin (p : Program) (s : Schedule) (n : ℕ) (a : ActionId) (j : Join) : Type 0 where

@@ -21,6 +21,7 @@ impl Counts {
     pub(crate) fn zeros(alloc: Global, len: usize, is_narrow: bool) -> Result<Counts, OutOfMemory>
         ensures all { IfOk result (λ m. length (counts_of m) ≡ len) }
         ensures narrow { IfOk result (λ m. are_narrow m ≡ is_narrow) }
+        ensures zeros { IfOk result (λ m. (k : ℕ) → slice_index (counts_of m) k ≡ 0) }
     {
         if is_narrow {
             return Ok(Counts::Narrow(vec![in alloc; 0; len]?));

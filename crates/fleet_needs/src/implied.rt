@@ -91,7 +91,7 @@ fn flag_implied<P: ProgramView>(
     if !is_any(&asked) {
         return Ok(());
     }
-    let schedule = Schedule::of(alloc, program, &order, &[], Some(implied))?;
+    let schedule = Schedule::of(alloc, program, &order, Some(implied))?;
     // The rows need its room.
     drop(order);
     flag_all(alloc, program, &schedule, &asked, implied)

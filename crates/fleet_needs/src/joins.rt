@@ -46,65 +46,34 @@ pub(crate) struct Joins {
     standing: Vec<u32>,
 }
 
-/// What rows are made by: the places of the actions, the order in which they finish, for each action, by its place,
-/// whether it is to have a row though it may await nothing, and some awaits that others imply.
-#[derive(Clone, Copy)]
-pub(crate) struct Course<'a> {
-    pub(crate) places: &'a ActionPlaces,
-    pub(crate) order: &'a FinishOrder,
-    pub(crate) wanted: &'a [bool],
-    pub(crate) implied: Option<&'a ImpliedAwaits>,
-}
-
-/// The joins of a program.
+/// The joins of a program, by the order in which its actions finish, and some awaits that others imply.
 pub(crate) fn joins_of<P: ProgramView>(
     alloc: Global,
     program: &P,
-    course: &Course<'_>,
+    places: &ActionPlaces,
+    order: &FinishOrder,
+    implied: Option<&ImpliedAwaits>,
 ) -> Result<Joins, OutOfMemory>
     requires range { AreInRange (P.program program.now) }
-    requires places { ArePlacesOf (P.program program.now) course.now.places.now }
-    requires order { IsWholeOrder (P.program program.now) course.now.order.now }
-    requires sure { AreSureIf (P.program program.now) course.now.implied }
-    ensures { IfOk result (AreJoinsEnd (P.program program.now) course.now.places.now
-        course.now.wanted.now (IsPassed (P.program program.now) course.now.implied)) }
+    requires places { ArePlacesOf (P.program program.now) places.now }
+    requires order { IsWholeOrder (P.program program.now) order.now }
+    requires sure { AreSureIf (P.program program.now) implied }
+    ensures { IfOk result (AreJoinsEnd (P.program program.now) places.now
+        (IsPassed (P.program program.now) implied.entry)) }
 {
-    let rows = most_rows(program, course.wanted);
+    let rows = total_awaits(program).min(total_moves(program));
     let mut joins = Joins::new(
         alloc,
         total_moves(program) as usize,
         rows,
         total_awaits(program),
     )?;
-    let mut finishing = Finishing::of(alloc, program, course.order)?;
+    let mut finishing = Finishing::of(alloc, program, order)?;
     while let Some(finish) = finishing.next(program) {
-        let is_made = needs_row(program, course, finish.action);
-        joins.add_action(program, course.places, finish.action, is_made)?;
+        let is_made = needs_row(program, implied, finish.action);
+        joins.add_action(program, places, finish.action, is_made)?;
     }
     Ok(joins)
-}
-
-/// How many rows are made at most: one for each await, and one for each action that is wanted to have one.
-fn most_rows<P: ProgramView>(program: &P, wanted: &[bool]) -> u32 {
-    let mut rows = total_awaits(program);
-    for &is_wanted in wanted {
-        rows = rows.saturating_add(u32::from(is_wanted));
-    }
-    rows.min(total_moves(program))
-}
-
-/// Whether the action is to have a row though it may await nothing.
-fn is_wanted(course: &Course<'_>, action: ActionId) -> bool
-    requires agent { action.agent < length course.now.places.now }
-    requires number { 1 ≤ action.number }
-    ensures { result ≡ get_or course.now.wanted.now
-        (place_of_action course.now.places.now action) false }
-{
-    if course.wanted.is_empty() {
-        return false;
-    }
-    let place = course.places.place(action.agent, action.number);
-    place < course.wanted.len() && course.wanted[place]
 }
 
 impl Joins {
@@ -212,7 +181,12 @@ impl Joins {
     }
 
     /// The row that is noted for an action.
-    fn row_of<P: ProgramView>(&self, program: &P, places: &ActionPlaces, action: ActionId) -> u32
+    pub(crate) fn row_of<P: ProgramView>(
+        &self,
+        program: &P,
+        places: &ActionPlaces,
+        action: ActionId,
+    ) -> u32
         requires room { room_for self.now ≡ total_moves (P.program program.now) }
         requires places { ArePlacesOf (P.program program.now) places.now }
         requires action { IsAction (P.program program.now) action }
@@ -317,24 +291,19 @@ impl Joins {
     }
 }
 
-/// Whether the action is to have a row: it awaits something, or is wanted to have one. An action of one await that
-/// others imply needs no more than the agent's action before does.
-fn needs_row<P: ProgramView>(program: &P, course: &Course<'_>, action: ActionId) -> bool
+/// Whether the action is to have a row: it awaits something. An action of one await that others imply needs no more than
+/// the agent's action before does.
+fn needs_row<P: ProgramView>(program: &P, implied: Option<&ImpliedAwaits>, action: ActionId) -> bool
     requires range { AreInRange (P.program program.now) }
-    requires places { ArePlacesOf (P.program program.now) course.now.places.now }
-    requires sure { AreSureIf (P.program program.now) course.now.implied }
+    requires sure { AreSureIf (P.program program.now) implied }
     requires action { IsAction (P.program program.now) action }
     ensures none { result ≡ false → AddsNone (P.program program.now) action.agent action.number }
-    ensures passed { result ≡ false
-        → IsPassed (P.program program.now) course.now.implied action }
-    ensures needed { (result ≡ true) ↔ NeedsRow (P.program program.now) course.now action }
+    ensures passed { result ≡ false → IsPassed (P.program program.now) implied.entry action }
+    ensures needed { (result ≡ true) ↔ NeedsRow (P.program program.now) implied.entry action }
 {
-    if is_wanted(course, action) {
-        return true;
-    }
     match program.await_count(action.agent, action.number) {
         0 => false,
-        1 => !is_first_implied(program, course.implied, action),
+        1 => !is_first_implied(program, implied, action),
         _ => true,
     }
 }

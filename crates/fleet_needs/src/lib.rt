@@ -12,11 +12,11 @@
 //!
 //! A `schedule` says which rows are made, in which order, of which rows each is joined, and in which slot it is kept.
 //! It is made once, and serves all blocks of columns: each agent that is asked for has a column in one block. `joins`
-//! goes through the order in which actions finish: an action that awaits something, or that a question ends with, has a
-//! row of its own, and the row of any other is that of its agent's action before. So is that of an action with one
-//! await, if that is known to be implied: it adds no chain. What is noted is the row that stands for the action before,
-//! those that the awaits take, and for each row the last one that is joined of it. Each row gets a slot, and none is
-//! used again before its row was taken for the last time.
+//! goes through the order in which actions finish: an action that awaits something has a row of its own, and the row of
+//! any other is that of its agent's action before. So is that of an action with one await, if that is known to be
+//! implied: it adds no chain. What is noted is the row that stands for the action before, those that the awaits take,
+//! and for each row the last one that is joined of it. Each row gets a slot, and none is used again before its row was
+//! taken for the last time.
 //!
 //! `join_pass` makes the rows in that order, in the columns of one block, and keeps their counts slot by slot. A row is
 //! made in two steps: first of the rows of all that its action needs, and then, for each await, with the awaited
@@ -25,7 +25,8 @@
 //! row after either step; there are three, in `questions`, `gather` and `implied`.
 //!
 //! `questions` answers questions for chains: it looks a few steps back from the end of a chain first, and asks what
-//! this leaves open agent by agent, in blocks of columns.
+//! this leaves open agent by agent, in blocks of columns. Each question is listed by the row that stands for its last
+//! action, and answered when that row is made.
 //!
 //! `gather` gathers the counts of all rows: by each row it goes on with the last *piece* of the two agents, or begins a
 //! new one, block by block of columns. It sorts the pieces (`Pieces`) and looks counts up in them.

@@ -1,24 +1,26 @@
 //! Questions for chains: those that a look a few steps back answers, and the others, agent by agent, by the rows of a
 //! block.
 
-ghost use Rattle.std.specs.Prelude.{◌≡◌, ◌⊎◌, ◌↔◌, ℕ, true, false, length, get_or, slice_get, Some, All, IfOk, ◌<◌, ◌≤◌, IsTrue, ◌≢◌, slice_index, None};
+ghost use Rattle.std.specs.Prelude.{◌≡◌, ◌⊎◌, ◌↔◌, ◌+◌, ℕ, true, false, length, get_or, slice_get, Some, All, IfOk, ◌<◌, ◌≤◌, IsTrue, ◌≢◌, slice_index, None};
 ghost use Rattle.fleet_model.specs.Program.{AreInRange};
-ghost use Rattle.fleet_needs.specs.Asked.{AreQuestions, AreAnswers, IsQuestion};
+ghost use Rattle.fleet_needs.specs.Asked.{AreAnswers, IsQuestion};
 ghost use Rattle.fleet_needs.specs.Block.{IsAnswer, HasColumn, AreAnswered, AreKnown};
-ghost use Rattle.fleet_needs.specs.Schedule.{HasRows, IsSchedule, AreColumnsOf, AreCounts};
+ghost use Rattle.fleet_needs.specs.Schedule.{IsSchedule, AreColumnsOf, AreCounts, AreRowCounts, joins_of, joins_in};
 ghost use Rattle.fleet_model.specs.Chain.{IsAction, Reaches};
 ghost use Rattle.fleet_needs.specs.Columns.{column_of};
-ghost use Rattle.fleet_needs.specs.Answering.{IsAsked};
+ghost use Rattle.fleet_needs.specs.Answering.{AreListed, IsAnswering, AreOthersLeft};
 ghost use Rattle.fleet_needs.specs.Counts.{counts_of};
-ghost use Rattle.fleet_needs.specs.Joins.{AreOwn};
+ghost use Rattle.fleet_needs.specs.Joins.{AreOwn, AreStanding, joins_made};
+ghost use Rattle.fleet_needs.specs.Places.{ArePlacesOf};
 
+use crate::await_places::ActionPlaces;
 use crate::counts::Counts;
 use crate::finish_order::OrderSource;
 use crate::join_pass::{JoinRow, JoinUse, use_joins};
+use crate::joins::Joins;
 use crate::schedule::{Blocks, Columns, Schedule};
 use fleet_model::{ActionId, OutOfMemory, ProgramView};
 use std::alloc::Global;
-use std::marker::Model;
 
 /// The question whether a chain of needs begins with the first action and ends with the last.
 #[derive(Clone, Copy)]
@@ -38,7 +40,7 @@ pub fn answer_questions<P: ProgramView, S: OrderSource + Drop>(
 ) -> Result<Vec<bool>, OutOfMemory>
     requires range { AreInRange (P.program program.now) }
     requires source { S.gives (P.program program.now) source }
-    requires questions { AreQuestions (P.program program.now) questions.now }
+    requires questions { All (IsQuestion (P.program program.now)) questions.now }
     ensures { IfOk result (λ flags. AreAnswers (P.program program.now) questions.now flags.items) }
 {
     let flags = vec![in alloc; false; questions.len()]?;
@@ -47,8 +49,8 @@ pub fn answer_questions<P: ProgramView, S: OrderSource + Drop>(
         return Ok(flags);
     }
     let order = source.order(alloc, program)?;
-    let schedule = Schedule::for_questions(alloc, program, order, questions)?;
-    answer_all(alloc, program, &schedule, questions, &asked, flags)
+    let (schedule, listed) = Schedule::for_questions(alloc, program, order, questions)?;
+    answer_all(alloc, program, &schedule, &listed, &asked, flags)
 }
 
 /// Whether some agent is flagged.
@@ -63,23 +65,25 @@ fn answer_all<P: ProgramView>(
     alloc: Global,
     program: &P,
     schedule: &Schedule,
-    questions: &[Question],
+    listed: &ListedQuestions<'_>,
     asked: &[bool],
     flags: Vec<bool>,
 ) -> Result<Vec<bool>, OutOfMemory>
     requires range { AreInRange (P.program program.now) }
     requires schedule { IsSchedule (P.program program.now) schedule.now }
-    requires rows { HasRows schedule.now questions.now }
-    requires questions { AreQuestions (P.program program.now) questions.now }
+    requires questions { All (IsQuestion (P.program program.now)) listed.now.questions.now }
+    requires listed { AreListed (P.program program.now) (joins_of schedule.now) listed.now }
     requires asked { length asked.now ≡ length (P.program program.now) }
-    requires known { AreKnown (P.program program.now) asked.now questions.now flags.items }
-    requires flags { length flags.items ≡ length questions.now }
-    ensures { IfOk result (λ flags. AreAnswers (P.program program.now) questions.now flags.items) }
+    requires known { AreKnown (P.program program.now)
+        asked.now listed.now.questions.now flags.items }
+    requires flags { length flags.items ≡ length listed.now.questions.now }
+    ensures { IfOk result (λ flags. AreAnswers
+        (P.program program.now) listed.now.questions.now flags.items) }
 {
     let mut flags = flags;
     let mut blocks = Blocks::of(program, schedule, asked);
     while let Some(columns) = blocks.next_block(alloc)? {
-        flags = answer(alloc, program, schedule, columns, questions, flags)?;
+        flags = answer(alloc, program, schedule, columns, listed, flags)?;
     }
     Ok(flags)
 }
@@ -147,24 +151,51 @@ fn is_near<P: ProgramView>(program: &P, first: ActionId, last: ActionId, steps: 
     before.number > 0 && is_near(program, first, before, steps - 1)
 }
 
-/// Questions, a flag for each, and the place of the next one.
+/// Questions by the rows that stand for their last actions: for each row, from 0 on, the last question, and for each
+/// question the one before it that has the same row. Questions count from 1 here; 0 is none.
 #[derive(Drop)]
-pub(crate) struct Answering<'a> {
+pub(crate) struct ListedQuestions<'a> {
     questions: &'a [Question],
-    flags: Vec<bool>,
-    next: usize,
+    lasts: Vec<usize>,
+    befores: Vec<usize>,
 }
 
-impl<'a> Model for Answering<'a> {
-    ghost use Rattle.fleet_needs.specs.Answering.{AnswersSoFar};
+impl<'a> ListedQuestions<'a> {
+    /// The questions by their rows.
+    pub(crate) fn of<P: ProgramView>(
+        alloc: Global,
+        program: &P,
+        places: &ActionPlaces,
+        joins: &Joins,
+        questions: &'a [Question],
+    ) -> Result<ListedQuestions<'a>, OutOfMemory>
+        requires places { ArePlacesOf (P.program program.now) places.now }
+        requires joins { AreStanding (P.program program.now) places.now joins.now }
+        requires questions { All (IsQuestion (P.program program.now)) questions.now }
+        ensures questions { IfOk result (λ l. l.questions.now ≡ questions.now) }
+        ensures listed { IfOk result (λ l. AreListed
+            (P.program program.now) (joins_made joins.now) l) }
+    {
+        let mut lasts = vec![in alloc; 0; joins.lasts.len()]?;
+        let mut befores = Vec::with_capacity(alloc, questions.len())?;
+        for question in questions {
+            let row = joins.row_of(program, places, question.last) as usize;
+            befores.push(lasts[row])?;
+            lasts[row] = befores.len();
+        }
+        Ok(ListedQuestions {
+            questions,
+            lasts,
+            befores,
+        })
+    }
+}
 
-    ghost Value = { AnswersSoFar };
-
-    ghost view = { λ m. record {
-      questions = m.questions.now;
-      flags = m.flags.items;
-      next = m.next;
-    } };
+/// Questions by their rows, and a flag for each.
+#[derive(Drop)]
+pub(crate) struct Answering<'a> {
+    listed: &'a ListedQuestions<'a>,
+    flags: Vec<bool>,
 }
 
 /// The flags of the questions. Those of questions whose first agent has a column now say whether no chain leads from
@@ -174,33 +205,32 @@ fn answer<P: ProgramView>(
     program: &P,
     schedule: &Schedule,
     columns: Columns,
-    questions: &[Question],
+    listed: &ListedQuestions<'_>,
     flags: Vec<bool>,
 ) -> Result<Vec<bool>, OutOfMemory>
     requires range { AreInRange (P.program program.now) }
     requires schedule { IsSchedule (P.program program.now) schedule.now }
-    requires rows { HasRows schedule.now questions.now }
     requires columns { AreColumnsOf (P.program program.now) columns }
-    requires questions { AreQuestions (P.program program.now) questions.now }
-    requires flags { length flags.items ≡ length questions.now }
+    requires questions { All (IsQuestion (P.program program.now)) listed.now.questions.now }
+    requires listed { AreListed (P.program program.now) (joins_of schedule.now) listed.now }
+    requires flags { length flags.items ≡ length listed.now.questions.now }
     ensures { IfOk result (λ new. AreAnswered
-        (P.program program.now) columns questions.now flags.items new.items) }
+        (P.program program.now) columns listed.now.questions.now flags.items new.items) }
 {
-    let mut answering = Answering {
-        questions,
-        flags,
-        next: 0,
-    };
+    let none = Counts::zeros(alloc, usize::from(columns.width), schedule.is_narrow)?;
+    let mut answering = Answering { listed, flags };
+    answering.answer_row(program, schedule, &columns, &none, 0);
     use_joins(alloc, program, schedule, columns, &mut answering)?;
     Ok(answering.flags)
 }
 
 impl<'a> JoinUse for Answering<'a> {
+    ghost use Rattle.std.proofs.Common.{◌+◌};
     ghost use Rattle.fleet_needs.specs.Answering.{IsAnswering, AreOthersLeft, others_same, others_joined};
 
-    ghost used = { IsAnswering };
+    ghost used = { λ p s columns n. IsAnswering p s columns (n + 1) };
 
-    ghost seen = { IsAnswering };
+    ghost seen = { λ p s columns n. IsAnswering p s columns (n + 1) };
 
     ghost keeps = { AreOthersLeft };
 
@@ -208,7 +238,7 @@ impl<'a> JoinUse for Answering<'a> {
     fn see_others<P: ProgramView>(&mut self, _: &P, _: &JoinRow) {}
 
     fn use_row<P: ProgramView>(&mut self, program: &P, row: &JoinRow) -> Result<(), OutOfMemory> {
-        self.answer_next(program, row.columns, row.counts, row.action);
+        self.answer_row(program, row.schedule, row.columns, row.counts, row.n + 1);
         Ok(())
     }
 
@@ -218,43 +248,35 @@ impl<'a> JoinUse for Answering<'a> {
 }
 
 impl<'a> Answering<'a> {
-    /// Answers the next question, if it ends with the action, of which this is the row.
-    fn answer_next<P: ProgramView>(
+    /// Answers the questions of the row with this number, which has these counts.
+    fn answer_row<P: ProgramView>(
         &mut self,
         program: &P,
+        schedule: &Schedule,
         columns: &Columns,
         row: &Counts,
-        action: ActionId,
+        number: usize,
     )
         requires own { AreOwn (P.program program.now) }
         requires columns { AreColumnsOf (P.program program.now) columns.now }
-        requires questions { All (IsQuestion (P.program program.now)) self.old.questions }
-        requires flags { length self.old.flags ≡ length self.old.questions }
+        requires within { number ≤ joins_in schedule.now }
+        requires answers { IsAnswering (P.program program.now)
+            schedule.now columns.now number self.old }
         requires row { length (counts_of row.now) ≡ columns.now.width }
-        requires of { AreCounts (P.program program.now) columns.now
-            action.agent action.number (slice_index (counts_of row.now)) }
-        ensures questions { self.new.questions ≡ self.old.questions }
-        ensures flags { length self.new.flags ≡ length self.old.flags }
-        ensures asked { IsAsked
-            (P.program program.now) columns.now self.old.questions action
-            self.old.next self.old.flags self.new.flags self.new.next }
+        requires counts { AreRowCounts (P.program program.now)
+            schedule.now columns.now number (slice_index (counts_of row.now)) }
+        ensures answers { IsAnswering (P.program program.now)
+            schedule.now columns.now (number + 1) self.new }
+        ensures keeps { AreOthersLeft (P.program program.now) columns.now self.old self.new }
     {
-        let next = self.next;
-        if ends_with(self.questions, next, action) {
-            let question = self.questions[next];
-            answer_one(program, columns, row, question, &mut self.flags[next]);
-            self.next = next + 1;
+        let mut left = self.listed.lasts[number];
+        while left > 0 {
+            let k = left - 1;
+            let question = self.listed.questions[k];
+            answer_one(program, columns, row, question, &mut self.flags[k]);
+            left = self.listed.befores[k];
         }
     }
-}
-
-/// Whether there is such a question, and it ends with the action.
-fn ends_with(questions: &[Question], k: usize, action: ActionId) -> bool
-    ensures within { IsTrue result → k < length questions.now }
-    ensures ends { IsTrue result ↔ ((q : Question) × (slice_get questions.now k ≡ Some q)
-        × (q.last ≡ action)) }
-{
-    k < questions.len() && questions[k].last == action
 }
 
 /// Flags the answer to a question whose agent has a column, by the row of its last action.

@@ -1,25 +1,25 @@
 //! A schedule of rows, made once for all blocks of columns: which rows are made, in which order, of which rows each is
 //! joined, the slot in which it is kept, and the columns of the blocks, one block after another.
 
-ghost use Rattle.std.specs.Prelude.{◌≡◌, ◌+◌, ◌<◌, ◌≤◌, ℕ, true, All, slice_get, Some, length, IfOk, slice_index, OnOk, IsTrue, MatchOption};
+ghost use Rattle.std.specs.Prelude.{◌≡◌, ◌+◌, ◌<◌, ◌≤◌, ℕ, true, All, length, IfOk, slice_index, OnOk, IsTrue, MatchOption};
 ghost use Rattle.fleet_model.specs.declared.limits.TheConstants.{MAX_AGENTS};
-ghost use Rattle.fleet_model.specs.Program.{AreInRange, moves, total_moves};
+ghost use Rattle.fleet_model.specs.Program.{AreInRange, moves};
 ghost use Rattle.fleet_model.specs.Chain.{IsAction};
 ghost use Rattle.fleet_needs.specs.Asked.{IsQuestion};
-ghost use Rattle.fleet_needs.specs.Joins.{HasRowOr, IsWanted, need_of, lasts_in, rows_made};
+ghost use Rattle.fleet_needs.specs.Joins.{AreAllJoins, HasRowOr, joins_made, lasts_in, rows_made};
 ghost use Rattle.fleet_needs.specs.Flags.{AreSureIf, IsPassed};
 ghost use Rattle.fleet_needs.specs.Order.{IsWholeOrder};
-ghost use Rattle.fleet_needs.specs.Places.{ArePlacesOf};
-ghost use Rattle.fleet_needs.specs.Schedule.{IsSchedule, HasRows, IsNextJoin, IsNextNeed, joins_of, joins_in, next_action};
+ghost use Rattle.fleet_needs.specs.Answering.{AreListed};
+ghost use Rattle.fleet_needs.specs.Schedule.{IsSchedule, IsNextJoin, IsNextNeed, joins_of, joins_in, next_action};
 ghost use Rattle.fleet_needs.specs.Slots.{AreSlotted, IsTaken};
 ghost use Rattle.fleet_needs.specs.Columns.{AreColumns, IsNextBlock, agents_in, column_of};
 
 use crate::await_places::ActionPlaces;
 use crate::finish_order::FinishOrder;
 use crate::implied::ImpliedAwaits;
-use crate::joins::{Course, Join, Joins, Need, joins_of};
-use crate::questions::Question;
-use fleet_model::{MAX_AGENTS, OutOfMemory, ProgramView, total_moves};
+use crate::joins::{Join, Joins, Need, joins_of};
+use crate::questions::{ListedQuestions, Question};
+use fleet_model::{MAX_AGENTS, OutOfMemory, ProgramView};
 use std::alloc::Global;
 use std::marker::Model;
 
@@ -47,33 +47,58 @@ pub struct Schedule {
 }
 
 impl Schedule {
-    /// The schedule of a program, in which the last actions of these questions have rows too, but an action of one await
-    /// alone has none if that is known to be implied.
+    /// The schedule of a program, in which an action of one await alone has no row if that is known to be implied.
     pub(crate) fn of<P: ProgramView>(
         alloc: Global,
         program: &P,
         order: &FinishOrder,
-        questions: &[Question],
         implied: Option<&ImpliedAwaits>,
     ) -> Result<Schedule, OutOfMemory>
         requires range { AreInRange (P.program program.now) }
         requires order { IsWholeOrder (P.program program.now) order.now }
-        requires questions { All (IsQuestion (P.program program.now)) questions.now }
         requires sure { AreSureIf (P.program program.now) implied }
         ensures schedule { IfOk result (IsSchedule (P.program program.now)) }
-        ensures asked { IfOk result (λ s. HasRows s questions.now) }
         ensures passed { IfOk result (λ s. HasRowOr (IsPassed (P.program program.now) implied.entry)
             (P.program program.now) (joins_of s) (IsAction (P.program program.now))) }
     {
         let places = ActionPlaces::of(alloc, program)?;
-        let wanted = wanted_of(alloc, program, &places, questions)?;
-        let course = Course {
-            places: &places,
-            order,
-            wanted: &wanted,
-            implied,
-        };
-        let joins = joins_of(alloc, program, &course)?;
+        let joins = joins_of(alloc, program, &places, order, implied)?;
+        Schedule::of_joins(alloc, program, joins)
+    }
+
+    /// The schedule of a program whose actions finish in this order, and the questions by the rows that stand for their
+    /// last actions.
+    pub(crate) fn for_questions<'a, P: ProgramView>(
+        alloc: Global,
+        program: &P,
+        order: FinishOrder,
+        questions: &'a [Question],
+    ) -> Result<(Schedule, ListedQuestions<'a>), OutOfMemory>
+        requires range { AreInRange (P.program program.now) }
+        requires order { IsWholeOrder (P.program program.now) order }
+        requires questions { All (IsQuestion (P.program program.now)) questions.now }
+        ensures schedule { IfOk result (λ made. IsSchedule (P.program program.now) made.0) }
+        ensures questions { IfOk result (λ made. made.1.questions.now ≡ questions.now) }
+        ensures listed { IfOk result (λ made.
+            AreListed (P.program program.now) (joins_of made.0) made.1) }
+    {
+        let places = ActionPlaces::of(alloc, program)?;
+        let joins = joins_of(alloc, program, &places, &order, None)?;
+        let listed = ListedQuestions::of(alloc, program, &places, &joins, questions)?;
+        let schedule = Schedule::of_joins(alloc, program, joins)?;
+        Ok((schedule, listed))
+    }
+
+    /// The schedule of these joins.
+    fn of_joins<P: ProgramView>(
+        alloc: Global,
+        program: &P,
+        joins: Joins,
+    ) -> Result<Schedule, OutOfMemory>
+        requires { AreAllJoins (P.program program.now) joins }
+        ensures schedule { IfOk result (IsSchedule (P.program program.now)) }
+        ensures joins { IfOk result (λ s. joins_of s ≡ joins_made joins) }
+    {
         let slots = slots_of(alloc, &joins)?;
         let count = slots.count();
         Ok(Schedule {
@@ -83,23 +108,6 @@ impl Schedule {
             slots: count,
             is_narrow: is_narrow(program),
         })
-    }
-
-    /// The schedule of a program whose actions finish in this order, in which the last actions of these questions have
-    /// rows too.
-    pub(crate) fn for_questions<P: ProgramView>(
-        alloc: Global,
-        program: &P,
-        order: FinishOrder,
-        questions: &[Question],
-    ) -> Result<Schedule, OutOfMemory>
-        requires range { AreInRange (P.program program.now) }
-        requires order { IsWholeOrder (P.program program.now) order }
-        requires questions { All (IsQuestion (P.program program.now)) questions.now }
-        ensures schedule { IfOk result (IsSchedule (P.program program.now)) }
-        ensures asked { IfOk result (λ s. HasRows s questions.now) }
-    {
-        Schedule::of(alloc, program, &order, questions, None)
     }
 
     /// The join after n others.
@@ -153,45 +161,6 @@ fn is_narrow<P: ProgramView>(program: &P) -> bool
         }
     }
     true
-}
-
-/// For each action, by its place, whether a question ends with it; nothing if there is no question.
-fn wanted_of<P: ProgramView>(
-    alloc: Global,
-    program: &P,
-    places: &ActionPlaces,
-    questions: &[Question],
-) -> Result<Vec<bool>, OutOfMemory>
-    requires places { ArePlacesOf (P.program program.now) places.now }
-    requires questions { All (IsQuestion (P.program program.now)) questions.now }
-    ensures { IfOk result (λ wanted. (k : ℕ) (q : Question) → slice_get questions.now k ≡ Some q
-        → IsWanted places.now wanted.items q.last) }
-{
-    if questions.is_empty() {
-        return Ok(Vec::new(alloc));
-    }
-    let mut wanted = vec![in alloc; false; total_moves(program) as usize]?;
-    flag_lasts(program, places, questions, &mut wanted);
-    Ok(wanted)
-}
-
-/// Flags, among all actions by their places, those with which questions end.
-fn flag_lasts<P: ProgramView>(
-    program: &P,
-    places: &ActionPlaces,
-    questions: &[Question],
-    wanted: &mut [bool],
-)
-    requires places { ArePlacesOf (P.program program.now) places.now }
-    requires questions { All (IsQuestion (P.program program.now)) questions.now }
-    requires all { length wanted.old ≡ total_moves (P.program program.now) }
-    ensures { (k : ℕ) (q : Question) → slice_get questions.now k ≡ Some q
-        → IsWanted places.now wanted.new q.last }
-{
-    for question in questions {
-        let place = places.place_of(program, question.last);
-        wanted[place] = true;
-    }
 }
 
 /// The slots of the first rows, and who has each slot.

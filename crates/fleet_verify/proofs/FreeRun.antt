@@ -14,8 +14,7 @@ use Rattle.fleet_model.specs.Program.{Program, moves, AreInRange, path}
 use Rattle.fleet_model.specs.Chain.{IsAction, IsLevel, EndsChain}
 use Rattle.fleet_verify.proofs.RunCounts.{counts, readies, run_counts, count_opening, run_place, run_held, held_at_most, finished_all, unfinished_ends, ends_in_time, within_moves}
 use Rattle.fleet_model.specs.Visit.{entering, is_entry, ListsVisits, Adjacent, ComesAfterByChain, IsOrderly}
-use Rattle.fleet_needs.specs.Asked.{AreLevels}
-use Rattle.fleet_verify.specs.Listing.{entry_level, IsBefore}
+use Rattle.fleet_verify.specs.Listing.{AreLevels, entry_level, IsBefore}
 use Rattle.fleet_verify.proofs.Waiting.{step, ready_says, ready_from}
 use Rattle.fleet_verify.proofs.Finish.{count_grows, count_grows_to, count_within, done_after, done_first}
 use Rattle.fleet_verify.proofs.Listing.{entry_start, entry_later}

@@ -9,7 +9,7 @@ use Rattle.fleet_model.proofs.Chains.{ends_more, own_reach, LastStep, chain_ends
 use Rattle.fleet_verify.proofs.Timed.{critical}
 use Rattle.std.specs.Prelude.{◌⊎◌}
 use Rattle.std.proofs.lemmas.Bool.{cases_eq}
-use Rattle.fleet_needs.specs.Asked.{AreLevels}
+use Rattle.fleet_verify.specs.Listing.{AreLevels}
 use Rattle.fleet_verify.specs.Rows.{IsCountedUp, IsRow, IsRowOfNeeds}
 
 -- an action's level is the cost of its critical path at unit cost

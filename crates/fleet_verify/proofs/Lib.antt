@@ -31,7 +31,7 @@ pub mod RunsRight
 pub mod HeldUp
 pub mod Begin
 pub mod NextLevel
-pub mod AskedByLevel
+pub mod Asked
 pub mod Beginning
 pub mod PieceLaws
 pub mod LevelOrder

@@ -12,8 +12,7 @@ use Rattle.fleet_model.specs.Program.{Program, moves, awaits_of, AreInRange}
 use Rattle.fleet_model.specs.Chain.{IsAction, Reaches, IsNumbering, awaited}
 use Rattle.fleet_model.specs.Visit.{is_entry, next_move, IsVisitOf, ListsVisits, Adjacent, ComesAfterByAwait, ComesAfterByChain, entering, leaving, IsVisit, AreUnordered}
 use Rattle.fleet_model.specs.Accepted.{IsAcceptedBy}
-use Rattle.fleet_needs.specs.Asked.{AreLevels}
-use Rattle.fleet_verify.specs.Listing.{entry_level, IsBefore, IsSortedListing}
+use Rattle.fleet_verify.specs.Listing.{AreLevels, entry_level, IsBefore, IsSortedListing}
 use Rattle.fleet_model.proofs.Chains.{next_upto, Reaches-first, Reaches-last, Reaches-need, ends_one, ends_more, own_reach, Reaches-rises, Reaches-trans}
 use Rattle.fleet_verify.proofs.Members.{contains_none}
 use Rattle.fleet_verify.proofs.Neighbours.{adjacent_at, adjacent_from, same_neighbours, any_two, Found, place_in}

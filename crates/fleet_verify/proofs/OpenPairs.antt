@@ -12,22 +12,20 @@ use Rattle.fleet_model.specs.declared.task.Task.{Task}
 use Rattle.fleet_model.specs.declared.program.ActionId.{ActionId}
 use Rattle.fleet_model.specs.declared.program.Visit.{Visit}
 use Rattle.fleet_model.specs.Geometry.{place_of}
-use Rattle.fleet_model.specs.Program.{Program, moves, path, start_of, IsCell, AreInRange}
+use Rattle.fleet_model.specs.Program.{Program, path, start_of, IsCell, AreInRange}
 use Rattle.fleet_model.specs.Chain.{Reaches, IsNumbering}
-use Rattle.fleet_model.specs.Visit.{IsVisit, IsVisitOf, ComesAfter, ComesAfterByChain, entering, leaving}
+use Rattle.fleet_model.specs.Visit.{IsVisitOf, ComesAfter, ComesAfterByChain, entering, leaving}
 use Rattle.fleet_model.proofs.Cells.{place_of-injective}
 use Rattle.fleet_scen.specs.Instance.{IsInstance}
-use Rattle.fleet_needs.specs.declared.questions.Question.{Question}
-use Rattle.fleet_needs.specs.Asked.{IsQuestion, IsSoonerAction, AreQuestions, AreAnswers}
+use Rattle.fleet_needs.specs.Asked.{IsQuestion, AreAnswers}
 use Rattle.fleet_verify.specs.declared.order.OrderViolation.{OrderViolation}
 use Rattle.fleet_verify.specs.declared.order.OpenPair.{OpenPair}
 use Rattle.fleet_verify.specs.declared.order.PlacedVisit.{PlacedVisit}
 use Rattle.fleet_verify.specs.declared.order.VisitOrder.{VisitOrder}
 use Rattle.fleet_verify.specs.Faults.{HasStarts, IsFirstBreak}
-use Rattle.fleet_verify.specs.Listing.{entry_level, IsBefore}
+use Rattle.fleet_verify.specs.Listing.{IsBefore}
 use Rattle.fleet_verify.specs.Order.{number_of, visits_of, IsListJudged, AreAllPlaced, AreViolations, AreGrouped, IsOpenPair, AreConsecutive, StandsBefore}
 use Rattle.fleet_verify.specs.OpenPairs.{AreVisits, question_of, violation_of, HasNoChain, IsFirstBad, AnswersFirstBad, IsFlagged}
-use Rattle.fleet_model.proofs.Chains.{own_reach, Reaches-rises}
 use Rattle.fleet_verify.proofs.Decide.{Reaches-dec}
 use Rattle.fleet_verify.proofs.Listing.{levels_number, await_chain, entry_start, entry_later, before_rank, as_visit}
 use Rattle.fleet_verify.proofs.Neighbours.{adjacent_at, adjacent_from, any_two}
@@ -93,11 +91,6 @@ pub flags_tell : (p : Program) (pairs : List OpenPair) (flags : List Bool) → A
     → AnswersFirstBad (IsFlagged flags) pairs (length pairs) n m → AnswersFirstBad (λ _ o. HasNoChain p o) pairs (length pairs) n m
 flags_tell p pairs flags h n m t = first_as (IsFlagged flags) (λ _ o. HasNoChain p o) pairs (length pairs) n (λ k o e. h.each k (question_of p o) (question_get p pairs k o e)) m t
 
-question_at : (p : Program) (pairs : List OpenPair) (i : ℕ) (d : Question) (e : OpenPair) → i < length pairs → get_or (map (question_of p) pairs) i d ≡ question_of p (get_or pairs i e)
-question_at p [] i d e l = absurd (omega arith)
-question_at p (x ∷ xs) zero d e l = refl
-question_at p (x ∷ xs) (suc i) d e l = question_at p xs i d e (omega arith)
-
 before_trans : (lev : ActionId → ℕ) (u v w : Visit) → IsBefore lev u v → IsBefore lev v w → IsBefore lev u w
 before_trans lev u v w (inl a) (inl b) = inl (omega arith)
 before_trans lev u v w (inl a) (inr (f, b)) = inl (omega arith)
@@ -106,31 +99,6 @@ before_trans lev u v w (inr (e, inl a)) (inr (f, inl b)) = inr (e ∙ f, inl (om
 before_trans lev u v w (inr (e, inl a)) (inr (f, inr (g, b))) = inr (e ∙ f, inl (omega arith))
 before_trans lev u v w (inr (e, inr (h, a))) (inr (f, inl b)) = inr (e ∙ f, inl (omega arith))
 before_trans lev u v w (inr (e, inr (h, a))) (inr (f, inr (g, b))) = inr (e ∙ f, inr (h ∙ g, omega arith))
-
--- a visit before another of the same agent is entered by an action of a lower level
-own_rises : (p : Program) (number : ActionId → ℕ) → IsNumbering p number → (v w : Visit) → IsVisit p w → v.agent ≡ w.agent → 1 ≤ v.position → v.position < w.position → number (entering v) < number (entering w)
-own_rises p number s v w is e f l =
-    let last : w.position ≤ moves p w.agent = is.position in
-    let here : ActionId = record { agent = w.agent; number = v.position } in
-    let next : ActionId = record { agent = w.agent; number = v.position + 1 } in
-    let up : number here < number next = s.rising next here (record { agent = is.agent; first = omega arith; last = omega arith }) (record { agent = is.agent; first = f; last = omega arith }) (inl (refl, refl, f)) in
-    let on : number next ≤ number (entering w) = Reaches-rises p number s next (entering w) (own_reach p w.agent (v.position + 1) w.position is.agent (omega arith) (omega arith) last) in
-    let same : number (entering v) ≡ number here = ap (λ (i : ℕ). number (record { agent = i; number = v.position })) e in
-    omega arith
-
-sooner_action : (p : Program) (number : ActionId → ℕ) → IsNumbering p number → (v w : Visit) → IsVisit p w → 1 ≤ v.position → 1 ≤ w.position → IsBefore number v w → IsSoonerAction number (entering v) (entering w)
-sooner_action p number s v w is f g h = go h
-  where
-    ev : entry_level number v ≡ number (entering v)
-    ev = entry_later number v f
-
-    ew : entry_level number w ≡ number (entering w)
-    ew = entry_later number w g
-
-    go : IsBefore number v w → IsSoonerAction number (entering v) (entering w)
-    go (inl l) = inl (omega (arith, ev, ew))
-    go (inr (e, inl l)) = inr (sym ev ∙ (e ∙ ew), l)
-    go (inr (e, inr (a, l))) = absurd (omega (arith, ev, ew, e, own_rises p number s v w is a f l))
 
 module _ (p : Program) (order : VisitOrder) (placed : List PlacedVisit) (all : AreAllPlaced p placed) (grouped : AreGrouped p placed order) where
   numbered : IsNumbering p all.level
@@ -219,13 +187,8 @@ module _ (p : Program) (order : VisitOrder) (placed : List PlacedVisit) (all : A
           by (inr (e, inl l)) = two (first f) f l
           by (inr (e, inr (g, l))) = omega (arith, l, f)
 
-  pub are_questions : (tasks : List Task) → HasStarts tasks p → IsInstance tasks → AreQuestions p (map (question_of p) pairs_of)
-  are_questions tasks starts apart = record {
-    each = All-map (IsQuestion p) (question_of p) pairs_of (λ k d l. question (get_or pairs_of k d) (are_visits k d l) (grouped.each k d l));
-    level = all.level;
-    levels = all.levels;
-    in_order = λ i j d l m. ordered i j d l m;
-  }
+  pub are_questions : (tasks : List Task) → HasStarts tasks p → IsInstance tasks → All (IsQuestion p) (map (question_of p) pairs_of)
+  are_questions tasks starts apart = All-map (IsQuestion p) (question_of p) pairs_of (λ k d l. question (get_or pairs_of k d) (are_visits k d l) (grouped.each k d l))
     where
       question : (o : OpenPair) → AreVisits p o → IsOpenPair p placed o → IsQuestion p (question_of p o)
       question o v is = record {
@@ -233,22 +196,6 @@ module _ (p : Program) (order : VisitOrder) (placed : List PlacedVisit) (all : A
         number = omega arith;
         last = record { agent = v.second.agent; first = not_start tasks starts apart o is; last = v.second.position };
       }
-
-      sooner : (o u : OpenPair) → IsOpenPair p placed o → IsOpenPair p placed u → IsVisit p u.second → IsBefore all.level o.second u.second → IsSoonerAction all.level (entering o.second) (entering u.second)
-      sooner o u ho hu v h = sooner_action p all.level numbered o.second u.second v (not_start tasks starts apart o ho) (not_start tasks starts apart u hu) h
-
-      ordered : (i j : ℕ) (d : Question) → i < j → j < length (map (question_of p) pairs_of) → IsSoonerAction all.level (get_or (map (question_of p) pairs_of) i d).last (get_or (map (question_of p) pairs_of) j d).last
-      ordered i j d l m =
-          let none : Visit = record { agent = 0; position = 0 } in
-          let e : OpenPair = record { cell = record { x = 0; y = 0 }; first = none; second = none } in
-          let long : length (map (question_of p) pairs_of) ≡ length pairs_of = length-map pairs_of (question_of p) in
-          let mj : j < length pairs_of = omega arith in
-          let mi : i < length pairs_of = omega arith in
-          let o : OpenPair = get_or pairs_of i e in
-          let u : OpenPair = get_or pairs_of j e in
-          let h : IsSoonerAction all.level (entering o.second) (entering u.second) = sooner o u (grouped.each i e mi) (grouped.each j e mj) (are_visits j e mj).second (stands_sorted o.second u.second (grouped.in_order i j e l mj)) in
-          subst (λ (x : Question). IsSoonerAction all.level x.last (get_or (map (question_of p) pairs_of) j d).last) (sym (question_at p pairs_of i d e mi))
-          (subst (λ (x : Question). IsSoonerAction all.level (question_of p o).last x.last) (sym (question_at p pairs_of j d e mj)) h)
 
   -- ---- what is told
 

@@ -9,8 +9,7 @@ use Rattle.fleet_model.specs.Geometry.{place_of}
 use Rattle.fleet_model.specs.Program.{Program, start_of, goal_of, moves, awaits_of, path, IsInRange}
 use Rattle.fleet_model.specs.Chain.{IsNumbering}
 use Rattle.fleet_model.specs.Visit.{IsVisit, IsVisitOf, ListsVisits, Adjacent, ComesAfter, AreUnordered}
-use Rattle.fleet_needs.specs.Asked.{AreLevels}
-use Rattle.fleet_verify.specs.Listing.{IsSortedListing}
+use Rattle.fleet_verify.specs.Listing.{AreLevels, IsSortedListing}
 use Rattle.fleet_verify.specs.Ring.{IsToldRing}
 use Rattle.fleet_verify.specs.declared.fault.VerifyFault.{VerifyFault}
 use Rattle.fleet_verify.specs.declared.fault.VerifyFault.TheVariants.{OutOfMemory, OtherFleet, Start, Goal, Step, AwaitRange, Cyclic, Unordered}

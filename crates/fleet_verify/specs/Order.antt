@@ -10,8 +10,7 @@ use Rattle.fleet_model.specs.Geometry.{place_of, is_same_place}
 use Rattle.fleet_model.specs.Program.{Program, moves, path, IsCell}
 use Rattle.fleet_model.specs.Visit.{is_entry, IsVisit, Adjacent, ComesAfterByAwait, ComesAfter}
 use Rattle.fleet_verify.specs.Faults.{IsOrderlyAt, IsFirstBreak}
-use Rattle.fleet_needs.specs.Asked.{AreLevels}
-use Rattle.fleet_verify.specs.Listing.{IsBefore, IsSortedListing}
+use Rattle.fleet_verify.specs.Listing.{AreLevels, IsBefore, IsSortedListing}
 use Rattle.fleet_verify.specs.declared.order.OrderViolation.{OrderViolation}
 use Rattle.fleet_verify.specs.declared.order.OpenPair.{OpenPair}
 use Rattle.fleet_verify.specs.declared.order.PlacedVisit.{PlacedVisit}

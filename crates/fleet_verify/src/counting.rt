@@ -4,7 +4,7 @@ ghost use Rattle.std.specs.Prelude.{ℕ};
 ghost use Rattle.fleet_model.specs.declared.program.ActionId.{ActionId};
 ghost use Rattle.fleet_model.specs.Program.{Program};
 ghost use Rattle.fleet_model.specs.Chain.{IsAction, DirectlyNeeds};
-ghost use Rattle.fleet_needs.specs.Asked.{AreLevels};
+ghost use Rattle.fleet_verify.specs.Listing.{AreLevels};
 ghost use Rattle.fleet_verify.specs.Rows.{IsCountedUp, IsRow, IsRowOfNeeds};
 
 /// Levels are found by counting up: an action's level is 1, or one more than that of an action that it directly needs,

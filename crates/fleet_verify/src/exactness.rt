@@ -15,8 +15,7 @@ ghost use Rattle.fleet_model.specs.Run.{HasBegun};
 ghost use Rattle.fleet_model.specs.Visit.{AreUnordered};
 ghost use Rattle.fleet_model.specs.Breaking.{IsHeldBack, IsPrepared, AreBreakingHolds, MeetOn};
 ghost use Rattle.fleet_verify.specs.Faults.{IsUnordered};
-ghost use Rattle.fleet_needs.specs.Asked.{AreLevels};
-ghost use Rattle.fleet_verify.specs.Listing.{IsSortedListing};
+ghost use Rattle.fleet_verify.specs.Listing.{AreLevels, IsSortedListing};
 ghost use Rattle.fleet_model.specs.Run.{RunsWell};
 ghost use Rattle.fleet_verify.specs.Rows.{IsRow};
 

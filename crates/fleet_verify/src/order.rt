@@ -13,11 +13,11 @@ ghost use Rattle.fleet_verify.specs.declared.fault.VerifyFault.TheVariants.{Unor
 ghost use Rattle.fleet_verify.specs.Order.{number_of, AreAllAdded, AreAllViolations, IsPathOrderly, IsOpenNext};
 ghost use Rattle.fleet_verify.specs.Faults.{HasRanges, IsFault};
 ghost use Rattle.std.specs.Option.{option_or};
-ghost use Rattle.fleet_needs.specs.Asked.{AreQuestions};
+ghost use Rattle.fleet_needs.specs.Asked.{IsQuestion};
 ghost use Rattle.fleet_verify.specs.Chained.{AreKnown};
 ghost use Rattle.fleet_verify.specs.OpenPairs.{question_of, violation_of, AreVisits, HasNoChain, IsFlagged, AnswersFirstBad};
 
-use crate::chained::{Answers, are_questions_of};
+use crate::chained::Answers;
 use crate::fault::VerifyFault;
 use crate::path::cell_after;
 use crate::unheld_run::UnheldRun;
@@ -149,17 +149,17 @@ pub fn find_violations<P: ProgramView>(
     requires range { AreInRange (P.program program.now) }
     requires finish { IsFinish (P.program program.now) [] ticks }
     requires visits { All (AreVisits (P.program program.now)) pairs.now }
-    requires questions { AreQuestions (P.program program.now)
+    requires questions { All (IsQuestion (P.program program.now))
         (map (question_of (P.program program.now)) pairs.now) }
     requires known { AreKnown (P.program program.now) known.now }
     ensures { IfOk result (λ found. (n : ℕ)
         → AnswersFirstBad (λ _ o. HasNoChain (P.program program.now) o)
         pairs.now (length pairs.now) n (get nat_eq found n)) }
 {
-    if are_questions_of(program, pairs, &known.questions) {
-        return first_flagged(alloc, pairs, &known.flags);
-    }
     let questions = questions_of(alloc, program, pairs)?;
+    if let Some(flags) = known.flags_of(alloc, &questions)? {
+        return first_flagged(alloc, pairs, &flags);
+    }
     let asked = Answers::to(alloc, program, Ticks { count: ticks }, questions)?;
     first_flagged(alloc, pairs, &asked.flags)
 }

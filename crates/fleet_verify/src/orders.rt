@@ -12,8 +12,7 @@ ghost use Rattle.fleet_model.specs.Chain.{IsNumbering};
 ghost use Rattle.fleet_model.specs.Visit.{ListsVisits, Adjacent, ComesAfterByAwait, ComesAfterByChain};
 ghost use Rattle.fleet_model.specs.Accepted.{IsAcceptedBy};
 ghost use Rattle.fleet_verify.specs.Ring.{IsRing};
-ghost use Rattle.fleet_needs.specs.Asked.{AreLevels};
-ghost use Rattle.fleet_verify.specs.Listing.{entry_level, IsSortedListing};
+ghost use Rattle.fleet_verify.specs.Listing.{AreLevels, entry_level, IsSortedListing};
 
 /// If each visit of a place awaits the leaving of the one before it, a chain leads from the one to the other.
 pub fn awaits_are_chains()

@@ -7,7 +7,7 @@ use Rattle.fleet_needs.proofs.joins.joins_of.Given as goal
 abbrev pub invariant-loop-finish : goal.invariant-loop-finish
 invariant-loop-finish g l = record {
   state : IsFinishing (g.P.ProgramView.program l.program) l.finishing;
-  joins : AreJoinsOf (g.P.ProgramView.program l.program) l.course.places.now l.course.wanted.now (IsPassed (g.P.ProgramView.program l.program) l.course.implied) (IsCounted (come_in l.finishing)) l.joins;
+  joins : AreJoinsOf (g.P.ProgramView.program l.program) l.places (IsPassed (g.P.ProgramView.program l.program) l.implied) (IsCounted (come_in l.finishing)) l.joins;
 }
 
 abbrev pub decreases-loop-finish : goal.decreases-loop-finish

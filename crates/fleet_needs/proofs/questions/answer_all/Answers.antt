@@ -11,10 +11,10 @@ loop-columns-preserved g c =
     let chosen : AreColumns c.args.asked.now c.loop-columns.blocks.from c.in-Some.columns = subst (λ (xs : List Bool). AreColumns xs c.loop-columns.blocks.from c.in-Some.columns) was.asked next.chosen in
     record {
       asked = next.asked ∙ was.asked;
-      answered = λ m q at l. answered_to p c.args.asked.now c.loop-columns.blocks.from c.in-Some.columns chosen c.args.questions.now c.loop-columns.flags.items c.in_ok-flags.flags.items c.in_ok-flags.ensures was.known was.answered m q at
+      answered = λ m q at l. answered_to p c.args.asked.now c.loop-columns.blocks.from c.in-Some.columns chosen c.args.listed.now.questions.now c.loop-columns.flags.items c.in_ok-flags.flags.items c.in_ok-flags.ensures was.known was.answered m q at
           (omega (arith, l, next.from));
       all_flags = c.in_ok-flags.ensures.all ∙ was.all_flags;
-      known = known_on p c.args.asked.now c.in-Some.columns c.args.questions.now c.loop-columns.flags.items c.in_ok-flags.flags.items c.in_ok-flags.ensures was.known;
+      known = known_on p c.args.asked.now c.in-Some.columns c.args.listed.now.questions.now c.loop-columns.flags.items c.in_ok-flags.flags.items c.in_ok-flags.ensures was.known;
     }
 
 pub returns : goal.returns
@@ -26,6 +26,6 @@ returns g c =
     record {
       all = was.all_flags;
       each = λ k q e.
-          let agent : q.first.agent < length p = (question_at p c.args.questions.now c.requires.questions.each k q e).agent in
+          let agent : q.first.agent < length p = (question_at p c.args.listed.now.questions.now c.requires.questions k q e).agent in
           was.answered k q e (omega (arith, agent, over, ap (λ (xs : List Bool). length xs) was.asked, c.requires.asked));
     }

@@ -7,9 +7,9 @@ use Rattle.fleet_needs.proofs.questions.answer_all.Given as goal
 abbrev pub invariant-loop-columns : goal.invariant-loop-columns
 invariant-loop-columns g l = record {
   asked : l.blocks.asked ≡ l.asked;
-  answered : (m : ℕ) (q : Question) → slice_get l.questions m ≡ Some q → q.first.agent < l.blocks.from → IsAnswer (g.P.ProgramView.program l.program) q (get_or l.flags.items m false);
-  all_flags : length l.flags.items ≡ length l.questions;
-  known : AreKnown (g.P.ProgramView.program l.program) l.asked l.questions l.flags.items;
+  answered : (m : ℕ) (q : Question) → slice_get l.listed.questions.now m ≡ Some q → q.first.agent < l.blocks.from → IsAnswer (g.P.ProgramView.program l.program) q (get_or l.flags.items m false);
+  all_flags : length l.flags.items ≡ length l.listed.questions.now;
+  known : AreKnown (g.P.ProgramView.program l.program) l.asked l.listed.questions.now l.flags.items;
 }
 
 abbrev pub decreases-loop-columns : goal.decreases-loop-columns

@@ -1,12 +1,14 @@
 use Rattle.std.proofs.Common.{◌≡◌, Bool, true, false, List, length, get_or, sym, subst, ◌∙◌, ap, inl, inr}
 use Rattle.std.proofs.lemmas.List.{length-replicate}
+use Rattle.std.specs.Prelude.{slice_get}
+use Rattle.fleet_needs.specs.declared.questions.Question.{Question}
 use Rattle.fleet_needs.proofs.Answered.{near_answer, none_asked}
 use Rattle.fleet_needs.proofs.Counting.{always_at}
 use Rattle.fleet_needs.proofs.questions.answer_questions.Goals as goal
 
 pub answer_all-requires-clause-known : goal.answer_all-requires-clause-known
 answer_all-requires-clause-known g c = λ k q e.
-    elim (c.in_ok-asked.ensures.flagged k q e) [
+    elim (c.in_ok-asked.ensures.flagged k q (ap (λ (xs : List Question). slice_get xs k) (sym c.in_ok-schedule.ensures.questions) ∙ e)) [
       | inl set ↦ inl (subst (λ (xs : List Bool). get_or xs q.first.agent false ≡ true) (sym c.deref-2.ensures.value) set)
       | inr near ↦ inr (near_answer (g.P.ProgramView.program c.args.program.now) q (get_or c.in_ok-flags.flags.items k false)
           (ap (λ (xs : List Bool). get_or xs k false) (c.in_ok-flags.ensures.items_if_clones_equal (λ y same. same)) ∙ always_at false (length c.args.questions.now) k) near)

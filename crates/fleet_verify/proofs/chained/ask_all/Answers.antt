@@ -1,13 +1,10 @@
-use Rattle.std.proofs.Common.{◌+◌, subst, sym, arith}
-use Rattle.fleet_verify.specs.Chained.{AreAsked}
+use Rattle.std.proofs.Common.{ℕ, ◌+◌, List, length, get_or, ap, sym, ◌∙◌, subst, arith}
+use Rattle.std.proofs.lemmas.List.{length_push}
+use Rattle.fleet_needs.specs.declared.questions.Question.{Question}
+use Rattle.fleet_verify.specs.Chained.{IsAskedOf}
 use Rattle.fleet_verify.specs.OpenPairs.{AreVisits}
-use Rattle.fleet_verify.proofs.AskedByLevel.{asked_none, asked_more}
+use Rattle.fleet_verify.proofs.Asked.{asked_more}
 use Rattle.fleet_verify.proofs.chained.ask_all.Goals as goal
-
-pub loop-k-init : goal.loop-k-init
-loop-k-init g c =
-    let p = g.P.ProgramView.program c.args.program.now in
-    subst (AreAsked p c.args.rows.now.items c.args.pairs.now.items 0) (sym c.in_ok-asked.ensures.items) (asked_none p c.args.rows.now.items c.args.pairs.now.items)
 
 pub ask-requires-clause-visits : goal.ask-requires-clause-visits
 ask-requires-clause-visits g c =
@@ -17,7 +14,12 @@ ask-requires-clause-visits g c =
 pub loop-k-preserved : goal.loop-k-preserved
 loop-k-preserved g c =
     let p = g.P.ProgramView.program c.args.program.now in
-    let rows = c.args.rows.now.items in
+    let was = c.loop-k.invariant in
+    let asked = c.loop-k.asked.items in
     let pairs = c.args.pairs.now.items in
-    subst (AreAsked p rows pairs (c.loop-k.k + 1)) (sym c.in_ok-push.ensures.items)
-    (asked_more p rows pairs c.loop-k.k c.loop-k.asked.items c.pair_at.result c.in-Some.question c.loop-k.invariant c.pair_at.ensures c.in-Some.ensures)
+    let pushed = c.in_ok-push.ensures.items in
+    record {
+      all = ap (λ (xs : List Question). length xs) pushed ∙ length_push asked c.in-Some.question ∙ ap (λ (n : ℕ). n + 1) was.all;
+      each = λ j o q l. subst (λ (xs : List Question). IsAskedOf p (get_or pairs j o) (get_or xs j q)) (sym pushed)
+          (asked_more p pairs c.loop-k.k asked c.pair_at.result c.in-Some.question was.all c.pair_at.ensures c.in-Some.ensures was.each j o q l);
+    }

@@ -2,7 +2,7 @@ use Rattle.std.proofs.Common.{◌≡◌, ℕ, List, length, map, None, refl, sym
 use Rattle.std.proofs.lemmas.Result.{err_from_is_err_and}
 use Rattle.std.specs.Prelude.{nat_eq, All}
 use Rattle.std.proofs.lemmas.Bool.{eqb-true}
-use Rattle.fleet_needs.specs.Asked.{AreQuestions}
+use Rattle.fleet_needs.specs.Asked.{IsQuestion}
 use Rattle.fleet_verify.specs.declared.order.OpenPair.{OpenPair}
 use Rattle.fleet_verify.specs.OpenPairs.{AreVisits, question_of, HasNoChain, AnswersFirstBad}
 use Rattle.indexmap.specs.IndexMap.{get}
@@ -35,7 +35,7 @@ pub find_violations-requires-clause-questions : goal.find_violations-requires-cl
 find_violations-requires-clause-questions g c =
     let added = c.requires.added in
     let p = g.P.ProgramView.program c.args.program.now in
-    subst (λ (ps : List OpenPair). AreQuestions p (map (question_of p) ps)) (sym c.deref.ensures.value)
+    subst (λ (ps : List OpenPair). All (IsQuestion p) (map (question_of p) ps)) (sym c.deref.ensures.value)
     (are_questions p c.args.run.now.visits added.placed added.all added.grouped c.args.instance.now c.requires.before.before.before.before c.agents-agents.ensures.instance)
 
 pub returns-in_err-violations-clause-err : goal.returns-in_err-violations-clause-err

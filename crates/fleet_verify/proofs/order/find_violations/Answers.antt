@@ -1,4 +1,5 @@
-use Rattle.std.proofs.Common.{ℕ, Bool, List, length, map, Ok, Err, Result, sym, ◌∙◌, subst}
+use Rattle.std.proofs.Common.{ℕ, Bool, List, length, map, Ok, Err, Result, sym, ap, ◌∙◌, subst}
+use Rattle.std.proofs.lemmas.List.{length-map}
 use Rattle.std.specs.Prelude.{nat_eq, IfOk}
 use Rattle.indexmap.specs.IndexMap.{get}
 use Rattle.fleet_needs.specs.declared.questions.Question.{Question}
@@ -11,13 +12,20 @@ on_ok : {X E : Type 0} (P Q : X → Type 0) → ((x : X) → P x → Q x) → (r
 on_ok P Q h (Ok x) p = h x p
 on_ok P Q h (Err e) p = tt
 
-pub returns-then-are_questions_of : goal.returns-then-are_questions_of
-returns-then-are_questions_of g c =
+pub first_flagged-requires : goal.first_flagged-requires
+first_flagged-requires g c =
+    let p = g.P.ProgramView.program c.args.program.now in
+    let told = rw c.in-Some.is at c.in_ok-flags.ensures in
+    ap (λ (fs : List Bool). length fs) c.deref-in-Some.ensures.value ∙ (told p c.requires.known).all ∙ ap (λ (qs : List Question). length qs) (c.deref.ensures.value ∙ c.in_ok-questions.ensures) ∙ length-map c.args.pairs.now (question_of p)
+
+pub returns-in-Some : goal.returns-in-Some
+returns-in-Some g c =
     let p = g.P.ProgramView.program c.args.program.now in
     let pairs = c.args.pairs.now in
-    let flags = c.deref-then-are_questions_of.result.now in
+    let flags = c.deref-in-Some.result.now in
+    let told = rw c.in-Some.is at c.in_ok-flags.ensures in
     let answers : AreAnswers p (map (question_of p) pairs) flags =
-    subst (λ (qs : List Question). AreAnswers p qs flags) (sym c.deref.ensures.value ∙ c.are_questions_of.ensures.0 c.if-are_questions_of.true) (subst (λ (fs : List Bool). AreAnswers p c.args.known.now.questions.items fs) (sym c.deref-then-are_questions_of.ensures.value) c.requires.known) in
+    subst (λ (qs : List Question). AreAnswers p qs flags) (c.deref.ensures.value ∙ c.in_ok-questions.ensures) (subst (λ (fs : List Bool). AreAnswers p c.deref.result.now fs) (sym c.deref-in-Some.ensures.value) (told p c.requires.known)) in
     on_ok (λ found. (n : ℕ) → AnswersFirstBad (IsFlagged flags) pairs (length pairs) n (get nat_eq found n)) (λ found. (n : ℕ) → AnswersFirstBad (λ _ o. HasNoChain p o) pairs (length pairs) n (get nat_eq found n))
     (λ found h n. flags_tell p pairs flags answers n (get nat_eq found n) (h n)) c.first_flagged.result c.first_flagged.ensures
 

@@ -7,7 +7,7 @@ use Rattle.fleet_needs.proofs.join_pass.SlotRows.begin_row.Goals as goal
 
 pub returns-then-r-eq0-clause-counts : goal.returns-then-r-eq0-clause-counts
 returns-then-r-eq0-clause-counts g c = λ i m s.
-    counts_none (g.P.ProgramView.program c.args.program.now) c.args.self.now c.args.n c.requires.rows c.args.r i m s c.if-r-eq0.true (slice_index (counts_of c.clear.new.self)) c.clear.ensures.zeros
+    counts_none (g.P.ProgramView.program c.args.program.now) c.args.self.now.schedule.now c.args.self.now.columns c.args.r i m s c.if-r-eq0.true (slice_index (counts_of c.clear.new.self)) c.clear.ensures.zeros
 
 pub returns-clause-counts : goal.returns-clause-counts
 returns-clause-counts g c = λ i m s.

@@ -8,7 +8,7 @@ pub returns-then-r-eq0-clause-joined : goal.returns-then-r-eq0-clause-joined
 returns-then-r-eq0-clause-joined g c = λ i m s.
     let p = g.P.ProgramView.program c.args.program.now in
     counts_joined p c.args.self.now.columns i m (λ k. 0) (counts_of c.args.row.now) (counts_of c.args.row.now) (λ j k has. omega arith)
-    (counts_none p c.args.self.now c.args.n c.requires.rows c.args.r i m s c.if-r-eq0.true (λ k. 0) (λ k. refl))
+    (counts_none p c.args.self.now.schedule.now c.args.self.now.columns c.args.r i m s c.if-r-eq0.true (λ k. 0) (λ k. refl))
 
 pub returns-clause-joined : goal.returns-clause-joined
 returns-clause-joined g c = λ i m s.

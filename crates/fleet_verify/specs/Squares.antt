@@ -1,10 +1,10 @@
 -- Squares of cells, and the visits that they keep.
-use Rattle.std.specs.Prelude.{◌≡◌, ◌≢◌, ℕ, ◌+◌, ◌*◌, ◌/◌, ◌%◌, nat_eq, List, get_or, slice_get, Option, Some, None, option_map, if◌then◌else◌}
+use Rattle.std.specs.Prelude.{◌≡◌, ◌≢◌, ℕ, ◌+◌, ◌-◌, ◌*◌, ◌/◌, ◌%◌, ◌^◌, ◌<◌, bit_and, bit_xor, nat_eq, List, length, get_or, slice_get, Option, Some, None, option_map, if◌then◌else◌}
 use Rattle.indexmap.specs.IndexMap.{IndexMap, get}
 use Rattle.fleet_model.specs.declared.geometry.Cell.{Cell}
 use Rattle.fleet_model.specs.declared.limits.TheConstants.{MAX_AGENTS}
 use Rattle.fleet_model.specs.declared.program.Visit.{Visit}
-use Rattle.fleet_verify.specs.declared.last_visits.TheConstants.{SIDE, ACROSS, NO_VISIT}
+use Rattle.fleet_verify.specs.declared.last_visits.TheConstants.{SIDE, ACROSS, HINTS_ACROSS, NO_VISIT}
 
 -- the number of the square that the cell is in, which no other square has
 abbrev pub square_of : Cell → ℕ
@@ -13,6 +13,16 @@ square_of c = (c.y / SIDE) * ACROSS + c.x / SIDE
 -- the cell's place in its square, which no other cell of the square has
 abbrev pub place_in_square : Cell → ℕ
 place_in_square c = (c.y % SIDE) * SIDE + c.x % SIDE
+
+-- the place of the hint for the square with this number, among so many
+abbrev pub place_of_hint : (number hints : ℕ) → ℕ
+place_of_hint number hints =
+    let row = number / ACROSS in
+    bit_and (bit_xor (row * HINTS_ACROSS + number % HINTS_ACROSS) (row / 8 * 16)) (hints - 1)
+
+-- its hint says where it stands, if four bytes can
+abbrev pub IsNoted : (hints : List ℕ) → (number slot : ℕ) → Type 0
+IsNoted hints number slot = slot < 2 ^ 32 → slice_get hints (place_of_hint number (length hints)) ≡ Some slot
 
 -- the visit that is kept as this number, if any is
 abbrev pub visit_kept : ℕ → Option Visit

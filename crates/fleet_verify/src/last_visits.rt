@@ -1,11 +1,11 @@
 //! The last visit of each cell so far, in squares of cells: most moves stay in the square that was looked at last.
 
-ghost use Rattle.std.specs.Prelude.{◌≡◌, ◌≢◌, ◌≤◌, ◌<◌, get_or, Some, None, IfOk, OnOk, true};
+ghost use Rattle.std.specs.Prelude.{◌≡◌, ◌≢◌, ◌≤◌, ◌<◌, ◌^◌, ◌↔◌, ℕ, get_or, Some, None, IfOk, IsOk, IsTrue, OnOk};
 ghost use Rattle.fleet_model.specs.declared.geometry.Cell.{Cell};
 ghost use Rattle.fleet_model.specs.declared.limits.TheConstants.{MAX_AGENTS, MAX_MOVES};
 ghost use Rattle.fleet_model.specs.Program.{IsCell};
 ghost use Rattle.fleet_verify.specs.declared.last_visits.TheConstants.{CELLS, MOST_ROOM, NO_SQUARE, NO_VISIT};
-ghost use Rattle.fleet_verify.specs.Squares.{square_of, place_in_square, visit_kept, last_in, IsSquareAt, IsWritten};
+ghost use Rattle.fleet_verify.specs.Squares.{square_of, place_in_square, place_of_hint, visit_kept, last_in, IsNoted, IsSquareAt, IsWritten};
 
 use fleet_model::{Cell, MAX_AGENTS, MAX_COORDINATE, OutOfMemory, Visit};
 use indexmap::IndexMap;
@@ -197,18 +197,22 @@ fn exchange(square: &mut [u32; CELLS], place: usize, number: u32) -> u32
 /// The place of the hint for this square among so many hints, a power of two. Among few, rows of squares that are eight
 /// apart share places, which are so far apart in them that those of a map 16 squares wide and 32 high differ.
 #[inline(always)]
-fn hint_place(number: u32, hints: usize) -> usize {
+fn hint_place(number: u32, hints: usize) -> usize
+    requires { 1 ≤ hints }
+    ensures place { result ≡ place_of_hint number hints }
+    ensures within { result < hints }
+{
     let row = number / ACROSS;
     let column = number % HINTS_ACROSS;
     let place = (row * HINTS_ACROSS + column) ^ (row / 8 * 16);
-    place as usize & hints.wrapping_sub(1)
+    place as usize & (hints - 1)
 }
 
 /// Whether the square with this number stands there.
 #[inline(always)]
 #[tactic(auto, using(crate::proofs::LastVisits::shown_at))]
 fn stands_at(squares: &IndexMap<u32, [u32; CELLS]>, number: u32, slot: usize) -> bool
-    ensures { result ≡ true → IsSquareAt squares.now number slot }
+    ensures { IsTrue result ↔ IsSquareAt squares.now number slot }
 {
     match squares.get_index(slot) {
         Some((found, _)) => *found == number,
@@ -225,9 +229,12 @@ fn find_square(
 ) -> Result<usize, OutOfMemory>
     ensures at { IfOk result (IsSquareAt squares.new number) }
     ensures same { OnOk result ((c : Cell) → last_in squares.new c ≡ last_in squares.old c) }
+    ensures noted { IfOk result (IsNoted hints.new.items number) }
+    ensures known { (slot : ℕ) → IsNoted hints.old.items number slot → slot < 2 ^ 32
+        → IsSquareAt squares.old number slot → IsOk result }
 {
-    if let Some(&hint) = hints.get(hint_place(number, hints.len())) {
-        let slot = hint as usize;
+    if !hints.is_empty() {
+        let slot = hints[hint_place(number, hints.len())] as usize;
         if stands_at(squares, number, slot) {
             return Ok(slot);
         }
@@ -244,6 +251,7 @@ fn find_anew(
 ) -> Result<usize, OutOfMemory>
     ensures at { IfOk result (IsSquareAt squares.new number) }
     ensures same { OnOk result ((c : Cell) → last_in squares.new c ≡ last_in squares.old c) }
+    ensures noted { IfOk result (IsNoted hints.new.items number) }
 {
     let slot = look_up_square(squares, number)?;
     note_hint(hints, number, slot)?;
@@ -251,7 +259,9 @@ fn find_anew(
 }
 
 /// Notes where the square with this number stands.
-fn note_hint(hints: &mut Vec<u32>, number: u32, slot: usize) -> Result<(), AllocError> {
+fn note_hint(hints: &mut Vec<u32>, number: u32, slot: usize) -> Result<(), AllocError>
+    ensures { OnOk result (IsNoted hints.new.items number slot) }
+{
     let most = if slot < MANY_SQUARES {
         FEW_HINTS
     } else {
@@ -264,9 +274,7 @@ fn note_hint(hints: &mut Vec<u32>, number: u32, slot: usize) -> Result<(), Alloc
         return Ok(());
     };
     let place = hint_place(number, hints.len());
-    if let Some(hint) = hints.get_mut(place) {
-        *hint = slot;
-    }
+    hints[place] = slot;
     Ok(())
 }
 

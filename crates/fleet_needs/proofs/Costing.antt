@@ -1,7 +1,6 @@
 -- The costs of critical paths: that of an action from those of what it directly needs.
 use Rattle.std.proofs.Common.{◌≡◌, ℕ, zero, suc, ◌+◌, ◌*◌, ◌≤◌, List, [], ◌∷◌, refl, ap, sym, subst, arith, inl, inr, ◌⊎◌}
 use Rattle.std.specs.Prelude.{sum_by}
-use Rattle.std.proofs.lemmas.List.Sums.{sum_by-cons}
 use Rattle.fleet_model.specs.declared.program.ActionId.{ActionId}
 use Rattle.fleet_model.specs.Program.{Program, AreInRange}
 use Rattle.fleet_model.specs.Chain.{IsAction, DirectlyNeeds, ChainFrom, IsCriticalCost}
@@ -9,25 +8,9 @@ use Rattle.fleet_model.proofs.Chains.{need_action, ends_alone, ends_dearer}
 use Rattle.fleet_needs.specs.Critical.{IsNotedCost}
 use Rattle.fleet_needs.specs.Settled.{IsFinishedBy}
 use Rattle.fleet_needs.specs.declared.critical.TheConstants.{MAX_COST}
-use Rattle.fleet_needs.proofs.Free.{needs_before, none_started}
+use Rattle.fleet_needs.proofs.Free.{but_last, needs_before, none_started}
 
 module _ (p : Program) (cost : ActionId → ℕ) where
-  -- a chain of more than one action, but for its last
-  pub record ButLast (a : ActionId) (cs : List ActionId) (b : ActionId) : Type 0 where
-    pub before : ActionId
-    pub others : List ActionId
-    pub chain : ChainFrom p a others before
-    pub needs : DirectlyNeeds p b before
-    pub total : sum_by cost (a ∷ cs) ≡ sum_by cost (a ∷ others) + cost b
-
-  pub but_last : (a c : ActionId) (cs : List ActionId) (b : ActionId) → ChainFrom p a (c ∷ cs) b → ButLast a (c ∷ cs) b
-  but_last a c [] b (act, n, (k, e)) =
-      let same : cost c ≡ cost b = ap cost e in
-      record { before = a; others = []; chain = (act, refl); needs = subst (λ (x : ActionId). DirectlyNeeds p x a) e n; total = omega arith }
-  but_last a c (d ∷ cs) b (act, n, k) =
-      let r = but_last c d cs b k in
-      record { before = r.before; others = c ∷ r.others; chain = (act, n, r.chain); needs = r.needs; total = omega (arith, r.total, sum_by-cons cost a (c ∷ d ∷ cs), sum_by-cons cost a (c ∷ r.others)) }
-
   -- no chain that ends with the action costs more
   abbrev pub IsBound : ActionId → ℕ → Type 0
   IsBound b m = (a : ActionId) (cs : List ActionId) → ChainFrom p a cs b → sum_by cost (a ∷ cs) ≤ m
@@ -40,7 +23,7 @@ module _ (p : Program) (cost : ActionId → ℕ) where
       → (a : ActionId) (cs : List ActionId) → ChainFrom p a cs b → sum_by cost (a ∷ cs) ≤ m + cost b
   bound_on b m each a [] h = let e : cost a ≡ cost b = ap cost h.1 in omega arith
   bound_on b m each a (c ∷ cs) h =
-      let r = but_last a c cs b h in omega (arith, r.total, each r.before r.needs a r.others r.chain)
+      let r = but_last p a c cs b h in omega (arith, r.total cost, each r.before r.needs a r.others r.chain)
 
   -- an action has one such cost
   pub one_cost : (b : ActionId) (m n : ℕ) → IsCriticalCost p cost b m → IsCriticalCost p cost b n → m ≡ n

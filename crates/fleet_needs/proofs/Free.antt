@@ -1,17 +1,17 @@
 -- The run without holds, and the ticks that finish its actions.
-use Rattle.std.proofs.Common.{◌≡◌, ℕ, zero, suc, ◌+◌, ◌<◌, ◌≤◌, Bool, true, false, List, [], ◌∷◌, length, Contains, refl, ap, subst, ◌∙◌, arith, inl, inr, ◌⊎◌, replicate, take, get_or, sym, add-one, ◌&&◌, not, leb-true}
+use Rattle.std.proofs.Common.{◌≡◌, ℕ, zero, suc, ◌+◌, ◌<◌, ◌≤◌, Bool, true, false, List, [], ◌∷◌, length, Contains, refl, ap, subst, ◌∙◌, arith, inl, inr, replicate, take, get_or, sym, add-one, ◌&&◌, not, leb-true}
 use Rattle.std.proofs.lemmas.Bool.{cases_lt}
 use Rattle.fleet_model.specs.declared.program.ActionId.{ActionId}
 use Rattle.fleet_model.specs.declared.standing.Standing.{Standing}
 use Rattle.fleet_model.specs.Program.{Program, moves, awaits_of, AreInRange}
 use Rattle.fleet_model.specs.Machine.{run, is_held, is_ready, count_at, Configuration, is_finished, tick, is_moving, indices}
-use Rattle.fleet_model.specs.Chain.{IsAction, DirectlyNeeds, ChainFrom, Reaches, EndsChain, IsLevel}
+use Rattle.fleet_model.specs.Chain.{IsAction, DirectlyNeeds, ChainFrom, Reaches, EndsChain, IsLevel, unit_cost}
 use Rattle.fleet_model.proofs.Tick.{ready_met, unready_waits, standing_at_tick, standing_at_opening, free_moves, other_stays, ready_left, tick_agree}
-use Rattle.fleet_model.proofs.Chains.{Reaches-kept, chain_last, ends_by, ends_long, ends_one, ends_more}
+use Rattle.fleet_model.proofs.Chains.{Reaches-kept, chain_last, ends_one, ends_more}
 use Rattle.std.proofs.lemmas.List.{take-replicate, get_or-replicate, get_or_past, length-replicate}
 use Rattle.std.proofs.lemmas.List.FromFn.{get_or-map-range_with_len, get_or-range_with_len, length-range_with_len}
-use Rattle.std.specs.Prelude.{nat_le}
-use Rattle.std.proofs.lemmas.List.Sums.{AllPass-from_list_all}
+use Rattle.std.specs.Prelude.{nat_le, sum_by}
+use Rattle.std.proofs.lemmas.List.Sums.{AllPass-from_list_all, sum_by-cons}
 use Rattle.fleet_machine.specs.Machine.{MachineState, Runs, flag_of, moving_flags}
 use Rattle.fleet_machine.specs.AgentSet.{IsNextFrom, AreNoneFrom}
 use Rattle.fleet_needs.specs.Order.{IsTicked, IsNextReady, AreNoneReady}
@@ -79,35 +79,33 @@ module _ (p : Program) where
 
   -- ---- levels
 
-  -- a chain without its last action
-  record Shorter (a : ActionId) (cs : List ActionId) (b : ActionId) : Type 0 where
-    last : ActionId
-    between : List ActionId
-    chain : ChainFrom p a between last
-    needs : DirectlyNeeds p b last
-    long : length cs ≡ length between + 1
+  -- a chain of more than one action, but for its last
+  pub record ButLast (a : ActionId) (cs : List ActionId) (b : ActionId) : Type 0 where
+    pub before : ActionId
+    pub others : List ActionId
+    pub chain : ChainFrom p a others before
+    pub needs : DirectlyNeeds p b before
+    pub total : (cost : ActionId → ℕ) → sum_by cost (a ∷ cs) ≡ sum_by cost (a ∷ others) + cost b
 
-  shorter : (a : ActionId) (cs : List ActionId) (b : ActionId) → ChainFrom p a cs b → ((a ≡ b) × (length cs ≡ 0)) ⊎ Shorter a cs b
-  shorter a [] b (h, e) = inl (e, refl)
-  shorter a (c ∷ cs) b (h, n, k) = elim (shorter c cs b k) [
-    | inl (e, z) ↦ inr (record { last = a; between = []; chain = (h, refl); needs = subst (λ x. DirectlyNeeds p x a) e n; long = omega arith })
-    | inr s ↦ inr (record { last = s.last; between = c ∷ s.between; chain = (h, n, s.chain); needs = s.needs; long = (let l : length cs ≡ length s.between + 1 = s.long in omega arith) })
-  ]
+  pub but_last : (a c : ActionId) (cs : List ActionId) (b : ActionId) → ChainFrom p a (c ∷ cs) b → ButLast a (c ∷ cs) b
+  but_last a c [] b (act, n, (k, e)) =
+      record { before = a; others = []; chain = (act, refl); needs = subst (λ (x : ActionId). DirectlyNeeds p x a) e n; total = λ cost. (let same : cost c ≡ cost b = ap cost e in omega arith) }
+  but_last a c (d ∷ cs) b (act, n, k) =
+      let r = but_last c d cs b k in
+      record { before = r.before; others = c ∷ r.others; chain = (act, n, r.chain); needs = r.needs; total = λ cost. omega (arith, r.total cost, sum_by-cons cost a (c ∷ d ∷ cs), sum_by-cons cost a (c ∷ r.others)) }
 
   -- no tick finishes two actions of a chain
   ends_in_time : (t n : ℕ) (b : ActionId) → EndsChain p n b → IsAction p b → b.number ≤ count t b.agent → n ≤ t
   ends_in_time zero n b h k done = absurd (omega (arith, k.first, count_start b.agent))
   ends_in_time (suc t) n b h k done = elim (cases_lt (count t b.agent) b.number) [
     | inr g ↦ omega (arith, ends_in_time t n b h k g)
-    | inl l ↦ elim (shorter h.0 h.1 b h.2) [
-      | inl (e, z) ↦ omega (arith, ends_long p n b h)
-      | inr s ↦
-          let before : s.last.number ≤ count t s.last.agent = needs_done t b s.last k l done s.needs in
-          let up : length s.between + 1 ≤ t = ends_in_time t (length s.between + 1) s.last (ends_by p (length s.between + 1) h.0 s.between s.last s.chain refl) (chain_last p h.0 s.between s.last s.chain) before in
-          let long : length h.1 ≡ length s.between + 1 = s.long in
-          let all : n ≡ length h.1 + 1 = ends_long p n b h in
-          omega arith
-    ]
+    | inl l ↦ elim h.1 as (λ cs. ChainFrom p h.0 cs b → n ≡ sum_by unit_cost (h.0 ∷ cs) → n ≤ suc t) [
+      | [] ↦ λ chain e. omega (arith, e, sum_by-cons unit_cost h.0 [])
+      | c ∷ cs ↦ λ chain e.
+          let s = but_last h.0 c cs b chain in
+          let before = needs_done t b s.before k l done s.needs in
+          omega (arith, e, s.total unit_cost, ends_in_time t (sum_by unit_cost (h.0 ∷ s.others)) s.before (h.0, s.others, s.chain, refl) (chain_last p h.0 s.others s.before s.chain) before)
+    ] h.2 h.3
   ]
 
   -- an unfinished action directly needs one that was unfinished a tick before

@@ -15,7 +15,8 @@ use Rattle.fleet_model.specs.Chain.{IsAction, DirectlyNeeds, ChainFrom, Reaches,
 use Rattle.fleet_model.specs.Machine.{indices}
 use Rattle.fleet_model.specs.Schedule.{Schedule, IsSchedule, HasBegunBy, HasEndedBy, NeedsNoStalled}
 use Rattle.fleet_model.proofs.Chains.{chain_first, chain_last, chain_join, own_reach, Reaches-trans, ends_dearer, need_action, Reaches-need, Reaches-refl}
-use Rattle.fleet_needs.proofs.Costing.{but_last, one_cost, own_cost}
+use Rattle.fleet_needs.proofs.Costing.{one_cost, own_cost}
+use Rattle.fleet_needs.proofs.Free.{but_last}
 use Rattle.fleet_verify.proofs.Timed.{ends_in_time, needs_unended, by_or_not}
 use Rattle.fleet_needs.specs.Critical.{critical_cost}
 use Rattle.fleet_verify.specs.Ahead.{level_in}
@@ -128,12 +129,12 @@ some_before p cost cost_of b m h = go h.some.0 h.some.1 h.some.2 h.some.3
         → (m ≡ cost b) ⊎ ((a : ActionId) × IsAction p a × DirectlyNeeds p b a × IsCriticalCost p cost a (m - cost b) × (cost b ≤ m))
     go x [] chain e = let same : cost x ≡ cost b = ap cost chain.1 in inl (omega (arith, e, sum_by-cons cost x [], same))
     go x (c ∷ cs) chain e =
-        let r = but_last p cost x c cs b chain in
+        let r = but_last p x c cs b chain in
         let act : IsAction p r.before = chain_last p x r.others r.before r.chain in
         let y = cost_of r.before act in
         let low = y.1.most (sum_by cost (x ∷ r.others)) (x, r.others, r.chain, refl) in
         let high = h.most (y.0 + cost b) (ends_dearer p cost y.0 r.before b y.1.some (chain_last p x (c ∷ cs) b chain) r.needs) in
-        let same : y.0 ≡ m - cost b = omega (arith, e, r.total, low, high) in
+        let same : y.0 ≡ m - cost b = omega (arith, e, r.total cost, low, high) in
         inr (r.before, act, r.needs, subst (IsCriticalCost p cost r.before) same y.1, omega (arith, high))
 
 -- ---- what broken actions stop

@@ -17,7 +17,7 @@ use Rattle.fleet_plan.specs.declared.plan_fault.Conflict.TheVariants.{Vertex, Sw
 use Rattle.fleet_plan.specs.Plan.{Plan, cell_of, motion_of, steps, IsPath}
 use Rattle.fleet_plan.specs.FirstFault.{GoesRight, path_of, HasConflict, HasNoConflict, time_of, IsKindUpTo, IsConflictUpTo, IsFirstConflict}
 use Rattle.fleet_plan.specs.Rings.{NamesAgents, ahead_of, walk_of, Leads, IsOnRing, IsLeastOnRing}
-use Rattle.fleet_plan.specs.Sweep.{StandOnMap, StandOnPlaces, Meet, IsFirstMeeting, IsAhead, AreAhead, Exchange, IsFirstExchange, HasNoMeeting, HasNoExchange, IsFirstIn, IsFreeIn, IsEntered, IsAgentSettled, NamesMovers, IsSweep, IsSwept, SweepRows, HasComeTo, HaveArrived}
+use Rattle.fleet_plan.specs.Sweep.{StandOnMap, StandOnPlaces, Meet, IsFirstMeeting, IsAhead, AreAhead, Exchange, IsFirstExchange, HasNoMeeting, HasNoExchange, IsFirstIn, IsFreeIn, IsEntered, IsAgentSettled, NamesMovers, IsSweep, IsSwept, SweepRows, AreFresh, HasComeTo, HaveArrived}
 use Rattle.fleet_plan.specs.UnderWay.{IsSoForOthers, Covers}
 use Rattle.fleet_plan.proofs.RingLaws.{some_is, none_is_not, shortened, each_ahead, each_reached, ends_with, each_on_ring, ring-reaches}
 use Rattle.fleet_plan.proofs.PathLaws.{at_past}
@@ -422,6 +422,19 @@ pub come_on : (g : Ground) (plan : Plan) (t : ℕ) (old new : SweepRows) → IsS
 come_on g plan t old new s a = record {
   fits = a.fits;
   swept = swept_on g plan new.table new.places new.next new.ahead new.walks new.agents t (subst (λ z. IsSweep g plan z t) (sym a.next) s) (a.fits.places ∙ sym a.fits.next) a.entered a.settled a.covers;
+}
+
+-- the sweep begins
+pub come_first : (g : Ground) (plan : Plan) (table : Table ℕ) (places : List ℕ) (rows : SweepRows) → AreFresh plan rows → StandOnPlaces g plan 0 places → IsEntered table places
+    → HasComeTo g plan 0 (record { table = table; places = places; next = places; ahead = rows.ahead; walks = rows.walks; agents = rows.agents })
+come_first g plan table places rows fresh here entered = record {
+  fits = record { places = here.all; next = here.all; ahead = fresh.fits.ahead; walks = fresh.fits.walks };
+  swept = record {
+    sweep = record { here = here; earlier = λ d h. omega arith };
+    entered = entered;
+    settled = λ i l. record { same = refl; nobody = fresh.nobody i; unwalked = fresh.unwalked i };
+    covers = fresh.covers;
+  };
 }
 
 -- the rows may be told as slices

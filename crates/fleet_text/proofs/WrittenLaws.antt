@@ -5,7 +5,7 @@ use Rattle.std.specs.List.{AllByRecursion, slice_split, flat_map, onto_first, jo
 use Rattle.std.specs.Str.Lines.{strip_carriage_return}
 use Rattle.std.proofs.lemmas.Bool.{cases_Bool, ne_eqb, le-leb, lt-ltb}
 use Rattle.std.proofs.lemmas.Fmt.{decimal_by_steps}
-use Rattle.std.proofs.lemmas.List.{append-nil, length-append, take_more}
+use Rattle.std.proofs.lemmas.List.{append-nil, flat_map_more, length-append, take_more}
 use Rattle.fleet_text.specs.Text.{Bytes, is_blank, is_word, starts_blank, is_digit, ended_lines, lines, words, words_from_front, number_after, number, small_number}
 use Rattle.fleet_text.specs.Words.{ended_text}
 use Rattle.fleet_text.specs.declared.numbers.TheConstants.{TOO_LARGE}
@@ -15,6 +15,14 @@ use Rattle.fleet_text.specs.declared.numbers.TheConstants.{TOO_LARGE}
 -- the texts, each with a space after it
 abbrev pub each_spaced : {X : Type 0} → (X → Bytes) → List X → Bytes
 each_spaced text xs = flat_map (λ x. text x ++ 32 ∷ []) xs
+
+-- one text more
+pub spaced_more :
+    {X : Type 0} (text : X → Bytes) (before front all : Bytes) (xs : List X) (i : ℕ) (d : X) → i < length xs → front ≡ before ++ each_spaced text (take i xs)
+    → all ≡ front ++ text (get_or xs i d) ++ 32 ∷ [] → all ≡ before ++ each_spaced text (take (i + 1) xs)
+spaced_more text before front all xs i d below e f =
+    f ∙ append_assoc front (text (get_or xs i d)) (32 ∷ []) ∙ ap (λ (t : Bytes). t ++ (text (get_or xs i d) ++ 32 ∷ [])) e
+    ∙ flat_map_more (λ x. text x ++ 32 ∷ []) before (take i xs) (get_or xs i d) ∙ ap (λ (ys : List _). before ++ each_spaced text ys) (sym (take_more xs i d below))
 
 -- those before the last, and the last one
 join_last : {X : Type 0} (text : X → Bytes) (xs : List X) (last : X) → join_with_byte 32 (map text (xs ++ last ∷ [])) ≡ each_spaced text xs ++ text last

@@ -3,7 +3,7 @@ use Rattle.std.proofs.Common.{◌≡◌, ◌≢◌, ℕ, zero, suc, ◌+◌, ◌
 use Rattle.std.specs.Prelude.{Vec, set}
 use Rattle.std.specs.declared.alloc.Global.{Global}
 use Rattle.std.proofs.lemmas.Bool.{cases_eq, cases_lt}
-use Rattle.std.proofs.lemmas.List.{map-append, get_or_past, get_or_push, get_or_append_left, length-map}
+use Rattle.std.proofs.lemmas.List.{map-append, get_or_past, get_or_push, get_or_append_left, length-append, length-map}
 use Rattle.fleet_grid.specs.declared.lists.Key.{Key}
 use Rattle.fleet_grid.specs.Table.{items_at}
 use Rattle.fleet_grid.specs.Lists.{list_at, number_at, list_numbered, list_of, lists_by_key, HaveOwnLists, IsNumbered, IsChangedBy}
@@ -155,6 +155,12 @@ module _ {V : Type 0} (numbers : List (Vec ℕ Global)) (lists : List (Vec V Glo
   pub added-unused : (new : List (Vec ℕ Global)) → ((k : Key) → number_at new k ≡ number_at numbers k) → (k : Key) → list_of new (lists ++ w ∷ []) k ≡ list_of numbers lists k
   added-unused new same k = ap (list_numbered (lists ++ w ∷ [])) (same k) ∙ numbered-before lists (number_at numbers k) w (own.few k)
 
+  pub own-unused : (new : List (Vec ℕ Global)) → ((k : Key) → number_at new k ≡ number_at numbers k) → HaveOwnLists new (lists ++ w ∷ [])
+  own-unused new same = record {
+    few = λ k. (let f = own.few k in omega (arith, same k, length-append lists (w ∷ [])));
+    apart = λ k l ne e. same k ∙ own.apart k l ne (sym (same k) ∙ e ∙ same l);
+  }
+
   module _ (key : Key) (before : number_at numbers key ≡ 0) (new : List (Vec ℕ Global)) (put : IsNumbered numbers new key (length lists + 1)) where
     -- which the key has
     pub added-begun : (k : Key) → list_of new (lists ++ w ∷ []) k ≡ list_of numbers lists k
@@ -167,6 +173,21 @@ module _ {V : Type 0} (numbers : List (Vec ℕ Global)) (lists : List (Vec V Glo
           ∙ sym (numbered-none lists)
           ∙ ap (list_numbered lists) (sym (ap (number_at numbers) s ∙ before))
     ]
+
+    pub own-begun : HaveOwnLists new (lists ++ w ∷ [])
+    own-begun = record {
+      few = λ k. elim (key_cases k key) [
+        | inr ne ↦ (let f = own.few k in omega (arith, put.others k ne, length-append lists (w ∷ [])))
+        | inl s ↦ (let e = ap (number_at new) s ∙ put.here in omega (arith, length-append lists (w ∷ [])))
+      ];
+      apart = λ k l ne e. elim (key_cases k key) [
+        | inl s ↦ absurd (let f = own.few l in let n = ap (number_at new) s ∙ put.here in let o = put.others l (λ z. ne (s ∙ sym z)) in omega arith)
+        | inr a ↦ elim (key_cases l key) [
+          | inl s ↦ absurd (let f = own.few k in let n = ap (number_at new) s ∙ put.here in let o = put.others k a in omega arith)
+          | inr b ↦ put.others k a ∙ own.apart k l ne (sym (put.others k a) ∙ e ∙ put.others l b)
+        ]
+      ];
+    }
 
 -- a list is exchanged
 module _ {V : Type 0} (numbers : List (Vec ℕ Global)) (lists : List (Vec V Global)) (own : HaveOwnLists numbers lists) (key : Key) (place : ℕ) (v w : Vec V Global) (n : number_at numbers key ≡ place + 1) (l : place < length lists) (e : v ≡ get_or lists place v) where

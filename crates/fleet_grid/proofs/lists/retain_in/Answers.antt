@@ -17,3 +17,13 @@ returns-clause-kept g c = λ test h k.
     let now = c.loop-list.list-items in
     let n : length now ≡ row.len = omega (arith, c.loop-list.auto.list-items, ap length c.deref_mut-list-items.ensures.value, row.ok.0) in
     ap (λ z. items_at z k) (with_items_is row now n) ∙ changed-all (filter test) c.deref_mut-list-items.result.now now c.loop-list.list-index (c.loop-list.invariant test h) (omega (arith, c.loop-list.auto.list-items)) refl k ∙ ap (λ z. filter test (items_at z k)) c.deref_mut-list-items.ensures.value
+
+pub loop-list-init : goal.loop-list-init
+loop-list-init g c = λ test h. record { done = λ k m. absurd (omega arith); left = λ k m. refl }
+
+pub returns-clause-len : goal.returns-clause-len
+returns-clause-len g c =
+    let row = c.args.lists.now in
+    let now = c.loop-list.list-items in
+    let n : length now ≡ row.len = omega (arith, c.loop-list.auto.list-items, ap length c.deref_mut-list-items.ensures.value, row.ok.0) in
+    rw (with_items_is row now n) (omega (arith, row.ok.0))

@@ -1,6 +1,7 @@
-use Rattle.std.proofs.Common.{◌≤◌, ◌==◌, not, get_or, ap, sym}
+use Rattle.std.proofs.Common.{◌≤◌, ◌==◌, ◌++◌, ◌∙◌, not, filter, get_or, ap, sym}
 use Rattle.std.proofs.lemmas.Bool.{ne_eqb, eq-eqb}
-use Rattle.std.proofs.lemmas.List.{get_or_default, append-nil}
+use Rattle.std.proofs.lemmas.List.{get_or_default, take_all, append-nil}
+use Rattle.std.specs.List.{flat_map}
 use Rattle.fleet_model.specs.declared.program.Await.{Await}
 use Rattle.fleet_code.specs.Spelling.{most_count, await}
 use Rattle.fleet_code.proofs.Written.{passing_holds, passed_more}
@@ -25,3 +26,8 @@ loop-one-preserved c =
       | then-one-own+in_ok-put_await w ↦ more (rw (w.out-is, ap not (ne_eqb one.agent c.args.own w.if-one-own.true)) w.in_ok-put_await.ensures)
       | else-one-own w ↦ more (rw (w.out-is, ap not (eq-eqb one.agent c.args.own w.if-one-own.false)) (sym (append-nil c.loop-one.out.items)))
     ]
+
+pub returns : goal.returns
+returns c =
+    let front = c.args.out.now.items in
+    c.loop-one.invariant ∙ ap (λ awaits. front ++ flat_map (await c.args.version) (filter (λ (w : Await). not (w.agent == c.args.own)) awaits)) (take_all c.loop-one.one-index c.args.awaits.now c.loop-one-test.false)

@@ -46,7 +46,6 @@ struct Turn {
 }
 
 /// The same paths.
-#[tactic(auto, using(crate::proofs::BestLaws::copied_more))]
 fn copy_paths(alloc: Global, paths: &[Path]) -> Result<Vec<Path>, OutOfMemory>
     ensures { IfOk result (λ copy. copy.items ≡ paths.now) }
 {

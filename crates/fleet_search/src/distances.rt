@@ -204,7 +204,6 @@ impl<'g> Distances<'g> {
 
     /// Labels the cell whose label stands there with so many moves.
     #[inline(always)]
-    #[tactic(auto, using(crate::proofs::Spread::ready_set))]
     fn set_label(&mut self, place: usize, distance: u16)
         requires { place < length self.old.labels }
         ensures { self.new ≡ with_label self.old place distance }

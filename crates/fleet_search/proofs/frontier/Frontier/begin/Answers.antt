@@ -1,11 +1,13 @@
-use Rattle.std.proofs.Common.{[], ◌∷◌, ◌++◌, length, ap, ◌∙◌, subst, arith}
+use Rattle.std.proofs.Common.{[], ◌∷◌, ◌++◌, length, sym, ap, ◌∙◌, subst, arith}
 use Rattle.fleet_search.proofs.Spread.{on_map}
 use Rattle.fleet_search.specs.declared.frontier.Node.{Node}
 use Rattle.fleet_search.specs.Labels.{earliest_in, IsLabelSet}
 use Rattle.fleet_search.specs.Rows.{IsPut}
 use Rattle.fleet_search.specs.Intervals.{AreBegun}
+use Rattle.fleet_search.specs.Occupancies.{AreInOrder}
 use Rattle.fleet_search.specs.Search.{occupancies_on}
-use Rattle.fleet_search.proofs.IntervalLaws.{begun-point, free-interval}
+use Rattle.fleet_search.proofs.ReservationTables.{AreInOrder-occupancies}
+use Rattle.fleet_search.proofs.IntervalLaws.{begun-point, few-occupancies, free-interval}
 use Rattle.fleet_search.proofs.SearchSteps.{opening}
 use Rattle.fleet_search.proofs.frontier.Frontier.begin.Goals as goal
 
@@ -33,3 +35,14 @@ heuristic-requires-clause-cell c = c.requires.asked.on_ground
 
 pub heuristic-requires-clause-measured : goal.heuristic-requires-clause-measured
 heuristic-requires-clause-measured c = c.requires.asked.measured
+
+pub count_begun-interval-requires : goal.count_begun-interval-requires
+count_begun-interval-requires c =
+    let q = c.args.query.now in
+    subst AreInOrder (sym c.occupancies.ensures) (AreInOrder-occupancies q.reserved.now q.start _ (c.requires.asked.measured.occupancies q.start))
+
+pub add-requires-clause-interval : goal.add-requires-clause-interval
+add-requires-clause-interval c =
+    let q = c.args.query.now in
+    let few = few-occupancies q.reserved.now q.start (occupancies_on q q.start) (c.requires.asked.measured.occupancies q.start) in
+    omega (arith, c.count_begun-interval.ensures.bound, ap length c.occupancies.ensures)

@@ -1,7 +1,11 @@
 -- Actions of one byte each.
-use Rattle.std.proofs.Common.{◌≡◌, ℕ, zero, suc, ◌+◌, ◌≤◌, List, [], ◌∷◌, length, take, drop, All, Some, Ok, refl, sym, ap, subst, arith}
-use Rattle.std.specs.List.{range_with_len}
-use Rattle.std.proofs.lemmas.List.Elements.{All-head, All-tail}
+use Rattle.std.proofs.Common.{◌≡◌, ℕ, zero, suc, ◌+◌, ◌≤◌, ◌↔◌, true, false, ltb, List, [], ◌∷◌, length, get_or, take, drop, All, Option, Some, None, Ok, refl, sym, ap, subst, arith, inl, inr}
+use Rattle.std.specs.Prelude.{IsTrue, is_none, position}
+use Rattle.std.specs.List.{range_with_len, position_or_len}
+use Rattle.std.proofs.lemmas.Bool.{cases_Bool, ltb-true, ltb-false}
+use Rattle.std.proofs.lemmas.List.Elements.{All-nil, All-cons, All-get_or, All-head, All-tail}
+use Rattle.std.proofs.lemmas.List.Quantifiers.{position-Some}
+use Rattle.fleet_text.proofs.TextLaws.{found_nowhere}
 use Rattle.fleet_model.specs.declared.geometry.Step.{Step}
 use Rattle.fleet_model.specs.declared.geometry.Step.TheVariants.{Go, Dwell}
 use Rattle.fleet_model.specs.declared.geometry.Dir.TheVariants.{North, East, South, West}
@@ -26,6 +30,23 @@ step_there v (suc (suc zero)) le = (Go South, refl)
 step_there v (suc (suc (suc zero))) le = (Go West, refl)
 step_there v (suc (suc (suc (suc zero)))) le = stay_there v le
 step_there v (suc (suc (suc (suc (suc b))))) le = absurd (past_steps v b (omega (arith, le)))
+
+all_below : (k : ℕ) (xs : List ℕ) → length xs ≤ position_or_len (λ b. ltb k b) xs → All (λ b. b ≤ k) xs
+all_below k [] past = All-nil (λ (b : ℕ). b ≤ k)
+all_below k (x ∷ xs) past =
+    elim (cases_Bool (ltb k x)) [
+      | inl t ↦ absurd (let h = rw t at past in omega (arith, h))
+      | inr t ↦ (let h = rw t at past in All-cons (λ (b : ℕ). b ≤ k) x xs (ltb-false k x t) (all_below k xs (omega (arith, h))))
+    ]
+
+-- no byte is above the greatest opcode if none is found that is
+pub none_above : (k : ℕ) (xs : List ℕ) (o : Option ℕ) → o ≡ position (λ b. ltb k b) xs → IsTrue (is_none o) ↔ All (λ b. b ≤ k) xs
+none_above k xs None e = ((λ _. all_below k xs (found_nowhere (λ (b : ℕ). ltb k b) xs (sym e))), (λ _. refl))
+none_above k xs (Some i) e =
+    let f = position-Some (λ (b : ℕ). ltb k b) xs i 0 (sym e) in (
+      (λ t. absurd (let g : false ≡ true = t in cc)),
+      (λ steps. absurd (omega (arith, ltb-true k (get_or xs i 0) f.1, All-get_or (λ (b : ℕ). b ≤ k) xs i 0 f.0 steps))),
+    )
 
 bare_action : (v : Version) (turns whole n i b : ℕ) (rest : List ℕ) (s : Step) → step_at v b ≡ Some s → action_at v (suc turns) whole n i 0 (b ∷ rest) ≡ Ok (record { step = s; awaits = [] }, rest)
 unfolding action_at

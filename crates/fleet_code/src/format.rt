@@ -23,7 +23,7 @@ pub const AWAIT: u8 = 0x10;
 pub const LAST_MOVE: u8 = 3;
 
 /// The opcode of a stay.
-const DWELL: u8 = 4;
+pub const DWELL: u8 = 4;
 
 /// How many bytes stand before the first agent: the magic and the number of agents.
 pub const HEAD_LEN: usize = 6;
@@ -48,7 +48,7 @@ pub enum Version {
 impl Version {
     ghost use Rattle.std.specs.Prelude.{◌≡◌};
     ghost use Rattle.fleet_code.specs.Spelling.{magic, count_len, most_moves};
-    ghost use Rattle.fleet_code.specs.Offsets.{head_len, await_len, last_step};
+    ghost use Rattle.fleet_code.specs.Offsets.{head_len, await_len};
 
     /// What the bytes begin with.
     pub fn magic(self) -> &'static [u8]
@@ -77,16 +77,6 @@ impl Version {
         match self {
             Version::One => MAX_MOVES_V1,
             Version::Two => MAX_MOVES,
-        }
-    }
-
-    /// The greatest opcode of a step.
-    pub fn last_step(self) -> u8
-        ensures { result ≡ last_step self }
-    {
-        match self {
-            Version::One => LAST_MOVE,
-            Version::Two => DWELL,
         }
     }
 

@@ -6,15 +6,17 @@ ghost use Rattle.fleet_model.specs.declared.program.Action.{Action};
 ghost use Rattle.fleet_code.specs.Spelling.{action, agent};
 ghost use Rattle.fleet_code.specs.Heads.{head_at, agent_head_at};
 ghost use Rattle.fleet_code.specs.Reading.{action_at, actions_at, agent_at, agents_at, program_as};
-ghost use Rattle.fleet_code.specs.Offsets.{Finds, AreBare, head_len, opcodes, ends_of, part_of, parts_of, IsEvenFrom};
+ghost use Rattle.fleet_code.specs.Offsets.{Finds, last_step, is_no_move, is_no_step, AreBare, head_len, opcodes, ends_of, part_of, parts_of, IsEvenFrom};
 ghost use Rattle.std.specs.List.{range_with_len};
 
 use crate::fault::LoadFault;
-use crate::format::{AWAIT, HEAD_LEN, LAST_MOVE, LEAST_AGENT_LEN, Version, step_of};
+use crate::format::{AWAIT, DWELL, HEAD_LEN, LAST_MOVE, LEAST_AGENT_LEN, Version, step_of};
 use crate::loader::{after_magic, await_of, cell_of, count_of, number_of};
 use fleet_model::{Cell, MAX_AGENTS, MAX_MOVES, MAX_MOVES_IN_ALL, OutOfMemory};
+use fleet_text::{ByteClass, first_of};
 use std::alloc::Global;
 use std::marker::Model;
+use std::simd::prelude::*;
 
 /// Where the actions of an agent stand in the bytes of a program.
 #[derive(Drop)]
@@ -196,13 +198,52 @@ fn actions_after(
     Ok((offsets, rest))
 }
 
+/// The bytes that are no move.
+struct NoMove;
+
+impl ByteClass for NoMove {
+    ghost test = { is_no_move };
+
+    fn has(byte: u8) -> bool {
+        byte > LAST_MOVE
+    }
+
+    fn mask(block: u8x64) -> u64 {
+        block.simd_gt(u8x64::splat(LAST_MOVE)).to_bitmask()
+    }
+}
+
+/// The bytes that are neither a move nor a stay.
+struct NoStep;
+
+impl ByteClass for NoStep {
+    ghost test = { is_no_step };
+
+    fn has(byte: u8) -> bool {
+        byte > DWELL
+    }
+
+    fn mask(block: u8x64) -> u64 {
+        block.simd_gt(u8x64::splat(DWELL)).to_bitmask()
+    }
+}
+
+/// Whether each byte is a step.
+fn are_steps(version: Version, actions: &[u8]) -> bool
+    ensures { IsTrue result ↔ All (λ b. b ≤ last_step version) actions.now }
+{
+    match version {
+        Version::One => matches!(first_of::<NoMove>(actions), None),
+        Version::Two => matches!(first_of::<NoStep>(actions), None),
+    }
+}
+
 /// Whether each of the next `count` bytes is there and a step.
 fn are_bare(version: Version, count: u32, bytes: &[u8]) -> bool
     ensures { IsTrue result ↔ AreBare version count bytes.now }
 {
-    let last = version.last_step();
     match bytes.get(..count as usize) {
-        Some(actions) => actions.iter().all(|&opcode| opcode <= last),
+        Some(actions) => are_steps(version, actions),
         None => false,
     }
 }

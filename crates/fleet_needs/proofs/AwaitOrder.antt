@@ -28,6 +28,14 @@ await_below awaits rising k m v w at there l =
     agent_at : (m : ℕ) (x : Await) → slice_get awaits m ≡ Some x → get_or (map (λ (y : Await). y.agent) awaits) m 0 ≡ x.agent
     agent_at m x e = get_or-map (λ (y : Await). y.agent) awaits m x 0 (slice_get_within awaits m x e) ∙ ap (λ (y : Await). y.agent) (get_or_from_slice_get awaits m x x e)
 
+-- so no two are of one agent
+pub other_agent : (awaits : List Await) → IsStrictlyIncreasing (map (λ w. w.agent) awaits) → (k m : ℕ) (v w : Await) → slice_get awaits k ≡ Some v → slice_get awaits m ≡ Some w → k ≢ m → v.agent ≢ w.agent
+other_agent awaits rising k m v w at there ne same = elim (cases_order k m) [
+  | inl e ↦ ne e
+  | inr (inl l) ↦ (let less : v.agent < w.agent = await_below awaits rising k m v w at there l in omega arith)
+  | inr (inr l) ↦ (let less : w.agent < v.agent = await_below awaits rising m k w v there at l in omega arith)
+]
+
 -- ---- the awaits of one action stand beside those of another
 
 -- the awaits of the first n actions of agent i

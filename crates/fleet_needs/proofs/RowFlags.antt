@@ -1,7 +1,7 @@
 -- An await is implied if its count is no more than that of all that the action needs beside it.
-use Rattle.std.proofs.Common.{◌≡◌, ℕ, ◌+◌, ◌-◌, ◌<◌, ◌≤◌, List, length, refl, sym, ap, subst, ◌∙◌, arith, inl, inr, ◌⊎◌}
+use Rattle.std.proofs.Common.{◌≡◌, ◌≢◌, ℕ, ◌+◌, ◌-◌, ◌≤◌, length, refl, sym, ap, subst, ◌∙◌, arith, inl, inr, ◌⊎◌}
 use Rattle.std.specs.Prelude.{Contains, slice_get, Some, nat_le}
-use Rattle.std.proofs.lemmas.Bool.{cases_order, leb-true, le-leb}
+use Rattle.std.proofs.lemmas.Bool.{cases_eq, leb-true, le-leb}
 use Rattle.std.proofs.lemmas.Option.{slice_get-get_or, get_or_from_slice_get, same_Some}
 use Rattle.fleet_model.specs.declared.program.ActionId.{ActionId}
 use Rattle.fleet_model.specs.declared.program.Await.{Await}
@@ -10,15 +10,7 @@ use Rattle.fleet_model.specs.Chain.{Reaches, awaited}
 use Rattle.fleet_model.proofs.Chains.{Reaches-last}
 use Rattle.fleet_needs.specs.Rows.{action_before, ByOneOf, IsJoined, OfOthers}
 use Rattle.fleet_needs.specs.Implied.{IsImplied, IsImpliedFlag}
-use Rattle.fleet_needs.proofs.AwaitOrder.{await_below}
-
--- no two awaits of an action are of one agent
-same_await : (n i : ℕ) (awaits : List Await) → AreAwaits n i awaits → (k m : ℕ) (v w : Await) → slice_get awaits k ≡ Some v → slice_get awaits m ≡ Some w → v.agent ≡ w.agent → v ≡ w
-same_await n i awaits h k m v w at there same = elim (cases_order k m) [
-  | inl e ↦ same_Some v w (sym at ∙ ap (slice_get awaits) e ∙ there)
-  | inr (inl l) ↦ absurd (let less : v.agent < w.agent = await_below awaits h.rising k m v w at there l in omega arith)
-  | inr (inr l) ↦ absurd (let less : w.agent < v.agent = await_below awaits h.rising m k w v there at l in omega arith)
-]
+use Rattle.fleet_needs.proofs.AwaitOrder.{other_agent}
 
 -- an await of an action is implied if what it awaits is reached through the action before, or through another await
 module _ (p : Program) (range : AreInRange p) (a : ActionId) (w : Await) (known : Contains (awaits_of p a.agent a.number) w) (rising : AreAwaits (length p) a.agent (awaits_of p a.agent a.number)) where
@@ -40,7 +32,11 @@ module _ (p : Program) (range : AreInRange p) (a : ActionId) (w : Await) (known 
       let v : Await = record { agent = x.agent; count = x.number } in
       let at : slice_get (awaits_of p a.agent a.number) m ≡ Some v = slice_get-get_or (awaits_of p a.agent a.number) m v l ∙ ap Some e in
       let there : slice_get (awaits_of p a.agent a.number) known.0 ≡ Some w = slice_get-get_or (awaits_of p a.agent a.number) known.0 w known.1 ∙ ap Some known.2 in
-      inr (record { place = m; await = v; this = (l, λ same. apart (ap awaited (same_await (length p) a.agent (awaits_of p a.agent a.number) rising m known.0 v w at there same))); at = at; reaches = r })
+      let other : v.agent ≢ w.agent = elim (cases_eq m known.0) [
+        | inl same ↦ absurd (apart (ap awaited (same_Some v w (sym at ∙ ap (slice_get (awaits_of p a.agent a.number)) same ∙ there))))
+        | inr ne ↦ other_agent (awaits_of p a.agent a.number) rising.rising m known.0 v w at there ne
+      ] in
+      inr (record { place = m; await = v; this = (l, other); at = at; reaches = r })
 
   pub flagged : (n : ℕ) → IsJoined (OfOthers w.agent (length (awaits_of p a.agent a.number))) p a w.agent n → 1 ≤ a.number → IsImpliedFlag p a w (nat_le w.count n)
   flagged n h some = (

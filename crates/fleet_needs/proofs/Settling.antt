@@ -1,9 +1,9 @@
 -- What is reached, and what is not, by the ticks of actions and by what they directly need.
 use Rattle.std.proofs.Common.{◌≡◌, ◌≢◌, ℕ, ◌+◌, ◌-◌, ◌<◌, ◌≤◌, Bool, true, false, List, length, get_or, set, refl, sym, ap, subst, ◌∙◌, arith, inl, inr, ◌⊎◌}
-use Rattle.std.specs.Prelude.{slice_get, Some, None, Option, ◌↔◌}
-use Rattle.std.proofs.lemmas.Bool.{cases_lt, cases_eq, cases_order, false≢true, true≢false}
+use Rattle.std.specs.Prelude.{Contains, slice_get, Some, None, Option, ◌↔◌}
+use Rattle.std.proofs.lemmas.Bool.{cases_lt, cases_eq, false≢true, true≢false}
 use Rattle.std.proofs.lemmas.List.{get_or-set_same, get_or-set_other, get_or_past}
-use Rattle.std.proofs.lemmas.Option.{slice_get-get_or, slice_get_within, get_or_from_slice_get, same_Some}
+use Rattle.std.proofs.lemmas.Option.{slice_get_within, get_or_from_slice_get, same_Some}
 use Rattle.fleet_model.specs.declared.program.ActionId.{ActionId}
 use Rattle.fleet_model.specs.declared.program.Await.{Await}
 use Rattle.fleet_model.specs.Program.{Program, moves, awaits_of, AreInRange, IsWellFormed}
@@ -11,7 +11,8 @@ use Rattle.fleet_model.specs.Chain.{IsAction, Reaches, IsNumbering, awaited}
 use Rattle.fleet_model.proofs.Chains.{chain_ends_by_step, Reaches-rises, Reaches-last}
 use Rattle.fleet_needs.specs.Implied.{IsImplied, first_await}
 use Rattle.fleet_needs.specs.Settled.{IsSettled, AreSettledOf, AreMoreAsked, IsActionSettled, IsUpTo}
-use Rattle.fleet_needs.proofs.AwaitOrder.{await_below, flag_apart, flags_more}
+use Rattle.fleet_needs.proofs.AwaitOrder.{other_agent, flag_apart, flags_more}
+use Rattle.fleet_needs.proofs.RowFlags.{implied_by, implied_back}
 use Rattle.fleet_needs.specs.Rows.{action_before}
 use Rattle.fleet_needs.proofs.Joining.{own_first, by_await, step_back}
 
@@ -92,40 +93,28 @@ none_reached p first last other awaits own r = elim (step_back p first last (λ 
 
 -- ---- other actions that an action directly needs
 
-module _ (p : Program) (formed : IsWellFormed p) (a : ActionId) (k : ℕ) (w : Await) (at : slice_get (awaits_of p a.agent a.number) k ≡ Some w) where
-  -- another await is of another agent
-  other_agent : (m : ℕ) (v : Await) → m ≢ k → slice_get (awaits_of p a.agent a.number) m ≡ Some v → v.agent ≢ w.agent
-  other_agent m v ne there e = elim (cases_order m k) [
-    | inl same ↦ ne same
-    | inr (inl l) ↦ (let less : v.agent < w.agent = await_below (awaits_of p a.agent a.number) (formed.awaits a.agent a.number).rising m k v w there at l in omega arith)
-    | inr (inr l) ↦ (let less : w.agent < v.agent = await_below (awaits_of p a.agent a.number) (formed.awaits a.agent a.number).rising k m w v at there l in omega arith)
+module _ (p : Program) (formed : IsWellFormed p) (range : AreInRange p) (a : ActionId) (k : ℕ) (w : Await) (at : slice_get (awaits_of p a.agent a.number) k ≡ Some w) (first : ActionId) (is : first ≡ awaited w) where
+  known : Contains (awaits_of p a.agent a.number) w
+  known = (k, slice_get_within (awaits_of p a.agent a.number) k w at, get_or_from_slice_get (awaits_of p a.agent a.number) k w w at)
+
+  pub by_other : 1 ≤ a.number → (m : ℕ) (v : Await) → m ≢ k → slice_get (awaits_of p a.agent a.number) m ≡ Some v → Reaches p first (awaited v) → IsImplied p a w
+  by_other some m v ne there r = implied_by p range a w known (formed.awaits a.agent a.number) some (inr (record {
+    place = m;
+    await = v;
+    this = (slice_get_within (awaits_of p a.agent a.number) m v there, other_agent (awaits_of p a.agent a.number) (formed.awaits a.agent a.number).rising m k v w there at ne);
+    at = there;
+    reaches = subst (λ (x : ActionId). Reaches p x (awaited v)) is r;
+  }))
+
+  pub by_own : 1 ≤ a.number → Reaches p first (action_before a) → IsImplied p a w
+  by_own some r = implied_by p range a w known (formed.awaits a.agent a.number) some (inl (subst (λ (x : ActionId). Reaches p x (action_before a)) is r))
+
+  pub none_implied : NoneIsReached p first a (λ m. (m < length (awaits_of p a.agent a.number)) × (m ≢ k)) → (Reaches p first (action_before a) → ⊥) → IsImplied p a w → ⊥
+  none_implied awaits own implied = elim (implied_back p range a w known (formed.awaits a.agent a.number) implied) [
+    | inl r ↦ own (subst (λ (x : ActionId). Reaches p x (action_before a)) (sym is) r)
+    | inr by ↦ awaits by.place by.await (by.this.0, (λ same. by.this.1 (ap (λ (v : Await). v.agent) (same_Some by.await w (sym by.at ∙ ap (slice_get (awaits_of p a.agent a.number)) same ∙ at))))) by.at
+        (subst (λ (x : ActionId). Reaches p x (awaited by.await)) (sym is) by.reaches)
   ]
-
-  pub by_other : (first : ActionId) → first ≡ awaited w → (m : ℕ) (v : Await) → m ≢ k → slice_get (awaits_of p a.agent a.number) m ≡ Some v → Reaches p first (awaited v) → IsImplied p a w
-  by_other first e m v ne there r = (
-    awaited v,
-    (λ same. other_agent m v ne there (ap (λ (x : ActionId). x.agent) same)),
-    inr (m, slice_get_within (awaits_of p a.agent a.number) m v there, get_or_from_slice_get (awaits_of p a.agent a.number) m v v there),
-    subst (λ (x : ActionId). Reaches p x (awaited v)) e r,
-  )
-
-  pub by_own : AreInRange p → (first : ActionId) → first ≡ awaited w → 1 < a.number → Reaches p first (action_before a) → IsImplied p a w
-  by_own range first e some r =
-      let known = range a.agent a.number w (k, slice_get_within (awaits_of p a.agent a.number) k w at, get_or_from_slice_get (awaits_of p a.agent a.number) k w w at) in (
-        action_before a,
-        (λ same. known.other (ap (λ (x : ActionId). x.agent) (sym same))),
-        inl (refl, omega arith, omega arith),
-        subst (λ (x : ActionId). Reaches p x (action_before a)) e r,
-      )
-
-  pub none_implied : (first : ActionId) → first ≡ awaited w → NoneIsReached p first a (λ m. (m < length (awaits_of p a.agent a.number)) × (m ≢ k))
-      → (Reaches p first (action_before a) → ⊥) → IsImplied p a w → ⊥
-  none_implied first e awaits own (b, apart, inl (same, number, some), r) =
-      let before : b ≡ action_before a = (let less : b.number ≡ a.number - 1 = omega arith in λ t. record { agent = sym same t; number = less t }) in
-      own (subst (Reaches p first) before (subst (λ (x : ActionId). Reaches p x b) (sym e) r))
-  none_implied first e awaits own (b, apart, inr (m, l, is), r) =
-      let there : slice_get (awaits_of p a.agent a.number) m ≡ Some (await_of b) = slice_get-get_or (awaits_of p a.agent a.number) m (await_of b) l ∙ ap Some is in
-      awaits m (await_of b) (l, λ same. apart (ap awaited (same_Some (await_of b) w (sym there ∙ ap (slice_get (awaits_of p a.agent a.number)) same ∙ at)))) there (subst (λ (x : ActionId). Reaches p x b) (sym e) r)
 
 -- ---- an await that another action has too
 

@@ -23,6 +23,7 @@ use Rattle.fleet_needs.specs.declared.critical.TheConstants.{MAX_COST}
 use Rattle.fleet_needs.specs.declared.finish_order.TheConstants.{MAX_TICKS}
 use Rattle.fleet_needs.proofs.Free.{count, needs_before, none_started, all_finished}
 use Rattle.fleet_needs.proofs.Costing.{noted_next}
+use Rattle.fleet_needs.proofs.Counting.{counted_here, counted_back}
 use Rattle.fleet_needs.proofs.Placed.{rising_to}
 use Rattle.fleet_needs.proofs.Ticking.{grows_to, noted_more}
 
@@ -192,25 +193,16 @@ module _ (p : Program) (cost : ActionId → ℕ) where
         abbrev next : List ℕ
         next = set w.counts i (n + 1)
 
-        split : (a : ActionId) → IsAction p a → IsCounted next a → IsCounted w.counts a ⊎ (a ≡ after i n)
-        split a act done = elim (cases_eq a.agent i) [
-          | inr ne ↦ inl (omega (arith, done, get_or-set_other w.counts i a.agent (n + 1) 0 ne))
-          | inl e ↦
-              let f : slice_index next a.agent ≡ n + 1 = ap (slice_index next) e ∙ own_count (n + 1) (omega arith) in
-              let o : slice_index w.counts a.agent ≡ n = ap (slice_index w.counts) e in
-              (elim (cases_lt n a.number) [
-                | inl l ↦ (let number : a.number ≡ n + 1 = omega (arith, done, f, l) in inr (λ t. record { agent = e t; number = number t }))
-                | inr g ↦ inl (omega (arith, g, o))
-              ])
-        ]
+        here_within : i < length w.counts
+        here_within = omega (arith, agent, h.all.counts)
 
         pub finished : (m : ℕ) → IsNotedCost p cost (after i n) m → (x : ℕ) → x ≡ place_of_action w.places (after i n) → (s : Stage) → s.met ≡ 0 → s.at ≡ offset i (n + 1) 0 → awaits_before p i (n + 1) + s.left ≡ agent_awaits p i → s.greatest ≡ m
             → (new : Walked) → new.counts ≡ next → new.stages ≡ set w.stages i s → new.places ≡ w.places → new.costs ≡ set w.costs x m → IsCostWalk p cost offset new
         finished m here x place s met at rest greatest new counts stages places costs =
             on (n + 1) (omega arith) new s counts stages places (omega (arith, left))
-            (bare_stage (IsCounted next) i (n + 1) s met at rest (subst (IsGreatestTo p cost (IsCounted next) (after i (n + 1)) 0) (sym greatest) (greatest_own (IsCounted next) i n m (omega (arith, own_count (n + 1) (omega arith))) here.critical)))
+            (bare_stage (IsCounted next) i (n + 1) s met at rest (subst (IsGreatestTo p cost (IsCounted next) (after i (n + 1)) 0) (sym greatest) (greatest_own (IsCounted next) i n m (counted_here w.counts (after i n) here_within refl) here.critical)))
             (ap length costs ∙ length-set w.costs x m ∙ h.all.costs) (subst (AreNotedCosts p cost w.places (IsCounted next)) (sym costs)
-            (noted_more p w.places h.all.places (IsNotedCost p cost) (IsCounted w.counts) (IsCounted next) (after i n) here_action split (λ old. omega (arith, old)) x place w.costs h.all.costs m here h.noted))
+            (noted_more p w.places h.all.places (IsNotedCost p cost) (IsCounted w.counts) (IsCounted next) (after i n) here_action (λ a act. counted_back w.counts (after i n) here_within refl a) (λ old. omega (arith, old)) x place w.costs h.all.costs m here h.noted))
 
         module _ (s : Stage) (ready : IsReadyStage p cost offset (IsCounted w.counts) i n s) (own : ℕ) (is : own ≡ cost (after i n)) (most : own ≤ MAX_COST) where
           -- what the action costs, by the greatest cost of what it needs

@@ -38,7 +38,7 @@ pub record IsSoFar (p : Program) (s now : SourceState) (first mid : SinkState) (
   pub agents : length flags ≡ length p
   pub written : Takes first mid (lines_below p s.ticks ticks)
 
-module _ (p : Program) (s now after : SourceState) (c : Configuration) (time : Time) (held : ℕ) (first mid last : SinkState) (unset flags : List Bool)
+module _ {p : Program} {s now : SourceState} {c : Configuration} {held : ℕ} {first mid : SinkState} {unset : List Bool} (time : Time) (after : SourceState) (last : SinkState) (flags : List Bool)
     (before : IsSoFar p s now first mid c time.ticks held time.source_ended unset) (same : length flags ≡ length unset) (end_is : time.end ≡ run_end p c) where
   agents : length flags ≡ length p
   agents = same ∙ before.agents

@@ -1,27 +1,20 @@
 use Rattle.std.proofs.Common.{arith}
 use Rattle.std.proofs.lemmas.Result.{err_from_is_err_and}
+use Rattle.fleet_run.specs.declared.run.Time.{Time}
 use Rattle.fleet_run.proofs.Passing.{ends_in_time, goes_on_in_time, stops_in_time}
 use Rattle.fleet_run.proofs.UnderWay.{few_held, few_ticks}
 use Rattle.fleet_run.proofs.run.run_in.Goals as goal
 
 pub returns-in_err-more-clause-lines : goal.returns-in_err-more-clause-lines
 returns-in_err-more-clause-lines g c =
-    let p = g.P.ProgramView.program c.args.program.now in
-    let s = g.S.HoldSource.state c.args.source.now in
-    let passes = c.in_err-more.ensures.passes c.ticks.machine.configuration c.ticks.invariant.kept in
+    let time : Time = record { ticks = c.ticks.counts.ticks; source_ended = c.ticks.source_ended; end = c.end_at-end.result } in
     let told = err_from_is_err_and c.from_residual.result c.from_residual.ensures.1 in
-    rw (told.1, told.2) (stops_in_time p s _ _ c.ticks.machine.configuration
-    (record { ticks = c.ticks.counts.ticks; source_ended = c.ticks.source_ended; end = c.end_at-end.result }) c.ticks.counts.held
-    (g.O.TraceOut.state c.args.out.now) _ _ _ _ c.ticks.invariant.so_far c.pass_time.auto.flags c.end_at-end.ensures c.in_err-more.field-0.0 passes)
+    rw (told.1, told.2) (stops_in_time time _ _ _ c.ticks.invariant.so_far c.pass_time.auto.flags c.end_at-end.ensures c.in_err-more.field-0.0 (c.in_err-more.ensures.passes c.ticks.machine.configuration c.ticks.invariant.kept))
 
 pub returns-in-Some-clause-lines : goal.returns-in-Some-clause-lines
 returns-in-Some-clause-lines g c =
-    let p = g.P.ProgramView.program c.args.program.now in
-    let s = g.S.HoldSource.state c.args.source.now in
-    let passes = c.in_ok-more.ensures.passes c.ticks.machine.configuration c.ticks.invariant.kept in
-    ends_in_time p s _ _ c.ticks.machine.configuration
-    (record { ticks = c.ticks.counts.ticks; source_ended = c.ticks.source_ended; end = c.end_at-end.result }) c.ticks.counts.held
-    (g.O.TraceOut.state c.args.out.now) _ _ _ _ c.ticks.invariant.so_far c.pass_time.auto.flags c.end_at-end.ensures c.in_ok-more.more c.in-Some.end c.in-Some.is passes
+    let time : Time = record { ticks = c.ticks.counts.ticks; source_ended = c.ticks.source_ended; end = c.end_at-end.result } in
+    ends_in_time time _ _ _ c.ticks.invariant.so_far c.pass_time.auto.flags c.end_at-end.ensures c.in_ok-more.more c.in-Some.end c.in-Some.is (c.in_ok-more.ensures.passes c.ticks.machine.configuration c.ticks.invariant.kept)
 
 pub after-counts-requires-clause-held : goal.after-counts-requires-clause-held
 after-counts-requires-clause-held g c =
@@ -32,21 +25,14 @@ after-counts-requires-clause-held g c =
 
 pub ticks-smaller : goal.ticks-smaller
 ticks-smaller g c =
-    let p = g.P.ProgramView.program c.args.program.now in
-    let s = g.S.HoldSource.state c.args.source.now in
-    let passes = c.in_ok-more.ensures.passes c.ticks.machine.configuration c.ticks.invariant.kept in
-    rw c.tick_row-ready_held.ensures.after (goes_on_in_time p s _ _ c.ticks.machine.configuration
-    (record { ticks = c.ticks.counts.ticks; source_ended = c.ticks.source_ended; end = c.end_at-end.result }) c.ticks.counts.held
-    (g.O.TraceOut.state c.args.out.now) _ _ _ _ c.ticks.invariant.so_far c.pass_time.auto.flags c.end_at-end.ensures c.in_ok-more.more c.in_default.is c.requires.can.runs.well_formed passes).1
+    let time : Time = record { ticks = c.ticks.counts.ticks; source_ended = c.ticks.source_ended; end = c.end_at-end.result } in
+    rw c.tick_row-ready_held.ensures.after
+    (goes_on_in_time time _ _ _ c.ticks.invariant.so_far c.pass_time.auto.flags c.end_at-end.ensures c.in_ok-more.more c.in_default.is c.requires.can.runs.well_formed (c.in_ok-more.ensures.passes c.ticks.machine.configuration c.ticks.invariant.kept)).1
 
 pub ticks-preserved : goal.ticks-preserved
 ticks-preserved g c =
-    let p = g.P.ProgramView.program c.args.program.now in
-    let s = g.S.HoldSource.state c.args.source.now in
-    let passes = c.in_ok-more.ensures.passes c.ticks.machine.configuration c.ticks.invariant.kept in
-    let on = goes_on_in_time p s _ _ c.ticks.machine.configuration
-    (record { ticks = c.ticks.counts.ticks; source_ended = c.ticks.source_ended; end = c.end_at-end.result }) c.ticks.counts.held
-    (g.O.TraceOut.state c.args.out.now) _ _ _ _ c.ticks.invariant.so_far c.pass_time.auto.flags c.end_at-end.ensures c.in_ok-more.more c.in_default.is c.requires.can.runs.well_formed passes in
+    let time : Time = record { ticks = c.ticks.counts.ticks; source_ended = c.ticks.source_ended; end = c.end_at-end.result } in
+    let on = goes_on_in_time time _ _ _ c.ticks.invariant.so_far c.pass_time.auto.flags c.end_at-end.ensures c.in_ok-more.more c.in_default.is c.requires.can.runs.well_formed (c.in_ok-more.ensures.passes c.ticks.machine.configuration c.ticks.invariant.kept) in
     record {
       runs = c.tick_row-ready_held.ensures.runs;
       looked = let before = c.ticks.invariant.looked in omega (arith, c.tick_row-ready_held.ensures.looked);

@@ -70,8 +70,10 @@ pub(crate) fn joins_of<P: ProgramView>(
     )?;
     let mut finishing = Finishing::of(alloc, program, order)?;
     while let Some(finish) = finishing.next(program) {
-        let is_made = needs_row(program, implied, finish.action);
-        joins.add_action(program, places, finish.action, is_made)?;
+        let action = finish.action;
+        let count = program.await_count(action.agent, action.number);
+        let is_made = needs_row(program, implied, action, count);
+        joins.add_action(program, places, action, count, is_made)?;
     }
     Ok(joins)
 }
@@ -114,15 +116,18 @@ impl Joins {
         }
     }
 
-    /// Adds the next action that finishes, with a row if one is to be made.
+    /// Adds the next action that finishes, which has so many awaits, with a row if one is to be made.
     fn add_action<P: ProgramView>(
         &mut self,
         program: &P,
         places: &ActionPlaces,
         action: ActionId,
+        count: u16,
         is_made: bool,
     ) -> Result<(), OutOfMemory>
         requires range { AreInRange (P.program program.now) }
+        requires count { count ≡ length
+            (awaits_of (P.program program.now) action.agent action.number) }
         requires can { CanJoin (P.program program.now) places.now self.old action }
         requires none { is_made ≡ false
             → AddsNone (P.program program.now) action.agent action.number }
@@ -130,35 +135,13 @@ impl Joins {
             (P.program program.now) places.now action is_made self.old self.new) }
     {
         let base = self.row_before(program, places, action);
-        let row = self.join(program, places, action, is_made, base)?;
+        if !is_made {
+            self.note(program, places, action, base);
+            return Ok(());
+        }
+        let row = self.add_join(program, places, action, count, base)?;
         self.note(program, places, action, row);
         Ok(())
-    }
-
-    /// Adds a row for the action, if it is to have one, and answers which row stands for it.
-    fn join<P: ProgramView>(
-        &mut self,
-        program: &P,
-        places: &ActionPlaces,
-        action: ActionId,
-        is_made: bool,
-        base: u32,
-    ) -> Result<u32, OutOfMemory>
-        requires range { AreInRange (P.program program.now) }
-        requires can { CanJoin (P.program program.now) places.now self.old action }
-        requires within { base ≤ rows_made self.old }
-        requires stands { StandsIn (P.program program.now) self.old
-            base action.agent (action.number - 1) }
-        requires none { is_made ≡ false
-            → AddsNone (P.program program.now) action.agent action.number }
-        ensures { IfOk result (λ row. HasJoined
-            (P.program program.now) places.now action is_made row self.old self.new) }
-    {
-        if is_made {
-            let row = self.add_join(program, places, action, base)?;
-            return Ok(row);
-        }
-        Ok(base)
     }
 
     /// The row that stands for the agent's action before this one.
@@ -201,9 +184,12 @@ impl Joins {
         program: &P,
         places: &ActionPlaces,
         action: ActionId,
+        count: u16,
         base: u32,
     ) -> Result<u32, OutOfMemory>
         requires range { AreInRange (P.program program.now) }
+        requires count { count ≡ length
+            (awaits_of (P.program program.now) action.agent action.number) }
         requires can { CanJoin (P.program program.now) places.now self.old action }
         requires within { base ≤ rows_made self.old }
         requires stands { StandsIn (P.program program.now) self.old
@@ -216,8 +202,7 @@ impl Joins {
         if row > u32::MAX as usize || first > u32::MAX as usize {
             return Err(OutOfMemory);
         }
-        let count = program.await_count(action.agent, action.number);
-        self.take_awaited(program, places, action, row as u32)?;
+        self.take_awaited(program, places, action, count, row as u32)?;
         self.raise(base, row as u32);
         self.lasts.push(0)?;
         self.joins.push(Join {
@@ -235,16 +220,19 @@ impl Joins {
         program: &P,
         places: &ActionPlaces,
         action: ActionId,
+        count: u16,
         row: u32,
     ) -> Result<(), OutOfMemory>
         requires range { AreInRange (P.program program.now) }
+        requires count { count ≡ length
+            (awaits_of (P.program program.now) action.agent action.number) }
         requires can { CanJoin (P.program program.now) places.now self.old action }
         requires row { row ≡ rows_made self.old + 1 }
         ensures { OnOk result (AreTaken (P.program program.now) places.now action
             (length (awaits_of (P.program program.now) action.agent action.number))
             self.old self.new) }
     {
-        for k in 0..program.await_count(action.agent, action.number) {
+        for k in 0..count {
             let wait = program.await_at(action.agent, action.number, k);
             let awaited = ActionId {
                 agent: wait.agent,
@@ -291,17 +279,24 @@ impl Joins {
     }
 }
 
-/// Whether the action is to have a row: it awaits something. An action of one await that others imply needs no more than
-/// the agent's action before does.
-fn needs_row<P: ProgramView>(program: &P, implied: Option<&ImpliedAwaits>, action: ActionId) -> bool
+/// Whether the action, which has so many awaits, is to have a row: it awaits something. An action of one await that
+/// others imply needs no more than the agent's action before does.
+fn needs_row<P: ProgramView>(
+    program: &P,
+    implied: Option<&ImpliedAwaits>,
+    action: ActionId,
+    count: u16,
+) -> bool
     requires range { AreInRange (P.program program.now) }
+    requires count { count ≡ length
+        (awaits_of (P.program program.now) action.agent action.number) }
     requires sure { AreSureIf (P.program program.now) implied }
     requires action { IsAction (P.program program.now) action }
     ensures none { result ≡ false → AddsNone (P.program program.now) action.agent action.number }
     ensures passed { result ≡ false → IsPassed (P.program program.now) implied.entry action }
     ensures needed { (result ≡ true) ↔ NeedsRow (P.program program.now) implied.entry action }
 {
-    match program.await_count(action.agent, action.number) {
+    match count {
         0 => false,
         1 => !is_first_implied(program, implied, action),
         _ => true,

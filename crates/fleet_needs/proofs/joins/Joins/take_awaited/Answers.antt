@@ -43,5 +43,5 @@ pub returns : goal.returns
 returns g c =
     let p = g.P.ProgramView.program c.args.program.now in
     let a = c.args.action in
-    let whole : c.loop-k.k ≡ length (awaits_of p a.agent a.number) = omega (arith, c.loop-k-test.false, c.await_count-k-end.ensures, c.loop-k.auto.k-end) in
+    let whole : c.loop-k.k ≡ length (awaits_of p a.agent a.number) = omega (arith, c.loop-k-test.false, c.requires.count, c.loop-k.auto.k-end) in
     subst (λ (n : ℕ). AreTaken p c.args.places.now a n c.args.self.now c.loop-k.self) whole c.loop-k.invariant.taken

@@ -1,7 +1,7 @@
 use Rattle.std.proofs.Common.{[], sym, subst, below_more, arith}
 use Rattle.std.proofs.lemmas.Option.{get_or_from_slice_get}
 use Rattle.fleet_grid.specs.Ground.{is_passable}
-use Rattle.fleet_plan.specs.FirstFault.{GoesOver, GoesRight}
+use Rattle.fleet_plan.specs.FirstFault.{IsFirstTime, GoesOver, GoesRight}
 use Rattle.fleet_plan.proofs.plan.first_wrong_step.Goals as goal
 
 pub loop-i-preserved : goal.loop-i-preserved
@@ -12,3 +12,10 @@ loop-i-preserved c =
 
 pub returns-clause-none : goal.returns-clause-none
 returns-clause-none c = λ i l. c.loop-i.invariant i (omega (arith, l, c.loop-i-test.false, c.agents-i-end.ensures.count))
+
+pub returns-in-Some-clause-some : goal.returns-in-Some-clause-some
+returns-in-Some-clause-some c = record {
+  agent = omega (arith, c.loop-i-test.true, c.agents-i-end.ensures.count);
+  time = subst (λ path. IsFirstTime (is_passable c.args.grid.now) path c.in-Some.time) (sym (get_or_from_slice_get c.args.plan.now c.loop-i.i c.path.result.now [] c.path.ensures)) c.in-Some.ensures.some;
+  least = c.loop-i.invariant;
+}

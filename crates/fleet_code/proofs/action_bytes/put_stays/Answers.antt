@@ -1,0 +1,11 @@
+use Rattle.std.proofs.Common.{◌≡◌, ◌++◌, ◌∷◌, [], replicate, sym, ap, ◌∙◌, append_assoc}
+use Rattle.std.proofs.lemmas.Grind.{replicate_next}
+use Rattle.fleet_model.specs.declared.geometry.Step.TheVariants.{Dwell}
+use Rattle.fleet_code.specs.Spelling.{opcode}
+use Rattle.fleet_code.proofs.action_bytes.put_stays.Goals as goal
+
+pub loop-preserved : goal.loop-preserved
+loop-preserved c =
+    let front = c.args.out.now.items in
+    let stay = opcode Dwell in
+    c.in_ok-push.ensures.items ∙ ap (λ x. c.loop.out.items ++ x ∷ []) c.opcode_of.ensures ∙ ap (λ z. z ++ stay ∷ []) c.loop.invariant ∙ append_assoc front (replicate c.loop.counter stay) (stay ∷ []) ∙ ap (λ z. front ++ z) (sym (replicate_next c.loop.counter stay))

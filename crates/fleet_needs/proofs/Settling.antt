@@ -61,24 +61,21 @@ abbrev pub NoneIsReached : Program → ActionId → ActionId → (ℕ → Type 0
 NoneIsReached p first a These = (m : ℕ) (w : Await) → These m → slice_get (awaits_of p a.agent a.number) m ≡ Some w → Reaches p first (awaited w) → ⊥
 
 -- one more is not
+apart_next : (p : Program) (first a : ActionId) (These Next : ℕ → Type 0) (n : ℕ) (v : Await) → slice_get (awaits_of p a.agent a.number) n ≡ Some v → ((m : ℕ) → Next m → These m ⊎ (m ≡ n)) → (Next n → Reaches p first (awaited v) → ⊥)
+    → NoneIsReached p first a These → NoneIsReached p first a Next
+apart_next p first a These Next n v at back none before m w l there r = elim (back m l) [
+  | inl old ↦ before m w old there r
+  | inr e ↦ none (subst Next e l) (subst (λ (x : Await). Reaches p first (awaited x)) (same_Some w v (sym there ∙ ap (slice_get (awaits_of p a.agent a.number)) e ∙ at)) r)
+]
+
 pub apart_more : (p : Program) (first a : ActionId) (k : ℕ) (v : Await) → slice_get (awaits_of p a.agent a.number) k ≡ Some v → (Reaches p first (awaited v) → ⊥)
     → NoneIsReached p first a (λ m. m < k) → NoneIsReached p first a (λ m. m < k + 1)
-apart_more p first a k v at none before m w l there r = elim (cases_lt m k) [
-  | inl less ↦ before m w less there r
-  | inr more ↦
-      let e : m ≡ k = omega arith in
-      none (subst (λ (x : Await). Reaches p first (awaited x)) (same_Some w v (sym there ∙ ap (slice_get (awaits_of p a.agent a.number)) e ∙ at)) r)
-]
+apart_more p first a k v at none = apart_next p first a (λ m. m < k) (λ m. m < k + 1) k v at (λ m l. elim (cases_lt m k) [ inl less ↦ inl less | inr more ↦ inr (omega arith) ]) (λ l. none)
 
 -- and so among all but one
 pub apart_but : (p : Program) (first a : ActionId) (k n : ℕ) (v : Await) → slice_get (awaits_of p a.agent a.number) n ≡ Some v → (n ≢ k → Reaches p first (awaited v) → ⊥)
     → NoneIsReached p first a (λ m. (m < n) × (m ≢ k)) → NoneIsReached p first a (λ m. (m < n + 1) × (m ≢ k))
-apart_but p first a k n v at none before m w l there r = elim (cases_lt m n) [
-  | inl less ↦ before m w (less, l.1) there r
-  | inr more ↦
-      let e : m ≡ n = (let low : m < n + 1 = l.0 in omega arith) in
-      none (λ same. l.1 (e ∙ same)) (subst (λ (x : Await). Reaches p first (awaited x)) (same_Some w v (sym there ∙ ap (slice_get (awaits_of p a.agent a.number)) e ∙ at)) r)
-]
+apart_but p first a k n v at none = apart_next p first a (λ m. (m < n) × (m ≢ k)) (λ m. (m < n + 1) × (m ≢ k)) n v at (λ m l. elim (cases_lt m n) [ inl less ↦ inl (less, l.1) | inr more ↦ inr (omega (arith, l.0)) ]) (λ l. none l.1)
 
 -- nothing reaches the action before the first one
 pub none_before : (p : Program) (x a : ActionId) → a.number ≤ 1 → Reaches p x (action_before a) → ⊥

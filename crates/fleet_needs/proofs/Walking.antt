@@ -36,10 +36,6 @@ pub record IsFirstStage (p : Program) (offset : (i finished k : ℕ) → ℕ) (i
   pub left : s.left ≡ agent_awaits p i
   pub greatest : s.greatest ≡ 0
 
--- before its first action it has awaited nothing
-none_before : (p : Program) (i : ℕ) → awaits_before p i 0 ≡ 0
-none_before p i = refl
-
 -- the actions of an agent stand among all
 pub places_within : (p : Program) (places : List ℕ) → ArePlacesOf p places → (i : ℕ) → i < length p → slice_index places i + moves p i ≤ total_moves p
 places_within p places are i agent =
@@ -355,7 +351,7 @@ walk_begins p cost offset w ends all zeros first = record {
   each = λ i l.
       let h = first i (stage_in w i) (slice_get-get_or w.stages i no_stage (omega (arith, l, all.stages))) in
       subst (λ (n : ℕ). IsStage p cost offset (IsCounted w.counts) i n (stage_in w i)) (sym (none i l))
-      (bare_stage p cost offset (IsCounted w.counts) i 0 (stage_in w i) h.met h.at (omega (arith, h.left, none_before p i)) (greatest_none p cost (IsCounted w.counts) i (stage_in w i).greatest h.greatest));
+      (bare_stage p cost offset (IsCounted w.counts) i 0 (stage_in w i) h.met h.at (omega (arith, h.left)) (greatest_none p cost (IsCounted w.counts) i (stage_in w i).greatest h.greatest));
   noted = λ a act done. absurd (omega (arith, done, none a.agent act.agent, act.first));
 }
   where

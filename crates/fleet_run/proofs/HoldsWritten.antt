@@ -1,10 +1,12 @@
 -- Written lists of held agents are read again.
-use Rattle.std.proofs.Common.{◌≡◌, ℕ, ◌<◌, List, [], ◌∷◌, ◌++◌, map, All, None, Some, refl, ap, arith, decimal}
+use Rattle.std.proofs.Common.{◌≡◌, ℕ, ◌+◌, ◌<◌, List, [], ◌∷◌, ◌++◌, length, map, take, get_or, All, None, Some, refl, sym, ap, ◌∙◌, arith, decimal}
 use Rattle.std.specs.List.{AllByRecursion, join_with_byte}
 use Rattle.std.specs.List.Sorted.{IsStrictlyIncreasing}
 use Rattle.std.proofs.lemmas.List.Elements.{recursion_from_All}
 use Rattle.fleet_model.specs.Machine.{Holds}
-use Rattle.fleet_text.proofs.WrittenLaws.{From, from_less, from_join, decimal_from, lines_written}
+use Rattle.std.proofs.lemmas.Simd.{map-map}
+use Rattle.fleet_text.specs.Words.{ended_text}
+use Rattle.fleet_text.proofs.WrittenLaws.{From, line_more, from_less, from_join, decimal_from, lines_written}
 use Rattle.fleet_run.specs.Source.{list_source}
 use Rattle.fleet_run.specs.HoldText.{tick_line, tick_of, ticks_of, last_of, text_source, holds_text}
 use Rattle.fleet_run.proofs.HoldLaws.{tick_read}
@@ -51,6 +53,15 @@ source_again n ticks small h =
     rw (lines_written (map tick_line ticks) (lines_from n ticks small h), ticks_again n ticks small h, last_again n ticks small h) refl
 
 -- ---- rows
+
+-- one line more
+pub holds_more :
+    {X : Type 0} (items : X → List ℕ) (front all : List ℕ) (rows : List X) (i : ℕ) (row : X) → i < length rows → row ≡ get_or rows i row → front ≡ holds_text (map items (take i rows))
+    → all ≡ front ++ tick_line (items row) ++ 10 ∷ [] → all ≡ holds_text (map items (take (i + 1) rows))
+holds_more {X} items front all rows i row below is e f =
+    let text : X → List ℕ = λ r. tick_line (items r) in
+    line_more text front all rows i row below (e ∙ ap ended_text (map-map tick_line items (take i rows))) (f ∙ ap (λ r. front ++ text r ++ 10 ∷ []) is)
+    ∙ ap ended_text (sym (map-map tick_line items (take (i + 1) rows)))
 
 are_ticks : {X : Type 0} (items : X → List ℕ) (n : ℕ) (rows : List X) → AllByRecursion (λ row. IsStrictlyIncreasing (items row)) rows → AllByRecursion (λ row. All (λ i. i < n) (items row)) rows → AllByRecursion (IsTick n) (map items rows)
 are_ticks items n [] rising below = tt

@@ -350,6 +350,10 @@ pub record IsRewritten (m : MachineState) (from : ℕ) (row begins : List ℕ) (
   pub same : (i : ℕ) → (from ≤ i → flag_of m.moving i ≡ false) → standing_at now i ≡ standing_at m.configuration i
   pub beside : (i : ℕ) → IsBeside (standing_at now i).place (standing_at m.configuration i).place
 
+-- each agent has a place
+pub places_long : (m : MachineState) (from : ℕ) (row begins : List ℕ) (places : List Place) → IsRewritten m from row begins places → length places ≡ length m.configuration
+places_long m from row begins places h = ap length h.placed ∙ length-map h.now _ ∙ h.agents
+
 -- a place is beside itself
 pub beside_itself : (q : Place) → IsBeside q q
 beside_itself q = inl (refl, record { low = omega (arith, ints); high = omega (arith, ints) })

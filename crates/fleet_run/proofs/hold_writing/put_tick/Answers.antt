@@ -2,7 +2,7 @@ use Rattle.std.proofs.Common.{◌++◌, [], ◌∷◌, ◌∙◌, sym, ap, Resul
 use Rattle.std.specs.Prelude.{OnOk}
 use Rattle.std.specs.Fmt.{decimal}
 use Rattle.std.proofs.lemmas.List.{take_all}
-use Rattle.fleet_text.proofs.WrittenLaws.{each_spaced, line_written}
+use Rattle.fleet_text.proofs.WrittenLaws.{each_spaced, spaced_more, line_written}
 use Rattle.fleet_run.specs.HoldText.{tick_line}
 use Rattle.fleet_run.proofs.HoldsWritten.{last_written}
 use Rattle.fleet_run.proofs.hold_writing.put_tick.Goals as goal
@@ -23,3 +23,7 @@ returns c =
     line_written decimal before c.loop-agent.text.items _ others last (c.loop-agent.invariant ∙ ap (λ agents. before ++ each_spaced decimal agents) all) put
     ∙ ap (λ line. before ++ line ++ 10 ∷ []) (last_written others last ∙ ap tick_line (sym c.in-Some.ensures.cases.0)))
     c.put_agent-2.ensures
+
+pub loop-agent-preserved : goal.loop-agent-preserved
+loop-agent-preserved c =
+    spaced_more decimal c.args.text.now.items c.loop-agent.text.items _ c.in-Some.others.now c.loop-agent.agent-index 0 c.loop-agent-test.true c.loop-agent.invariant c.in_ok-put_agent.ensures

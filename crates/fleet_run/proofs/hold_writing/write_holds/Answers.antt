@@ -1,7 +1,7 @@
 use Rattle.std.proofs.Common.{◌∙◌, ap, map}
 use Rattle.std.proofs.lemmas.List.{take_all}
 use Rattle.fleet_run.specs.HoldText.{text_source, holds_text}
-use Rattle.fleet_run.proofs.HoldsWritten.{rows_again}
+use Rattle.fleet_run.proofs.HoldsWritten.{holds_more, rows_again}
 use Rattle.fleet_run.proofs.hold_writing.write_holds.Goals as goal
 
 pub returns-clause-read : goal.returns-clause-read
@@ -13,3 +13,6 @@ returns-clause-read c = λ n small below.
 
 pub returns-clause-text : goal.returns-clause-text
 returns-clause-text c = c.loop-held.invariant ∙ ap (λ rows. holds_text (map (λ row. row.items) rows)) (take_all c.loop-held.held-index c.args.holds.now c.loop-held-test.false)
+
+pub loop-held-preserved : goal.loop-held-preserved
+loop-held-preserved c = holds_more (λ row. row.items) c.loop-held.text.items c.put_tick.new.text.items c.args.holds.now c.loop-held.held-index c.held-item.result c.loop-held-test.true c.held-item.is c.loop-held.invariant (rw c.deref.ensures.value at c.in_ok-put_tick.ensures)

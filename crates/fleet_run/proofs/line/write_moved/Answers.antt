@@ -1,6 +1,8 @@
-use Rattle.std.proofs.Common.{◌<◌, length, refl, arith}
+use Rattle.std.proofs.Common.{◌<◌, ap, length, refl, arith}
+use Rattle.std.proofs.Math.ListN.{length-set}
+use Rattle.fleet_model.specs.declared.geometry.Place.{Place}
 use Rattle.fleet_model.specs.Machine.{standing_at}
-use Rattle.fleet_run.proofs.Lines.{rewritten_next, rewritten_all, places_all, stood}
+use Rattle.fleet_run.proofs.Lines.{places_long, rewritten_next, rewritten_all, places_all, stood}
 use Rattle.fleet_run.proofs.line.write_moved.Goals as goal
 
 pub move_place-more-requires : goal.move_place-more-requires
@@ -60,3 +62,10 @@ returns-clause-kept c = rewritten_all c.args.machine.now c.loop-i.cursor.from c.
 
 pub returns-clause-places : goal.returns-clause-places
 returns-clause-places c = places_all c.args.machine.now c.loop-i.cursor.from c.loop-i.row c.loop-i.begins c.loop-i.places c.loop-i.invariant.kept c.in_default.ensures.next
+
+pub bounds-places-i : goal.bounds-places-i
+bounds-places-i c = omega (arith, c.in-Some.ensures.next.agent, c.requires.moved, c.from-i.ensures, places_long c.args.machine.now c.loop-i.cursor.from c.loop-i.row c.loop-i.begins c.loop-i.places c.loop-i.invariant.kept)
+
+pub copy_places-requires : goal.copy_places-requires
+copy_places-requires c =
+    omega (arith, length-set {A = Place}, ap length c.agents-rows.ensures, places_long c.args.machine.now c.loop-i.cursor.from c.loop-i.row c.loop-i.begins c.loop-i.places c.loop-i.invariant.kept)

@@ -40,3 +40,14 @@ ticks-preserved g c =
       kept = c.tick_row-ready_held.ensures.kept;
       places = c.tick_row-ready_held.ensures.places;
     }
+
+pub pass_time-requires-clause-few : goal.pass_time-requires-clause-few
+pass_time-requires-clause-few g c =
+    omega (arith, few_ticks (g.P.ProgramView.program c.args.program.now) (g.S.HoldSource.state c.args.source.now) _ _ _ _ _ c.ticks.invariant.so_far.under_way)
+
+pub pass_time-requires-clause-kept : goal.pass_time-requires-clause-kept
+pass_time-requires-clause-kept g c = (c.ticks.machine.configuration, c.ticks.invariant.kept)
+
+pub after-counts-requires-clause-few : goal.after-counts-requires-clause-few
+after-counts-requires-clause-few g c =
+    omega (arith, few_ticks (g.P.ProgramView.program c.args.program.now) (g.S.HoldSource.state c.args.source.now) _ _ _ _ _ c.ticks.invariant.so_far.under_way)

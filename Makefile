@@ -3,16 +3,17 @@
 PREFIX ?= /usr/local
 BUILT = crates/fleet/out/fleet
 LOG = crates/fleet/out/build.log
-# How many processes check a crate: one for each processor, if each has 3 GB. Two crates are checked side by side, where
-# neither uses the other.
+# How many processes check a crate: one for each processor, if each has 3 GB, and half as many where two crates are
+# checked side by side, neither of which uses the other.
 JOBS ?= $(shell awk -v n="$$(getconf _NPROCESSORS_ONLN)" '/^MemAvailable/ { m = int($$2 / 3e6) } END { if (m > n) m = n; print m < 1 ? 1 : m }' /proc/meminfo)
-CHECKED = $(CHECK) && (cd crates/fleet && rt run -- --help)
+CHECKED = $(call SIDE_BY_SIDE,tools/apart.sh,fleet_cli) && (cd crates/fleet && rt run -- --help)
+PROVED = $(call SIDE_BY_SIDE,tools/prove.sh,fleet)
 # Another program to try: make examples FLEET=PATH
 FLEET = $(BUILT)
 # The library for callers in C. LIBRARY= leaves it out, and so it is where there is no C compiler.
 LIBRARY = $(shell command -v cc > /dev/null && command -v objcopy > /dev/null && echo crates/fleet_c/out/library)
 ARCHIVE = $(LIBRARY:%=%/libfleet.a)
-CHECK = awk -v jobs=$(JOBS) -v crate=fleet_cli -f tools/checks.awk crates.txt | $(MAKE) -j 2 -f -
+SIDE_BY_SIDE = awk -v script=$(1) -v jobs=$(JOBS) -v crate=$(2) -f tools/checks.awk crates.txt | $(MAKE) -j 2 -f -
 SOURCES = crates.txt $(shell find crates -path '*/out' -prune -o \( -name '*.rt' -o -name '*.antt' \) -print)
 
 WAREHOUSE = examples/warehouse.map examples/warehouse.scen
@@ -53,7 +54,7 @@ test:
 $(BUILT): $(SOURCES)
 	@mkdir -p $(@D)
 	@echo 'Proving the crates and building fleet: the first time some 25 minutes on four processors. The lines of the prover go to $(LOG).'
-	@if [ -d crates/fleet_cli/out/incremental ]; then $(CHECKED); else sh tools/prove.sh fleet; fi > $(LOG) 2>&1 || { tail -n 20 $(LOG); exit 1; }
+	@if [ -d crates/fleet_cli/out/incremental ]; then $(CHECKED); else $(PROVED); fi > $(LOG) 2>&1 || { tail -n 20 $(LOG); exit 1; }
 	@touch $@
 
 checks:

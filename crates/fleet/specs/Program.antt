@@ -1,14 +1,7 @@
 -- What the program does for the arguments with which it was started.
 use Rattle.std.specs.Prelude.{◌≡◌, ◌≢◌, ℕ, List, [], ◌∷◌, ◌++◌, ◌⊎◌, Option, Result, Ok, Err, codes, map, drop, string_bytes}
-use Rattle.std.specs.Vec.Iter.{into_iter_items}
-use Rattle.std.specs.IoError.{error_kind}
-use Rattle.std.specs.declared.alloc.Global.{Global}
-use Rattle.std.specs.declared.io.Error.{Error}
-use Rattle.std.specs.declared.io.ErrorKind.{ErrorKind}
-use Rattle.std.specs.declared.io.ErrorKind.TheVariants.{OutOfMemory}
-use Rattle.std.specs.declared.string.String.{String}
-use Rattle.std.specs.declared.vec.Vec.{Vec}
-use Rattle.std.specs.declared.vec.IntoIter.{IntoIter}
+use Rattle.std.specs.{Vec.Iter.into_iter_items, IoError.error_kind}
+use Rattle.std.specs.declared.{alloc.Global.Global, io.Error.Error, io.ErrorKind.ErrorKind, io.ErrorKind.TheVariants.OutOfMemory, string.String.String, vec.Vec.Vec, vec.IntoIter.IntoIter}
 use Rattle.fleet_text.specs.Sink.{Receives}
 use Rattle.fleet_cli.specs.Files.{AreUnchanged}
 use Rattle.fleet_text.specs.Sink.{SinkState, IsUnwritten}

@@ -2,8 +2,7 @@
 use Rattle.std.proofs.Common.{◌≡◌, ℕ, List, [], ◌∷◌, map, Option, Ok, Err, inl, inr, refl}
 use Rattle.clap.specs.Words.{Text}
 use Rattle.fleet_args.specs.Request.{ReadsFleet}
-use Rattle.fleet_args.specs.declared.commands.Request.{Request}
-use Rattle.fleet_args.specs.declared.request.WordStop.{WordStop}
+use Rattle.fleet_args.specs.declared.{commands.Request.Request, request.WordStop.WordStop}
 use Rattle.fleet_cli.specs.Files.{AreUnchanged}
 use Rattle.fleet_text.specs.Sink.{SinkState}
 use Rattle.fleet_cli.specs.Command.{Around, RunsRequest, StopsAtWords, RunsCommand}

@@ -1,15 +1,11 @@
 -- A dispatch that keeps its reports in a file of a store.
-use Rattle.std.proofs.Common.{◌≡◌, ℕ, Bool, false, List, [], Option, None, Some, Result, Err, inl, inr, refl, subst}
+use Rattle.std.proofs.Common.{◌≡◌, ◌∙◌, ℕ, Bool, false, List, [], Option, None, Some, Result, Err, inl, inr, refl, subst}
 use Rattle.std.specs.Prelude.{IfSome}
 use Rattle.std.specs.Borrow.{Bor}
 use Rattle.fleet_text.specs.Sink.{SinkState}
 use Rattle.fleet_model.specs.Program.{Program}
 use Rattle.fleet_dispatch.specs.Talk.{Talk}
-use Rattle.fleet_dispatch.specs.declared.form.ReportForm.{ReportForm}
-use Rattle.fleet_dispatch.specs.declared.pace.Pace.{Pace}
-use Rattle.fleet_dispatch.specs.declared.run.DispatchReport.{DispatchReport}
-use Rattle.fleet_dispatch.specs.declared.fault.DispatchFault.{DispatchFault}
-use Rattle.fleet_dispatch.specs.declared.run.Session.{Session}
+use Rattle.fleet_dispatch.specs.declared.{form.ReportForm.ReportForm, pace.Pace.Pace, run.DispatchReport.DispatchReport, fault.DispatchFault.DispatchFault, run.Session.Session}
 use Rattle.fleet_dispatch.specs.Dispatch.{Course, Left, Dispatches}
 use Rattle.fleet_dispatch.specs.Session.{first_course, course_in, left_in}
 use Rattle.fleet_dispatch.specs.Replay.{GoesOn, IsLedOn, LeadsOn, DispatchesAfter}
@@ -21,16 +17,15 @@ use Rattle.fleet_cli.specs.Files.{Store, AreUnchanged, IsOwnLog, bytes_of}
 use Rattle.fleet_cli.specs.Journal.{ChangesOnlyLog, IsKeptAfter, log_in, log_state, lines_in}
 use Rattle.fleet_cli.specs.JournalLaws.{log_self, log_longer}
 use Rattle.fleet_cli.specs.DispatchCommand.{AnswersTold, Leads, pace_of}
-use Rattle.fleet_cli.proofs.FileLemmas.{kept_on, kept_self}
 
 -- every file but the log is as before, in two stretches, one after the other
 pub others_on : (a b c : Option Store) (name : Option (Bor (List ℕ))) → ChangesOnlyLog a b name → ChangesOnlyLog b c name → ChangesOnlyLog a c name
-others_on a b c None h k = kept_on a b c h k
+others_on a b c None h k = k ∙ h
 others_on a b c (Some name) h k = log_longer a b c name.now name.now refl h k
 
 -- .. and while nothing happens
 pub others_self : (files : Option Store) (name : Option (Bor (List ℕ))) → ChangesOnlyLog files files name
-others_self files None = kept_self files
+others_self files None = refl
 others_self files (Some name) = log_self files name.now
 
 module _ (d : Course) (left : Left) (talks : (log log' : SinkState) → ReportForm → Talk → Type 0) (form : ReportForm) (told : Result DispatchReport DispatchFault) where

@@ -1,13 +1,12 @@
--- The lines of counts, and the answers of what was to be printed or written.
+-- The lines of counts.
 use Rattle.std.proofs.Common.{◌≡◌, ◌∙◌, ℕ, ◌+◌, ◌<◌, List, [], ◌∷◌, ◌++◌, length, take, drop, get_or, ap, refl, sym, subst, append_assoc, append-nil}
 use Rattle.std.proofs.lemmas.List.{take_more, map-append, take-append-drop}
 use Rattle.std.specs.Borrow.{Bor}
-use Rattle.fleet_text.specs.Sink.{SinkState, IsWorking, IsUnwritten, StopsWithin}
+use Rattle.fleet_text.specs.Sink.{SinkState, StopsWithin}
 use Rattle.fleet_text.specs.Row.{PassesOn}
 use Rattle.fleet_text.proofs.SinkLemmas.{passes_more, stops_past, stops_before}
 use Rattle.fleet_text.specs.Words.{count_line}
 use Rattle.fleet_cli.specs.Output.{with_labels, count_lines}
-use Rattle.fleet_cli.proofs.RunLemmas.{keeps_self}
 
 count_lines-append : (xs ys : List (List ℕ × ℕ)) → count_lines (xs ++ ys) ≡ count_lines xs ++ count_lines ys
 count_lines-append [] ys = refl
@@ -36,7 +35,3 @@ module _ (counts : List (Bor (List ℕ) × ℕ)) (i : ℕ) (d : Bor (List ℕ) �
     stops_in_count h =
         let here : StopsWithin a c (r ++ count_lines (with_labels (take (i + 1) counts))) = subst (λ l. StopsWithin a c (r ++ l)) (sym one_more) (stops_past a b c r s _ _ so_far h) in
         subst (λ l. StopsWithin a c (r ++ l)) all (stops_before a c r _ (count_lines (with_labels (drop (i + 1) counts))) here)
-
--- nothing was written to a sink that is as before
-pub nothing_written : (out : SinkState) → IsWorking out → IsUnwritten out out
-nothing_written out working = record { kept = keeps_self out.taken; working = working }

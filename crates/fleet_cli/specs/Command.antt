@@ -3,19 +3,15 @@ use Rattle.std.specs.Prelude.{◌≡◌, ℕ, List, [], ◌∷◌, ◌⊎◌, Op
 use Rattle.std.specs.Borrow.{Bor}
 use Rattle.clap.specs.Words.{Text}
 use Rattle.fleet_args.specs.Request.{ReadsFleet}
-use Rattle.fleet_args.specs.declared.commands.ProgramFor.{ProgramFor}
-use Rattle.fleet_args.specs.declared.commands.Request.{Request}
+use Rattle.fleet_args.specs.declared.{commands.ProgramFor.ProgramFor, commands.Request.Request, commands.Tasks.Tasks, request.WordStop.WordStop}
 use Rattle.fleet_args.specs.declared.commands.Request.TheVariants as r
-use Rattle.fleet_args.specs.declared.commands.Tasks.{Tasks}
-use Rattle.fleet_args.specs.declared.request.WordStop.{WordStop}
 use Rattle.fleet_args.specs.declared.request.WordStop.TheVariants as w
 use Rattle.fleet_cli.specs.Files.{Store, AreUnchanged}
 use Rattle.fleet_text.specs.Sink.{Receives, FailsAfter, SinkState, IsUnwritten, IsDelivered}
 use Rattle.fleet_text.specs.Words.{line_text}
 use Rattle.fleet_cli.specs.Output.{IsRefusalWritten, Finishes}
 use Rattle.fleet_cli.specs.Named.{given_names, IsUnread, AreTexts}
-use Rattle.fleet_cli.specs.declared.files.FileNames.{FileNames}
-use Rattle.fleet_cli.specs.declared.files.FileTexts.{FileTexts}
+use Rattle.fleet_cli.specs.declared.{files.FileNames.FileNames, files.FileTexts.FileTexts, fault.Fault.Fault}
 use Rattle.fleet_cli.specs.RunCommands.{RunsHex, AnswersRehearse, AnswersRun, AnswersAuto}
 use Rattle.fleet_cli.specs.PrintCommands.{AnswersInstance, AnswersCheck, AnswersPlan, AnswersVerify, AnswersList}
 use Rattle.fleet_cli.specs.WriteCommands.{AnswersCompile, AnswersThin, AnswersMigrate}
@@ -24,20 +20,15 @@ use Rattle.fleet_cli.specs.TimesCommand.{AnswersTimes}
 use Rattle.fleet_cli.specs.RestCommand.{AnswersRest}
 use Rattle.fleet_dispatch.specs.Talk.{Talk}
 use Rattle.fleet_dispatch.specs.declared.form.ReportForm.{ReportForm}
-use Rattle.fleet_cli.specs.declared.fault.Fault.{Fault}
 use Rattle.fleet_cli.specs.declared.fault.Fault.TheVariants as f
 
--- the files of a map and a scenario
-abbrev pub names_of_tasks : Tasks → FileNames
-names_of_tasks t = record { map = Some t.map; scen = Some t.scen; subject = None; holds = None; log = None }
+-- the files of a map and a scenario, and these
+abbrev pub names_for : Tasks → (subject holds log : Option (Bor (List ℕ))) → FileNames
+names_for t subject holds log = record { map = Some t.map; scen = Some t.scen; subject = subject; holds = holds; log = log }
 
--- the same, and that of a program or a plan
-abbrev pub names_with : Tasks → Bor (List ℕ) → FileNames
-names_with t subject = record (names_of_tasks t) { subject = Some subject }
-
--- the files of a program for tasks
-abbrev pub names_of_program : ProgramFor → FileNames
-names_of_program p = names_with p.tasks p.program
+-- the files of a program for tasks, and these
+abbrev pub names_of_program : ProgramFor → (holds log : Option (Bor (List ℕ))) → FileNames
+names_of_program p holds log = names_for p.tasks (Some p.program) holds log
 
 -- the file of a program, and that of the holds
 abbrev pub names_alone : Bor (List ℕ) → Option (Bor (List ℕ)) → FileNames
@@ -45,20 +36,20 @@ names_alone program holds = record { map = None; scen = None; subject = Some pro
 
 -- the files that each command reads, those of the holds and of the log last
 abbrev pub names_of : Request → FileNames
-names_of (r.Instance q) = names_of_tasks q
-names_of (r.Check q) = names_with q.tasks q.plan
-names_of (r.Plan q) = names_of_tasks q.tasks
-names_of (r.Compile q) = names_with q.tasks q.plan
-names_of (r.Verify q) = names_of_program q
-names_of (r.Run q) = record (names_of_program q.subject) { holds = q.holds }
+names_of (r.Instance q) = names_for q None None None
+names_of (r.Check q) = names_for q.tasks (Some q.plan) None None
+names_of (r.Plan q) = names_for q.tasks None None None
+names_of (r.Compile q) = names_for q.tasks (Some q.plan) None None
+names_of (r.Verify q) = names_of_program q None None
+names_of (r.Run q) = names_of_program q.subject q.holds None
 names_of (r.Rehearse q) = names_alone q.program q.holds
-names_of (r.Auto q) = record (names_of_tasks q.tasks) { holds = q.holds }
-names_of (r.Thin q) = names_of_program q.subject
+names_of (r.Auto q) = names_for q.tasks None q.holds None
+names_of (r.Thin q) = names_of_program q.subject None None
 names_of (r.Migrate q) = names_alone q.program None
 names_of (r.List q) = names_alone q.program None
-names_of (r.Dispatch q) = record (names_of_program q.subject) { log = q.resume }
-names_of (r.Times q) = record (names_of_program q.subject) { holds = q.costs }
-names_of (r.Rest q) = record (names_of_program q.subject) { log = Some q.reports }
+names_of (r.Dispatch q) = names_of_program q.subject None q.resume
+names_of (r.Times q) = names_of_program q.subject q.costs None
+names_of (r.Rest q) = names_of_program q.subject None (Some q.reports)
 
 -- what a request finds and leaves: the files before it and after it; that nothing was read of the input, and that nothing
 -- was written; and what robots were told, what they reported, and what was logged of that

@@ -5,18 +5,13 @@ use Rattle.fleet_text.specs.Sink.{SinkState}
 use Rattle.fleet_model.specs.Program.{Program}
 use Rattle.fleet_dispatch.specs.Talk.{Talk}
 use Rattle.fleet_dispatch.specs.Session.{first_course}
-use Rattle.fleet_dispatch.specs.declared.form.ReportForm.{ReportForm}
-use Rattle.fleet_dispatch.specs.declared.form.ReportForm.TheVariants.{Numbered, Unnumbered}
-use Rattle.fleet_dispatch.specs.declared.pace.Pace.{Pace}
+use Rattle.fleet_dispatch.specs.declared.{form.ReportForm.ReportForm, form.ReportForm.TheVariants.Numbered, form.ReportForm.TheVariants.Unnumbered, pace.Pace.Pace, run.DispatchReport.DispatchReport, fault.DispatchFault.DispatchFault}
 use Rattle.fleet_dispatch.specs.Replay.{GoesOn, DispatchesAfter}
-use Rattle.fleet_dispatch.specs.declared.run.DispatchReport.{DispatchReport}
-use Rattle.fleet_dispatch.specs.declared.fault.DispatchFault.{DispatchFault}
 use Rattle.fleet_args.specs.declared.commands.DispatchRequest.{DispatchRequest}
-use Rattle.fleet_cli.specs.declared.files.FileTexts.{FileTexts}
+use Rattle.fleet_cli.specs.declared.{files.FileTexts.FileTexts, fault.Fault.Fault}
 use Rattle.fleet_cli.specs.Files.{Store, AreUnchanged, IsOwnLog}
 use Rattle.fleet_cli.specs.Journal.{log_in, ChangesOnlyLog, IsKept, IsLogFault}
 use Rattle.fleet_cli.specs.Steps.{AcceptsTexts, IsTextsRefusal}
-use Rattle.fleet_cli.specs.declared.fault.Fault.{Fault}
 use Rattle.fleet_cli.specs.declared.fault.Fault.TheVariants as f
 
 -- how the orders of a request are given

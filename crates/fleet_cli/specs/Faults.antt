@@ -4,7 +4,7 @@ use Rattle.fleet_scen.specs.declared.fault.ScenFault.TheVariants as s
 use Rattle.fleet_search.specs.declared.fault.PlanStop.TheVariants as p
 use Rattle.fleet_adg.specs.declared.fault.CompileFault.TheVariants as c
 use Rattle.fleet_run.specs.declared.run.RunFault.TheVariants as r
-use Rattle.fleet_cli.specs.declared.fault.AutoFault.{AutoFault}
+use Rattle.fleet_cli.specs.declared.{fault.AutoFault.AutoFault, fault.Fault.Fault}
 use Rattle.fleet_cli.specs.declared.fault.AutoFault.TheVariants as a
 use Rattle.std.specs.Prelude.{ℕ, Bool, true, List, [], ◌∷◌, if◌then◌else◌, codes}
 use Rattle.fleet_text.specs.Words.{line_text}
@@ -18,7 +18,6 @@ use Rattle.fleet_adg.specs.RefusalWords.{compile_words, is_compile_failure}
 use Rattle.fleet_verify.specs.RefusalWords.{verify_words, is_verify_failure}
 use Rattle.fleet_run.specs.RefusalWords.{run_words, is_run_failure}
 use Rattle.fleet_dispatch.specs.RefusalWords.{dispatch_words, is_dispatch_failure, times_words, is_times_failure}
-use Rattle.fleet_cli.specs.declared.fault.Fault.{Fault}
 use Rattle.fleet_cli.specs.declared.fault.Fault.TheVariants as f
 
 -- the fault of a step as it is answered: want of memory in any step is the same

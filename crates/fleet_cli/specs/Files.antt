@@ -1,7 +1,6 @@
 -- What a store of files holds, if it says so.
 use Rattle.std.specs.Prelude.{◌≡◌, ◌≢◌, ◌<◌, ◌≤◌, ◌⊎◌, ℕ, Bool, true, false, IfSome, List, [], ◌∷◌, length, take, Option, Some, None, unwrap_or, option_map, Result, Ok, Err, ⊤, if◌then◌else◌}
-use Rattle.std.specs.List.{list_any}
-use Rattle.std.specs.Io.KnownBytes.{Appends}
+use Rattle.std.specs.{List.list_any, Io.KnownBytes.Appends}
 use Rattle.fleet_text.specs.Text.{is_lf}
 use Rattle.fleet_cli.specs.declared.input.TheConstants.{MAX_BYTES}
 
@@ -26,9 +25,7 @@ IsUnreadable (Some files) name = (bytes : List ℕ) → files name ≡ Some byte
 
 -- every file is as before
 abbrev pub AreUnchanged : Option Store → Option Store → Type 0
-AreUnchanged None new = ⊤
-AreUnchanged (Some files) None = ⊥
-AreUnchanged (Some files) (Some others) = (n : List ℕ) → others n ≡ files n
+AreUnchanged old new = new ≡ old
 
 -- every file but the named one is as before
 abbrev pub ChangesOnly : Option Store → Option Store → List ℕ → Type 0

@@ -3,8 +3,7 @@ use Rattle.std.specs.Prelude.{◌≡◌, ◌⊎◌, ℕ, Bool, true, false, List
 use Rattle.std.specs.Borrow.{Bor}
 use Rattle.fleet_text.specs.Sink.{SinkState}
 use Rattle.fleet_dispatch.specs.Talk.{Talk}
-use Rattle.fleet_dispatch.specs.declared.form.ReportForm.{ReportForm}
-use Rattle.fleet_dispatch.specs.declared.fault.DispatchFault.TheVariants.{OtherLog}
+use Rattle.fleet_dispatch.specs.declared.{form.ReportForm.ReportForm, fault.DispatchFault.TheVariants.OtherLog}
 use Rattle.fleet_cli.specs.Files.{Store, AreUnchanged, ChangesOnly, BeginsLog, bytes_of, whole_lines}
 use Rattle.fleet_cli.specs.Named.{IsWriteFault}
 use Rattle.fleet_cli.specs.declared.fault.Fault.{Fault}

@@ -2,8 +2,7 @@
 use Rattle.std.specs.Prelude.{◌≡◌, ℕ, Result, Ok, Err, codes, List, [], ◌∷◌, ◌++◌, ◌⊎◌, Option, None, Some, map}
 use Rattle.fleet_text.specs.Sink.{SinkState, Receives, IsDelivered, IsUnwritten, FailsAfter}
 use Rattle.fleet_cli.specs.Faults.{refusal_line, status_of}
-use Rattle.fleet_run.specs.declared.run.End.{End}
-use Rattle.fleet_run.specs.declared.run.End.TheVariants.{Finished, Stuck}
+use Rattle.fleet_run.specs.declared.{run.End.End, run.End.TheVariants.Finished, run.End.TheVariants.Stuck}
 use Rattle.fleet_cli.specs.declared.fault.Fault.{Fault}
 use Rattle.fleet_cli.specs.declared.fault.Fault.TheVariants as f
 use Rattle.std.specs.Borrow.{Bor}

@@ -1,16 +1,13 @@
 -- What the commands `instance`, `check`, `plan`, `verify` and `list` print.
-use Rattle.std.specs.Prelude.{◌≡◌, ℕ, zero, suc, List, [], ◌∷◌, ◌++◌, length, slice_get, Option, codes, decimal, Result, Err, ◌≢◌, Bool, true, false, Some, None, ◌⊎◌}
-use Rattle.std.specs.Option.{option_map_or}
-use Rattle.fleet_model.specs.declared.geometry.Cell.{Cell}
-use Rattle.fleet_model.specs.declared.task.Task.{Task}
+use Rattle.std.specs.Prelude.{◌≡◌, ℕ, List, [], ◌∷◌, ◌++◌, length, slice_get, option_map, unwrap_or, Option, codes, decimal, Result, Err, ◌≢◌, Bool, true, false, Some, None, ◌⊎◌}
+use Rattle.fleet_model.specs.declared.{geometry.Cell.Cell, task.Task.Task, program.Visit.Visit}
 use Rattle.fleet_model.specs.Program.{origin, Program, total_moves, total_awaits}
 use Rattle.fleet_grid.specs.Ground.{Ground, passable_cells, is_passable}
 use Rattle.fleet_cli.specs.Steps.{AreTextsOf, ReadsProblem, ReadsProgram, IsProblemRefusal, IsPlannedFor, AcceptsTexts, IsLoadRefusal}
 use Rattle.fleet_text.specs.Sink.{FailsAfter, SinkState, IsUnwritten, IsDelivered}
-use Rattle.fleet_args.specs.declared.commands.Tasks.{Tasks}
+use Rattle.fleet_args.specs.declared.{commands.Tasks.Tasks, commands.CheckRequest.CheckRequest, commands.Tries.Tries, commands.PlanRequest.PlanRequest, commands.ProgramFor.ProgramFor}
 use Rattle.fleet_text.specs.Words.{pair_text, line_text, count_line}
-use Rattle.fleet_cli.specs.declared.files.FileTexts.{FileTexts}
-use Rattle.fleet_cli.specs.declared.fault.Fault.{Fault}
+use Rattle.fleet_cli.specs.declared.{files.FileTexts.FileTexts, fault.Fault.Fault}
 use Rattle.fleet_cli.specs.declared.fault.Fault.TheVariants as f
 use Rattle.fleet_plan.specs.Plan.{Plan, steps, IsConflictFree}
 use Rattle.fleet_plan.specs.Numbers.{sum_of_costs, moves_in_plan, waits_in_plan}
@@ -19,13 +16,9 @@ use Rattle.fleet_plan.specs.PlanText.{IsPlanText, IsFirstTextFault, plan_text}
 use Rattle.fleet_plan.specs.FirstFault.{IsFirstPlanFault}
 use Rattle.fleet_plan.specs.declared.text_fault.TextFault.TheVariants as t
 use Rattle.fleet_plan.specs.declared.plan_fault.PlanFault.TheVariants as p
-use Rattle.fleet_args.specs.declared.commands.CheckRequest.{CheckRequest}
 use Rattle.fleet_cli.specs.Output.{report, Does, Prints}
-use Rattle.fleet_args.specs.declared.commands.Tries.{Tries}
 use Rattle.fleet_search.specs.Orders.{IsStuckInTries}
 use Rattle.fleet_search.specs.declared.fault.PlanStop.TheVariants as s
-use Rattle.fleet_args.specs.declared.commands.PlanRequest.{PlanRequest}
-use Rattle.fleet_model.specs.declared.program.Visit.{Visit}
 use Rattle.fleet_model.specs.Machine.{Holds}
 use Rattle.fleet_model.specs.Breaking.{AreBreakingHolds}
 use Rattle.fleet_code.specs.Spelling.{Spells}
@@ -34,25 +27,19 @@ use Rattle.fleet_verify.specs.Broken.{IsBrokenBy}
 use Rattle.fleet_verify.specs.declared.fault.VerifyFault.{VerifyFault}
 use Rattle.fleet_verify.specs.declared.fault.VerifyFault.TheVariants as v
 use Rattle.fleet_run.specs.HoldText.{holds_text}
-use Rattle.fleet_args.specs.declared.commands.ProgramFor.{ProgramFor}
-use Rattle.fleet_run.specs.Listing.{program_text}
-
--- the start of agent i
-abbrev pub start_in : List Task → ℕ → Cell
-start_in tasks i = option_map_or (λ t. t.start) (slice_get tasks i) origin
-
--- the goal of agent i
-abbrev pub goal_in : List Task → ℕ → Cell
-goal_in tasks i = option_map_or (λ t. t.goal) (slice_get tasks i) origin
+use Rattle.fleet_run.specs.Listing.{program_text, texts_below}
 
 -- the line of an agent: `i: x,y x,y`, its start and its goal
 unfoldable pub task_line : ℕ → Cell → Cell → List ℕ
 task_line i start goal = line_text ((decimal i ++ 58 ∷ []) ∷ pair_text start.x start.y ∷ pair_text goal.x goal.y ∷ [])
 
--- the lines of the agents below n
-abbrev pub task_lines : List Task → ℕ → List ℕ
-task_lines tasks zero = []
-task_lines tasks (suc n) = task_lines tasks n ++ task_line n (start_in tasks n) (goal_in tasks n)
+-- .. of agent i of these tasks
+abbrev pub task_at : List Task → ℕ → List ℕ
+task_at tasks i = task_line i (unwrap_or (option_map (λ t. t.start) (slice_get tasks i)) origin) (unwrap_or (option_map (λ t. t.goal) (slice_get tasks i)) origin)
+
+-- the lines of all agents
+abbrev pub task_lines : List Task → List ℕ
+task_lines tasks = texts_below (task_at tasks) (length tasks)
 
 -- `map W H`
 unfoldable pub map_line : Ground → List ℕ
@@ -61,7 +48,7 @@ map_line g = line_text (codes "map" ∷ decimal g.width ∷ decimal g.height ∷
 -- the sizes, `ground N`, `agents K`, and the lines of the agents
 unfoldable pub instance_text : Ground → List Task → List ℕ
 instance_text g tasks =
-    map_line g ++ (count_line (codes "ground") (passable_cells g) ++ (count_line (codes "agents") (length tasks) ++ task_lines tasks (length tasks)))
+    map_line g ++ (count_line (codes "ground") (passable_cells g) ++ (count_line (codes "agents") (length tasks) ++ task_lines tasks))
 
 -- what `instance` answers for the texts of its files
 abbrev pub AnswersInstance : Tasks → FileTexts → (out out' : SinkState) → Result ℕ Fault → Type 0

@@ -1,9 +1,7 @@
 -- What the command `rest` writes: what is left of an accepted program after the reports of a log.
 use Rattle.std.specs.Prelude.{◌≡◌, ℕ, List, [], ◌∷◌, ◌⊎◌, length, Option, None, Some, IfSome, Result, ⊤}
-use Rattle.std.specs.Borrow.{Bor}
-use Rattle.std.specs.List.{remove}
-use Rattle.fleet_model.specs.declared.geometry.Cell.{Cell}
-use Rattle.fleet_model.specs.declared.task.Task.{Task}
+use Rattle.std.specs.{Borrow.Bor, List.remove}
+use Rattle.fleet_model.specs.declared.{geometry.Cell.Cell, task.Task.Task}
 use Rattle.fleet_model.specs.Program.{Program}
 use Rattle.fleet_model.specs.Machine.{Configuration}
 use Rattle.fleet_model.specs.Accepted.{IsAccepted}
@@ -16,17 +14,14 @@ use Rattle.fleet_adg.specs.Remaining.{tasks_of}
 use Rattle.fleet_code.specs.Spelling.{SpellsShortest}
 use Rattle.fleet_dispatch.specs.Standing.{StandsAfter, IsLogRefusal}
 use Rattle.fleet_dispatch.specs.DeadRobot.{dead_robot_of}
-use Rattle.fleet_dispatch.specs.declared.dead_robot.DeadRobot.{DeadRobot}
-use Rattle.fleet_dispatch.specs.declared.times_fault.TimesFault.TheVariants.{Dead}
+use Rattle.fleet_dispatch.specs.declared.{dead_robot.DeadRobot.DeadRobot, times_fault.TimesFault.TheVariants.Dead}
 use Rattle.fleet_text.specs.Sink.{SinkState}
 use Rattle.fleet_args.specs.declared.commands.RestRequest.{RestRequest}
 use Rattle.fleet_cli.specs.Files.{Store}
-use Rattle.fleet_cli.specs.declared.files.FileTexts.{FileTexts}
-use Rattle.fleet_cli.specs.declared.rest_command.Rest.{Rest}
+use Rattle.fleet_cli.specs.declared.{files.FileTexts.FileTexts, rest_command.Rest.Rest, fault.Fault.Fault}
 use Rattle.fleet_cli.specs.Output.{AnswersOut}
 use Rattle.fleet_cli.specs.WriteCommands.{numbers_text}
 use Rattle.fleet_cli.specs.Steps.{AcceptsTexts, IsTextsRefusal}
-use Rattle.fleet_cli.specs.declared.fault.Fault.{Fault}
 use Rattle.fleet_cli.specs.declared.fault.Fault.TheVariants as f
 
 -- q is the rest of the program where the reports of the log have led its agents, and its runs are the rests of the

@@ -1,38 +1,26 @@
 -- What the commands `run`, `auto` and `rehearse` do, and the program without words: a run, and the flush of its sink.
 use Rattle.std.specs.Prelude.{◌≡◌, true, false, Result, Ok, Err, ◌⊎◌, ℕ, List, Option, None, Bool, [], ◌∷◌, codes, length, ◌≢◌, ◌≤◌, IfSome}
-use Rattle.std.specs.Io.KnownBytes.{Keeps}
-use Rattle.std.specs.Result.{result_map_both}
+use Rattle.std.specs.{Io.KnownBytes.Keeps, Result.result_map_both}
 use Rattle.fleet_model.specs.Program.{Program}
 use Rattle.fleet_text.specs.Sink.{SinkState, IsWorking, HasFailed, IsUnwritten}
 use Rattle.fleet_run.specs.Source.{SourceState}
 use Rattle.fleet_run.specs.Rehearsal.{Rehearses}
-use Rattle.fleet_run.specs.declared.run.RunFault.{RunFault}
-use Rattle.fleet_run.specs.declared.run.RunFault.TheVariants.{Write}
-use Rattle.fleet_run.specs.declared.trace.Report.{Report}
+use Rattle.fleet_run.specs.declared.{run.RunFault.RunFault, run.RunFault.TheVariants.Write, trace.Report.Report}
 use Rattle.fleet_run.specs.Trace.{WritesTrace, Traces, StopsTrace, hold_source}
-use Rattle.fleet_args.specs.declared.commands.RunRequest.{RunRequest}
-use Rattle.fleet_cli.specs.declared.files.FileTexts.{FileTexts}
-use Rattle.fleet_cli.specs.Steps.{AcceptsTexts, AreTextsOf, ReadsProgram, IsTextsRefusal, IsProblemRefusal, IsPlannedFor, AreNumbersOf, IsMakingFault, IsLoadRefusal}
-use Rattle.fleet_cli.specs.declared.fault.Fault.{Fault}
+use Rattle.fleet_args.specs.declared.{commands.RunRequest.RunRequest, commands.Tries.Tries, commands.AutoRequest.AutoRequest}
+use Rattle.fleet_cli.specs.declared.{files.FileTexts.FileTexts, fault.Fault.Fault, steps.PlanNumbers.PlanNumbers, fault.AutoFault.AutoFault, input.TheConstants.MAX_BYTES}
+use Rattle.fleet_cli.specs.Steps.{AcceptsTexts, AreTextsOf, ReadsProgram, IsTextsRefusal, IsProblemRefusal, IsMadeFor, IsMakingFault, IsLoadRefusal}
 use Rattle.fleet_cli.specs.declared.fault.Fault.TheVariants as f
-use Rattle.fleet_args.specs.declared.commands.Tries.{Tries}
-use Rattle.fleet_model.specs.declared.task.Task.{Task}
+use Rattle.fleet_model.specs.declared.{task.Task.Task, deps.Deps.Deps}
 use Rattle.fleet_grid.specs.Ground.{Ground}
-use Rattle.fleet_plan.specs.Plan.{Plan}
-use Rattle.fleet_adg.specs.Compiled.{compiled_if_few}
-use Rattle.fleet_model.specs.declared.deps.Deps.{Deps}
 use Rattle.fleet_verify.specs.Parts.{IsAcceptedFor}
-use Rattle.fleet_cli.specs.declared.steps.PlanNumbers.{PlanNumbers}
-use Rattle.fleet_cli.specs.declared.fault.AutoFault.{AutoFault}
 use Rattle.fleet_cli.specs.declared.fault.AutoFault.TheVariants as a
-use Rattle.fleet_args.specs.declared.commands.AutoRequest.{AutoRequest}
 use Rattle.fleet_cli.specs.Output.{count_lines, Does, Follow, Prints, end_status, Finishes}
 use Rattle.fleet_grid.specs.MapText.{IsMapText, IsFirstMapFault}
 use Rattle.fleet_scen.specs.ScenText.{IsFirstScenFault}
 use Rattle.fleet_cli.specs.Faults.{step_fault}
 use Rattle.fleet_code.specs.Hex.{bytes_of}
 use Rattle.fleet_code.specs.declared.fault.HexFault.TheVariants as h
-use Rattle.fleet_cli.specs.declared.input.TheConstants.{MAX_BYTES}
 
 -- The answer of a run after the flush. It is the run's own, and the sink has handed on all, unless it had failed; or
 -- the sink could not hand on what it took, and that is a failed write.
@@ -58,19 +46,15 @@ AnswersRun r texts out out' result =
     Does (AcceptsTexts texts.map.items texts.scen.items r.subject.tasks.agents texts.subject.items) (IsTextsRefusal texts.map.items texts.scen.items r.subject.tasks.agents texts.subject.items)
     (λ x. Runs x.program x.chain texts.holds.items) out out' result
 
--- The texts stand for a map and for tasks. For these a plan is made agent by agent in one of the first orders, each
--- path the earliest against those before it; it is free of conflict; and this is its program, which is accepted for the
--- map and the tasks, and the longest chain of the program. The plan has these numbers
+-- The texts stand for a map and for tasks. This is the program of the plan that is made for them, which has these
+-- numbers; and the program is accepted for them, with a longest chain of so many actions
 pub record MakesProgram (map scen : List ℕ) (asked : Option ℕ) (horizon : ℕ) (tries : Tries) (deps : Deps) : Type 0 where
   pub ground : Ground
   pub tasks : List Task
   pub texts : AreTextsOf map scen asked ground tasks
-  pub plan : Plan
   pub numbers : PlanNumbers
-  pub planned : IsPlannedFor ground tasks horizon tries numbers.tried plan
-  pub numbered : AreNumbersOf plan numbers
   pub program : Program
-  pub compiled : compiled_if_few plan deps ≡ Ok program
+  pub made : IsMadeFor ground tasks horizon tries deps numbers program
   pub chain : ℕ
   pub accepted_for : IsAcceptedFor ground tasks program chain
 
@@ -81,12 +65,10 @@ abbrev pub IsAutoFault : (map scen : List ℕ) → Option ℕ → ℕ → Tries 
 IsAutoFault map scen asked horizon tries deps held out out' a.OutOfMemory = IsUnwritten out out'
 IsAutoFault map scen asked horizon tries deps held out out' (a.Map fault) = IsFirstMapFault map fault × IsUnwritten out out'
 IsAutoFault map scen asked horizon tries deps held out out' (a.Scen fault) = (g : Ground) × IsMapText map g × IsFirstScenFault scen g asked fault × IsUnwritten out out'
-IsAutoFault map scen asked horizon tries deps held out out' (a.Plan stop) =
-    (g : Ground) × (tasks : List Task) × AreTextsOf map scen asked g tasks × IsMakingFault g tasks horizon tries deps (a.Plan stop) × IsUnwritten out out'
-IsAutoFault map scen asked horizon tries deps held out out' (a.Compile fault) =
-    (g : Ground) × (tasks : List Task) × AreTextsOf map scen asked g tasks × IsMakingFault g tasks horizon tries deps (a.Compile fault) × IsUnwritten out out'
 IsAutoFault map scen asked horizon tries deps held out out' (a.Run fault) =
     (m : MakesProgram map scen asked horizon tries deps) × StopsTrace m.program m.chain held out out' fault
+IsAutoFault map scen asked horizon tries deps held out out' fault =
+    (g : Ground) × (tasks : List Task) × AreTextsOf map scen asked g tasks × IsMakingFault g tasks horizon tries deps fault × IsUnwritten out out'
 
 -- one order is tried, that of the agents' numbers
 abbrev pub one_try : Tries

@@ -1,16 +1,15 @@
 -- What commands are made of: what the texts of a map, a scenario and a program stand for, and what is made for them.
 use Rattle.std.specs.Prelude.{ℕ, List, Option, ◌≡◌, ◌≢◌, ◌⊎◌, max, Bool, None, Some, Result, Ok, Err}
-use Rattle.fleet_model.specs.declared.task.Task.{Task}
+use Rattle.fleet_model.specs.declared.{task.Task.Task, geometry.Place.Place, deps.Deps.Deps, deps.Deps.TheVariants.Last}
 use Rattle.fleet_grid.specs.Ground.{Ground, is_passable}
 use Rattle.fleet_grid.specs.MapText.{IsMapText, IsFirstMapFault}
 use Rattle.fleet_grid.specs.declared.fault.MapFault.TheVariants as m
 use Rattle.fleet_scen.specs.ScenText.{IsScenText, IsFirstScenFault}
 use Rattle.fleet_scen.specs.declared.fault.ScenFault.TheVariants as s
-use Rattle.fleet_cli.specs.declared.fault.AutoFault.{AutoFault}
+use Rattle.fleet_cli.specs.declared.{fault.AutoFault.AutoFault, steps.TheConstants.NO_CHAIN, steps.PlanNumbers.PlanNumbers, fault.Fault.Fault}
 use Rattle.fleet_cli.specs.declared.fault.AutoFault.TheVariants as a
-use Rattle.fleet_args.specs.declared.commands.Tries.{Tries}
+use Rattle.fleet_args.specs.declared.{commands.Tries.Tries, commands.Best.Best}
 use Rattle.fleet_model.specs.Program.{Program}
-use Rattle.fleet_model.specs.declared.geometry.Place.{Place}
 use Rattle.fleet_model.specs.Chain.{IsLongestChain}
 use Rattle.fleet_model.specs.Accepted.{IsAccepted}
 use Rattle.fleet_plan.specs.Plan.{Plan, steps, IsConflictFree}
@@ -23,17 +22,11 @@ use Rattle.fleet_adg.specs.Compiled.{compiled_if_few}
 use Rattle.fleet_adg.specs.declared.fault.CompileFault.{CompileFault}
 use Rattle.fleet_code.specs.Spelling.{SpellsIn, Spells}
 use Rattle.fleet_code.specs.declared.format.Version.TheVariants.{One}
-use Rattle.fleet_model.specs.declared.deps.Deps.{Deps}
-use Rattle.fleet_model.specs.declared.deps.Deps.TheVariants.{Last}
-use Rattle.fleet_args.specs.declared.commands.Best.{Best}
 use Rattle.fleet_args.specs.declared.commands.Best.TheVariants as best
-use Rattle.fleet_cli.specs.declared.steps.TheConstants.{NO_CHAIN}
-use Rattle.fleet_cli.specs.declared.steps.PlanNumbers.{PlanNumbers}
 use Rattle.fleet_code.specs.LoadFaults.{IsFirstLoadFault}
 use Rattle.fleet_code.specs.declared.fault.LoadFault.TheVariants as l
 use Rattle.fleet_verify.specs.Parts.{IsAcceptedFor}
 use Rattle.fleet_verify.specs.Faults.{IsFault}
-use Rattle.fleet_cli.specs.declared.fault.Fault.{Fault}
 use Rattle.fleet_cli.specs.declared.fault.Fault.TheVariants as f
 
 -- the texts stand for this ground and these tasks

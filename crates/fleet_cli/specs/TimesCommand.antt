@@ -10,10 +10,9 @@ use Rattle.fleet_text.specs.Sink.{SinkState}
 use Rattle.fleet_dispatch.specs.Breaks.{AreBreaksOf, IsBreaksFault}
 use Rattle.fleet_dispatch.specs.Costs.{AreCostsOf, IsCostsFault}
 use Rattle.fleet_args.specs.declared.commands.TimesRequest.{TimesRequest}
-use Rattle.fleet_cli.specs.declared.files.FileTexts.{FileTexts}
+use Rattle.fleet_cli.specs.declared.{files.FileTexts.FileTexts, fault.Fault.Fault}
 use Rattle.fleet_cli.specs.Steps.{AcceptsTexts, IsTextsRefusal}
 use Rattle.fleet_cli.specs.Output.{Does, Prints}
-use Rattle.fleet_cli.specs.declared.fault.Fault.{Fault}
 use Rattle.fleet_cli.specs.declared.fault.Fault.TheVariants as f
 
 -- when each agent arrives at the soonest, when all have arrived, and a chain that takes so long

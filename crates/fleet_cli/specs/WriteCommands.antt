@@ -1,6 +1,6 @@
 -- What the commands `compile`, `thin` and `migrate` write and print.
 use Rattle.std.specs.Prelude.{◌≡◌, ◌≢◌, ℕ, List, [], ◌∷◌, length, Option, Some, Ok, Err, codes, Result}
-use Rattle.fleet_model.specs.declared.task.Task.{Task}
+use Rattle.fleet_model.specs.declared.{task.Task.Task, deps.Deps.Deps}
 use Rattle.fleet_model.specs.Program.{Program, total_moves, total_awaits}
 use Rattle.fleet_model.specs.Accepted.{IsAccepted}
 use Rattle.fleet_grid.specs.Ground.{Ground, is_passable}
@@ -8,23 +8,19 @@ use Rattle.fleet_plan.specs.Plan.{Plan, IsConflictFree}
 use Rattle.fleet_adg.specs.Compiled.{compiled_staying_if_few}
 use Rattle.fleet_adg.specs.ProgramBytes.{AreBytesOf}
 use Rattle.fleet_adg.specs.declared.program_bytes.ProgramBytes.{ProgramBytes}
-use Rattle.fleet_model.specs.declared.deps.Deps.{Deps}
 use Rattle.fleet_adg.specs.declared.fault.CompileFault.TheVariants as c
 use Rattle.fleet_code.specs.Spelling.{SpellsShortest, SpellsIn, Spells}
 use Rattle.fleet_text.specs.Sink.{SinkState}
 use Rattle.fleet_cli.specs.Files.{Store}
-use Rattle.fleet_args.specs.declared.commands.CompileRequest.{CompileRequest}
-use Rattle.fleet_cli.specs.declared.files.FileTexts.{FileTexts}
+use Rattle.fleet_args.specs.declared.{commands.CompileRequest.CompileRequest, commands.ThinRequest.ThinRequest, commands.MigrateRequest.MigrateRequest}
+use Rattle.fleet_cli.specs.declared.{files.FileTexts.FileTexts, fault.Fault.Fault}
 use Rattle.fleet_cli.specs.Output.{count_lines, AnswersOut}
 use Rattle.fleet_cli.specs.Steps.{AcceptsTexts, IsTextsRefusal, IsLoadRefusal}
 use Rattle.fleet_cli.specs.PrintCommands.{ArePlanTexts, IsPlanRefusal}
-use Rattle.fleet_cli.specs.declared.fault.Fault.{Fault}
 use Rattle.fleet_cli.specs.declared.fault.Fault.TheVariants as f
 use Rattle.fleet_model.specs.Chain.{IsLongestChain}
 use Rattle.fleet_verify.specs.Reduced.{IsThinned, RunEqually}
-use Rattle.fleet_args.specs.declared.commands.ThinRequest.{ThinRequest}
 use Rattle.fleet_code.specs.declared.format.Version.TheVariants.{Two}
-use Rattle.fleet_args.specs.declared.commands.MigrateRequest.{MigrateRequest}
 
 -- the texts stand for a map, for tasks and for a plan that is free of conflict; the program is that of the plan with so
 -- many stays after the moves of each agent, and is accepted; and the bytes spell it, in version 1 if that has bytes for

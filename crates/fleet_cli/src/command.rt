@@ -3,7 +3,7 @@
 ghost use Rattle.std.specs.Prelude.{◌≡◌, map, string_bytes};
 ghost use Rattle.fleet_text.specs.Sink.{IsWorking};
 ghost use Rattle.fleet_dispatch.specs.Talk.{IsLogged};
-ghost use Rattle.fleet_cli.specs.Command.{names_alone, names_of, names_of_program, names_of_tasks, names_with, around, AnswersRequest, RunsRequest, StopsAtWords, RunsCommand};
+ghost use Rattle.fleet_cli.specs.Command.{names_alone, names_for, names_of, names_of_program, around, AnswersRequest, RunsRequest, StopsAtWords, RunsCommand};
 
 use crate::dispatch_command::do_dispatch;
 use crate::fault::{Fault, finish, refuse};
@@ -19,34 +19,33 @@ use fleet_run::{Flush, OutFault, TraceOut, put_all};
 use fleet_text::deliver;
 use std::alloc::Global;
 
-/// The files of a map and a scenario.
-fn names_of_tasks<'a>(tasks: &Tasks<'a>) -> FileNames<'a>
-    ensures { result ≡ names_of_tasks tasks.now }
+/// The files of a map and a scenario, and these.
+fn names_for<'a>(
+    tasks: &Tasks<'a>,
+    subject: Option<&'a str>,
+    holds: Option<&'a str>,
+    log: Option<&'a str>,
+) -> FileNames<'a>
+    ensures { result ≡ names_for tasks.now subject.entry holds.entry log.entry }
 {
     FileNames {
         map: Some(tasks.map),
         scen: Some(tasks.scen),
-        subject: None,
-        holds: None,
-        log: None,
+        subject,
+        holds,
+        log,
     }
 }
 
-/// The same, and that of a program or a plan.
-fn names_with<'a>(tasks: &Tasks<'a>, subject: &'a str) -> FileNames<'a>
-    ensures { result ≡ names_with tasks.now subject.entry }
+/// The files of a program for tasks, and these.
+fn names_of_program<'a>(
+    program: &ProgramFor<'a>,
+    holds: Option<&'a str>,
+    log: Option<&'a str>,
+) -> FileNames<'a>
+    ensures { result ≡ names_of_program program.now holds.entry log.entry }
 {
-    FileNames {
-        subject: Some(subject),
-        ..names_of_tasks(tasks)
-    }
-}
-
-/// The files of a program for tasks.
-fn names_of_program<'a>(program: &ProgramFor<'a>) -> FileNames<'a>
-    ensures { result ≡ names_of_program program.now }
-{
-    names_with(&program.tasks, program.program)
+    names_for(&program.tasks, Some(program.program), holds, log)
 }
 
 /// The file of a program, and that of the holds.
@@ -67,41 +66,25 @@ fn names_of<'a>(request: &Request<'a>) -> FileNames<'a>
     ensures { result ≡ names_of request.now }
 {
     match request {
-        Request::Instance(q) => names_of_tasks(q),
-        Request::Check(q) => names_with(&q.tasks, q.plan),
-        Request::Plan(q) => names_of_tasks(&q.tasks),
-        Request::Compile(q) => names_with(&q.tasks, q.plan),
-        Request::Verify(q) => names_of_program(q),
-        Request::Run(q) => FileNames {
-            holds: q.holds,
-            ..names_of_program(&q.subject)
-        },
+        Request::Instance(q) => names_for(q, None, None, None),
+        Request::Check(q) => names_for(&q.tasks, Some(q.plan), None, None),
+        Request::Plan(q) => names_for(&q.tasks, None, None, None),
+        Request::Compile(q) => names_for(&q.tasks, Some(q.plan), None, None),
+        Request::Verify(q) => names_of_program(q, None, None),
+        Request::Run(q) => names_of_program(&q.subject, q.holds, None),
         Request::Rehearse(q) => names_alone(q.program, q.holds),
-        Request::Auto(q) => FileNames {
-            holds: q.holds,
-            ..names_of_tasks(&q.tasks)
-        },
-        Request::Thin(q) => names_of_program(&q.subject),
+        Request::Auto(q) => names_for(&q.tasks, None, q.holds, None),
+        Request::Thin(q) => names_of_program(&q.subject, None, None),
         Request::Migrate(q) => names_alone(q.program, None),
         Request::List(q) => names_alone(q.program, None),
-        Request::Dispatch(q) => FileNames {
-            log: q.resume,
-            ..names_of_program(&q.subject)
-        },
-        Request::Times(q) => FileNames {
-            holds: q.costs,
-            ..names_of_program(&q.subject)
-        },
-        Request::Rest(q) => FileNames {
-            log: Some(q.reports),
-            ..names_of_program(&q.subject)
-        },
+        Request::Dispatch(q) => names_of_program(&q.subject, None, q.resume),
+        Request::Times(q) => names_of_program(&q.subject, q.costs, None),
+        Request::Rest(q) => names_of_program(&q.subject, None, Some(q.reports)),
     }
 }
 
 /// What the request's command answers for the texts of its files: the status, or the refusal that is to be written. Its
 /// output goes to `out`, and of the commands `dispatch` alone reads `input`.
-#[tactic(auto, using(crate::proofs::FileLemmas::kept_self))]
 fn answer_request<'a, R: ReportsTo<O>, F: Files, O: Flush>(
     alloc: Global,
     request: &Request<'a>,

@@ -7,9 +7,9 @@ ghost use Rattle.fleet_dispatch.specs.Talk.{IsLogged};
 ghost use Rattle.fleet_dispatch.specs.Dispatch.{Dispatches};
 ghost use Rattle.fleet_dispatch.specs.Session.{IsReady, course_in, left_in};
 ghost use Rattle.fleet_cli.specs.Journal.{log_in, ChangesOnlyLog, IsKeptAfter};
-ghost use Rattle.fleet_cli.specs.DispatchCommand.{pace_of, AnswersDispatch};
+ghost use Rattle.fleet_cli.specs.DispatchCommand.{pace_of, AnswersTold, AnswersDispatch};
 
-use crate::fault::Fault;
+use crate::fault::{Fault, or_refuse};
 use crate::files::{FileTexts, Files};
 use crate::journal::{Journal, begin_log};
 use crate::steps::{accept, read_problem};
@@ -71,6 +71,16 @@ fn dispatch_kept<P: ProgramView, R: ReportsTo<O>, F: Files, O: Flush>(
     }
 }
 
+/// What is answered if a dispatch ended so: 0 if all agents have arrived.
+fn answer_of<'a>(told: Result<DispatchReport, DispatchFault>) -> Result<u8, Fault<'a>>
+    ensures { AnswersTold told result }
+{
+    match told {
+        Ok(_) => Ok(0),
+        Err(fault) => Err(Fault::Dispatch(fault)),
+    }
+}
+
 /// The command `dispatch`: verifies the program, and dispatches its agents, which report in the lines of `input`: each
 /// is told its orders over `out` as soon as they are due, before the next report is waited for. It goes on where the
 /// reports of the file `resume` led another, and each report that is taken is put behind the whole lines of the file
@@ -94,17 +104,11 @@ pub(crate) fn do_dispatch<'a, R: ReportsTo<O>, F: Files, O: Flush>(
     let accepted = accept(alloc, texts, &problem)?;
     let program = accepted.program();
     let pace = pace_of(request);
-    let mut session = match lead_on(alloc, program, pace, &texts.log) {
-        Ok(session) => session,
-        Err(fault) => return Err(Fault::Dispatch(fault)),
-    };
+    let mut session = or_refuse!(lead_on(alloc, program, pace, &texts.log), Fault::Dispatch);
     begin_log(alloc, files, request.log, &texts.log)?;
     let kept = Kept {
         pace,
         log: request.log,
     };
-    match dispatch_kept(&mut session, program, kept, input, files, out) {
-        Ok(_) => Ok(0),
-        Err(fault) => Err(Fault::Dispatch(fault)),
-    }
+    answer_of(dispatch_kept(&mut session, program, kept, input, files, out))
 }

@@ -9,6 +9,7 @@ use fleet_adg::CompileFault;
 use fleet_code::{HexFault, LoadFault};
 use fleet_dispatch::{DispatchFault, TimesFault};
 use fleet_grid::MapFault;
+use fleet_model::OutOfMemory;
 use fleet_plan::{PlanFault, TextFault};
 use fleet_run::RunFault;
 use fleet_scen::ScenFault;
@@ -16,6 +17,18 @@ use fleet_search::PlanStop;
 use fleet_text::{OutFault, Refusal, TraceOut, Word, put_line, put_memory};
 use fleet_verify::VerifyFault;
 use thiserror::Error;
+
+/// What was made, unless it was refused: then the function returns the refusal.
+macro_rules! or_refuse {
+    ($made:expr, $refusal:path) => {
+        match $made {
+            Ok(made) => made,
+            Err(fault) => return Err($refusal(fault)),
+        }
+    };
+}
+
+pub(crate) use or_refuse;
 
 /// Every refusal of the program but usage and help. `File` names the file that cannot be read or written, and is `-`
 /// for the standard streams.
@@ -35,6 +48,17 @@ pub enum Fault<'a> {
     Times(TimesFault),
     Memory,
     File(&'a str),
+}
+
+impl From<OutOfMemory> for Fault<'_> {
+    ghost use Rattle.std.specs.Prelude.{◌≡◌};
+    ghost use Rattle.fleet_cli.specs.declared.fault.Fault.TheVariants.{Memory};
+
+    ghost from_gives = { λ _ e. e ≡ Memory };
+
+    fn from(_e: OutOfMemory) -> Self {
+        Fault::Memory
+    }
 }
 
 impl Refusal for Fault<'_> {

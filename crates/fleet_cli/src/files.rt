@@ -239,6 +239,7 @@ fn read_given<'a, F: Files>(
 }
 
 /// What the named files hold, read in the order of the fields, each as `read_file` reads it.
+#[tactic(auto, using(crate::proofs::FileLemmas::unread_first, crate::proofs::FileLemmas::unread_later))]
 pub(crate) fn read_files<'a, F: Files>(
     alloc: Global,
     files: &mut F,

@@ -1,7 +1,7 @@
 //! Files in memory, for tests.
 
 ghost use Rattle.std.specs.Prelude.{◌≡◌, ◌≢◌, ◌≤◌, ◌<◌, ◌++◌, ℕ, List, [], length, Some, None, Err, OnOk, OnErr, IfOk, IfErr, IfSome, IfNone, unwrap_or};
-ghost use Rattle.fleet_cli.specs.Files.{Replaces};
+ghost use Rattle.fleet_cli.specs.Files.{AreUnchanged, Replaces};
 
 use crate::files::{Files, is_own_log, lines_end};
 use crate::input::{FileFault, MAX_BYTES};
@@ -88,7 +88,7 @@ impl Files for MemFiles {
     fn read(&mut self, alloc: Global, name: &str) -> Result<Vec<u8>, FileFault>
         ensures bytes { IfOk result (λ bytes. file_in self.old name.now ≡ Some bytes.items) }
         ensures within { IfOk result (λ bytes. length bytes.items ≤ MAX_BYTES) }
-        ensures kept { (n : List ℕ) → file_in self.new n ≡ file_in self.old n }
+        ensures kept { AreUnchanged (Some (file_in self.old)) (Some (file_in self.new)) }
         ensures unreadable { result ≡ Err FileFault.Failed → (bytes : List ℕ)
             → file_in self.old name.now ≡ Some bytes → MAX_BYTES < length bytes }
     {

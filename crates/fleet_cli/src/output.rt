@@ -1,9 +1,9 @@
-//! What several commands print or write in the same way: counts, and a file OUT with counts of it.
+//! What several commands print or write in the same way: counts, and files with counts.
 
-ghost use Rattle.std.specs.Prelude.{ℕ, List, Some, [], ◌∷◌};
+ghost use Rattle.std.specs.Prelude.{ℕ, List, map};
 ghost use Rattle.fleet_text.specs.Sink.{IsWorking, SinkState, TakesAll};
 ghost use Rattle.fleet_text.specs.Row.{Gathers};
-ghost use Rattle.fleet_cli.specs.Output.{with_labels, count_lines, report, Prints, WritesFiles};
+ghost use Rattle.fleet_cli.specs.Output.{with_labels, count_lines, report, Prints, WritesGiven, WritesFiles};
 
 use crate::fault::Fault;
 use crate::files::{Files, write_file};
@@ -70,20 +70,40 @@ pub(crate) fn hand_on<'a, O: Flush>(
     Ok(0)
 }
 
-/// Writes the bytes to the file OUT, and then prints the counts. Answers 0.
+/// Writes the bytes to the file, if one is named.
+fn write_given<'a, F: Files>(
+    files: &mut F,
+    name: Option<&'a str>,
+    bytes: &[u8],
+) -> Result<(), Fault<'a>>
+    ensures { WritesGiven (F.contents files.old) (F.contents files.new) name.entry bytes.now result }
+{
+    match name {
+        Some(name) => write_file(files, name, bytes),
+        None => Ok(()),
+    }
+}
+
+/// Writes the bytes to the files that are named, one after another, and then prints the counts. Answers 0.
 pub(crate) fn write_out<'a, F: Files, O: Flush>(
     files: &mut F,
-    name: &'a str,
-    bytes: &[u8],
+    written: &[(Option<&'a str>, &[u8])],
     out: &mut O,
     counts: &[(&'static str, u64)],
 ) -> Result<u8, Fault<'a>>
     requires { IsWorking (O.state out.old) }
     ensures { WritesFiles (F.contents files.old) (F.contents files.new)
-        ((Some name.entry, bytes.now) ∷ []) (count_lines (with_labels counts.now))
+        (map (λ w. (w.0, w.1.now)) written.now) (count_lines (with_labels counts.now))
         (O.state out.old) (O.state out.new) result }
 {
-    write_file(files, name, bytes)?;
-    let printed = put_counts(out, counts);
-    hand_on(out, printed)
+    match written {
+        [] => {
+            let printed = put_counts(out, counts);
+            hand_on(out, printed)
+        }
+        [(name, bytes), others @ ..] => {
+            write_given(files, *name, bytes)?;
+            write_out(files, others, out, counts)
+        }
+    }
 }

@@ -1,15 +1,15 @@
 //! The commands that print what they find: `instance`, `check`, `plan`, `verify` and `list`.
 
-ghost use Rattle.std.specs.Prelude.{length, IfOk};
+ghost use Rattle.std.specs.Prelude.{IfOk};
 ghost use Rattle.fleet_text.specs.Sink.{IsWorking, TakesAll};
 ghost use Rattle.fleet_cli.specs.PrintCommands.{task_line, task_lines, map_line, instance_text, AnswersInstance, check_text, IsAskedBound, AnswersCheck, AnswersPlan, accepted_text, SpellsBreakingHolds, ReportsRefused, AnswersVerify, AnswersList};
 ghost use Rattle.fleet_model.specs.declared.geometry.Place.{Place};
 ghost use Rattle.fleet_verify.specs.Broken.{MeetUnordered, IsBrokenBy};
 
-use crate::fault::Fault;
+use crate::fault::{Fault, or_refuse};
 use crate::files::FileTexts;
 use crate::output::{hand_on, put_report};
-use crate::steps::{plan_by, read_problem, view_subject};
+use crate::steps::{Problem, plan_by, read_problem, view_subject};
 use fleet_args::{CheckRequest, PlanRequest, ProgramFor, Tasks};
 use fleet_grid::Grid;
 use fleet_model::{Cell, OutOfMemory, ProgramView, Visit, total_awaits, total_moves};
@@ -35,8 +35,7 @@ fn put_task<O: TraceOut>(out: &mut O, i: u16, start: Cell, goal: Cell) -> Result
 /// Writes the line of each agent.
 fn put_tasks<O: TraceOut>(out: &mut O, instance: &Instance) -> Result<(), OutFault>
     requires { IsWorking (O.state out.old) }
-    ensures { TakesAll (O.state out.old) (O.state out.new) result
-        (task_lines instance.now (length instance.now)) }
+    ensures { TakesAll (O.state out.old) (O.state out.new) result (task_lines instance.now) }
 {
     for i in 0..instance.agents() {
         put_task(out, i, instance.start(i), instance.goal(i))?;
@@ -56,6 +55,7 @@ fn put_sizes<O: TraceOut>(out: &mut O, grid: &Grid) -> Result<(), OutFault>
 }
 
 /// Writes the sizes of the map, its passable cells, and the tasks of the agents.
+#[tactic(auto, unfolding(crate::specs::PrintCommands::instance_text), using(fleet_text::proofs::SinkLemmas::takes_then, fleet_text::proofs::SinkLemmas::takes_err_then))]
 fn put_instance<O: TraceOut>(out: &mut O, grid: &Grid, instance: &Instance) -> Result<(), OutFault>
     requires { IsWorking (O.state out.old) }
     ensures { TakesAll (O.state out.old) (O.state out.new) result
@@ -143,17 +143,12 @@ pub(crate) fn do_check<'a, O: Flush>(
     ensures { AnswersCheck request.now texts.now (O.state out.old) (O.state out.new) result }
 {
     let problem = read_problem(alloc, texts, request.tasks.agents)?;
-    let plan = match read_plan(alloc, &texts.subject) {
-        Ok(plan) => plan,
-        Err(fault) => return Err(Fault::Text(fault)),
-    };
+    let plan = or_refuse!(read_plan(alloc, &texts.subject), Fault::Text);
     let checked = match check(alloc, plan, &problem.grid, &problem.instance) {
         Ok(checked) => checked,
         Err(refusal) => return Err(Fault::Check(refusal.fault)),
     };
-    let Ok(bound) = asked_bound(alloc, &checked, request.numbers) else {
-        return Err(Fault::Memory);
-    };
+    let bound = asked_bound(alloc, &checked, request.numbers)?;
     let printed = put_check(out, checked.plan(), bound);
     hand_on(out, printed)
 }
@@ -173,20 +168,12 @@ pub(crate) fn do_plan<'a, O: Flush>(
 {
     let problem = read_problem(alloc, &texts, request.tasks.agents)?;
     drop(texts);
-    let found = match plan_by(
-        alloc,
-        &problem.grid,
-        &problem.instance,
-        request.horizon,
-        request.tries,
-    ) {
-        Ok(found) => found,
-        Err(stop) => return Err(Fault::Search(stop)),
-    };
-    let text = match write_plan(alloc, found.checked.plan()) {
-        Ok(text) => text,
-        Err(OutOfMemory) => return Err(Fault::Memory),
-    };
+    let Problem { grid, instance } = &problem;
+    let found = or_refuse!(
+        plan_by(alloc, grid, instance, request.horizon, request.tries),
+        Fault::Search
+    );
+    let text = write_plan(alloc, found.checked.plan())?;
     let printed = put_all(out, &text);
     hand_on(out, printed)
 }

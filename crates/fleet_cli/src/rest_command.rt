@@ -2,14 +2,12 @@
 
 ghost use Rattle.std.specs.Prelude.{◌≡◌, ◌<◌, IfOk, IfErr, IfSome, length};
 ghost use Rattle.fleet_scen.specs.ScenWriting.{scen_text};
-ghost use Rattle.fleet_text.specs.Sink.{IsWorking, TakesAll};
-ghost use Rattle.fleet_cli.specs.Output.{WritesFiles, WritesGiven};
-ghost use Rattle.fleet_cli.specs.RestCommand.{IsRestOf, IsRestFault, IsDead, IsDeadRefusal, IsMapAround, AreOthers, RestsTexts, IsRestRefusal, rest_files, AnswersRest};
-ghost use Rattle.fleet_cli.specs.WriteCommands.{numbers_text};
+ghost use Rattle.fleet_text.specs.Sink.{IsWorking};
+ghost use Rattle.fleet_cli.specs.RestCommand.{IsRestOf, IsRestFault, IsDead, IsDeadRefusal, IsMapAround, AreOthers, RestsTexts, IsRestRefusal, AnswersRest};
 
-use crate::fault::Fault;
-use crate::files::{FileTexts, Files, write_file};
-use crate::output::{hand_on, put_counts};
+use crate::fault::{Fault, or_refuse};
+use crate::files::{FileTexts, Files};
+use crate::output::write_out;
 use crate::steps::{accept, read_problem};
 use fleet_adg::{accepted_tasks_are_an_instance, rest, tasks_of};
 use fleet_args::RestRequest;
@@ -17,7 +15,7 @@ use fleet_code::encode_shortest;
 use fleet_dispatch::{DeadRobot, TimesFault, dead_robot_of, standings_after};
 use fleet_grid::{Grid, write_map};
 use fleet_model::{OutOfMemory, Program, ProgramView, Task, total_awaits, total_moves};
-use fleet_run::{Flush, OutFault, TraceOut};
+use fleet_run::Flush;
 use fleet_scen::{a_written_scenario_is_read, write_scen};
 use fleet_verify::{Accepted, rests_are_accepted};
 use std::alloc::Global;
@@ -31,14 +29,11 @@ fn rest_of<'a, P: ProgramView>(
     ensures rest { IfOk result (IsRestOf (P.program accepted.now.program) log.now) }
     ensures fault { IfErr result (IsRestFault (P.program accepted.now.program) log.now) }
 {
-    let standings = match standings_after(alloc, accepted.program(), log) {
-        Ok(standings) => standings,
-        Err(fault) => return Err(Fault::Dispatch(fault)),
-    };
-    match rest(alloc, accepted, &standings) {
-        Ok(left) => Ok(left),
-        Err(OutOfMemory) => Err(Fault::Memory),
-    }
+    let standings = or_refuse!(
+        standings_after(alloc, accepted.program(), log),
+        Fault::Dispatch
+    );
+    Ok(rest(alloc, accepted, &standings)?)
 }
 
 /// What is left of a program, the text of its tasks and the bytes that spell it; and around a dead robot, as far as
@@ -94,10 +89,7 @@ fn map_around<'a>(
         Some(DeadRobot { first, second, .. }) => write_map(alloc, grid, &[first, second]),
         None => write_map(alloc, grid, &[]),
     };
-    match text {
-        Ok(text) => Ok(text),
-        Err(OutOfMemory) => Err(Fault::Memory),
-    }
+    Ok(text?)
 }
 
 /// The text of the tasks on the map.
@@ -106,10 +98,7 @@ fn scen_of<'a>(alloc: Global, grid: &Grid, tasks: &[Task]) -> Result<Vec<u8>, Fa
         ≡ scen_text grid.now.width grid.now.height tasks.now) }
     ensures fault { IfErr result (λ e. e ≡ Fault.Memory) }
 {
-    match write_scen(alloc, grid.width(), grid.height(), tasks) {
-        Ok(scen) => Ok(scen),
-        Err(OutOfMemory) => Err(Fault::Memory),
-    }
+    Ok(write_scen(alloc, grid.width(), grid.height(), tasks)?)
 }
 
 /// The text of the tasks of all but the dead robot's agent, if it is asked for.
@@ -154,14 +143,10 @@ fn rest_texts<'a>(
     let _width = problem.grid.width();
     let dead = dead_in(request.without, &problem.grid, &program)?;
     let map = map_around(alloc, &problem.grid, dead, request.map_out)?;
-    let Ok(tasks) = tasks_of(alloc, &program) else {
-        return Err(Fault::Memory);
-    };
+    let tasks = tasks_of(alloc, &program)?;
     let scen = scen_of(alloc, &problem.grid, &tasks)?;
     let others = others_around(alloc, &problem.grid, tasks, dead, request.others_out)?;
-    let Ok(bytes) = encode_shortest(alloc, &program) else {
-        return Err(Fault::Memory);
-    };
+    let bytes = encode_shortest(alloc, &program)?;
     Ok(Rest {
         program,
         scen,
@@ -169,57 +154,6 @@ fn rest_texts<'a>(
         others,
         bytes,
     })
-}
-
-/// Writes the bytes to the file, if one is named.
-fn write_given<'a, F: Files>(
-    files: &mut F,
-    name: Option<&'a str>,
-    bytes: &[u8],
-) -> Result<(), Fault<'a>>
-    ensures { WritesGiven (F.contents files.old) (F.contents files.new) name.entry bytes.now result }
-{
-    match name {
-        Some(name) => write_file(files, name, bytes),
-        None => Ok(()),
-    }
-}
-
-/// Writes the numbers of the program.
-fn put_rest<O: TraceOut>(out: &mut O, rest: &Rest) -> Result<(), OutFault>
-    requires { IsWorking (O.state out.old) }
-    ensures { TakesAll (O.state out.old) (O.state out.new) result
-        (numbers_text rest.now.program rest.now.bytes.items) }
-{
-    put_counts(
-        out,
-        &[
-            ("agents", u64::from(rest.program.agents())),
-            ("moves", u64::from(total_moves(&rest.program))),
-            ("awaits", u64::from(total_awaits(&rest.program))),
-            ("bytes", rest.bytes.len() as u64),
-        ],
-    )
-}
-
-/// Writes the files one after another, that of the program last, and prints its numbers.
-fn write_rest<'a, F: Files, O: Flush>(
-    files: &mut F,
-    request: &RestRequest<'a>,
-    rest: &Rest,
-    out: &mut O,
-) -> Result<u8, Fault<'a>>
-    requires { IsWorking (O.state out.old) }
-    ensures { WritesFiles (F.contents files.old) (F.contents files.new)
-        (rest_files request.now rest.now) (numbers_text rest.now.program rest.now.bytes.items)
-        (O.state out.old) (O.state out.new) result }
-{
-    write_given(files, Some(request.scen_out), &rest.scen)?;
-    write_given(files, request.map_out, &rest.map)?;
-    write_given(files, request.others_out, &rest.others)?;
-    write_given(files, Some(request.program_out), &rest.bytes)?;
-    let printed = put_rest(out, rest);
-    hand_on(out, printed)
 }
 
 /// The command `rest`: writes what is left of an accepted program after the reports of a log, its tasks to the file
@@ -238,5 +172,20 @@ pub(crate) fn do_rest<'a, F: Files, O: Flush>(
         (O.state out.old) (O.state out.new) result }
 {
     let rest = rest_texts(alloc, request, texts)?;
-    write_rest(files, request, &rest, out)
+    write_out(
+        files,
+        &[
+            (Some(request.scen_out), rest.scen.as_slice()),
+            (request.map_out, rest.map.as_slice()),
+            (request.others_out, rest.others.as_slice()),
+            (Some(request.program_out), rest.bytes.as_slice()),
+        ],
+        out,
+        &[
+            ("agents", rest.program.agents() as u64),
+            ("moves", total_moves(&rest.program) as u64),
+            ("awaits", total_awaits(&rest.program) as u64),
+            ("bytes", rest.bytes.len() as u64),
+        ],
+    )
 }

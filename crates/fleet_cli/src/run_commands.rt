@@ -7,12 +7,13 @@ ghost use Rattle.fleet_text.specs.Sink.{IsWorking};
 ghost use Rattle.fleet_cli.specs.Output.{end_status};
 ghost use Rattle.fleet_cli.specs.RunCommands.{FlushesRun, Runs, AutoRuns, AnswersRun, TellsNumbers, AnswersAuto, RehearsesProgram, AnswersRehearse, ReadsInput, IsInputRefusal, AnswersHex, RunsHex};
 
-use crate::fault::{AutoFault, Fault, finish, in_step, step_fault};
+use crate::fault::{AutoFault, Fault, finish, in_step, or_refuse, step_fault};
 use crate::files::FileTexts;
 use crate::input::{CHUNK, FileFault, read_whole};
 use crate::output::{hand_on, put_counts};
 use crate::steps::{
-    ONE_TRY, PlanNumbers, accept, accept_made, made_bytes, read_problem, view_program, view_subject,
+    ONE_TRY, PlanNumbers, Problem, accept, accept_made, made_bytes, read_problem, view_program,
+    view_subject,
 };
 use fleet_adg::Deps;
 use fleet_args::{AutoRequest, RunRequest};
@@ -40,19 +41,18 @@ fn flush_run<T: Drop, O: Flush>(out: &mut O, ran: Result<T, RunFault>) -> Result
     }
 }
 
-/// Runs an accepted program, under the holds for which the bytes stand, writes its trace, and has the sink hand it on.
-/// Answers 0.
+/// Runs an accepted program under the holds of the texts, writes its trace, and has the sink hand it on. Answers 0.
 fn run_flushed<'a, P: ProgramView + Drop, O: Flush>(
     alloc: Global,
     accepted: Accepted<'_, P>,
-    holds: &[u8],
+    texts: &FileTexts,
     out: &mut O,
 ) -> Result<u8, Fault<'a>>
     requires { IsWorking (O.state out.old) }
-    ensures { Runs (P.program accepted.entry.program) accepted.entry.chain holds.now
+    ensures { Runs (P.program accepted.entry.program) accepted.entry.chain texts.now.holds.items
         (O.state out.old) (O.state out.new) result }
 {
-    let ran = run_accepted(alloc, accepted, holds, out);
+    let ran = run_accepted(alloc, accepted, &texts.holds, out);
     match flush_run(out, ran) {
         Ok(_) => Ok(0),
         Err(fault) => Err(Fault::Run(fault)),
@@ -72,7 +72,7 @@ pub(crate) fn do_run<'a, O: Flush>(
 {
     let problem = read_problem(alloc, texts, request.subject.tasks.agents)?;
     let accepted = accept(alloc, texts, &problem)?;
-    run_flushed(alloc, accepted, &texts.holds, out)
+    run_flushed(alloc, accepted, texts, out)
 }
 
 /// Plans for the map and the scenario (of whose agents the first `asked`, or all), with paths that arrive by the
@@ -149,21 +149,20 @@ pub(crate) fn do_auto<'a, O: Flush>(
 {
     each_spelling_has_one_program();
     let problem = read_problem(alloc, texts, request.tasks.agents)?;
-    let made = match made_bytes(
-        alloc,
-        &problem.grid,
-        &problem.instance,
-        request.horizon,
-        request.tries,
-        request.deps,
-    ) {
-        Ok(made) => made,
-        Err(fault) => return Err(step_fault(fault)),
-    };
-    let Ok(accepted) = accept_made(alloc, &made.bytes, &problem.grid, &problem.instance) else {
-        return Err(Fault::Memory);
-    };
-    run_flushed(alloc, accepted, &texts.holds, out)?;
+    let Problem { grid, instance } = &problem;
+    let made = or_refuse!(
+        made_bytes(
+            alloc,
+            grid,
+            instance,
+            request.horizon,
+            request.tries,
+            request.deps
+        ),
+        step_fault
+    );
+    let accepted = accept_made(alloc, &made.bytes, grid, instance)?;
+    run_flushed(alloc, accepted, texts, out)?;
     tell_numbers(request.numbers, &made.numbers, out)
 }
 
@@ -222,10 +221,7 @@ fn read_hex_input<R: Read>(alloc: Global, input: &mut R) -> Result<Vec<u8>, Faul
         Err(FileFault::OutOfMemory) => return Err(Fault::Memory),
         Err(FileFault::Failed) => return Err(Fault::File("-")),
     };
-    match read_hex(alloc, &text) {
-        Ok(bytes) => Ok(bytes),
-        Err(fault) => Err(Fault::Hex(fault)),
-    }
+    Ok(or_refuse!(read_hex(alloc, &text), Fault::Hex))
 }
 
 /// Rehearses, with nobody held, the program that the input stands for in hexadecimal.

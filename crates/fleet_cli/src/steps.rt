@@ -12,7 +12,7 @@ ghost use Rattle.fleet_plan.specs.Plan.{IsConflictFree};
 ghost use Rattle.fleet_search.specs.Best.{IsBestInTries};
 ghost use Rattle.fleet_search.specs.Orders.{IsStuckInTries};
 
-use crate::fault::{AutoFault, Fault, in_step};
+use crate::fault::{AutoFault, Fault, in_step, or_refuse};
 use crate::files::FileTexts;
 use fleet_adg::{CompileFault, Deps, compile_bytes};
 use fleet_args::{Best, Tries};
@@ -45,14 +45,9 @@ pub(crate) fn read_problem<'a>(
     ensures fault { IfErr result
         (IsProblemRefusal texts.now.map.items texts.now.scen.items asked) }
 {
-    let grid = match read_map(alloc, &texts.map) {
-        Ok(grid) => grid,
-        Err(fault) => return Err(Fault::Map(fault)),
-    };
-    match read_scen(alloc, &texts.scen, &grid, asked) {
-        Ok(instance) => Ok(Problem { grid, instance }),
-        Err(fault) => Err(Fault::Scen(fault)),
-    }
+    let grid = or_refuse!(read_map(alloc, &texts.map), Fault::Map);
+    let instance = or_refuse!(read_scen(alloc, &texts.scen, &grid, asked), Fault::Scen);
+    Ok(Problem { grid, instance })
 }
 
 /// The program that the bytes spell, read in place, or the refusal of the program.
@@ -63,10 +58,7 @@ pub(crate) fn view_program<'g, 'a>(
     ensures spelled { IfOk result (λ v. Spells bytes.now v.program) }
     ensures fault { IfErr result (IsLoadRefusal bytes.now) }
 {
-    match view(alloc, bytes) {
-        Ok(program) => Ok(program),
-        Err(fault) => Err(Fault::Load(fault)),
-    }
+    Ok(or_refuse!(view(alloc, bytes), Fault::Load))
 }
 
 /// The same, of the file that the command is about.
@@ -162,22 +154,6 @@ pub fn made_bytes(
     })
 }
 
-/// The one program that the bytes spell, read in place: refused for want of memory alone.
-fn view_made(alloc: Global, bytes: &[u8]) -> Result<CodeView<'_>, OutOfMemory>
-    requires { (p : Program) × Spells bytes.now p }
-    ensures spelled { IfOk result (λ v. Spells bytes.now v.program) }
-    ensures same { IfOk result (λ v. (p : Program) → Spells bytes.now p → p ≡ v.program) }
-{
-    match view(alloc, bytes) {
-        Ok(program) => Ok(program),
-        Err(fault) => match fault {
-            LoadFault::OutOfMemory => Err(OutOfMemory),
-            // The bytes spell a program.
-            _ => unreachable!(),
-        },
-    }
-}
-
 /// The program that the bytes spell, which is accepted for the map and the instance, read in place and accepted:
 /// refused for want of memory alone.
 pub fn accept_made<'g>(
@@ -190,7 +166,14 @@ pub fn accept_made<'g>(
         × IsAccepted (is_passable grid.now) instance.now p }
     ensures { IfOk result (λ a. Accepts bytes.now grid.now instance.now a.program.program a.chain) }
 {
-    let program = view_made(alloc, bytes)?;
+    let program = match view(alloc, bytes) {
+        Ok(program) => program,
+        Err(fault) => match fault {
+            LoadFault::OutOfMemory => return Err(OutOfMemory),
+            // The bytes spell a program.
+            _ => unreachable!(),
+        },
+    };
     match verify(alloc, program, grid, instance) {
         Ok(accepted) => Ok(accepted),
         Err(refused) => match refused.fault {

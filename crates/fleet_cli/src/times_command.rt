@@ -2,12 +2,11 @@
 
 ghost use Rattle.std.specs.Prelude.{◌≤◌, IfOk, IfErr};
 ghost use Rattle.fleet_model.specs.declared.program.ActionId.{ActionId};
-ghost use Rattle.fleet_model.specs.Chain.{unit_cost};
 ghost use Rattle.fleet_text.specs.Sink.{IsWorking};
 ghost use Rattle.fleet_verify.specs.Stretch.{path_actions};
 ghost use Rattle.fleet_cli.specs.TimesCommand.{IsTimetable, HasTimetable, HasReached, IsCostsRefusal, IsBreaksRefusal, TellsTimes, TellsReached, AnswersTimes};
 
-use crate::fault::Fault;
+use crate::fault::{Fault, or_refuse};
 use crate::files::FileTexts;
 use crate::output::hand_on;
 use crate::steps::{accept, read_problem};
@@ -47,33 +46,7 @@ fn timetable_of<P: ProgramView, C: ActionCosts>(
     })
 }
 
-/// The timetable of an accepted program, whose actions cost one each.
-fn timetable_of_ones<P: ProgramView>(
-    alloc: Global,
-    accepted: &Accepted<'_, P>,
-) -> Result<Timetable, OutOfMemory>
-    ensures { IfOk result (λ t. IsTimetable (P.program accepted.now.program) unit_cost
-        t.arrivals.items t.last (path_actions t.path.items)) }
-{
-    let times = Times::by_levels(alloc, accepted, &OneEach)?;
-    timetable_of(alloc, &times)
-}
-
-/// The timetable of an accepted program, whose actions cost so much.
-fn timetable_with<P: ProgramView, C: ActionCosts>(
-    alloc: Global,
-    accepted: &Accepted<'_, P>,
-    costs: &C,
-) -> Result<Timetable, OutOfMemory>
-    requires { (a : ActionId) → 1 ≤ C.cost costs.now a }
-    ensures { IfOk result (λ t. IsTimetable (P.program accepted.now.program) (C.cost costs.now)
-        t.arrivals.items t.last (path_actions t.path.items)) }
-{
-    let times = Times::of(alloc, accepted, costs)?;
-    timetable_of(alloc, &times)
-}
-
-/// The same by the costs of a text, if one is given, and else with one for each action.
+/// The timetable of an accepted program by the costs of a text, if one is given, and else with one for each action.
 fn timetable_by<'a, P: ProgramView>(
     alloc: Global,
     accepted: &Accepted<'_, P>,
@@ -85,17 +58,13 @@ fn timetable_by<'a, P: ProgramView>(
     ensures fault { IfErr result
         (IsCostsRefusal (P.program accepted.now.program) costs.entry text.now) }
 {
-    let made = match costs {
-        None => timetable_of_ones(alloc, accepted),
-        Some(_) => match costs_of(alloc, accepted.program(), text) {
-            Ok(table) => timetable_with(alloc, accepted, &table),
-            Err(fault) => return Err(Fault::Times(fault)),
-        },
+    let Some(_) = costs else {
+        let times = Times::by_levels(alloc, accepted, &OneEach)?;
+        return Ok(timetable_of(alloc, &times)?);
     };
-    match made {
-        Ok(table) => Ok(table),
-        Err(OutOfMemory) => Err(Fault::Memory),
-    }
+    let table = or_refuse!(costs_of(alloc, accepted.program(), text), Fault::Times);
+    let times = Times::of(alloc, accepted, &table)?;
+    Ok(timetable_of(alloc, &times)?)
 }
 
 /// How many actions of each agent are reached if those that the line names are never ended.
@@ -108,14 +77,8 @@ fn reached_by<'a, P: ProgramView>(
         line.now counts.items) }
     ensures fault { IfErr result (IsBreaksRefusal (P.program accepted.now.program) line.now) }
 {
-    let breaks = match breaks_of(alloc, accepted.program(), line) {
-        Ok(breaks) => breaks,
-        Err(fault) => return Err(Fault::Times(fault)),
-    };
-    match reached_counts(alloc, accepted, &breaks) {
-        Ok(counts) => Ok(counts),
-        Err(OutOfMemory) => Err(Fault::Memory),
-    }
+    let breaks = or_refuse!(breaks_of(alloc, accepted.program(), line), Fault::Times);
+    Ok(reached_counts(alloc, accepted, &breaks)?)
 }
 
 /// Prints when the agents arrive. Answers 0.

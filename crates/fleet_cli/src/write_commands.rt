@@ -5,7 +5,7 @@ ghost use Rattle.fleet_text.specs.Sink.{IsWorking};
 ghost use Rattle.fleet_cli.specs.WriteCommands.{CompilesBytes, IsCompileFault, AnswersCompile, ThinsTexts, AnswersThin, MigratesBytes, AnswersMigrate};
 ghost use Rattle.fleet_cli.specs.Steps.{IsTextsRefusal, IsLoadRefusal};
 
-use crate::fault::Fault;
+use crate::fault::{Fault, or_refuse};
 use crate::files::{FileTexts, Files};
 use crate::output::write_out;
 use crate::steps::{accept, read_problem};
@@ -30,10 +30,7 @@ fn compile_texts<'a>(
         request.now.tasks.agents request.now.deps request.now.dwell) }
 {
     let problem = read_problem(alloc, &texts, request.tasks.agents)?;
-    let read = match read_plan(alloc, &texts.subject) {
-        Ok(read) => read,
-        Err(fault) => return Err(Fault::Text(fault)),
-    };
+    let read = or_refuse!(read_plan(alloc, &texts.subject), Fault::Text);
     drop(texts);
     let checked = match check(alloc, read, &problem.grid, &problem.instance) {
         Ok(checked) => checked,
@@ -62,8 +59,7 @@ pub(crate) fn do_compile<'a, F: Files, O: Flush>(
     let compiled = compile_texts(alloc, request, texts)?;
     write_out(
         files,
-        request.out,
-        &compiled.bytes,
+        &[(Some(request.out), compiled.bytes.as_slice())],
         out,
         &[
             ("agents", compiled.agents as u64),
@@ -120,8 +116,7 @@ pub(crate) fn do_thin<'a, F: Files, O: Flush>(
     let thinned = thin_texts(alloc, request, texts)?;
     write_out(
         files,
-        request.out,
-        &thinned.made.bytes,
+        &[(Some(request.out), thinned.made.bytes.as_slice())],
         out,
         &[
             ("awaits", thinned.before as u64),
@@ -135,14 +130,8 @@ fn migrate_bytes<'a>(alloc: Global, bytes: &[u8]) -> Result<Vec<u8>, Fault<'a>>
     ensures migrated { IfOk result (λ v. MigratesBytes bytes.now v.items) }
     ensures fault { IfErr result (IsLoadRefusal bytes.now) }
 {
-    let program = match load(alloc, bytes) {
-        Ok(program) => program,
-        Err(fault) => return Err(Fault::Load(fault)),
-    };
-    match encode2(alloc, &program) {
-        Ok(migrated) => Ok(migrated),
-        Err(OutOfMemory) => Err(Fault::Memory),
-    }
+    let program = or_refuse!(load(alloc, bytes), Fault::Load);
+    Ok(encode2(alloc, &program)?)
 }
 
 /// The command `migrate`: writes the program, of either version, to the file OUT in version 2 once all before it
@@ -160,6 +149,6 @@ pub(crate) fn do_migrate<'a, F: Files, O: Flush>(
         (O.state out.old) (O.state out.new) result }
 {
     let migrated = migrate_bytes(alloc, &texts.subject)?;
-    let counts = [("bytes", migrated.len() as u64)];
-    write_out(files, request.out, &migrated, out, &counts)
+    let written = [(Some(request.out), migrated.as_slice())];
+    write_out(files, &written, out, &[("bytes", migrated.len() as u64)])
 }

@@ -1,7 +1,6 @@
 use Rattle.std.proofs.Common.{rules}
 use Rattle.std.specs.Vec.Iter.{into_iter_items}
-use Rattle.std.proofs.lemmas.Iterator.{items_from_collect}
-use Rattle.std.proofs.lemmas.Iterator.Adapters.{YieldsList-from_vec, YieldsList-from_skip}
+use Rattle.std.proofs.lemmas.{Iterator.items_from_collect, Iterator.Adapters.YieldsList-from_vec, Iterator.Adapters.YieldsList-from_skip}
 use Rattle.fleet.proofs.words_of.Goals as goal
 
 pub returns : goal.returns

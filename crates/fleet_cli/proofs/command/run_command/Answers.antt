@@ -1,6 +1,5 @@
 use Rattle.std.proofs.Common.{◌≡◌, [], refl, rules}
 use Rattle.fleet_cli.proofs.CommandLemmas.{asked, stopped}
-use Rattle.fleet_cli.proofs.FileLemmas.{kept_self}
 use Rattle.fleet_cli.proofs.command.run_command.Goals as goal
 
 pub returns-in-Ok : goal.returns-in-Ok
@@ -11,4 +10,4 @@ returns-in-Ok g c =
 pub returns-in-Err : goal.returns-in-Err
 returns-in-Err g c =
     let some : c.args.words.now ≡ [] → ⊥ = search rules in
-    stopped _ _ _ _ _ _ _ _ c.args.words.now c.in-Err.stop some c.in-Err.ensures c.stop_at.ensures (kept_self _) refl
+    stopped _ _ _ _ _ _ _ _ c.args.words.now c.in-Err.stop some c.in-Err.ensures c.stop_at.ensures refl refl

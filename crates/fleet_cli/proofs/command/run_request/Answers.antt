@@ -1,7 +1,7 @@
 use Rattle.std.proofs.Common.{Err, inl, inr, refl, subst}
 use Rattle.fleet_cli.specs.Named.{given_names, IsUnread, AreTexts}
 use Rattle.fleet_cli.specs.declared.files.FileNames.{FileNames}
-use Rattle.fleet_cli.proofs.RunLemmas.{keeps_self}
+use Rattle.fleet_cli.proofs.RunLemmas.{nothing_written}
 use Rattle.fleet_cli.proofs.command.run_request.Goals as goal
 
 pub returns-in-Ok : goal.returns-in-Ok
@@ -12,4 +12,4 @@ returns-in-Ok g c =
 pub returns-in-Err : goal.returns-in-Err
 returns-in-Err g c =
     let fault = subst (λ (names : FileNames). IsUnread (g.F.Files.contents c.args.files.now) (given_names names) c.in-Err.fault) c.names_of.ensures c.in-Err.ensures.fault in
-    (Err c.in-Err.fault, inr (c.in-Err.fault, refl, fault, c.read_files.ensures.kept, record { kept = keeps_self _; working = c.requires.out_working }, refl, refl), (c.refuse.ensures.written, c.refuse.ensures.status))
+    (Err c.in-Err.fault, inr (c.in-Err.fault, refl, fault, c.read_files.ensures.kept, nothing_written _ c.requires.out_working, refl, refl), (c.refuse.ensures.written, c.refuse.ensures.status))

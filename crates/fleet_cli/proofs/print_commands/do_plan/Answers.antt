@@ -1,7 +1,7 @@
 use Rattle.std.proofs.Common.{List, ℕ, ap, ◌∙◌, inl, inr, refl, subst}
 use Rattle.fleet_plan.specs.PlanText.{plan_text}
 use Rattle.fleet_text.specs.Sink.{TakesAll}
-use Rattle.fleet_cli.proofs.OutputLemmas.{nothing_written}
+use Rattle.fleet_cli.proofs.RunLemmas.{nothing_written}
 use Rattle.fleet_cli.proofs.print_commands.do_plan.Goals as goal
 
 pub returns-in-Err : goal.returns-in-Err
@@ -10,15 +10,15 @@ returns-in-Err g c =
 
 pub returns : goal.returns
 returns g c =
-    let bytes = c.deref.ensures.value ∙ (c.in-Ok-write_plan.ensures ∙ ap plan_text c.plan.ensures.value) in
+    let bytes = c.deref.ensures.value ∙ (c.in_ok-text.ensures ∙ ap plan_text c.plan.ensures.value) in
     let written = subst (λ (text : List ℕ). TakesAll (g.O.TraceOut.state c.args.out.now) (g.O.TraceOut.state c.put_all-printed.new.out) c.put_all-printed.result text) bytes c.put_all-printed.ensures in
     inl (
       record {
         ground = c.in_ok-problem.problem.grid;
         tasks = c.in_ok-problem.problem.instance;
         texts = c.in_ok-problem.ensures.read;
-        plan = c.in-Ok.found.checked.plan;
-        tried = c.in-Ok.found.tried;
+        plan = c.in-Ok.made.checked.plan;
+        tried = c.in-Ok.made.tried;
         planned = c.in-Ok.ensures.planned;
       },
       c.hand_on.ensures _ _ written,

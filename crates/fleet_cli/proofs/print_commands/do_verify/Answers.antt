@@ -1,10 +1,10 @@
 use Rattle.std.proofs.Common.{ap, inl}
 use Rattle.fleet_code.specs.Offsets.{Viewed}
-use Rattle.fleet_cli.proofs.PrintLemmas.{returned_accepts}
 use Rattle.fleet_cli.proofs.print_commands.do_verify.Goals as goal
 
 pub returns : goal.returns
 returns g c =
+    let same = ap (λ (w : Viewed). w.program) c.in-Ok.ensures.kept.0 in
     inl (inl (
       record {
         ground = c.in_ok-problem.problem.grid;
@@ -12,7 +12,7 @@ returns g c =
         texts = c.in_ok-problem.ensures.read;
         program = c.in-Ok.accepted.program.program;
         chain = c.in-Ok.accepted.chain;
-        accepts = returned_accepts c.args.texts.now.subject.items c.in_ok-problem.problem.grid c.in_ok-problem.problem.instance _ c.in-Ok.accepted.program.program c.in-Ok.accepted.chain c.in_ok-program.ensures.spelled (ap (λ (w : Viewed). w.program) c.in-Ok.ensures.kept.0) c.in-Ok.ensures.accepted;
+        accepts = record { spelled = rw same c.in_ok-program.ensures.spelled; accepted_for = rw same c.in-Ok.ensures.accepted };
       },
       c.hand_on.ensures _ _ c.put_accepted-printed.ensures,
     ))

@@ -1,5 +1,8 @@
-use Rattle.std.proofs.Common.{inl}
+use Rattle.std.proofs.Common.{inl, ◌∙◌}
 use Rattle.fleet_cli.proofs.rest_command.do_rest.Goals as goal
 
 pub returns : goal.returns
-returns g c = inl (c.in_ok-rest.rest, c.in_ok-rest.ensures.made, c.write_rest.ensures)
+returns g c =
+    let rest = c.in_ok-rest.rest in
+    let written = rw (c.as_slice.ensures.value, c.as_slice-2.ensures.value, c.as_slice-3.ensures.value, c.as_slice-4.ensures.value, c.agents.ensures.count, c.total_moves.ensures, c.total_awaits.ensures, c.len.ensures ∙ rest.bytes.ok.0) at c.write_out.ensures in
+    inl (rest, c.in_ok-rest.ensures.made, written)

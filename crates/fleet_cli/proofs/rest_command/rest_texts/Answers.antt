@@ -1,8 +1,6 @@
 use Rattle.std.proofs.Common.{◌≡◌, ◌<◌, List, ℕ, length, sym, ap, subst, ◌∙◌, None, inl, inr}
-use Rattle.std.proofs.lemmas.Result.{err_from_is_err_and}
+use Rattle.std.proofs.lemmas.{Result.err_from_is_err_and, List.length-map, List.FromFn.length-range_with_len}
 use Rattle.std.specs.Prelude.{IfSome}
-use Rattle.std.proofs.lemmas.List.{length-map}
-use Rattle.std.proofs.lemmas.List.FromFn.{length-range_with_len}
 use Rattle.fleet_model.specs.declared.task.Task.{Task}
 use Rattle.fleet_model.specs.Machine.{indices}
 use Rattle.fleet_model.specs.Accepted.{IsAccepted}
@@ -18,7 +16,7 @@ use Rattle.fleet_cli.proofs.rest_command.rest_texts.Goals as goal
 pub others_around-requires : goal.others_around-requires
 others_around-requires c =
     let q = c.in_ok-program.program in
-    let long : length c.in-Ok.tasks.items ≡ length q = ap length c.in-Ok.ensures ∙ (length-map (indices (length q)) (task_of q) ∙ length-range_with_len 0 (length q)) in
+    let long : length c.in_ok-tasks.tasks.items ≡ length q = ap length c.in_ok-tasks.ensures ∙ (length-map (indices (length q)) (task_of q) ∙ length-range_with_len 0 (length q)) in
     subst (λ (n : ℕ). IfSome c.in_ok-dead.dead (λ (d : DeadRobot). d.agent < n)) (sym long) c.in_ok-dead.ensures.agent
 
 pub returns-clause-made : goal.returns-clause-made
@@ -36,7 +34,7 @@ returns-clause-made c =
     let accepted : IsAccepted passable (tasks_of q) q = subst (λ (tasks : List Task). IsAccepted passable tasks q) same here in
     let instance = c.accepted_tasks_are_an_instance.ensures.instance g (tasks_of q) q c.agents-agents.ensures.well_formed accepted in
     let ends = c.accepted_tasks_are_an_instance.ensures.ends g (tasks_of q) q accepted in
-    let written : c.in_ok-scen.scen.items ≡ scen_text g.width g.height (tasks_of q) = c.in_ok-scen.ensures.scen ∙ ap (scen_text g.width g.height) (c.deref-2.ensures.value ∙ c.in-Ok.ensures) in
+    let written : c.in_ok-scen.scen.items ≡ scen_text g.width g.height (tasks_of q) = c.in_ok-scen.ensures.scen ∙ ap (scen_text g.width g.height) (c.deref-2.ensures.value ∙ c.in_ok-tasks.ensures) in
     record {
       accepts = record { ground = g; tasks = c.in_ok-problem.problem.instance; texts = c.in_ok-problem.ensures.read; program = p; chain = c.in_ok-accepted.accepted.chain; accepts = c.in_ok-accepted.ensures.accepted };
       left = left;
@@ -44,11 +42,11 @@ returns-clause-made c =
       accepted = accepted;
       written = written;
       stands = subst (λ (text : List ℕ). IsScenText text g None (tasks_of q)) (sym written) (c.a_written_scenario_is_read.ensures g (tasks_of q) c.width-width.ensures.sizes instance ends);
-      spelled = c.in-Ok-encode_shortest.ensures.shortest;
+      spelled = c.in_ok-bytes.ensures.shortest;
       robot = c.in_ok-dead.dead;
       dead = c.in_ok-dead.ensures.dead;
       around = c.in_ok-map.ensures.map;
-      rest_of_them = subst (λ (tasks : List Task). AreOthers g tasks c.in_ok-dead.dead c.args.request.now.others_out c.in_ok-others.others.items) c.in-Ok.ensures c.in_ok-others.ensures.scen;
+      rest_of_them = subst (λ (tasks : List Task). AreOthers g tasks c.in_ok-dead.dead c.args.request.now.others_out c.in_ok-others.others.items) c.in_ok-tasks.ensures c.in_ok-others.ensures.scen;
     }
 
 pub returns-in_err-program-clause-fault : goal.returns-in_err-program-clause-fault

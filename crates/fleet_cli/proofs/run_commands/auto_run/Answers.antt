@@ -10,7 +10,7 @@ use Rattle.fleet_cli.specs.Faults.{in_step}
 use Rattle.fleet_cli.specs.declared.fault.AutoFault.TheVariants as a
 use Rattle.fleet_cli.specs.Steps.{AreTextsOf, SpellsMade}
 use Rattle.fleet_cli.specs.RunCommands.{AutoRuns, one_try}
-use Rattle.fleet_cli.proofs.RunLemmas.{auto_stops, keeps_self, made}
+use Rattle.fleet_cli.proofs.RunLemmas.{auto_stops, made, nothing_written}
 use Rattle.fleet_cli.proofs.run_commands.auto_run.Goals as goal
 
 -- the first fault of the scenario is a refusal
@@ -21,7 +21,7 @@ scen_stops map scen asked horizon deps held out out' g _ m h u = (g, m, h (λ e.
 
 pub returns-in-Err-read_scen : goal.returns-in-Err-read_scen
 returns-in-Err-read_scen g c =
-    rw c.in_step-in-Err-read_scen.ensures (scen_stops _ _ _ _ _ _ _ _ c.in-Ok.grid c.in-Err-read_scen.fault c.in-Ok.ensures.found c.in-Err-read_scen.ensures.fault (record { kept = keeps_self _; working = c.requires }))
+    rw c.in_step-in-Err-read_scen.ensures (scen_stops _ _ _ _ _ _ _ _ c.in-Ok.grid c.in-Err-read_scen.fault c.in-Ok.ensures.found c.in-Err-read_scen.ensures.fault (nothing_written _ c.requires))
 
 pub returns : goal.returns
 returns g c =

@@ -1,10 +1,18 @@
-use Rattle.std.proofs.Common.{subst}
+use Rattle.std.proofs.Common.{◌≡◌, Result, Ok, subst}
+use Rattle.fleet_model.specs.Program.{Program}
 use Rattle.fleet_model.specs.Accepted.{IsAccepted}
 use Rattle.fleet_grid.specs.Ground.{is_passable}
+use Rattle.fleet_code.specs.declared.fault.LoadFault.{LoadFault}
 use Rattle.fleet_cli.proofs.steps.accept_made.Goals as goal
 
+ok_program : {p q : Program} → ◌≡◌ {A = Result Program LoadFault} (Ok p) (Ok q) → p ≡ q
+ok_program e = cc
+
 pub unreachable-requires : goal.unreachable-requires
-unreachable-requires c =
+unreachable-requires c = c.in-Err.ensures.refused c.in_default.not-OutOfMemory c.requires.0 c.requires.1
+
+pub unreachable-requires-in_default-fault : goal.unreachable-requires-in_default-fault
+unreachable-requires-in_default-fault c =
     let given = c.requires in
-    c.in-Err.ensures.refused.not_accepted c.in_default.not-OutOfMemory
-    (subst (IsAccepted (is_passable c.args.grid.now) c.args.instance.now) (c.in_ok-program.ensures.same given.0 given.1) given.2)
+    c.in-Err-verify.ensures.refused.not_accepted c.in_default-fault.not-OutOfMemory
+    (subst (IsAccepted (is_passable c.args.grid.now) c.args.instance.now) (ok_program (c.in-Ok.ensures.only given.0 given.1)) given.2)

@@ -3,11 +3,13 @@
 PREFIX ?= /usr/local
 BUILT = crates/fleet/out/fleet
 LOG = crates/fleet/out/build.log
-# How many processes check a crate: one for each processor, if each has 3 GB, and half as many where two crates are
-# checked side by side, neither of which uses the other.
+# How many processes check a crate: one for each processor, if each has 3 GB. Two crates are checked side by side,
+# neither of which uses the other, so most have half as many (tools/checks.awk).
 JOBS ?= $(shell awk -v n="$$(getconf _NPROCESSORS_ONLN)" '/^MemAvailable/ { m = int($$2 / 3e6) } END { if (m > n) m = n; print m < 1 ? 1 : m }' /proc/meminfo)
 CHECKED = $(call SIDE_BY_SIDE,tools/apart.sh,fleet_cli) && (cd crates/fleet && rt run -- --help)
 PROVED = $(call SIDE_BY_SIDE,tools/prove.sh,fleet)
+# What failed, and the last lines, which may be those of a crate beside it.
+FAILED = grep '^make.*\*\*\*\|^rattle\|^error' $(LOG) | head -n 20; tail -n 20 $(LOG)
 # Another program to try: make examples FLEET=PATH
 FLEET = $(BUILT)
 # The library for callers in C. LIBRARY= leaves it out, and so it is where there is no C compiler.
@@ -49,18 +51,19 @@ test:
 	rt ci
 	@$(MAKE) --no-print-directory examples
 
-# Proves the crates below the program, each after those that it uses, and builds the program: from nothing, as the gate
-# does, or where `make checks` kept its work, what has changed since. What the prover says goes to a file.
+# Proves the crates below the program, each after those that it uses, and builds the program: those that changed since
+# they were proved so and those above them, or where `make checks` kept its work, what has changed of each. What the
+# prover says goes to a file.
 $(BUILT): $(SOURCES)
 	@mkdir -p $(@D)
 	@echo 'Proving the crates and building fleet: the first time some 25 minutes on four processors. The lines of the prover go to $(LOG).'
-	@if [ -d crates/fleet_cli/out/incremental ]; then $(CHECKED); else $(PROVED); fi > $(LOG) 2>&1 || { tail -n 20 $(LOG); exit 1; }
+	@if [ -d crates/fleet_cli/out/incremental ]; then $(CHECKED); else $(PROVED); fi > $(LOG) 2>&1 || { $(FAILED); exit 1; }
 	@touch $@
 
 checks:
 	@mkdir -p $(dir $(BUILT))
 	@echo 'The lines of the prover go to $(LOG).'
-	@($(CHECKED)) > $(LOG) 2>&1 || { tail -n 20 $(LOG); exit 1; }
+	@($(CHECKED)) > $(LOG) 2>&1 || { $(FAILED); exit 1; }
 
 lib: $(ARCHIVE)
 	@[ -n '$(ARCHIVE)' ] || echo 'libfleet is left out: it needs cc, ld, ar and objcopy'

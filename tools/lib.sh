@@ -12,8 +12,8 @@ work=$(mktemp -d) || exit 2
 trap 'rm -rf "$work"' EXIT
 trap 'exit 2' INT TERM HUP
 
-# Proves and builds the crate over the libraries that `rt ci` left, which `rt lib` takes for none of its own and would
-# prove once more. It fails where one of them is lacking or older than its sources.
+# Proves and builds the crate over the libraries that `rt ci` or tools/prove.sh left, which `rt lib` takes for none of
+# its own and would prove once more. It fails where one of them is lacking or older than its sources.
 over_gate() {
     set -- --crate-name fleet_c src/lib.rt --extern "std=$kit/rlibs/std.rlib" -L "dependency=$kit/rlibs"
     for crate in $(sed -n 's/^\([a-z_]*\):.*/\1/p' ../../crates.txt); do

@@ -1,4 +1,4 @@
-mod Lanes
+pub mod Lanes
 pub mod Free
 pub mod Joining
 pub mod Placed

@@ -1,9 +1,9 @@
-//! The counts of rows, kept in two bytes each where all of them fit, and rows of four bytes each that are joined and
-//! compared eight counts at a time.
+//! The counts of rows, kept in two bytes each where all of them fit, and rows of four bytes each that are joined eight
+//! counts at a time.
 
-ghost use Rattle.std.specs.Prelude.{◌≡◌, ◌≢◌, ◌+◌, ◌<◌, ◌≤◌, ℕ, length, max, slice_index, IfOk, ◌↔◌, get_or, IsTrue};
+ghost use Rattle.std.specs.Prelude.{◌≡◌, ◌≢◌, ◌+◌, ◌<◌, ◌≤◌, ℕ, length, max, slice_index, IfOk, get_or};
 ghost use Rattle.fleet_needs.specs.Counts.{counts_of, are_narrow, CanHold, AreAlike};
-ghost use Rattle.fleet_needs.specs.Kernels.{AreJoined, AreCovered};
+ghost use Rattle.fleet_needs.specs.Kernels.{AreJoined};
 
 use fleet_model::OutOfMemory;
 use std::alloc::Global;
@@ -182,7 +182,7 @@ fn read_narrow(row: &mut [u16], one: &[u16], other: &[u16])
     }
 }
 
-/// How many counts are joined or compared at once.
+/// How many counts are joined at once.
 const LANES: usize = 8;
 
 /// Leaves in `row`, at each place, the greater count of the two rows, which are equally long. Takes no memory.
@@ -222,42 +222,4 @@ fn join_lane(row: &mut [u32], other: &[u32], from: usize)
 {
     let joined = u32x8::from_slice(&row[from..]).simd_max(u32x8::from_slice(&other[from..]));
     joined.copy_to_slice(&mut row[from..]);
-}
-
-/// Whether at each place the count of `row` is at least that of `other`, which is equally long. Takes no memory.
-pub fn row_covers(row: &[u32], other: &[u32]) -> bool
-    requires { length other.now ≡ length row.now }
-    ensures { IsTrue result ↔ AreCovered row.now other.now 0 (length row.now) }
-{
-    let mut from = 0;
-    while row.len() - from >= LANES {
-        if !lane_covers(row, other, from) {
-            return false;
-        }
-        from += LANES;
-    }
-    rest_covers(row, other, from)
-}
-
-/// The same for one lane, from this place on.
-fn lane_covers(row: &[u32], other: &[u32], from: usize) -> bool
-    requires same { length other.now ≡ length row.now }
-    requires lane { from + LANES ≤ length row.now }
-    ensures { IsTrue result ↔ AreCovered row.now other.now from (from + LANES) }
-{
-    let less = u32x8::from_slice(&row[from..]).simd_lt(u32x8::from_slice(&other[from..]));
-    less.to_bitmask() == 0
-}
-
-/// The same from this place to the end.
-fn rest_covers(row: &[u32], other: &[u32], from: usize) -> bool
-    requires same { length other.now ≡ length row.now }
-    ensures { IsTrue result ↔ AreCovered row.now other.now from (length row.now) }
-{
-    for k in from..row.len() {
-        if row[k] < other[k] {
-            return false;
-        }
-    }
-    true
 }

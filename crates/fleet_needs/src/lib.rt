@@ -1,10 +1,9 @@
 //! Needs: which actions of a program begin a chain of needs that ends with another action, by rows of counts that are
-//! joined and compared by lanes, and which awaits others imply.
+//! joined by lanes, and which awaits others imply.
 //!
-//! `counts` keeps the counts of rows in two bytes each or in four, and joins and compares rows: two rows of four bytes
-//! a count lane by lane, eight counts at once, and then the counts that are left, one by one. A lane is a vector of
-//! `std::simd`, in two small functions of their own, whose proofs alone speak of lanes: the loops over them know places
-//! and counts.
+//! `counts` keeps the counts of rows in two bytes each or in four, and joins rows: two rows of four bytes a count lane by
+//! lane, eight counts at once, and then the counts that are left, one by one. A lane is a vector of `std::simd`, in a
+//! small function of its own, whose proof alone speaks of lanes: the loop over them knows places and counts.
 //!
 //! `finish_order` has the order in which the actions finish if nobody is held (the agents, tick by tick): that of a run,
 //! or what another `OrderSource` makes. `Finishing` goes through it, action by action; so the tick that finishes each
@@ -62,7 +61,7 @@ mod questions;
 mod schedule;
 mod settled;
 
-pub use counts::{join_rows, row_covers};
+pub use counts::join_rows;
 pub use critical::{ActionCosts, CriticalCosts, MAX_COST};
 pub use finish_order::{FinishOrder, OrderSource, Ticks};
 pub use gather::Pieces;

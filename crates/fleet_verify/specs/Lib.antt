@@ -27,3 +27,4 @@ pub mod Promises
 pub mod Rest
 pub mod Times
 pub mod Stretch
+pub mod Covers

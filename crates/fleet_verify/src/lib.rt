@@ -24,6 +24,7 @@
 //! no pair was open (`kept_levels`), and a chain that takes so long, in stretches of one agent's actions, which
 //! `stretch` also writes; `stopped` how far each agent comes if some actions are never ended: each of these costs one
 //! and all others nothing, so that what costs nothing needs none of them. `fault` has the refusals.
+//! `covers` compares two rows of counts, for callers alone.
 //!
 //! `needed` finds for two visits how many actions of each agent they need, and `breaking` runs the counts of the
 //! machine, tick by tick, and says whom each tick holds: those whose next action is not needed.
@@ -37,6 +38,7 @@ mod ahead_laws;
 mod breaking;
 mod chained;
 mod counting;
+mod covers;
 mod exactness;
 mod fault;
 mod kept_levels;
@@ -64,13 +66,14 @@ mod verifier;
 pub use ahead_laws::{begun_visits_are_orderly, counted_levels_are_levels};
 pub use breaking::breaking_holds;
 pub use counting::{levels_are_counted_up, rows_are_joined};
+pub use covers::row_covers;
 pub use exactness::{
     acceptance_is_exact, breaking_holds_are_one_list, breaking_holds_by_rows,
     breaking_holds_end_in_a_conflict, listed_visits_are_chained, unordered_visits_are_found,
     unordered_visits_meet,
 };
 pub use fault::VerifyFault;
-pub use fleet_needs::{ActionCosts, MAX_COST, join_rows, row_covers};
+pub use fleet_needs::{ActionCosts, MAX_COST, join_rows};
 pub use orders::{
     awaits_are_chains, orderly_listings_rise, rings_are_never_finished, sorted_listings_decide,
 };

@@ -1,6 +1,6 @@
 use Rattle.std.proofs.Common.{◌≤◌, ◌-◌, length}
-use Rattle.fleet_needs.specs.Kernels.{AreCovered}
-use Rattle.fleet_needs.proofs.counts.row_covers.Given as goal
+use Rattle.fleet_verify.specs.Covers.{AreCovered}
+use Rattle.fleet_verify.proofs.covers.row_covers.Given as goal
 
 abbrev pub invariant-loop-from : goal.invariant-loop-from
 invariant-loop-from l = record {

@@ -78,7 +78,9 @@ fn long_number_in(bytes: &[u8], at: usize) -> u32
     requires { at + 4 ≤ length bytes.now }
     ensures { (n : ℕ) → n < 4294967296 → StandsAt bytes.now at (count Version.Two n) → result ≡ n }
 {
-    u32::from_be_bytes([bytes[at], bytes[at + 1], bytes[at + 2], bytes[at + 3]])
+    let mut four = [0; 4];
+    four.copy_from_slice(&bytes[at..at + 4]);
+    u32::from_be_bytes(four)
 }
 
 /// The cell at the offset `at`.

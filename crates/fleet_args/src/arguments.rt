@@ -4,7 +4,7 @@ ghost use Rattle.std.specs.Prelude.{◌≡◌, IfOk, None, fold, map};
 ghost use Rattle.clap.specs.Words.{app_of, with_rule};
 ghost use Rattle.fleet_args.specs.Arguments.{IsArg, IsApp, IsLocal, alone, described, parser_for, plain_rule, rule_for, shape_for, told};
 ghost use Rattle.fleet_args.specs.declared.arguments.OptionNames.{OptionNames};
-ghost use Rattle.fleet_args.specs.Values.{AreDepsIfUsed, HasBest, HasDeps, HasNumber, HasText, IsBestIfUsed, IsFlag, IsNumberIfUsed, IsText, best_in, deps_in, values_in};
+ghost use Rattle.fleet_args.specs.Values.{AreDepsIfUsed, HasBest, HasDeps, HasNumber, HasText, IsBestIfUsed, IsFlag, IsNumberIfUsed, IsText, values_in};
 
 use crate::commands::Best;
 use clap::builder::ValueParser;
@@ -85,158 +85,40 @@ pub(crate) struct CommandText {
     pub(crate) arguments: &'static [Argument],
 }
 
+/// The rows of a table of arguments, each by its name, its form, and in help the name of its value and a text.
+macro_rules! argument_rows {
+    ($($name:literal, $form:expr, $value:literal, $help:literal;)*) => {
+        [$(ArgumentText { name: $name, value: $value, help: $help, form: $form }),*]
+    };
+}
+
 /// What each argument is, in the order of `Argument`.
-static ARGUMENTS: [ArgumentText; 25] = [
-    ArgumentText {
-        name: "map",
-        value: "MAP",
-        help: "Map file (MovingAI), each side 1 to 4096",
-        form: Form::Word,
-    },
-    ArgumentText {
-        name: "scen",
-        value: "SCEN",
-        help: "Scenario file (MovingAI), one line per agent",
-        form: Form::Word,
-    },
-    ArgumentText {
-        name: "plan",
-        value: "PLAN",
-        help: "Plan text: a line per agent, its cells x,y at times 0, 1, 2 ..",
-        form: Form::Word,
-    },
-    ArgumentText {
-        name: "out",
-        value: "OUT",
-        help: "The file to which the program bytes are written",
-        form: Form::Word,
-    },
-    ArgumentText {
-        name: "program",
-        value: "PROGRAM",
-        help: "Program file (bytes, not hexadecimal)",
-        form: Form::Word,
-    },
-    ArgumentText {
-        name: "agents",
-        value: "K",
-        help: "Take the first K agents of the scenario, 1 to 1024 [default: all]",
-        form: Form::Numbers(0, u16::MAX as u32),
-    },
-    ArgumentText {
-        name: "horizon",
-        value: "H",
-        help: "The latest time at which an agent may arrive, 1 to 65535; below its shortest way there is no path [default: 1024]",
-        form: Form::Numbers(1, u16::MAX as u32),
-    },
-    ArgumentText {
-        name: "tries",
-        value: "N",
-        help: "How many orders of the agents are tried, 1 to 1000000: an agent that finds no path is planned first in the next one [default: 1]",
-        form: Form::Numbers(1, MAX_TRIES),
-    },
-    ArgumentText {
-        name: "best",
-        value: "BEST",
-        help: "Tries all N orders, and keeps the first plan with the shortest chain (chain) or the least sum of costs (cost)",
-        form: Form::Best,
-    },
-    ArgumentText {
-        name: "deps",
-        value: "DEPS",
-        help: "What a move into a cell waits for: the last leaving by each other agent (all), or only the latest leaving (last) [default: last]",
-        form: Form::Deps,
-    },
-    ArgumentText {
-        name: "dwell",
-        value: "N",
-        help: "How many actions each agent stays on its last cell after its moves, 0 to 1000000 [default: 0]",
-        form: Form::Numbers(0, MAX_MOVES),
-    },
-    ArgumentText {
-        name: "holds",
-        value: "FILE",
-        help: "Holds text: a line per tick, - for nobody or the numbers of the held agents, rising [default: nobody is held]",
-        form: Form::Text,
-    },
-    ArgumentText {
-        name: "numbers",
-        value: "",
-        help: "Prints more numbers of the plan at the end",
-        form: Form::Flag,
-    },
-    ArgumentText {
-        name: "ahead",
-        value: "K",
-        help: "How many orders an agent may have at most that it has not reported, 1 to 255 [default: 1]",
-        form: Form::Numbers(1, u8::MAX as u32),
-    },
-    ArgumentText {
-        name: "unnumbered",
-        value: "",
-        help: "Orders and reports name agents alone: go AGENT FROM TO, and a report that comes twice counts twice",
-        form: Form::Flag,
-    },
-    ArgumentText {
-        name: "resume",
-        value: "FILE",
-        help: "Goes on after the reports in this file: takes them first, and then prints the orders that are open",
-        form: Form::Text,
-    },
-    ArgumentText {
-        name: "costs",
-        value: "FILE",
-        help: "What actions cost: lines A X, each action of agent A, and A:N X, its action N [default: each action costs 1]",
-        form: Form::Text,
-    },
-    ArgumentText {
-        name: "broken",
-        value: "ACTIONS",
-        help: "The actions in which robots break down: words A:N, rising, one space between two [default: all robots go on]",
-        form: Form::Text,
-    },
-    ArgumentText {
-        name: "reports",
-        value: "LOG",
-        help: "The log of a dispatch: its reports, a line for each",
-        form: Form::Word,
-    },
-    ArgumentText {
-        name: "scen_out",
-        value: "SCEN_OUT",
-        help: "The file to which the tasks that are left are written, as a scenario",
-        form: Form::Word,
-    },
-    ArgumentText {
-        name: "program_out",
-        value: "PROGRAM_OUT",
-        help: "The file to which the program bytes that are left are written",
-        form: Form::Word,
-    },
-    ArgumentText {
-        name: "without",
-        value: "CELLS",
-        help: "The agent of a dead robot, and the cells on which it stands: A:X,Y or A:X,Y:X,Y [default: no robot is dead]",
-        form: Form::Text,
-    },
-    ArgumentText {
-        name: "map-out",
-        value: "FILE",
-        help: "A file to which the map is written, in which the cells of the dead robot are blocked",
-        form: Form::Text,
-    },
-    ArgumentText {
-        name: "others-out",
-        value: "FILE",
-        help: "A file to which the tasks of all but the dead robot's agent are written, as a scenario",
-        form: Form::Text,
-    },
-    ArgumentText {
-        name: "log",
-        value: "FILE",
-        help: "Appends each report that is taken to this file, on the disk before anything follows from it",
-        form: Form::Text,
-    },
+static ARGUMENTS: [ArgumentText; 25] = argument_rows![
+    "map", Form::Word, "MAP", "Map file (MovingAI), each side 1 to 4096";
+    "scen", Form::Word, "SCEN", "Scenario file (MovingAI), one line per agent";
+    "plan", Form::Word, "PLAN", "Plan text: a line per agent, its cells x,y at times 0, 1, 2 ..";
+    "out", Form::Word, "OUT", "The file to which the program bytes are written";
+    "program", Form::Word, "PROGRAM", "Program file (bytes, not hexadecimal)";
+    "agents", Form::Numbers(0, u16::MAX as u32), "K", "Take the first K agents of the scenario, 1 to 1024 [default: all]";
+    "horizon", Form::Numbers(1, u16::MAX as u32), "H", "The latest time at which an agent may arrive, 1 to 65535; below its shortest way there is no path [default: 1024]";
+    "tries", Form::Numbers(1, MAX_TRIES), "N", "How many orders of the agents are tried, 1 to 1000000: an agent that finds no path is planned first in the next one [default: 1]";
+    "best", Form::Best, "BEST", "Tries all N orders, and keeps the first plan with the shortest chain (chain) or the least sum of costs (cost)";
+    "deps", Form::Deps, "DEPS", "What a move into a cell waits for: the last leaving by each other agent (all), or only the latest leaving (last) [default: last]";
+    "dwell", Form::Numbers(0, MAX_MOVES), "N", "How many actions each agent stays on its last cell after its moves, 0 to 1000000 [default: 0]";
+    "holds", Form::Text, "FILE", "Holds text: a line per tick, - for nobody or the numbers of the held agents, rising [default: nobody is held]";
+    "numbers", Form::Flag, "", "Prints more numbers of the plan at the end";
+    "ahead", Form::Numbers(1, u8::MAX as u32), "K", "How many orders an agent may have at most that it has not reported, 1 to 255 [default: 1]";
+    "unnumbered", Form::Flag, "", "Orders and reports name agents alone: go AGENT FROM TO, and a report that comes twice counts twice";
+    "resume", Form::Text, "FILE", "Goes on after the reports in this file: takes them first, and then prints the orders that are open";
+    "costs", Form::Text, "FILE", "What actions cost: lines A X, each action of agent A, and A:N X, its action N [default: each action costs 1]";
+    "broken", Form::Text, "ACTIONS", "The actions in which robots break down: words A:N, rising, one space between two [default: all robots go on]";
+    "reports", Form::Word, "LOG", "The log of a dispatch: its reports, a line for each";
+    "scen_out", Form::Word, "SCEN_OUT", "The file to which the tasks that are left are written, as a scenario";
+    "program_out", Form::Word, "PROGRAM_OUT", "The file to which the program bytes that are left are written";
+    "without", Form::Text, "CELLS", "The agent of a dead robot, and the cells on which it stands: A:X,Y or A:X,Y:X,Y [default: no robot is dead]";
+    "map-out", Form::Text, "FILE", "A file to which the map is written, in which the cells of the dead robot are blocked";
+    "others-out", Form::Text, "FILE", "A file to which the tasks of all but the dead robot's agent are written, as a scenario";
+    "log", Form::Text, "FILE", "Appends each report that is taken to this file, on the disk before anything follows from it";
 ];
 
 /// What this argument is.
@@ -333,28 +215,6 @@ pub(crate) fn command_of<'a>(
     )
 }
 
-/// The kind of awaits of this name, if there is one.
-fn deps_of(name: &str) -> Option<Deps>
-    ensures { result ≡ deps_in name.now }
-{
-    match name {
-        "all" => Some(Deps::All),
-        "last" => Some(Deps::Last),
-        _ => None,
-    }
-}
-
-/// What makes a plan the best, by its name, if there is such a thing.
-fn best_of(name: &str) -> Option<Best>
-    ensures { result ≡ best_in name.now }
-{
-    match name {
-        "chain" => Some(Best::Chain),
-        "cost" => Some(Best::Cost),
-        _ => None,
-    }
-}
-
 /// The text of an argument that has one.
 pub(crate) fn text<'a>(matches: &ArgMatches<'a>, id: &str) -> &'a str
     requires { HasText (values_in matches.now) id.now }
@@ -387,12 +247,10 @@ pub(crate) fn used_deps(matches: &ArgMatches<'_>, id: &str) -> Option<Deps>
     requires { HasDeps (values_in matches.now) id.now }
     ensures { AreDepsIfUsed (values_in matches.now) id.now result }
 {
-    match matches.get_str(id) {
-        Some(name) => match deps_of(name) {
-            Some(deps) => Some(deps),
-            None => unreachable!(),
-        },
-        None => None,
+    match matches.get_str(id)? {
+        "all" => Some(Deps::All),
+        "last" => Some(Deps::Last),
+        _ => unreachable!(),
     }
 }
 
@@ -401,12 +259,10 @@ pub(crate) fn used_best(matches: &ArgMatches<'_>, id: &str) -> Option<Best>
     requires { HasBest (values_in matches.now) id.now }
     ensures { IsBestIfUsed (values_in matches.now) id.now result }
 {
-    match matches.get_str(id) {
-        Some(name) => match best_of(name) {
-            Some(best) => Some(best),
-            None => unreachable!(),
-        },
-        None => None,
+    match matches.get_str(id)? {
+        "chain" => Some(Best::Chain),
+        "cost" => Some(Best::Cost),
+        _ => unreachable!(),
     }
 }
 

@@ -166,82 +166,43 @@ pub enum Request<'a> {
     Rest(RestRequest<'a>),
 }
 
+/// The rows of a table of commands, each by its name, its arguments and its text for help.
+macro_rules! command_rows {
+    ($($name:literal, $arguments:expr, $about:literal;)*) => {
+        [$(CommandText { name: $name, about: $about, arguments: $arguments }),*]
+    };
+}
+
 /// The commands, in the order of help.
-pub(crate) static COMMANDS: [CommandText; 14] = [
-    CommandText {
-        name: "instance",
-        about: "Prints the size of a map, its passable cells, and each agent's start and goal",
-        arguments: &[Map, Scen, Agents],
-    },
-    CommandText {
-        name: "check",
-        about: "Tells whether a plan is free of conflict, or its first fault",
-        arguments: &[Map, Scen, Plan, Agents, Numbers],
-    },
-    CommandText {
-        name: "plan",
-        about: "Plans a path for each agent in turn, and prints the plan text",
-        arguments: &[Map, Scen, Agents, Horizon, TryCount, BestBy],
-    },
-    CommandText {
-        name: "compile",
-        about: "Compiles a conflict-free plan into a program, writes it to OUT, and prints its agents, moves, awaits and bytes",
-        arguments: &[Map, Scen, Plan, Out, Agents, DepsKind, Dwell],
-    },
-    CommandText {
-        name: "verify",
-        about: "Tells whether a program is safe and arrives whoever is held, or its first fault",
-        arguments: &[Map, Scen, Program, Agents],
-    },
-    CommandText {
-        name: "run",
-        about: "Verifies a program and runs it: prints the positions tick by tick, then agents, ticks, chain and held",
-        arguments: &[Map, Scen, Program, Agents, Holds],
-    },
-    CommandText {
-        name: "rehearse",
-        about: "Runs any program until it is finished or stuck: prints the positions tick by tick, then agents, ticks and held",
-        arguments: &[Program, Holds],
-    },
-    CommandText {
-        name: "auto",
-        about: "Plans, compiles, verifies and runs: prints the positions tick by tick, then agents, ticks, chain and held",
-        arguments: &[
-            Map, Scen, Agents, Horizon, TryCount, BestBy, DepsKind, Holds, Numbers,
-        ],
-    },
-    CommandText {
-        name: "thin",
-        about: "Drops the awaits of an accepted program that others imply, writes it to OUT, and prints its awaits before and after",
-        arguments: &[Map, Scen, Program, Out, Agents],
-    },
-    CommandText {
-        name: "migrate",
-        about: "Writes a program to OUT in version 2 of the bytes, and prints how many they are",
-        arguments: &[Program, Out],
-    },
-    CommandText {
-        name: "list",
-        about: "Prints any program as text: a line for each agent, and after it one for each of its actions",
-        arguments: &[Program],
-    },
-    CommandText {
-        name: "dispatch",
-        about: "Dispatches robots: prints go AGENT:N FROM TO as each move may begin, and reads a line for each report of which moves are done",
-        arguments: &[Map, Scen, Program, Agents, Ahead, Unnumbered, Resume, Log],
-    },
-    CommandText {
-        name: "times",
-        about: "Tells when each agent of an accepted program arrives at the soonest, or how far it comes if robots break down",
-        arguments: &[Map, Scen, Program, Agents, Costs, Broken],
-    },
-    CommandText {
-        name: "rest",
-        about: "Writes what is left of an accepted program after the reports of a log: its tasks and its bytes, and prints its agents, moves, awaits and bytes",
-        arguments: &[
-            Map, Scen, Program, Reports, ScenOut, ProgramOut, Agents, Without, MapOut, OthersOut,
-        ],
-    },
+pub(crate) static COMMANDS: [CommandText; 14] = command_rows![
+    "instance", &[Map, Scen, Agents],
+        "Prints the size of a map, its passable cells, and each agent's start and goal";
+    "check", &[Map, Scen, Plan, Agents, Numbers],
+        "Tells whether a plan is free of conflict, or its first fault";
+    "plan", &[Map, Scen, Agents, Horizon, TryCount, BestBy],
+        "Plans a path for each agent in turn, and prints the plan text";
+    "compile", &[Map, Scen, Plan, Out, Agents, DepsKind, Dwell],
+        "Compiles a conflict-free plan into a program, writes it to OUT, and prints its agents, moves, awaits and bytes";
+    "verify", &[Map, Scen, Program, Agents],
+        "Tells whether a program is safe and arrives whoever is held, or its first fault";
+    "run", &[Map, Scen, Program, Agents, Holds],
+        "Verifies a program and runs it: prints the positions tick by tick, then agents, ticks, chain and held";
+    "rehearse", &[Program, Holds],
+        "Runs any program until it is finished or stuck: prints the positions tick by tick, then agents, ticks and held";
+    "auto", &[Map, Scen, Agents, Horizon, TryCount, BestBy, DepsKind, Holds, Numbers],
+        "Plans, compiles, verifies and runs: prints the positions tick by tick, then agents, ticks, chain and held";
+    "thin", &[Map, Scen, Program, Out, Agents],
+        "Drops the awaits of an accepted program that others imply, writes it to OUT, and prints its awaits before and after";
+    "migrate", &[Program, Out],
+        "Writes a program to OUT in version 2 of the bytes, and prints how many they are";
+    "list", &[Program],
+        "Prints any program as text: a line for each agent, and after it one for each of its actions";
+    "dispatch", &[Map, Scen, Program, Agents, Ahead, Unnumbered, Resume, Log],
+        "Dispatches robots: prints go AGENT:N FROM TO as each move may begin, and reads a line for each report of which moves are done";
+    "times", &[Map, Scen, Program, Agents, Costs, Broken],
+        "Tells when each agent of an accepted program arrives at the soonest, or how far it comes if robots break down";
+    "rest", &[Map, Scen, Program, Reports, ScenOut, ProgramOut, Agents, Without, MapOut, OthersOut],
+        "Writes what is left of an accepted program after the reports of a log: its tasks and its bytes, and prints its agents, moves, awaits and bytes";
 ];
 
 /// The horizon of a command that names none.

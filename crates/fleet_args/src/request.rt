@@ -1,9 +1,9 @@
 //! The command line, and the request that its words make.
 
-ghost use Rattle.std.specs.Prelude.{◌≡◌, ◌≢◌, [], map, string_bytes, IfOk, codes};
+ghost use Rattle.std.specs.Prelude.{◌≡◌, ◌≢◌, [], map, string_bytes, IfOk};
 ghost use Rattle.std.specs.List.{position};
 ghost use Rattle.std.specs.Str.{bytes_eq};
-ghost use Rattle.clap.specs.Words.{kind_of, app_of, fault_of, new_app, with_subcommand};
+ghost use Rattle.clap.specs.Words.{kind_of, app_of, fault_of, with_subcommand};
 ghost use Rattle.fleet_args.specs.Commands.{AreNames, fleet, fleet_top, with_shapes};
 ghost use Rattle.fleet_args.specs.Request.{AsksAlone, IsStopOf, ReadsFleet, StopsFor};
 ghost use Rattle.fleet_args.specs.Arguments.{IsApp, own, shape_for};
@@ -129,9 +129,9 @@ pub fn read_words<'a>(alloc: Global, words: &'a [String]) -> Result<Request<'a>,
     }
 }
 
-/// The command line with its texts for help, and no more.
-fn with_texts<'a>(alloc: Global) -> Command<'a>
-    ensures { app_of result ≡ new_app (codes "fleet") }
+/// The command line without its commands. Its words do not begin with the program's name.
+fn without_commands<'a>(alloc: Global) -> Result<Command<'a>, AllocError>
+    ensures { IfOk result (λ command. app_of command ≡ fleet_top) }
 {
     Command::new(alloc, "fleet")
         .about(
@@ -141,13 +141,6 @@ fn with_texts<'a>(alloc: Global) -> Command<'a>
         .after_help(
             "Without a command: rehearses, with nobody held, the program that standard input gives in hexadecimal.\nStatus: 0 done, 1 refused or stuck, 2 wrong usage, 3 a file, the output or memory failed.\nA refusal is one line on standard error: part, number, name, particulars. docs/REFUSALS.md explains each.",
         )
-}
-
-/// The command line without its commands. Its words do not begin with the program's name.
-fn without_commands<'a>(alloc: Global) -> Result<Command<'a>, AllocError>
-    ensures { IfOk result (λ command. app_of command ≡ fleet_top) }
-{
-    with_texts(alloc)
         .no_binary_name(true)
         .version("1.0")
         .subcommand_required(true)

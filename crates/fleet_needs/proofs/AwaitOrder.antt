@@ -1,10 +1,10 @@
 -- The order of awaits, among those of an action and among all.
-use Rattle.std.proofs.Common.{◌≡◌, ◌≢◌, ℕ, ◌+◌, ◌-◌, ◌<◌, ◌≤◌, Bool, false, List, length, take, get_or, map, sym, ap, subst, ◌∙◌, arith, inl, inr, ◌⊎◌}
+use Rattle.std.proofs.Common.{◌≡◌, ◌≢◌, ℕ, ◌+◌, ◌-◌, ◌<◌, ◌≤◌, Bool, false, List, length, take, get_or, set, map, refl, sym, ap, subst, ◌∙◌, arith, inl, inr, ◌⊎◌}
 use Rattle.std.specs.Prelude.{slice_get, Some, sum_by}
 use Rattle.std.specs.List.Sorted.{IsStrictlyIncreasing}
 use Rattle.std.proofs.lemmas.Bool.{cases_eq, cases_order}
 use Rattle.std.proofs.lemmas.Option.{slice_get_within, get_or_from_slice_get}
-use Rattle.std.proofs.lemmas.List.{get_or-map, length-map}
+use Rattle.std.proofs.lemmas.List.{get_or-map, length-map, get_or-set_same, get_or-set_other}
 use Rattle.std.proofs.lemmas.List.Kept.{AllPairs-from_increasing}
 use Rattle.std.proofs.lemmas.List.Sums.{sum_by-take-le}
 use Rattle.fleet_model.specs.declared.program.ActionId.{ActionId}
@@ -14,7 +14,8 @@ use Rattle.fleet_model.specs.declared.program.AgentProgram.{AgentProgram}
 use Rattle.fleet_model.specs.Program.{Program, actions_of, awaits_of, agent_awaits, total_awaits}
 use Rattle.fleet_model.specs.Chain.{IsAction}
 use Rattle.fleet_model.proofs.Totals.{awaits_more, actions_more}
-use Rattle.fleet_needs.specs.Implied.{first_await}
+use Rattle.fleet_needs.specs.Implied.{EachFlag, AreNoted, first_await}
+use Rattle.fleet_needs.proofs.Passing.{same_or_not}
 use Rattle.fleet_needs.proofs.Placed.{sums_rise}
 
 -- in a list in strictly rising order of agent each await is of a lower agent than all later ones
@@ -85,10 +86,35 @@ module _ (p : Program) where
 
 -- ---- flags, one after another
 
--- what holds of the first k flags from a place on, and of the next one, holds of one more
-pub flags_more : (Q : ℕ → Bool → Type 0) (first k : ℕ) (old new : List Bool) → ((n : ℕ) → n ≢ first + k → get_or new n false ≡ get_or old n false)
-    → ((m : ℕ) → m < k → Q m (get_or old (first + m) false)) → Q k (get_or new (first + k) false) → (m : ℕ) → m < k + 1 → Q m (get_or new (first + m) false)
-flags_more Q first k old new others before here m l = elim (cases_eq m k) [
-  | inr ne ↦ subst (Q m) (sym (others (first + m) (λ e. ne (omega (arith, e))))) (before m (omega arith))
-  | inl e ↦ subst (λ (x : ℕ). Q x (get_or new (first + x) false)) (sym e) here
+pub noted_none : (p : Program) (a : ActionId) (Is : ℕ → Await → Bool → Type 0) (flags : List Bool) → AreNoted p a Is 0 flags flags
+noted_none p a Is flags = record { each = λ k w l. absurd (omega arith); others = λ n out. refl }
+
+-- one await more
+pub noted_next : (p : Program) (a : ActionId) (Was Is : ℕ → Await → Bool → Type 0) (k : ℕ) (flag : Bool) (old mid new : List Bool) → first_await p a + k < length mid → new ≡ set mid (first_await p a + k) flag
+    → ((m : ℕ) (w : Await) (x : Bool) → Was m w x → Is m w x) → ((w : Await) → slice_get (awaits_of p a.agent a.number) k ≡ Some w → Is k w flag) → AreNoted p a Was k old mid → AreNoted p a Is (k + 1) old new
+noted_next p a Was Is k flag old mid new within put still here h = record {
+  each = λ m w l at. elim (cases_eq m k) [
+    | inr ne ↦ subst (Is m w) (sym (other (first_await p a + m) (λ e. ne (omega (arith, e))))) (still m w _ (h.each m w (omega arith) at))
+    | inl e ↦ subst (λ (x : ℕ). Is x w (get_or new (first_await p a + x) false)) (sym e) (subst (Is k w) (sym own) (here w (subst (λ (x : ℕ). slice_get (awaits_of p a.agent a.number) x ≡ Some w) e at)))
+  ];
+  others = λ n out. other n (λ e. elim out [ inl l ↦ omega arith | inr l ↦ omega arith ]) ∙ h.others n (elim out [ inl l ↦ inl l | inr l ↦ inr (omega arith) ]);
+}
+  where
+    other : (n : ℕ) → n ≢ first_await p a + k → get_or new n false ≡ get_or mid n false
+    other n ne = ap (λ (xs : List Bool). get_or xs n false) put ∙ get_or-set_other mid (first_await p a + k) n flag false ne
+
+    own : get_or new (first_await p a + k) false ≡ flag
+    own = ap (λ (xs : List Bool). get_or xs (first_await p a + k) false) put ∙ get_or-set_same mid (first_await p a + k) flag false within
+
+-- one action more
+pub noted_on : (p : Program) (a : ActionId) (Here : ℕ → Await → Bool → Type 0) (old new : List Bool) → IsAction p a → AreNoted p a Here (length (awaits_of p a.agent a.number)) old new
+    → (These Next : ActionId → Type 0) (Was Is : ActionId → ℕ → Await → Bool → Type 0) → ((b : ActionId) → Next b → These b ⊎ (b ≡ a)) → ((b : ActionId) (k : ℕ) (w : Await) (x : Bool) → Was b k w x → Is b k w x)
+    → ((k : ℕ) (w : Await) (x : Bool) → Here k w x → Is a k w x) → EachFlag p These Was old → EachFlag p Next Is new
+noted_on p a Here old new is h These Next Was Is back still here before b kb next k w at = elim (same_or_not b a) [
+  | inl e ↦
+      let there : slice_get (awaits_of p a.agent a.number) k ≡ Some w = subst (λ (x : ActionId). slice_get (awaits_of p x.agent x.number) k ≡ Some w) e at in
+      subst (λ (x : ActionId). Is x k w (get_or new (first_await p x + k) false)) (sym e) (here k w _ (h.each k w (slice_get_within (awaits_of p a.agent a.number) k w there) there))
+  | inr ne ↦
+      let stays = h.others (first_await p b + k) (flag_apart p b a kb is ne k (slice_get_within (awaits_of p b.agent b.number) k w at)) in
+      elim (back b next) [ inl these ↦ subst (Is b k w) (sym stays) (still b k w _ (before b kb these k w at)) | inr e ↦ absurd (ne e) ]
 ]

@@ -9,9 +9,9 @@ use Rattle.fleet_model.specs.declared.program.Await.{Await}
 use Rattle.fleet_model.specs.Program.{Program, moves, awaits_of, AreInRange, IsWellFormed}
 use Rattle.fleet_model.specs.Chain.{IsAction, Reaches, IsNumbering, awaited}
 use Rattle.fleet_model.proofs.Chains.{chain_ends_by_step, Reaches-rises, Reaches-last}
-use Rattle.fleet_needs.specs.Implied.{IsImplied, first_await}
-use Rattle.fleet_needs.specs.Settled.{IsSettled, AreSettledOf, AreMoreAsked, IsActionSettled, IsUpTo}
-use Rattle.fleet_needs.proofs.AwaitOrder.{other_agent, flag_apart, flags_more}
+use Rattle.fleet_needs.specs.Implied.{IsImplied}
+use Rattle.fleet_needs.specs.Settled.{IsSettled, AreSettledOf, AreMoreAsked, IsUpTo}
+use Rattle.fleet_needs.proofs.AwaitOrder.{other_agent}
 use Rattle.fleet_needs.proofs.RowFlags.{implied_by, implied_back}
 use Rattle.fleet_needs.specs.Rows.{action_before}
 use Rattle.fleet_needs.proofs.Joining.{own_first, by_await, step_back}
@@ -125,47 +125,24 @@ needed_by p range first a k w is last at same more =
 -- ---- awaits settled one after another
 
 -- more agents are asked for
-still_settled : (p : Program) (a : ActionId) (w : Await) (was asked : List Bool) (flag : Bool) → AreMoreAsked was asked → IsSettled p was a w flag → IsSettled p asked a w flag
+pub still_settled : (p : Program) (a : ActionId) (w : Await) (was asked : List Bool) (flag : Bool) → AreMoreAsked was asked → IsSettled p was a w flag → IsSettled p asked a w flag
 still_settled p a w was asked flag more (inl set) = inl (more w.agent set.0, set.1)
 still_settled p a w was asked flag more (inr told) = inr told
 
--- one await more, by what is known of it
-pub settled_next : (p : Program) (a : ActionId) (first k : ℕ) (was asked flags : List Bool) (known : Option Bool) (flag : Bool) → first + k < length flags → AreMoreAsked was asked → (flag ≡ true) ↔ (known ≡ Some true)
-    → (known ≡ None → (w : Await) → slice_get (awaits_of p a.agent a.number) k ≡ Some w → get_or asked w.agent false ≡ true)
-    → ((w : Await) → slice_get (awaits_of p a.agent a.number) k ≡ Some w → known ≡ Some true → IsImplied p a w)
-    → ((w : Await) → slice_get (awaits_of p a.agent a.number) k ≡ Some w → known ≡ Some false → IsImplied p a w → ⊥)
-    → ((m : ℕ) (w : Await) → m < k → slice_get (awaits_of p a.agent a.number) m ≡ Some w → IsSettled p was a w (get_or flags (first + m) false))
-    → (m : ℕ) (w : Await) → m < k + 1 → slice_get (awaits_of p a.agent a.number) m ≡ Some w → IsSettled p asked a w (get_or (set flags (first + k) flag) (first + m) false)
-settled_next p a first k was asked flags known flag within more sure asks implied unimplied before m w l there =
-    flags_more (λ n x. (v : Await) → slice_get (awaits_of p a.agent a.number) n ≡ Some v → IsSettled p asked a v x) first k flags (set flags (first + k) flag) (λ n. get_or-set_other flags (first + k) n flag false)
-    (λ n low v at. still_settled p a v was asked _ more (before n v low at))
-    (λ v at. subst (IsSettled p asked a v) (sym (get_or-set_same flags (first + k) flag false within)) (by known sure (λ e. asks e v at) (implied v at) (unimplied v at))) m l w there
-  where
-    by : {w : Await} → (answer : Option Bool) → (flag ≡ true) ↔ (answer ≡ Some true) → (answer ≡ None → get_or asked w.agent false ≡ true) → (answer ≡ Some true → IsImplied p a w) → (answer ≡ Some false → IsImplied p a w → ⊥) → IsSettled p asked a w flag
-    by None is left so not_so = inl (left refl, (λ f. so (is.0 f)))
-    by (Some true) is left so not_so = inr ((λ f. so refl), (λ i. is.1 refl))
-    by (Some false) is left so not_so = inr ((λ f. so (is.0 f)), (λ i. absurd (not_so refl i)))
+-- an await, by what is known of it
+pub settled_by : (p : Program) (a : ActionId) (w : Await) (asked : List Bool) (flag : Bool) (known : Option Bool) → (flag ≡ true) ↔ (known ≡ Some true) → (known ≡ None → get_or asked w.agent false ≡ true)
+    → (known ≡ Some true → IsImplied p a w) → (known ≡ Some false → IsImplied p a w → ⊥) → IsSettled p asked a w flag
+settled_by p a w asked flag None is left so not_so = inl (left refl, (λ f. so (is.0 f)))
+settled_by p a w asked flag (Some true) is left so not_so = inr ((λ f. so refl), (λ i. is.1 refl))
+settled_by p a w asked flag (Some false) is left so not_so = inr ((λ f. so (is.0 f)), (λ i. absurd (not_so refl i)))
 
 -- the actions of an agent, one after another
-pub settled_on : (p : Program) (These Next : ActionId → Type 0) (a : ActionId) (oldAsked newAsked old new : List Bool) → IsAction p a → ((b : ActionId) → IsAction p b → Next b → These b ⊎ (b ≡ a))
-    → ((b : ActionId) → These b → b ≢ a) → IsActionSettled p a oldAsked newAsked old new → AreSettledOf p oldAsked These old → AreSettledOf p newAsked Next new
-settled_on p These Next a oldAsked newAsked old new is back apart h before b kb next k w at = elim (back b kb next) [
-  | inr e ↦ subst (λ (x : ActionId). IsSettled p newAsked x w (get_or new (first_await p x + k) false)) (sym e) (h.settled k w (subst (λ (x : ActionId). slice_get (awaits_of p x.agent x.number) k ≡ Some w) e at))
-  | inl these ↦
-      let stays = h.others (first_await p b + k) (flag_apart p b a kb is (apart b these) k (slice_get_within (awaits_of p b.agent b.number) k w at)) in
-      subst (IsSettled p newAsked b w) (sym stays) (still_settled p b w oldAsked newAsked _ h.asked (before b kb these k w at))
-]
-
 pub one_up : (i n : ℕ) (b : ActionId) → IsUpTo i (n + 1) b → IsUpTo i n b ⊎ (b ≡ record { agent = i; number = n + 1 })
 one_up i n b (inl low) = inl (inl low)
 one_up i n b (inr (same, l)) = elim (cases_lt n b.number) [
   | inr le ↦ inl (inr (same, le))
   | inl more ↦ (let e : b.number ≡ n + 1 = omega arith in inr (λ t. record { agent = same t; number = e t }))
 ]
-
-pub not_up : (i n : ℕ) (b : ActionId) → IsUpTo i n b → b ≢ record { agent = i; number = n + 1 }
-not_up i n b (inl low) e = let same : b.agent ≡ i = ap (λ (x : ActionId). x.agent) e in omega arith
-not_up i n b (inr (same, l)) e = let f : b.number ≡ n + 1 = ap (λ (x : ActionId). x.number) e in omega arith
 
 -- one agent more
 pub agent_up : (p : Program) (i : ℕ) (asked flags : List Bool) → AreSettledOf p asked (IsUpTo i (moves p i)) flags → AreSettledOf p asked (IsUpTo (i + 1) 0) flags

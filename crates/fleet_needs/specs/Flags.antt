@@ -1,7 +1,7 @@
 -- Flags of awaits: which of them say whether others imply their await.
 use Rattle.std.specs.Borrow.{Bor}
 use Rattle.std.proofs.Common.{refl, ◌∙◌}
-use Rattle.std.specs.Prelude.{◌≡◌, ◌≢◌, true, Option, IfSome, ℕ, ◌+◌, ◌<◌, ◌≤◌, Bool, false, List, length, get_or, slice_get, Some, None, ◌⊎◌}
+use Rattle.std.specs.Prelude.{◌≡◌, true, Option, IfSome, ℕ, ◌+◌, ◌<◌, ◌≤◌, Bool, false, List, length, get_or, set, slice_get, Some, None}
 use Rattle.fleet_model.specs.declared.program.Await.{Await}
 use Rattle.fleet_model.specs.declared.program.ActionId.{ActionId}
 use Rattle.fleet_model.specs.Program.{Program, awaits_of, total_awaits}
@@ -12,7 +12,7 @@ use Rattle.fleet_needs.specs.JoinPass.{IsMade}
 use Rattle.fleet_needs.specs.Joins.{HasRowOr}
 use Rattle.fleet_needs.specs.declared.schedule.Schedule.{Schedule}
 use Rattle.fleet_needs.specs.declared.schedule.Columns.{Columns}
-use Rattle.fleet_needs.specs.Implied.{AreAwaitPlaces, IsImplied, IsImpliedFlag, first_await}
+use Rattle.fleet_needs.specs.Implied.{AreAwaitPlaces, IsImplied, IsImpliedFlag, EachFlag, AreNoted, first_await}
 use Rattle.fleet_needs.specs.Settled.{AreSettled}
 use Rattle.fleet_needs.specs.declared.implied.ImpliedAwaits.{ImpliedAwaits}
 
@@ -33,42 +33,38 @@ pub record IsFlagged (p : Program) (columns : Columns) (a : ActionId) (w : Await
 -- so does the flag of await k of the action, and no other one has changed
 pub record IsFlaggedAt (p : Program) (columns : Columns) (a : ActionId) (k : ℕ) (w : Await) (old new : ImpliedAwaits) : Type 0 where
   pub flags : AreFlags p new
-  pub here : IsFlagged p columns a w (get_or (flags_of old) (first_await p a + k) false) (get_or (flags_of new) (first_await p a + k) false)
-  pub others : (n : ℕ) → n ≢ first_await p a + k → get_or (flags_of new) n false ≡ get_or (flags_of old) n false
+  pub flag : Bool
+  pub put : flags_of new ≡ set (flags_of old) (first_await p a + k) flag
+  pub is : IsFlagged p columns a w (get_or (flags_of old) (first_await p a + k) false) flag
 
--- so do the flags of the action's first n awaits, and no other flag has changed
-pub record AreFlagged (p : Program) (columns : Columns) (a : ActionId) (n : ℕ) (old new : List Bool) : Type 0 where
-  pub each : (k : ℕ) → k < n → (w : Await) → slice_get (awaits_of p a.agent a.number) k ≡ Some w → IsFlagged p columns a w (get_or old (first_await p a + k) false) (get_or new (first_await p a + k) false)
-  pub others : (m : ℕ) → (m < first_await p a) ⊎ (first_await p a + n ≤ m) → get_or new m false ≡ get_or old m false
-
--- .. of all its awaits
-abbrev pub AreAllFlaggedOf : Program → Columns → ActionId → List Bool → List Bool → Type 0
-AreAllFlaggedOf p columns a old new = AreFlagged p columns a (length (awaits_of p a.agent a.number)) old new
+-- so do the flags of the action's first n awaits
+abbrev pub AreFlagged : Program → Columns → ActionId → ℕ → List Bool → List Bool → Type 0
+AreFlagged p columns a n old new = AreNoted p a (λ k w flag. IsFlagged p columns a w (get_or old (first_await p a + k) false) flag) n old new
 
 -- the flags of all awaits of these actions say whether they are implied, if their agents have a column
 abbrev pub AreFlaggedFor : Program → Columns → (ActionId → Type 0) → List Bool → Type 0
-AreFlaggedFor p columns Done flags =
-    (a : ActionId) → IsAction p a → Done a → (k c : ℕ) (w : Await) → slice_get (awaits_of p a.agent a.number) k ≡ Some w → HasColumn columns w.agent c
-    → IsImpliedFlag p a w (get_or flags (first_await p a + k) false)
+AreFlaggedFor p columns Done flags = EachFlag p Done (λ a k w flag. (c : ℕ) → HasColumn columns w.agent c → IsImpliedFlag p a w flag) flags
 
--- the flags of awaits of agents without a column are as before, and so are those that were set of awaits that others
+-- the flag of an await of an agent without a column is as before, and so is one that was set of an await that others
 -- imply
-pub record AreLeft (p : Program) (columns : Columns) (old new : List Bool) : Type 0 where
-  pub others : (a : ActionId) → IsAction p a → (k : ℕ) (w : Await) → slice_get (awaits_of p a.agent a.number) k ≡ Some w → column_of columns w.agent ≡ None
-      → get_or new (first_await p a + k) false ≡ get_or old (first_await p a + k) false
-  pub set : (a : ActionId) → IsAction p a → (k : ℕ) (w : Await) → slice_get (awaits_of p a.agent a.number) k ≡ Some w → IsImplied p a w
-      → get_or old (first_await p a + k) false ≡ true → get_or new (first_await p a + k) false ≡ true
+pub record IsLeft (p : Program) (columns : Columns) (a : ActionId) (w : Await) (was flag : Bool) : Type 0 where
+  pub none : column_of columns w.agent ≡ None → flag ≡ was
+  pub set : IsImplied p a w → was ≡ true → flag ≡ true
+
+-- it is so of all flags
+abbrev pub AreLeft : Program → Columns → List Bool → List Bool → Type 0
+AreLeft p columns old new = EachFlag p (IsAction p) (λ a k w flag. IsLeft p columns a w (get_or old (first_await p a + k) false) flag) new
 
 -- if no flag changes
 pub left_same : (p : Program) (columns : Columns) (flags : List Bool) → AreLeft p columns flags flags
-left_same p columns flags = record { others = λ a is k w at none. refl; set = λ a is k w at implied was. was }
+left_same p columns flags a is _ k w at = record { none = λ none. refl; set = λ implied was. was }
 
 -- if some flags change, and then others do
 pub left_joined : (p : Program) (columns : Columns) (old mid new : List Bool) → AreLeft p columns old mid → AreLeft p columns mid new → AreLeft p columns old new
-left_joined p columns old mid new g h = record {
-  others = λ a is k w at none. h.others a is k w at none ∙ g.others a is k w at none;
-  set = λ a is k w at implied was. h.set a is k w at implied (g.set a is k w at implied was);
-}
+left_joined p columns old mid new g h a is too k w at =
+    let one = g a is too k w at in
+    let two = h a is too k w at in
+    record { none = λ none. two.none none ∙ one.none none; set = λ implied was. two.set implied (one.set implied was) }
 
 -- the flags of all awaits of the action are set
 abbrev pub AreSet : Program → List Bool → ActionId → Type 0
@@ -77,7 +73,7 @@ AreSet p flags a = (k : ℕ) (w : Await) → slice_get (awaits_of p a.agent a.nu
 -- no flag is set but of awaits that others imply
 pub record AreSure (p : Program) (m : ImpliedAwaits) : Type 0 where
   pub flags : AreFlags p m
-  pub sure : (a : ActionId) → IsAction p a → (k : ℕ) (w : Await) → slice_get (awaits_of p a.agent a.number) k ≡ Some w → get_or (flags_of m) (first_await p a + k) false ≡ true → IsImplied p a w
+  pub sure : EachFlag p (IsAction p) (λ a k w flag. flag ≡ true → IsImplied p a w) (flags_of m)
 
 -- .. if there are flags
 abbrev pub AreSureIf : Program → Option (Bor ImpliedAwaits) → Type 0
@@ -99,8 +95,7 @@ NeedsRow p implied a = (1 ≤ length (awaits_of p a.agent a.number)) × (length 
 
 -- the flags of all awaits of the program say whether they are implied
 abbrev pub AreAllFlagged : Program → List Bool → Type 0
-AreAllFlagged p flags =
-    (a : ActionId) → IsAction p a → (k : ℕ) (w : Await) → slice_get (awaits_of p a.agent a.number) k ≡ Some w → IsImpliedFlag p a w (get_or flags (first_await p a + k) false)
+AreAllFlagged p flags = EachFlag p (IsAction p) (λ a k w flag. IsImpliedFlag p a w flag) flags
 
 -- of each await of the program it is known whether it is implied
 pub record AreImplied (p : Program) (m : ImpliedAwaits) : Type 0 where
@@ -116,6 +111,6 @@ pub record AreAwaitFlags (p : Program) (s : Schedule) (columns : Columns) (n : �
 -- are not asked for, and of actions without a row
 pub record AreFlaggedTo (p : Program) (s : Schedule) (asked : List Bool) (from : ℕ) (m : ImpliedAwaits) : Type 0 where
   pub flags : AreFlags p m
-  pub settled : AreSettled p asked (flags_of m)
   pub passed : HasRowOr (AreSet p (flags_of m)) p s.joins.items (IsAction p)
-  pub flagged : (a : ActionId) → IsAction p a → (k : ℕ) (w : Await) → slice_get (awaits_of p a.agent a.number) k ≡ Some w → w.agent < from → IsImpliedFlag p a w (get_or (flags_of m) (first_await p a + k) false)
+  pub settled : AreSettled p asked (flags_of m)
+  pub flagged : EachFlag p (IsAction p) (λ a k w flag. w.agent < from → IsImpliedFlag p a w flag) (flags_of m)

@@ -1,9 +1,9 @@
 -- Awaits that others imply, and the places of their flags.
-use Rattle.std.specs.Prelude.{◌≡◌, ◌≢◌, ℕ, ◌+◌, ◌-◌, ◌<◌, Bool, true, List, length, take, sum_by, slice_index, ◌↔◌}
+use Rattle.std.specs.Prelude.{◌≡◌, ◌≢◌, ℕ, ◌+◌, ◌-◌, ◌<◌, ◌≤◌, ◌⊎◌, Bool, true, false, List, length, take, sum_by, slice_index, slice_get, get_or, Some, ◌↔◌}
 use Rattle.fleet_model.specs.declared.program.Await.{Await}
 use Rattle.fleet_model.specs.declared.program.ActionId.{ActionId}
-use Rattle.fleet_model.specs.Program.{Program, actions_of, total_awaits}
-use Rattle.fleet_model.specs.Chain.{DirectlyNeeds, Reaches, awaited}
+use Rattle.fleet_model.specs.Program.{Program, actions_of, awaits_of, total_awaits}
+use Rattle.fleet_model.specs.Chain.{IsAction, DirectlyNeeds, Reaches, awaited}
 
 -- the awaited action begins a chain that ends with another action that a directly needs
 abbrev pub IsImplied : Program → ActionId → Await → Type 0
@@ -21,3 +21,13 @@ first_await p a = total_awaits (take a.agent p) + sum_by (λ s. length s.awaits)
 pub record AreAwaitPlaces (p : Program) (firsts : List ℕ) : Type 0 where
   pub all : length firsts ≡ length p
   pub each : (i : ℕ) → i < length p → slice_index firsts i ≡ total_awaits (take i p)
+
+-- this is so of each await of these actions, with its place and its flag
+abbrev pub EachFlag : Program → (ActionId → Type 0) → (ActionId → ℕ → Await → Bool → Type 0) → List Bool → Type 0
+EachFlag p These Is flags =
+    (a : ActionId) → IsAction p a → These a → (k : ℕ) (w : Await) → slice_get (awaits_of p a.agent a.number) k ≡ Some w → Is a k w (get_or flags (first_await p a + k) false)
+
+-- it is so of the first n awaits of the action, and no other flag has changed
+pub record AreNoted (p : Program) (a : ActionId) (Is : ℕ → Await → Bool → Type 0) (n : ℕ) (old new : List Bool) : Type 0 where
+  pub each : (k : ℕ) (w : Await) → k < n → slice_get (awaits_of p a.agent a.number) k ≡ Some w → Is k w (get_or new (first_await p a + k) false)
+  pub others : (m : ℕ) → (m < first_await p a) ⊎ (first_await p a + n ≤ m) → get_or new m false ≡ get_or old m false

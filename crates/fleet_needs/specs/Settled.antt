@@ -1,15 +1,15 @@
 -- The tick that finishes each action if nobody is held, and awaits for which a few steps back show whether others imply
 -- them.
-use Rattle.std.specs.Prelude.{◌≡◌, ℕ, ◌+◌, ◌-◌, ◌<◌, ◌≤◌, ◌⊎◌, Bool, true, false, List, [], length, get_or, slice_get, slice_index, Some, Vec}
+use Rattle.std.specs.Prelude.{◌≡◌, ℕ, ◌-◌, ◌<◌, ◌≤◌, ◌⊎◌, Bool, true, false, List, [], length, get_or, slice_index, Vec}
 use Rattle.std.specs.declared.alloc.Global.{Global}
 use Rattle.fleet_model.specs.declared.program.Await.{Await}
 use Rattle.fleet_model.specs.declared.program.ActionId.{ActionId}
-use Rattle.fleet_model.specs.Program.{Program, awaits_of, total_moves}
+use Rattle.fleet_model.specs.Program.{Program, total_moves}
 use Rattle.fleet_model.specs.Chain.{IsAction, IsNumbering}
 use Rattle.fleet_needs.specs.Places.{ArePlacesOf, place_of_action}
 use Rattle.fleet_needs.specs.declared.await_places.ActionPlaces.{ActionPlaces}
 use Rattle.fleet_model.specs.Machine.{run, count_at}
-use Rattle.fleet_needs.specs.Implied.{IsImplied, IsImpliedFlag, first_await}
+use Rattle.fleet_needs.specs.Implied.{IsImplied, IsImpliedFlag, EachFlag, AreNoted}
 
 -- ---- the ticks
 
@@ -50,9 +50,7 @@ IsSettled p asked a w flag = ((get_or asked w.agent false ≡ true) × (flag ≡
 
 -- it is so of all awaits of these actions
 abbrev pub AreSettledOf : Program → List Bool → (ActionId → Type 0) → List Bool → Type 0
-AreSettledOf p asked These flags =
-    (a : ActionId) → IsAction p a → These a → (k : ℕ) (w : Await) → slice_get (awaits_of p a.agent a.number) k ≡ Some w
-    → IsSettled p asked a w (get_or flags (first_await p a + k) false)
+AreSettledOf p asked These flags = EachFlag p These (λ a k w flag. IsSettled p asked a w flag) flags
 
 -- it is so of all awaits of the program
 abbrev pub AreSettled : Program → List Bool → List Bool → Type 0
@@ -67,11 +65,9 @@ pub record AreSettledBy (p : Program) (asked : Vec Bool Global) (flags : List Bo
 abbrev pub AreMoreAsked : List Bool → List Bool → Type 0
 AreMoreAsked old new = (j : ℕ) → get_or old j false ≡ true → get_or new j false ≡ true
 
--- the awaits of the action are settled, no other flag has changed, and each agent that was asked for still is
-pub record IsActionSettled (p : Program) (a : ActionId) (oldAsked newAsked old new : List Bool) : Type 0 where
-  pub settled : (k : ℕ) (w : Await) → slice_get (awaits_of p a.agent a.number) k ≡ Some w → IsSettled p newAsked a w (get_or new (first_await p a + k) false)
-  pub others : (n : ℕ) → (n < first_await p a) ⊎ (first_await p a + length (awaits_of p a.agent a.number) ≤ n) → get_or new n false ≡ get_or old n false
-  pub asked : AreMoreAsked oldAsked newAsked
+-- the first n awaits of the action are settled, and no other flag has changed
+abbrev pub AreSettledTo : Program → List Bool → ActionId → ℕ → List Bool → List Bool → Type 0
+AreSettledTo p asked a n old new = AreNoted p a (λ k w flag. IsSettled p asked a w flag) n old new
 
 -- the actions of the agents before this one, and its first ones, so many
 abbrev pub IsUpTo : ℕ → ℕ → ActionId → Type 0

@@ -9,7 +9,7 @@ ghost use Rattle.fleet_needs.specs.Implied.{IsImpliedFlag, AreAwaitPlaces, first
 ghost use Rattle.fleet_needs.specs.Joins.{HasRowOr};
 ghost use Rattle.fleet_needs.specs.Settled.{AreSettled};
 ghost use Rattle.fleet_needs.specs.Schedule.{IsSchedule, joins_of};
-ghost use Rattle.fleet_needs.specs.Flags.{AreImplied, AreSet, flags_of, AreFlags, IsFlaggedAt, AreAllFlaggedOf};
+ghost use Rattle.fleet_needs.specs.Flags.{AreImplied, AreSet, flags_of, AreFlags, IsFlaggedAt, AreFlagged};
 ghost use Rattle.fleet_needs.specs.JoinPass.{IsJoinRow, HasOthers};
 
 use crate::await_places::AwaitPlaces;
@@ -154,7 +154,8 @@ fn flag_awaits<P: ProgramView>(program: &P, row: &JoinRow, implied: &mut Implied
     requires others { HasOthers (P.program program.now) row.now }
     requires flags { AreFlags (P.program program.now) implied.old }
     ensures flags { AreFlags (P.program program.now) implied.new }
-    ensures flagged { AreAllFlaggedOf (P.program program.now) row.now.columns.now row.now.action
+    ensures flagged { AreFlagged (P.program program.now) row.now.columns.now row.now.action
+        (length (awaits_of (P.program program.now) row.now.action.agent row.now.action.number))
         (flags_of implied.old) (flags_of implied.new) }
 {
     let join = row.schedule.join_after(program, row.n);

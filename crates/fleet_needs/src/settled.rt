@@ -7,7 +7,7 @@ ghost use Rattle.fleet_model.specs.Chain.{IsAction, Reaches};
 ghost use Rattle.fleet_needs.specs.Implied.{IsImplied};
 ghost use Rattle.fleet_needs.specs.Flags.{AreFlags, flags_of};
 ghost use Rattle.fleet_needs.specs.Order.{IsWholeOrder};
-ghost use Rattle.fleet_needs.specs.Settled.{AreTicks, AreSettledBy, AreSettledOf, AreMoreAsked, IsActionSettled, IsUpTo};
+ghost use Rattle.fleet_needs.specs.Settled.{AreTicks, AreSettledBy, AreSettledOf, AreSettledTo, AreMoreAsked, IsUpTo};
 ghost use Rattle.fleet_needs.specs.Rows.{action_before};
 
 use crate::finish_order::{FinishOrder, FinishTicks};
@@ -83,8 +83,10 @@ fn settle_action<P: ProgramView>(
     requires flags { AreFlags (P.program program.now) implied.old }
     requires asked { length asked.old ≡ length (P.program program.now) }
     ensures flags { AreFlags (P.program program.now) implied.new }
-    ensures settled { IsActionSettled (P.program program.now) action asked.old asked.new
+    ensures settled { AreSettledTo (P.program program.now) asked.new action
+        (length (awaits_of (P.program program.now) action.agent action.number))
         (flags_of implied.old) (flags_of implied.new) }
+    ensures more { AreMoreAsked asked.old asked.new }
 {
     let awaits = program.await_count(action.agent, action.number);
     if awaits == 0 {

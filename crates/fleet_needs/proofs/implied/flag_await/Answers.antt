@@ -1,6 +1,6 @@
-use Rattle.std.proofs.Common.{◌≡◌, ◌+◌, ◌<◌, ℕ, Bool, false, length, get_or, set, refl, sym, subst, ap, ◌∙◌, arith}
+use Rattle.std.proofs.Common.{◌≡◌, ◌+◌, ℕ, Bool, false, get_or, set, refl, sym, subst, ap, ◌∙◌, arith}
 use Rattle.std.specs.Prelude.{nat_le, slice_index}
-use Rattle.std.proofs.lemmas.List.{get_or-set_same, get_or-set_other, length-set}
+use Rattle.std.proofs.lemmas.List.{set-get_or, length-set}
 use Rattle.std.proofs.lemmas.Option.{same_Some, none-some, slice_get_within, get_or_from_slice_get}
 use Rattle.fleet_model.specs.Program.{awaits_of}
 use Rattle.fleet_needs.specs.Counts.{counts_of}
@@ -40,23 +40,25 @@ returns-in-Some g c =
     let at : ℕ = c.first.result + c.from.result in
     let l = slice_get_within ws c.args.k w c.requires.waits in
     let place : at ≡ first_await p a + c.args.k = omega (arith, c.from.ensures, c.first.ensures.place) in
-    let within : at < length flags = omega (arith, l, place, c.first.ensures.place, c.first.ensures.within, c.requires.flags.all) in
-    let now : get_or (set flags at flag) (first_await p a + c.args.k) false ≡ flag = ap (λ (n : ℕ). get_or (set flags at flag) n false) (sym place) ∙ get_or-set_same flags at flag false within in
     record {
       flags = record { places = c.requires.flags.places; all = length-set flags at flag ∙ c.requires.flags.all };
-      here = record {
+      flag = flag;
+      put = ap (λ (n : ℕ). set flags n flag) place;
+      is = record {
         some = λ k has.
             let count : c.get.result ≡ slice_index row k = c.get.ensures ∙ ap (slice_index row) (c.from-in-Some.ensures ∙ same_Some c.in-Some.column k (sym c.in-Some.is ∙ c.of.ensures ∙ has)) in
-            subst (IsImpliedFlag p a w) (sym (now ∙ ap (nat_le w.count) count))
+            subst (IsImpliedFlag p a w) (ap (nat_le w.count) (sym count))
             (flagged_of p c.requires.range c.agents.ensures.well_formed c.args.row.now.columns.now a row (row_of_action p c.args.row.now c.requires.row) c.requires.others k w (c.args.k, l, get_or_from_slice_get ws c.args.k w w c.requires.waits) has);
         none = λ none. absurd (none-some c.in-Some.column (sym (c.of.ensures ∙ none) ∙ c.in-Some.is));
       };
-      others = λ n ne. get_or-set_other flags at n flag false (λ e. ne (e ∙ place));
     }
 
 pub returns-in_default : goal.returns-in_default
-returns-in_default g c = record {
-  flags = c.requires.flags;
-  here = record { some = λ k has. absurd (none-some k (sym c.in_default.is ∙ c.of.ensures ∙ has)); none = λ none. refl };
-  others = λ n ne. refl;
-}
+returns-in_default g c =
+    let place = first_await (g.P.ProgramView.program c.args.program.now) c.args.row.now.action + c.args.k in
+    record {
+      flags = c.requires.flags;
+      flag = get_or (flags_of c.args.implied.now) place false;
+      put = sym (set-get_or (flags_of c.args.implied.now) place false);
+      is = record { some = λ k has. absurd (none-some k (sym c.in_default.is ∙ c.of.ensures ∙ has)); none = λ none. refl };
+    }

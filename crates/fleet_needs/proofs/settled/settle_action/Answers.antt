@@ -1,40 +1,42 @@
-use Rattle.std.proofs.Common.{◌≡◌, ◌+◌, ◌<◌, ℕ, length, get_or, set, false, sym, subst, ◌∙◌, arith, inl, inr}
-use Rattle.std.proofs.lemmas.Option.{slice_get_within}
-use Rattle.std.proofs.lemmas.List.{get_or-set_other, length-set}
+use Rattle.std.proofs.Common.{◌≡◌, ◌+◌, ℕ, length, set, subst, ap, ◌∙◌, arith}
+use Rattle.std.proofs.lemmas.List.{length-set}
 use Rattle.fleet_model.specs.Program.{awaits_of}
 use Rattle.fleet_needs.specs.Flags.{flags_of}
-use Rattle.fleet_needs.specs.Settled.{IsSettled}
-use Rattle.fleet_needs.proofs.Settling.{settled_next}
+use Rattle.fleet_needs.specs.Implied.{first_await}
+use Rattle.fleet_needs.specs.Settled.{IsSettled, AreSettledTo}
+use Rattle.fleet_needs.proofs.AwaitOrder.{noted_none, noted_next}
+use Rattle.fleet_needs.proofs.Settling.{settled_by, still_settled}
 use Rattle.fleet_needs.proofs.settled.settle_action.Goals as goal
+
+pub loop-k-init : goal.loop-k-init
+loop-k-init g c = record {
+  flags = c.requires.flags;
+  settled = noted_none (g.P.ProgramView.program c.args.program.now) c.args.action (λ k w x. IsSettled (g.P.ProgramView.program c.args.program.now) c.args.asked.now c.args.action w x) (flags_of c.args.implied.now);
+  more = λ j was. was;
+}
 
 pub loop-k-preserved : goal.loop-k-preserved
 loop-k-preserved g c =
     let p = g.P.ProgramView.program c.args.program.now in
     let a = c.args.action in
     let k : ℕ = c.loop-k.k in
-    let first : ℕ = c.first-first.result in
     let flag = c.is_sure.result in
     let flags = flags_of c.loop-k.implied in
+    let was = c.loop-k.asked in
     let asked = c.ask_if_open.new.asked in
-    let within : first + k < length flags = omega (arith, c.first-first.ensures.within, c.first-first.ensures.place, c.loop-k-test.true, c.await_count-awaits.ensures, c.loop-k.invariant.flags.all) in
+    let more = c.ask_if_open.ensures.more in
+    let place : c.first-first.result + c.from.result ≡ first_await p a + k = omega (arith, c.from.ensures, c.first-first.ensures.place) in
     record {
-      flags = record { places = c.loop-k.invariant.flags.places; all = length-set flags (first + c.from.result) flag ∙ c.loop-k.invariant.flags.all };
-      settled = λ m w l at. subst (λ (x : ℕ). IsSettled p asked a w (get_or (set flags (first + x) flag) (first + m) false)) (sym c.from.ensures)
-          (settled_next p a first k c.loop-k.asked asked flags c.is_implied-known.result flag within c.ask_if_open.ensures.more c.is_sure.ensures c.ask_if_open.ensures.open
-          c.is_implied-known.ensures.yes c.is_implied-known.ensures.no c.loop-k.invariant.settled m w l at);
-      others = λ n out. get_or-set_other flags (first + c.from.result) n flag false (λ e. (let same = c.from.ensures in elim out [ inl l ↦ omega arith | inr l ↦ omega arith ]))
-          ∙ c.loop-k.invariant.others n (elim out [ inl l ↦ inl l | inr l ↦ inr (omega arith) ]);
-      asked = λ j set. c.ask_if_open.ensures.more j (c.loop-k.invariant.asked j set);
+      flags = record { places = c.loop-k.invariant.flags.places; all = length-set flags (c.first-first.result + c.from.result) flag ∙ c.loop-k.invariant.flags.all };
+      settled = noted_next p a (λ m w x. IsSettled p was a w x) (λ m w x. IsSettled p asked a w x) k flag (flags_of c.args.implied.now) flags (set flags (c.first-first.result + c.from.result) flag)
+          (omega (arith, c.first-first.ensures.within, c.first-first.ensures.place, c.loop-k-test.true, c.await_count-awaits.ensures, c.loop-k.invariant.flags.all)) (ap (λ (n : ℕ). set flags n flag) place)
+          (λ m w x. still_settled p a w was asked x more) (λ w at. settled_by p a w asked flag c.is_implied-known.result c.is_sure.ensures (λ e. c.ask_if_open.ensures.open e w at) (c.is_implied-known.ensures.yes w at) (c.is_implied-known.ensures.no w at))
+          c.loop-k.invariant.settled;
+      more = λ j set. more j (c.loop-k.invariant.more j set);
     }
 
 pub returns-clause-settled : goal.returns-clause-settled
 returns-clause-settled g c =
     let p = g.P.ProgramView.program c.args.program.now in
-    let a = c.args.action in
-    let whole : c.loop-k.k ≡ length (awaits_of p a.agent a.number) = omega (arith, c.loop-k-test.false, c.await_count-awaits.ensures, c.loop-k.auto.k-end) in
-    record {
-      settled = λ m w at. (let within = slice_get_within (awaits_of p a.agent a.number) m w at in
-          subst (λ (x : ℕ). IsSettled p c.loop-k.asked a w (get_or (flags_of c.loop-k.implied) (x + m) false)) c.first-first.ensures.place (c.loop-k.invariant.settled m w (omega (arith, within, whole)) at));
-      others = λ n out. c.loop-k.invariant.others n (elim out [ inl l ↦ inl (omega (arith, c.first-first.ensures.place)) | inr l ↦ inr (omega (arith, c.first-first.ensures.place, whole)) ]);
-      asked = c.loop-k.invariant.asked;
-    }
+    let whole : c.loop-k.k ≡ length (awaits_of p c.args.action.agent c.args.action.number) = omega (arith, c.loop-k-test.false, c.await_count-awaits.ensures, c.loop-k.auto.k-end) in
+    subst (λ (n : ℕ). AreSettledTo p c.loop-k.asked c.args.action n (flags_of c.args.implied.now) (flags_of c.loop-k.implied)) whole c.loop-k.invariant.settled

@@ -1,9 +1,8 @@
 -- Visits that a numbering orders.
-use Rattle.std.proofs.Common.{◌≡◌, ◌≢◌, ℕ, zero, suc, ◌+◌, ◌<◌, Bool, true, false, cond, List, [], ◌∷◌, ◌++◌, length, map, get_or, Option, Some, None, slice_get, refl, ap, sym, ◌∙◌, subst, arith, inl, inr, ◌-◌, ◌≤◌, slice_index, ◌⊎◌}
+use Rattle.std.proofs.Common.{◌≡◌, ◌≢◌, ℕ, zero, suc, ◌+◌, ◌<◌, Bool, true, false, List, [], ◌∷◌, ◌++◌, length, map, get_or, Option, Some, None, slice_get, refl, ap, sym, ◌∙◌, subst, arith, inl, inr, ◌-◌, ◌≤◌, slice_index, ◌⊎◌}
 use Rattle.std.specs.List.{filter, AllPairs}
-use Rattle.std.specs.Prelude.{nat_eq, All, Contains, ◌⊎◌, Some}
-use Rattle.indexmap.specs.IndexMap.{get}
-use Rattle.std.proofs.lemmas.Bool.{cases_eq, cases_lt, eq-eqb, ne_eqb}
+use Rattle.std.specs.Prelude.{All, Contains, ◌⊎◌, Some}
+use Rattle.std.proofs.lemmas.Bool.{cases_eq, cases_lt}
 use Rattle.std.proofs.lemmas.List.{map-append, append_assoc, append-nil, length-append, get_or_append_left}
 use Rattle.std.proofs.lemmas.List.Elements.{filter-append, All-push, Contains-push, Contains-append_left}
 use Rattle.std.proofs.lemmas.List.Quantifiers.{all_pairs_push}
@@ -17,8 +16,7 @@ use Rattle.fleet_model.specs.Visit.{is_entry, ComesAfterByAwait}
 use Rattle.fleet_model.proofs.Cells.{place_of-injective, is_same_place-true, is_same_place-eq}
 use Rattle.fleet_verify.specs.declared.order.PlacedVisit.{PlacedVisit}
 use Rattle.fleet_verify.specs.declared.order.OpenPair.{OpenPair}
-use Rattle.fleet_verify.specs.declared.order.VisitOrder.{VisitOrder}
-use Rattle.fleet_verify.specs.Order.{number_of, last_of, visits_of, entries, IsOpenNext, IsLastVisit, IsGrouped, IsOpenPair, AreGrouped, AreGroupedBy, AreConsecutive, StandsBefore}
+use Rattle.fleet_verify.specs.Order.{number_of, visits_of, entries, IsOpenNext, IsLastVisit, IsGrouped, IsOpenPair, IsVisitPlaced, AreAddedBy, AreGroupedBy, AreConsecutive, StandsBefore}
 use Rattle.std.proofs.Math.Seq.{get_or-append_seam}
 use Rattle.fleet_model.specs.declared.program.ActionId.{ActionId}
 use Rattle.fleet_model.specs.Chain.{IsAction, DirectlyNeeds, EndsChain, IsLongestChain, awaited}
@@ -106,7 +104,7 @@ visits_off c s ne = go (is_same_place (place_of s.cell) (place_of c)) refl
 
 -- ---- open pairs
 
-pub grouped_none : (p : Program) (c : Cell) → IsGrouped p c [] None []
+grouped_none : (p : Program) (c : Cell) → IsGrouped p c [] None []
 unfolding visits_of
 grouped_none p c = record { last = refl; next = λ v w n. absurd (omega (arith, slice_get_within [] n.at v n.here)) }
 
@@ -241,7 +239,7 @@ same_cell c d cs ds e =
     λ i. record { x = x i; y = y i }
 
 -- one visit more, if it is then kept as the last one of its cell
-pub grouped_on_more : (p : Program) (placed : List PlacedVisit) (s : PlacedVisit) (old new : Cell → Option Visit) (o os : List OpenPair) → IsCell s.cell → AreGroupedBy p placed old o
+grouped_on_more : (p : Program) (placed : List PlacedVisit) (s : PlacedVisit) (old new : Cell → Option Visit) (o os : List OpenPair) → IsCell s.cell → AreGroupedBy p placed old o
     → new s.cell ≡ Some s.visit → ((c : Cell) → IsCell c → c ≢ s.cell → new c ≡ old c) → IsOpenNext (ComesAfterByAwait p) (old s.cell) s o os → AreGroupedBy p (placed ++ s ∷ []) new os
 grouped_on_more p placed s old new o os here h last others r = record { cells = cells; each = (opened r).0; in_order = (opened r).1 }
   where
@@ -270,27 +268,44 @@ grouped_on_more p placed s old new o os here h last others r = record { cells = 
       subst (λ (ps : List OpenPair). InOrder (placed ++ s ∷ []) ps) (sym e) (in_order_more p placed s v o h.each h.in_order),
     )
 
--- the same, if a map has the last visit of each cell by its number
-pub grouped_more : (p : Program) (placed : List PlacedVisit) (s : PlacedVisit) (old new : VisitOrder) → IsCell s.cell → AreGrouped p placed old
-    → ((n : ℕ) → get nat_eq new.last n ≡ cond (nat_eq (number_of s.cell) n) (Some s.visit) (get nat_eq old.last n))
-    → IsOpenNext (ComesAfterByAwait p) (get nat_eq old.last (number_of s.cell)) s old.pairs.items new.pairs.items
-    → AreGrouped p (placed ++ s ∷ []) new
-grouped_more p placed s old new here h last r =
-    grouped_on_more p placed s (last_of old) (last_of new) old.pairs.items new.pairs.items here h
-    (last (number_of s.cell) ∙ rw (eq-eqb (number_of s.cell) (number_of s.cell) refl) refl)
-    (λ c there ne. last (number_of c) ∙ rw (ne_eqb (number_of s.cell) (number_of c) (λ e. ne (sym (same_cell s.cell c here there e)))) refl) r
-
 pub no_entries : {X : Type 0} (xs : List X) → length xs ≡ 0 → xs ≡ []
 no_entries [] h = refl
 no_entries (x ∷ xs) h = absurd (omega arith)
 
 -- ---- positions that begin visits
 
-pub entry_more : (p : Program) (vs : List Visit) (v : Visit) → is_entry p v.agent v.position ≡ true → entries p (vs ++ v ∷ []) ≡ entries p vs ++ v ∷ []
-entry_more p vs v e = rw (filter-append, e) refl
+-- no position yet
+pub added_none : (p : Program) (last : Cell → Option Visit) (pairs : List OpenPair) → ((c : Cell) → last c ≡ None) → pairs ≡ [] → AreAddedBy p [] last pairs
+added_none p last pairs none e = subst (AreAddedBy p [] last) (sym e) (record {
+  placed = [];
+  same = refl;
+  each = λ k d l. absurd (omega arith);
+  grouped = record {
+    cells = λ c is. subst (λ (o : Option Visit). IsGrouped p c [] o []) (sym (none c)) (grouped_none p c);
+    each = λ k d l. absurd (omega arith);
+    in_order = λ i j d l m. absurd (omega arith);
+  };
+})
 
-pub entry_none : (p : Program) (vs : List Visit) (v : Visit) → is_entry p v.agent v.position ≡ false → entries p (vs ++ v ∷ []) ≡ entries p vs
-entry_none p vs v e = rw (filter-append, e) (append-nil (entries p vs))
+-- one more, which begins a visit that is then kept as the last one of its cell
+pub added_visit : (p : Program) (s : PlacedVisit) (old new : Cell → Option Visit) (o os : List OpenPair) → IsVisitPlaced p s → is_entry p s.visit.agent s.visit.position ≡ true
+    → new s.cell ≡ Some s.visit → ((c : Cell) → IsCell c → c ≢ s.cell → new c ≡ old c) → IsOpenNext (ComesAfterByAwait p) (old s.cell) s o os
+    → (visits : List Visit) → AreAddedBy p visits old o → AreAddedBy p (visits ++ s.visit ∷ []) new os
+added_visit p s old new o os here enters last others r visits a = record {
+  placed = a.placed ++ s ∷ [];
+  same = visits_more a.placed s ∙ (ap (λ vs. vs ++ s.visit ∷ []) a.same ∙ rw (filter-append, enters) refl);
+  each = All-push (IsVisitPlaced p) a.placed s a.each here;
+  grouped = grouped_on_more p a.placed s old new o os here.cell a.grouped last others r;
+}
+
+-- or which begins none
+pub added_stay : (p : Program) (v : Visit) (last : Cell → Option Visit) (pairs : List OpenPair) → is_entry p v.agent v.position ≡ false → (visits : List Visit) → AreAddedBy p visits last pairs → AreAddedBy p (visits ++ v ∷ []) last pairs
+added_stay p v last pairs stays visits a = record {
+  placed = a.placed;
+  same = a.same ∙ sym (rw (filter-append, stays) (append-nil (entries p visits)));
+  each = a.each;
+  grouped = a.grouped;
+}
 
 -- ---- the pairs that are open once a visit is added
 

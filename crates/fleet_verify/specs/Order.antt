@@ -1,5 +1,5 @@
 -- The visits of a place among all visits in their order, and the first neighbours that break a rule.
-use Rattle.std.specs.Prelude.{◌≡◌, ℕ, ◌+◌, ◌*◌, ◌<◌, ◌≤◌, nat_eq, List, map, slice_get, filter, Option, Some, None, All, Contains, ◌⊎◌, [], ◌∷◌, ◌++◌, ◌/◌, ◌%◌}
+use Rattle.std.specs.Prelude.{◌≡◌, ℕ, ◌+◌, ◌*◌, ◌<◌, ◌≤◌, List, map, slice_get, filter, Option, Some, None, All, Contains, ◌⊎◌, [], ◌∷◌, ◌++◌, ◌/◌, ◌%◌}
 use Rattle.std.specs.List.{AllPairs}
 use Rattle.fleet_model.specs.declared.limits.TheConstants.{MAX_COORDINATE}
 use Rattle.fleet_model.specs.declared.geometry.Cell.{Cell}
@@ -15,7 +15,7 @@ use Rattle.fleet_verify.specs.declared.order.OrderViolation.{OrderViolation}
 use Rattle.fleet_verify.specs.declared.order.OpenPair.{OpenPair}
 use Rattle.fleet_verify.specs.declared.order.PlacedVisit.{PlacedVisit}
 use Rattle.fleet_verify.specs.declared.order.VisitOrder.{VisitOrder}
-use Rattle.indexmap.specs.IndexMap.{get}
+use Rattle.fleet_verify.specs.LastVisits.{kept_at}
 
 -- the number of a cell, which no other cell has
 abbrev pub number_of : Cell → ℕ
@@ -88,13 +88,9 @@ pub record AreGroupedBy (p : Program) (placed : List PlacedVisit) (last : Cell �
   pub each : All (IsOpenPair p placed) pairs
   pub in_order : AllPairs (λ o u. StandsBefore (map (λ s. s.visit) placed) o.second u.second) pairs
 
--- the last visit that is kept by the number of the cell
-abbrev pub last_of : VisitOrder → Cell → Option Visit
-last_of order c = get nat_eq order.last (number_of c)
-
--- the visits of each cell are grouped so, by its number
+-- the visits of each cell are grouped so, with the last one that is kept
 abbrev pub AreGrouped : Program → List PlacedVisit → VisitOrder → Type 0
-AreGrouped p placed order = AreGroupedBy p placed (last_of order) order.pairs.items
+AreGrouped p placed order = AreGroupedBy p placed (kept_at order.last) order.pairs.items
 
 -- each cell's first neighbours that break the rule
 abbrev pub AreViolations : Program → List PlacedVisit → (Cell → Option OrderViolation) → Type 0
@@ -118,7 +114,7 @@ pub record AreAddedBy (p : Program) (positions : List Visit) (last : Cell → Op
 
 -- the visits that begin with one of these positions were added, in this order
 abbrev pub AreAdded : Program → List Visit → VisitOrder → Type 0
-AreAdded p positions order = AreAddedBy p positions (last_of order) order.pairs.items
+AreAdded p positions order = AreAddedBy p positions (kept_at order.last) order.pairs.items
 
 -- all visits were added, those of each place sorted
 pub record AreAllAdded (p : Program) (order : VisitOrder) : Type 0 where

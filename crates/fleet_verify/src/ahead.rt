@@ -21,7 +21,7 @@ use crate::kept_levels::Levels;
 use crate::last_visits::LastVisits;
 use crate::level_order::AllLevels;
 use crate::level_row::{LevelRow, row_of};
-use crate::order::{OpenPair, PlacedVisit, begins_visit, is_left_by, number_of, open_unless_after};
+use crate::order::{OpenPair, PlacedVisit, add_visit, is_left_by, number_of, open_unless_after};
 use crate::path::{next_number, numbered_cell};
 use crate::queue::Queue;
 use crate::unheld_run::Stop;
@@ -344,50 +344,6 @@ fn is_left_if_met<P: ProgramView>(program: &P, visit: Visit, awaited: Await) -> 
         × ((leaving (P.program program.now) visit).number ≤ awaited.count) }
 {
     awaited.agent == visit.agent && is_left_by(program, visit, awaited.count)
-}
-
-/// Adds the position, if it begins a visit.
-fn add_visit<P: ProgramView>(
-    program: &P,
-    last: &mut LastVisits,
-    pairs: &mut Vec<OpenPair>,
-    placed: PlacedVisit,
-) -> Result<(), OutOfMemory>
-    requires agent { placed.visit.agent < length (P.program program.now) }
-    requires position { placed.visit.position ≤ moves (P.program program.now) placed.visit.agent }
-    requires here { place_of placed.cell ≡ path (P.program program.now) placed.visit.agent
-        placed.visit.position }
-    ensures { OnOk result ((visits : List Visit)
-        → AreAddedBy (P.program program.now) visits (kept_at last.old) pairs.old.items
-        → AreAddedBy (P.program program.now) (visits ++ placed.visit ∷ [])
-        (kept_at last.new) pairs.new.items) }
-{
-    if begins_visit(program, placed.visit) {
-        keep_visit(program, last, pairs, placed)?;
-    }
-    Ok(())
-}
-
-/// Keeps the visit as the last one of its cell. Unless it comes after the one before it, the two are an open pair.
-fn keep_visit<P: ProgramView>(
-    program: &P,
-    last: &mut LastVisits,
-    pairs: &mut Vec<OpenPair>,
-    placed: PlacedVisit,
-) -> Result<(), OutOfMemory>
-    requires { IsVisit (P.program program.now) placed.visit }
-    ensures here { OnOk result (kept_at last.new placed.cell ≡ Some placed.visit) }
-    ensures others { OnOk result ((c : Cell) → IsCell c → c ≢ placed.cell
-        → kept_at last.new c ≡ kept_at last.old c) }
-    ensures pairs { OnOk result (IsOpenNext (ComesAfterByAwait (P.program program.now))
-        (kept_at last.old placed.cell) placed pairs.old.items pairs.new.items) }
-    ensures cell { IsCell placed.cell }
-{
-    let _agents = program.agents();
-    match last.replace(placed.cell, placed.visit)? {
-        Some(first) => open_unless_after(program, first, placed, pairs),
-        None => Ok(()),
-    }
 }
 
 /// Adds the visit and the one before it at the cell as an open pair, unless it comes after that one. Mostly it is by

@@ -1,16 +1,19 @@
 //! The visits in the order in which they begin, grouped by cell, pairs of neighbours of which the second does not await
 //! that the first is left, and which of these pairs has no order.
 
-ghost use Rattle.std.specs.Prelude.{◌≡◌, ◌<◌, ℕ, nat_eq, length, Some, None, OnOk, IfErr, [], ◌≢◌, map, All, IfOk, ◌↔◌, ◌++◌, ◌≤◌, ◌∷◌, IsTrue};
-ghost use Rattle.indexmap.specs.IndexMap.{get, Updates};
+ghost use Rattle.std.specs.Prelude.{◌≡◌, ◌<◌, ℕ, nat_eq, length, List, Some, None, OnOk, IfErr, [], ◌≢◌, map, All, IfOk, ◌↔◌, ◌++◌, ◌≤◌, ◌∷◌, IsTrue};
+ghost use Rattle.indexmap.specs.IndexMap.{get};
 ghost use Rattle.fleet_model.specs.declared.geometry.Cell.{Cell};
+ghost use Rattle.fleet_model.specs.declared.program.Visit.{Visit};
+ghost use Rattle.fleet_model.specs.Geometry.{place_of};
 ghost use Rattle.fleet_model.specs.Machine.{IsFinish};
-ghost use Rattle.fleet_model.specs.Program.{moves, IsCell, AreInRange};
+ghost use Rattle.fleet_model.specs.Program.{moves, path, IsCell, AreInRange};
 ghost use Rattle.fleet_model.specs.Visit.{ComesAfter, IsOrderly, leaving, IsVisit, is_entry, ComesAfterByAwait};
 ghost use Rattle.fleet_grid.specs.Ground.{is_passable};
 ghost use Rattle.fleet_verify.specs.declared.order.OrderViolation.{OrderViolation};
 ghost use Rattle.fleet_verify.specs.declared.fault.VerifyFault.TheVariants.{Unordered};
-ghost use Rattle.fleet_verify.specs.Order.{number_of, AreAllAdded, AreAllViolations, IsPathOrderly, IsOpenNext};
+ghost use Rattle.fleet_verify.specs.LastVisits.{kept_at};
+ghost use Rattle.fleet_verify.specs.Order.{number_of, AreAddedBy, AreAllAdded, AreAllViolations, IsPathOrderly, IsOpenNext};
 ghost use Rattle.fleet_verify.specs.Faults.{HasRanges, IsFault};
 ghost use Rattle.std.specs.Option.{option_or};
 ghost use Rattle.fleet_needs.specs.Asked.{IsQuestion};
@@ -19,6 +22,7 @@ ghost use Rattle.fleet_verify.specs.OpenPairs.{question_of, violation_of, AreVis
 
 use crate::chained::Answers;
 use crate::fault::VerifyFault;
+use crate::last_visits::LastVisits;
 use crate::path::cell_after;
 use crate::unheld_run::UnheldRun;
 use fleet_grid::Grid;
@@ -269,11 +273,11 @@ pub struct OpenPair {
     pub second: Visit,
 }
 
-/// The visits so far, in the order in which they began: by the number of each cell the last one, and the open pairs in
-/// the order in which their second visits began.
+/// The visits so far, in the order in which they began: the last one of each cell, and the open pairs in the order in
+/// which their second visits began.
 #[derive(Drop)]
 pub struct VisitOrder {
-    pub last: IndexMap<u32, Visit>,
+    pub last: LastVisits,
     pub pairs: Vec<OpenPair>,
 }
 
@@ -287,39 +291,19 @@ pub fn number_of(cell: Cell) -> u32
 }
 
 impl VisitOrder {
-    ghost use Rattle.std.specs.Prelude.{List};
-    ghost use Rattle.fleet_model.specs.declared.program.Visit.{Visit};
+    ghost use Rattle.std.specs.Prelude.{IfOk};
     ghost use Rattle.fleet_model.specs.Program.{Program};
-    ghost use Rattle.fleet_verify.specs.Order.{IsVisitPlaced, AreAdded};
+    ghost use Rattle.fleet_verify.specs.Order.{AreAdded};
 
     /// No visits.
-    pub fn new(alloc: Global) -> Self
-        ensures { (p : Program) → AreAdded p [] result }
+    pub fn new(alloc: Global) -> Result<Self, OutOfMemory>
+        ensures { IfOk result (λ order. (p : Program) → AreAdded p [] order) }
     {
-        VisitOrder {
-            last: IndexMap::new(alloc),
+        let last = LastVisits::with_room(alloc, 0, 0, 0)?;
+        Ok(VisitOrder {
+            last,
             pairs: Vec::new(alloc),
-        }
-    }
-
-    /// Adds the next position, if it begins a visit.
-    pub fn add<P: ProgramView>(
-        &mut self,
-        program: &P,
-        placed: PlacedVisit,
-    ) -> Result<(), OutOfMemory>
-        requires agent { placed.visit.agent < length (P.program program.now) }
-        requires position { placed.visit.position
-            ≤ moves (P.program program.now) placed.visit.agent }
-        requires placed { IsVisitPlaced (P.program program.now) placed }
-        ensures { OnOk result ((visits : List Visit)
-            → AreAdded (P.program program.now) visits self.old
-            → AreAdded (P.program program.now) (visits ++ placed.visit ∷ []) self.new) }
-    {
-        if begins_visit(program, placed.visit) {
-            append(program, &mut self.last, &mut self.pairs, placed)?;
-        }
-        Ok(())
+        })
     }
 }
 
@@ -338,26 +322,45 @@ pub fn begins_visit<P: ProgramView>(program: &P, visit: Visit) -> bool
     }
 }
 
-/// Keeps the visit as the last one of its cell. Unless it is a later one by the same agent, or awaits that the one
-/// before it is left, the two are added as an open pair.
-fn append<P: ProgramView>(
+/// Adds the position, if it begins a visit.
+pub fn add_visit<P: ProgramView>(
     program: &P,
-    last: &mut IndexMap<u32, Visit>,
+    last: &mut LastVisits,
+    pairs: &mut Vec<OpenPair>,
+    placed: PlacedVisit,
+) -> Result<(), OutOfMemory>
+    requires agent { placed.visit.agent < length (P.program program.now) }
+    requires position { placed.visit.position ≤ moves (P.program program.now) placed.visit.agent }
+    requires here { place_of placed.cell ≡ path (P.program program.now) placed.visit.agent
+        placed.visit.position }
+    ensures { OnOk result ((visits : List Visit)
+        → AreAddedBy (P.program program.now) visits (kept_at last.old) pairs.old.items
+        → AreAddedBy (P.program program.now) (visits ++ placed.visit ∷ [])
+        (kept_at last.new) pairs.new.items) }
+{
+    if begins_visit(program, placed.visit) {
+        keep_visit(program, last, pairs, placed)?;
+    }
+    Ok(())
+}
+
+/// Keeps the visit as the last one of its cell. Unless it comes after the one before it, the two are an open pair.
+fn keep_visit<P: ProgramView>(
+    program: &P,
+    last: &mut LastVisits,
     pairs: &mut Vec<OpenPair>,
     placed: PlacedVisit,
 ) -> Result<(), OutOfMemory>
     requires { IsVisit (P.program program.now) placed.visit }
-    ensures last { OnOk result (Updates nat_eq last.old last.new (number_of placed.cell)
-        (Some placed.visit)) }
+    ensures here { OnOk result (kept_at last.new placed.cell ≡ Some placed.visit) }
+    ensures others { OnOk result ((c : Cell) → IsCell c → c ≢ placed.cell
+        → kept_at last.new c ≡ kept_at last.old c) }
     ensures pairs { OnOk result (IsOpenNext (ComesAfterByAwait (P.program program.now))
-        (get nat_eq last.old (number_of placed.cell)) placed pairs.old.items pairs.new.items) }
+        (kept_at last.old placed.cell) placed pairs.old.items pairs.new.items) }
     ensures cell { IsCell placed.cell }
 {
-    let PlacedVisit {
-        visit: second,
-        cell,
-    } = placed;
-    match last.insert(number_of(cell), second)? {
+    let _agents = program.agents();
+    match last.replace(placed.cell, placed.visit)? {
         Some(first) => open_unless_after(program, first, placed, pairs),
         None => Ok(()),
     }

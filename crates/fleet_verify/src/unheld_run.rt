@@ -11,7 +11,7 @@ ghost use Rattle.fleet_verify.specs.Faults.{StandsRight};
 ghost use Rattle.fleet_verify.specs.Order.{AreAdded};
 ghost use Rattle.fleet_verify.specs.Walk.{begun_in, moved_to, position_in, AreOnGround, IsStop, IsAtStart, IsRunOnGround};
 
-use crate::order::{PlacedVisit, VisitOrder};
+use crate::order::{PlacedVisit, VisitOrder, add_visit};
 use crate::path::map_cell;
 use fleet_grid::Grid;
 use fleet_machine::Machine;
@@ -53,7 +53,7 @@ impl UnheldRun {
         ensures { IfOk result (IsAtStart (P.program program.now)) }
     {
         let machine = Machine::start(alloc, program)?;
-        let visits = VisitOrder::new(alloc);
+        let visits = VisitOrder::new(alloc)?;
         Ok(UnheldRun {
             machine,
             visits,
@@ -186,7 +186,12 @@ fn add_position<P: ProgramView>(
         agent,
         position: count,
     };
-    visits.add(program, PlacedVisit { visit, cell })?;
+    add_visit(
+        program,
+        &mut visits.last,
+        &mut visits.pairs,
+        PlacedVisit { visit, cell },
+    )?;
     Ok(())
 }
 

@@ -1,7 +1,5 @@
-use Rattle.std.proofs.Common.{◌+◌, ◌∙◌, sym, ◌++◌, ◌∷◌, [], ap, subst, arith}
+use Rattle.std.proofs.Common.{◌+◌, ◌∙◌, sym, ap, subst, arith}
 use Rattle.std.specs.Prelude.{IsTrue}
-use Rattle.std.proofs.lemmas.List.{map-append}
-use Rattle.std.proofs.lemmas.List.Elements.{All-push}
 use Rattle.fleet_model.specs.declared.geometry.Cell.{Cell}
 use Rattle.fleet_model.specs.Geometry.{is_move, place_of, stepped}
 use Rattle.fleet_grid.specs.Ground.{is_passable}
@@ -9,11 +7,11 @@ use Rattle.fleet_model.specs.declared.program.Visit.{Visit}
 use Rattle.fleet_verify.specs.declared.order.PlacedVisit.{PlacedVisit}
 use Rattle.fleet_verify.specs.Ahead.{count_in, climbed_in, stand}
 use Rattle.fleet_verify.specs.LastVisits.{kept_at}
-use Rattle.fleet_verify.specs.Order.{IsVisitPlaced, numbered_cell}
+use Rattle.fleet_verify.specs.Order.{numbered_cell}
 use Rattle.fleet_verify.proofs.Begin.{begun_kept, begun_earlier}
 use Rattle.fleet_verify.proofs.NextLevel.{enters_by, visit_by}
 use Rattle.fleet_verify.proofs.Climbing.{runner_count, runner_ground, arrival_by, arrival_here, within_numbers}
-use Rattle.fleet_verify.proofs.Ordered.{grouped_on_more, entry_more, entry_none}
+use Rattle.fleet_verify.proofs.Ordered.{added_visit, added_stay}
 use Rattle.fleet_verify.proofs.ahead.arrive.Goals as goal
 
 pub next_number-next-requires-clause-column : goal.next_number-next-requires-clause-column
@@ -48,19 +46,15 @@ returns-in_ok-enter-in-Go-clause-here g c =
     arrival_here c.requires.runner c.requires.needs (numbered_cell c.next_number-next.result) (c.next_number-next.ensures.place within.0 within.1)
 
 pub returns-in_ok-enter-in-Go-clause-added : goal.returns-in_ok-enter-in-Go-clause-added
-returns-in_ok-enter-in-Go-clause-added g c = λ visits old.
+returns-in_ok-enter-in-Go-clause-added g c =
     let p = g.P.ProgramView.program c.args.program.now in
     let s : PlacedVisit = record { visit = record { agent = c.args.agent; position = c.args.runner.finished + 1 }; cell = c.numbered_cell-cell.result } in
     let made = c.in_ok-enter-in-Go.ensures in
     let ground = subst (λ (q : Cell). IsTrue (is_passable c.args.grid.now (place_of q))) c.numbered_cell-cell.ensures made.ground in
     let within = within_numbers c.args.grid.now c.width-width.ensures.sizes (numbered_cell c.next_number-next.result) ground in
     let here = ap place_of c.numbered_cell-cell.ensures ∙ arrival_here c.requires.runner c.requires.needs (numbered_cell c.next_number-next.result) (c.next_number-next.ensures.place within.0 within.1) in
-    record {
-      placed = old.placed ++ s ∷ [];
-      same = map-append (λ (x : PlacedVisit). x.visit) old.placed (s ∷ []) ∙ (ap (λ vs. vs ++ s.visit ∷ []) old.same ∙ sym (entry_more p visits s.visit (enters_by p s.visit c.args.needs (arrival_by c.requires.runner c.requires.left c.requires.needs) ∙ ap is_move c.in-Go.is)));
-      each = All-push (IsVisitPlaced p) old.placed s old.each (record { cell = made.cell; here = here });
-      grouped = grouped_on_more p old.placed s (kept_at c.args.ahead.now.last) (kept_at c.enter.new.last) c.args.ahead.now.pairs.items c.enter.new.pairs.items made.cell old.grouped made.here made.others made.pairs;
-    }
+    added_visit p s (kept_at c.args.ahead.now.last) (kept_at c.enter.new.last) c.args.ahead.now.pairs.items c.enter.new.pairs.items (record { cell = made.cell; here = here })
+    (enters_by p s.visit c.args.needs (arrival_by c.requires.runner c.requires.left c.requires.needs) ∙ ap is_move c.in-Go.is) made.here made.others made.pairs
 
 pub returns-in-Dwell-clause-here : goal.returns-in-Dwell-clause-here
 returns-in-Dwell-clause-here g c =
@@ -70,12 +64,7 @@ pub returns-in-Dwell-clause-ground : goal.returns-in-Dwell-clause-ground
 returns-in-Dwell-clause-ground g c = runner_ground c.requires.runner
 
 pub returns-in-Dwell-clause-added : goal.returns-in-Dwell-clause-added
-returns-in-Dwell-clause-added g c = λ visits old.
+returns-in-Dwell-clause-added g c =
     let p = g.P.ProgramView.program c.args.program.now in
     let v : Visit = record { agent = c.args.agent; position = c.args.runner.finished + 1 } in
-    record {
-      placed = old.placed;
-      same = old.same ∙ sym (entry_none p visits v (enters_by p v c.args.needs (arrival_by c.requires.runner c.requires.left c.requires.needs) ∙ ap is_move c.in-Dwell.is));
-      each = old.each;
-      grouped = old.grouped;
-    }
+    added_stay p v (kept_at c.args.ahead.now.last) c.args.ahead.now.pairs.items (enters_by p v c.args.needs (arrival_by c.requires.runner c.requires.left c.requires.needs) ∙ ap is_move c.in-Dwell.is)

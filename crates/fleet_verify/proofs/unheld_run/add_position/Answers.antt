@@ -17,20 +17,16 @@ returns-in_default-clause-stop g c = λ steps.
     let blocked : is_passable c.args.grid.now (path p i (count_at d i)) ≡ false = subst (λ (q : Place). is_passable c.args.grid.now q ≡ false) here c.in_default.ensures.none in
     absurd cc
 
-pub add-requires-clause-position : goal.add-requires-clause-position
-add-requires-clause-position g c =
+pub add_visit-requires-clause-position : goal.add_visit-requires-clause-position
+add_visit-requires-clause-position g c =
     omega (arith, within_moves (g.P.ProgramView.program c.args.program.now) c.args.machine.now.configuration c.requires.reached c.args.agent, ap (λ (s : Standing). s.count) c.agent-count.ensures.standing)
 
-pub add-requires-clause-placed : goal.add-requires-clause-placed
-add-requires-clause-placed g c =
-    let p = g.P.ProgramView.program c.args.program.now in
-    let d = c.args.machine.now.configuration in
-    record {
-      cell = c.in-Some.ensures.cell;
-      here = c.in-Some.ensures.some.0
-          ∙ (ap (λ (s : Standing). s.place) c.agent-count.ensures.standing
-          ∙ (on_path p d c.requires.reached c.args.agent c.requires.agent ∙ sym (ap (λ (s : Standing). path p c.args.agent s.count) c.agent-count.ensures.standing)));
-    }
+pub add_visit-requires-clause-here : goal.add_visit-requires-clause-here
+add_visit-requires-clause-here g c =
+    c.in-Some.ensures.some.0
+    ∙ (ap (λ (s : Standing). s.place) c.agent-count.ensures.standing
+    ∙ (on_path (g.P.ProgramView.program c.args.program.now) c.args.machine.now.configuration c.requires.reached c.args.agent c.requires.agent
+    ∙ sym (ap (λ (s : Standing). path (g.P.ProgramView.program c.args.program.now) c.args.agent s.count) c.agent-count.ensures.standing)))
 
 pub returns-clause-on_ground : goal.returns-clause-on_ground
 returns-clause-on_ground g c =

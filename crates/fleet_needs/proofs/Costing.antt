@@ -1,13 +1,5 @@
 -- The costs of critical paths: that of an action from those of what it directly needs.
-use Rattle.std.proofs.Common.{◌≡◌, ℕ, zero, suc, ◌+◌, ◌*◌, ◌≤◌, List, [], ◌∷◌, refl, ap, sym, subst, arith, inl, inr, ◌⊎◌}
-use Rattle.std.specs.Prelude.{sum_by}
-use Rattle.fleet_model.specs.declared.program.ActionId.{ActionId}
-use Rattle.fleet_model.specs.Program.{Program, AreInRange}
-use Rattle.fleet_model.specs.Chain.{IsAction, DirectlyNeeds, ChainFrom, IsCriticalCost}
-use Rattle.fleet_model.proofs.Chains.{need_action, ends_alone, ends_dearer}
-use Rattle.fleet_needs.specs.Critical.{IsNotedCost}
-use Rattle.fleet_needs.specs.Settled.{IsFinishedBy}
-use Rattle.fleet_needs.specs.declared.critical.TheConstants.{MAX_COST}
+use Rattle.fleet_needs.proofs.Words.{◌≡◌, ℕ, zero, suc, ◌+◌, ◌*◌, ◌≤◌, List, [], ◌∷◌, refl, ap, sym, subst, arith, inl, inr, ◌⊎◌, sum_by, ActionId, Program, AreInRange, IsAction, DirectlyNeeds, ChainFrom, IsCriticalCost, need_action, ends_alone, ends_dearer, IsNotedCost, IsFinishedBy, MAX_COST}
 use Rattle.fleet_needs.proofs.Free.{but_last, needs_before, none_started}
 
 module _ (p : Program) (cost : ActionId → ℕ) where

@@ -1,7 +1,5 @@
 -- For each agent, how much those before it have together: one agent more.
-use Rattle.std.proofs.Common.{◌≡◌, ℕ, ◌+◌, ◌<◌, ◌∷◌, ◌++◌, [], List, length, slice_index, sym, ap, ◌∙◌, arith, inl, inr}
-use Rattle.std.proofs.lemmas.Bool.{cases_lt}
-use Rattle.std.proofs.lemmas.List.{get_or_append_left, get_or_push, length_push}
+use Rattle.fleet_needs.proofs.Words.{◌≡◌, ℕ, ◌+◌, ◌<◌, ◌∷◌, ◌++◌, [], List, length, slice_index, sym, ap, ◌∙◌, arith, inl, inr, cases_lt, get_or_append_left, get_or_push, length_push}
 
 pub first_more : (before : ℕ → ℕ) (i total : ℕ) (old new : List ℕ) → length old ≡ i → total ≡ before i → new ≡ old ++ total ∷ [] → ((k : ℕ) → k < i → slice_index old k ≡ before k)
     → (length new ≡ i + 1) × ((k : ℕ) → k < i + 1 → slice_index new k ≡ before k)

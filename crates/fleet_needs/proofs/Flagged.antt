@@ -1,25 +1,9 @@
 -- The flags of awaits, one action and one block more.
-use Rattle.std.proofs.Common.{◌≡◌, ℕ, ◌+◌, ◌<◌, ◌≤◌, Bool, true, false, List, [], ◌∷◌, length, get_or, refl, sym, ap, subst, ◌∙◌, arith, inl, inr}
+use Rattle.fleet_needs.proofs.Words.{◌≡◌, ℕ, ◌+◌, ◌<◌, ◌≤◌, Bool, true, false, List, [], ◌∷◌, length, get_or, refl, sym, ap, subst, ◌∙◌, arith, inl, inr, not, Contains, slice_get, slice_index, Some, Option, nat_le, cases_lt, false≢true, slice_get_within, same_Some, ActionId, Await, Program, awaits_of, AreInRange, IsWellFormed, IsAction, HasColumn, AreColumns, BlocksLeft, IsNextBlock, AreOthers, IsMade, Columns, Schedule, IsImplied, IsImpliedFlag, EachFlag, first_await, AreSettled, IsSettled, AreSure, AreSureIf, IsFirstSet, IsPassed, AreSet, AreFlags, IsFlagged, IsFlaggedAt, AreFlagged, AreFlaggedFor, IsLeft, AreLeft, AreAllFlagged, AreAwaitFlags, AreFlaggedTo, AreImplied, flags_of, ImpliedAwaits}
 use Rattle.std.specs.Borrow.{Bor}
-use Rattle.std.specs.Prelude.{not, Contains, slice_get, slice_index, Some, Option, nat_le}
-use Rattle.std.proofs.lemmas.Bool.{cases_lt, false≢true}
-use Rattle.std.proofs.lemmas.Option.{slice_get_within, same_Some}
-use Rattle.fleet_model.specs.declared.program.ActionId.{ActionId}
-use Rattle.fleet_model.specs.declared.program.Await.{Await}
-use Rattle.fleet_model.specs.Program.{Program, awaits_of, AreInRange, IsWellFormed}
-use Rattle.fleet_model.specs.Chain.{IsAction}
-use Rattle.fleet_needs.specs.Block.{HasColumn}
-use Rattle.fleet_needs.specs.Columns.{AreColumns, BlocksLeft, IsNextBlock}
-use Rattle.fleet_needs.specs.JoinPass.{AreOthers, IsMade}
 use Rattle.fleet_needs.specs.Joins.{AddsNone, HasRowOr}
-use Rattle.fleet_needs.specs.declared.schedule.Columns.{Columns}
-use Rattle.fleet_needs.specs.declared.schedule.Schedule.{Schedule}
 use Rattle.fleet_needs.proofs.NextBlock.{column_cases}
-use Rattle.fleet_needs.specs.Implied.{IsImplied, IsImpliedFlag, EachFlag, first_await}
-use Rattle.fleet_needs.specs.Settled.{AreSettled, IsSettled}
 use Rattle.fleet_needs.proofs.AwaitOrder.{noted_next}
-use Rattle.fleet_needs.specs.Flags.{AreSure, AreSureIf, IsFirstSet, IsPassed, AreSet, AreFlags, IsFlagged, IsFlaggedAt, AreFlagged, AreFlaggedFor, IsLeft, AreLeft, AreAllFlagged, AreAwaitFlags, AreFlaggedTo, AreImplied, flags_of}
-use Rattle.fleet_needs.specs.declared.implied.ImpliedAwaits.{ImpliedAwaits}
 use Rattle.fleet_needs.proofs.Joining.{awaited_action, adds_none_if_implied}
 use Rattle.fleet_needs.proofs.RowFlags.{flagged}
 

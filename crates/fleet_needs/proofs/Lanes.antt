@@ -1,9 +1,7 @@
 -- Eight counts at once.
-use Rattle.std.proofs.Common.{rules, ◌≡◌, ℕ, zero, suc, ◌+◌, ◌-◌, ◌%◌, ◌<◌, ◌≤◌, Bool, true, false, cond, ltb, List, [], ◌∷◌, length, get_or, map, max, refl, sym, ap, subst, ◌∙◌, arith, w32, IsTrue, nat_eq, inl, inr}
+use Rattle.fleet_needs.proofs.Words.{rules, ◌≡◌, ℕ, zero, suc, ◌+◌, ◌-◌, ◌%◌, ◌<◌, ◌≤◌, Bool, true, false, cond, ltb, List, [], ◌∷◌, length, get_or, map, max, refl, sym, ap, subst, ◌∙◌, arith, w32, IsTrue, nat_eq, inl, inr, ltb-true, ltb-false, cases_lt, get_or_past}
 use Rattle.std.specs.Simd.Lanes.{zip2, sel_l, mask_l, top, chunk, put_chunk}
 use Rattle.std.proofs.lemmas.Simd.{length-zip2, get_or-zip2, length-chunk, get_or-chunk, length-sel_l, get_or-sel_l, get_or-put_chunk_at, tops_compared, mask_l-mod}
-use Rattle.std.proofs.lemmas.Bool.{ltb-true, ltb-false, cases_lt}
-use Rattle.std.proofs.lemmas.List.{get_or_past}
 
 -- the lane from one place on in two rows
 module _ (row other : List ℕ) (from : ℕ) (same : length other ≡ length row) (room : from + 8 ≤ length row) where

@@ -1,15 +1,7 @@
 -- The latest piece of two agents, in a sorted list.
-use Rattle.std.proofs.Common.{◌≡◌, ℕ, ◌+◌, ◌-◌, ◌*◌, ◌<◌, ◌≤◌, List, length, get_or, ap, subst, ◌∙◌, arith, inl, inr}
-use Rattle.std.specs.Prelude.{Contains}
+use Rattle.fleet_needs.proofs.Words.{◌≡◌, ℕ, ◌+◌, ◌-◌, ◌*◌, ◌<◌, ◌≤◌, List, length, get_or, ap, subst, ◌∙◌, arith, inl, inr, Contains, cases_lt, mul-le, get_or_default, Program, key_of, AreSorted, IsOf, IsLatest, AreLater, AreTold, Piece, AGENTS, NUMBERS}
 use Rattle.std.specs.List.Sorted.{IsPartitionPoint, IsPermutation}
-use Rattle.std.proofs.lemmas.Bool.{cases_lt}
-use Rattle.std.proofs.lemmas.Nat.{mul-le}
-use Rattle.std.proofs.lemmas.List.{get_or_default}
 use Rattle.std.proofs.lemmas.List.Sorted.{Contains-permutation, IsPermutation-sym}
-use Rattle.fleet_model.specs.Program.{Program}
-use Rattle.fleet_needs.specs.Pieces.{key_of, AreSorted, IsOf, IsLatest, AreLater, AreTold}
-use Rattle.fleet_needs.specs.declared.gather.Piece.{Piece}
-use Rattle.fleet_needs.specs.declared.gather.TheConstants.{AGENTS, NUMBERS}
 
 -- numbers of two digits are ordered by the higher one first
 digits : (N p q a b : ℕ) → b < N → p * N + a ≤ q * N + b → p ≤ q

@@ -1,3 +1,4 @@
+pub mod Words
 pub mod Lanes
 pub mod Free
 pub mod Joining

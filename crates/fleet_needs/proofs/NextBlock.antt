@@ -1,11 +1,6 @@
 -- The blocks of columns, after one more.
-use Rattle.std.proofs.Common.{◌≡◌, ◌-◌, ◌<◌, ◌≤◌, ◌⊎◌, ℕ, Bool, List, length, refl, ap, ◌∙◌, arith, inl, inr}
-use Rattle.std.specs.Prelude.{Option, Some, None}
-use Rattle.fleet_model.specs.Program.{Program}
-use Rattle.fleet_needs.specs.Block.{HasColumn}
-use Rattle.fleet_needs.specs.Columns.{BlocksLeft, IsNextBlock, column_of}
+use Rattle.fleet_needs.proofs.Words.{◌≡◌, ◌-◌, ◌<◌, ◌≤◌, ◌⊎◌, ℕ, Bool, List, length, refl, ap, ◌∙◌, arith, inl, inr, Option, Some, None, Program, HasColumn, BlocksLeft, IsNextBlock, column_of, Columns}
 use Rattle.fleet_needs.specs.Schedule.{AreColumnsOf}
-use Rattle.fleet_needs.specs.declared.schedule.Columns.{Columns}
 
 -- fewer agents are left
 pub fewer_left : (old new : BlocksLeft) (columns : Columns) → IsNextBlock old new columns → length new.asked - new.from < length old.asked - old.from

@@ -1,13 +1,5 @@
 -- Columns joined of the awaits of other agents, and then of those of the agent itself.
-use Rattle.std.proofs.Common.{◌≡◌, ◌≢◌, ℕ, ◌+◌, ◌<◌, length, max, sym, ap, subst, ◌∙◌, arith, inl, inr}
-use Rattle.std.specs.Prelude.{slice_get, Some}
-use Rattle.std.proofs.lemmas.Bool.{cases_lt}
-use Rattle.std.proofs.lemmas.Option.{slice_get_within, same_Some}
-use Rattle.fleet_model.specs.declared.program.ActionId.{ActionId}
-use Rattle.fleet_model.specs.declared.program.Await.{Await}
-use Rattle.fleet_model.specs.Program.{Program, awaits_of}
-use Rattle.fleet_model.specs.Chain.{awaited}
-use Rattle.fleet_needs.specs.Rows.{IsColumn, IsJoined, OfFirst, OfOthers, OfOthersOrFirst}
+use Rattle.fleet_needs.proofs.Words.{◌≡◌, ◌≢◌, ℕ, ◌+◌, ◌<◌, length, max, sym, ap, subst, ◌∙◌, arith, inl, inr, slice_get, Some, cases_lt, slice_get_within, same_Some, ActionId, Await, Program, awaits_of, awaited, IsColumn, IsJoined, OfFirst, OfOthers, OfOthersOrFirst}
 use Rattle.fleet_needs.proofs.Joining.{joined_same, joined_more}
 
 module _ (p : Program) (a : ActionId) (j : ℕ) where

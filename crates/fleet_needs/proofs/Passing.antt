@@ -1,7 +1,5 @@
 -- Actions compared.
-use Rattle.std.proofs.Common.{◌≡◌, ◌≢◌, ap, inl, inr, ◌⊎◌}
-use Rattle.std.proofs.lemmas.Bool.{cases_eq}
-use Rattle.fleet_model.specs.declared.program.ActionId.{ActionId}
+use Rattle.fleet_needs.proofs.Words.{◌≡◌, ◌≢◌, ap, inl, inr, ◌⊎◌, cases_eq, ActionId}
 
 -- two actions are the same or not
 pub same_or_not : (a b : ActionId) → (a ≡ b) ⊎ (a ≢ b)

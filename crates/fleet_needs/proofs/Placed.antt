@@ -1,16 +1,5 @@
 -- The places of actions, and of the counts of their rows.
-use Rattle.std.proofs.Common.{◌≡◌, ◌≢◌, ℕ, ◌+◌, ◌*◌, ◌<◌, ◌≤◌, List, length, take, slice_index, ap, subst, arith, inl, inr, ◌⊎◌}
-use Rattle.std.proofs.lemmas.Bool.{cases_order}
-use Rattle.std.proofs.lemmas.Nat.{mul-le}
-use Rattle.std.specs.Prelude.{sum_by}
-use Rattle.std.proofs.lemmas.List.{take-take}
-use Rattle.std.proofs.lemmas.List.Sums.{sum_by-take-le}
-use Rattle.fleet_model.specs.declared.program.ActionId.{ActionId}
-use Rattle.fleet_model.specs.declared.program.AgentProgram.{AgentProgram}
-use Rattle.fleet_model.specs.Program.{Program, moves, total_moves}
-use Rattle.fleet_model.specs.Chain.{IsAction}
-use Rattle.fleet_model.proofs.Totals.{moves_more}
-use Rattle.fleet_needs.specs.Places.{ArePlaces, action_place}
+use Rattle.fleet_needs.proofs.Words.{◌≡◌, ◌≢◌, ℕ, ◌+◌, ◌*◌, ◌<◌, ◌≤◌, List, length, take, slice_index, ap, subst, arith, inl, inr, ◌⊎◌, cases_order, mul-le, sum_by, take-take, sum_by-take-le, ActionId, AgentProgram, Program, moves, total_moves, IsAction, moves_more, ArePlaces, action_place}
 
 -- more of a list have as much together, or more
 pub sums_rise : {X : Type 0} (f : X → ℕ) (xs : List X) (i j : ℕ) → i ≤ j → sum_by f (take i xs) ≤ sum_by f (take j xs)

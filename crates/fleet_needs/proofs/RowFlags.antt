@@ -1,15 +1,5 @@
 -- An await is implied if its count is no more than that of all that the action needs beside it.
-use Rattle.std.proofs.Common.{◌≡◌, ◌≢◌, ℕ, ◌+◌, ◌-◌, ◌≤◌, length, refl, sym, ap, subst, ◌∙◌, arith, inl, inr, ◌⊎◌}
-use Rattle.std.specs.Prelude.{Contains, slice_get, Some, nat_le}
-use Rattle.std.proofs.lemmas.Bool.{cases_eq, leb-true, le-leb}
-use Rattle.std.proofs.lemmas.Option.{slice_get-get_or, get_or_from_slice_get, same_Some}
-use Rattle.fleet_model.specs.declared.program.ActionId.{ActionId}
-use Rattle.fleet_model.specs.declared.program.Await.{Await}
-use Rattle.fleet_model.specs.Program.{Program, awaits_of, AreInRange, AreAwaits}
-use Rattle.fleet_model.specs.Chain.{Reaches, awaited}
-use Rattle.fleet_model.proofs.Chains.{Reaches-last}
-use Rattle.fleet_needs.specs.Rows.{action_before, ByOneOf, IsJoined, OfOthers}
-use Rattle.fleet_needs.specs.Implied.{IsImplied, IsImpliedFlag}
+use Rattle.fleet_needs.proofs.Words.{◌≡◌, ◌≢◌, ℕ, ◌+◌, ◌-◌, ◌≤◌, length, refl, sym, ap, subst, ◌∙◌, arith, inl, inr, ◌⊎◌, Contains, slice_get, Some, nat_le, cases_eq, leb-true, le-leb, slice_get-get_or, get_or_from_slice_get, same_Some, ActionId, Await, Program, awaits_of, AreInRange, AreAwaits, Reaches, awaited, Reaches-last, action_before, ByOneOf, IsJoined, OfOthers, IsImplied, IsImpliedFlag}
 use Rattle.fleet_needs.proofs.AwaitOrder.{other_agent}
 
 -- an await of an action is implied if what it awaits is reached through the action before, or through another await

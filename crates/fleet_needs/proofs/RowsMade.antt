@@ -1,25 +1,10 @@
 -- The counts of rows that are made of rows in their slots.
-use Rattle.std.proofs.Common.{◌≡◌, ◌≢◌, ℕ, ◌+◌, ◌-◌, ◌*◌, ◌<◌, ◌≤◌, List, length, max, slice_index, refl, sym, ap, subst, ◌∙◌, arith, inl, inr, ◌⊎◌}
-use Rattle.std.specs.Prelude.{slice_get, Some}
-use Rattle.std.proofs.lemmas.Bool.{cases_lt, cases_eq}
-use Rattle.fleet_model.specs.declared.program.ActionId.{ActionId}
-use Rattle.fleet_model.specs.declared.program.Await.{Await}
-use Rattle.fleet_model.specs.Program.{Program, AreInRange, awaits_of, moves}
-use Rattle.fleet_model.specs.Chain.{IsAction, awaited}
-use Rattle.fleet_needs.specs.Block.{HasColumn}
-use Rattle.fleet_needs.specs.Counts.{counts_of, are_narrow, CanHold, AreAlike}
+use Rattle.fleet_needs.proofs.Words.{◌≡◌, ◌≢◌, ℕ, ◌+◌, ◌-◌, ◌*◌, ◌<◌, ◌≤◌, List, length, max, slice_index, refl, sym, ap, subst, ◌∙◌, arith, inl, inr, ◌⊎◌, slice_get, Some, cases_lt, cases_eq, ActionId, Await, Program, AreInRange, awaits_of, moves, IsAction, awaited, HasColumn, counts_of, are_narrow, CanHold, AreAlike, IsColumn, IsJoined, OfOthers, OfOthersOrFirst, Columns, JoinRow, SlotRows, Schedule, IsJoinRow, IsMade, Counts}
 use Rattle.fleet_needs.specs.Joins.{AreQuiet, join_at, need_of, row_taken, IsJoin, AreOwn}
 use Rattle.fleet_needs.specs.declared.joins.Need.{Need}
-use Rattle.fleet_needs.specs.Rows.{IsColumn, IsJoined, OfOthers, OfOthersOrFirst}
 use Rattle.fleet_needs.specs.Schedule.{joins_in, next_action, IsSchedule, AreColumnsOf, AreCounts, AreRowsTo, IsRowFor, IsThere, StandsThere, IsNextJoin, IsNextNeed, AreJoinedWith, count_in_slot}
 use Rattle.fleet_needs.specs.Slots.{IsStill}
-use Rattle.fleet_needs.specs.declared.schedule.Columns.{Columns}
 use Rattle.fleet_needs.specs.declared.joins.Join.{Join}
-use Rattle.fleet_needs.specs.declared.join_pass.JoinRow.{JoinRow}
-use Rattle.fleet_needs.specs.declared.join_pass.SlotRows.{SlotRows}
-use Rattle.fleet_needs.specs.declared.schedule.Schedule.{Schedule}
-use Rattle.fleet_needs.specs.JoinPass.{IsJoinRow, IsMade}
-use Rattle.fleet_needs.specs.declared.counts.Counts.{Counts}
 use Rattle.fleet_needs.proofs.Placed.{row_ends}
 use Rattle.fleet_needs.proofs.Joining.{quiet_on, column_stays, column_none, joined_none, part_all, own_column, awaited_action}
 use Rattle.fleet_needs.proofs.OthersJoined.{others_more, others_same, first_none, first_more, first_same, first_all}

@@ -1,19 +1,7 @@
 -- What is reached, and what is not, by the ticks of actions and by what they directly need.
-use Rattle.std.proofs.Common.{◌≡◌, ◌≢◌, ℕ, ◌+◌, ◌-◌, ◌<◌, ◌≤◌, Bool, true, false, List, length, get_or, set, refl, sym, ap, subst, ◌∙◌, arith, inl, inr, ◌⊎◌}
-use Rattle.std.specs.Prelude.{Contains, slice_get, Some, None, Option, ◌↔◌}
-use Rattle.std.proofs.lemmas.Bool.{cases_lt, cases_eq, false≢true, true≢false}
-use Rattle.std.proofs.lemmas.List.{get_or-set_same, get_or-set_other, get_or_past}
-use Rattle.std.proofs.lemmas.Option.{slice_get_within, get_or_from_slice_get, same_Some}
-use Rattle.fleet_model.specs.declared.program.ActionId.{ActionId}
-use Rattle.fleet_model.specs.declared.program.Await.{Await}
-use Rattle.fleet_model.specs.Program.{Program, moves, awaits_of, AreInRange, IsWellFormed}
-use Rattle.fleet_model.specs.Chain.{IsAction, Reaches, IsNumbering, awaited}
-use Rattle.fleet_model.proofs.Chains.{chain_ends_by_step, Reaches-rises, Reaches-last}
-use Rattle.fleet_needs.specs.Implied.{IsImplied}
-use Rattle.fleet_needs.specs.Settled.{IsSettled, AreSettledOf, AreMoreAsked, IsUpTo}
+use Rattle.fleet_needs.proofs.Words.{◌≡◌, ◌≢◌, ℕ, ◌+◌, ◌-◌, ◌<◌, ◌≤◌, Bool, true, false, List, length, get_or, set, refl, sym, ap, subst, ◌∙◌, arith, inl, inr, ◌⊎◌, Contains, slice_get, Some, None, Option, ◌↔◌, cases_lt, cases_eq, false≢true, true≢false, get_or-set_same, get_or-set_other, get_or_past, slice_get_within, get_or_from_slice_get, same_Some, ActionId, Await, Program, moves, awaits_of, AreInRange, IsWellFormed, IsAction, Reaches, IsNumbering, awaited, chain_ends_by_step, Reaches-rises, Reaches-last, IsImplied, IsSettled, AreSettledOf, AreMoreAsked, IsUpTo, action_before}
 use Rattle.fleet_needs.proofs.AwaitOrder.{other_agent}
 use Rattle.fleet_needs.proofs.RowFlags.{implied_by, implied_back}
-use Rattle.fleet_needs.specs.Rows.{action_before}
 use Rattle.fleet_needs.proofs.Joining.{own_first, by_await, step_back}
 
 -- the answer of a search that says yes is not the one that says no

@@ -1,25 +1,6 @@
 -- Agents that go on as far as their awaits allow: that each step is right, and that they come to the end.
-use Rattle.std.proofs.Common.{◌≡◌, ℕ, zero, suc, ◌+◌, ◌-◌, ◌*◌, ◌<◌, ◌≤◌, List, [], ◌∷◌, length, take, max, cond, set, slice_index, get_or, refl, sym, ap, subst, ◌∙◌, arith, inl, inr, ◌⊎◌, replicate}
-use Rattle.std.specs.Prelude.{slice_get, nat_lt, Some}
-use Rattle.std.proofs.lemmas.Bool.{cases_lt, cases_eq, lt-ltb, le-ltb}
-use Rattle.std.proofs.lemmas.Nat.{mul-le}
-use Rattle.std.proofs.lemmas.List.{get_or-set_same, get_or-set_other, set-set, set-get_or, take_all, length-set, get_or-replicate}
-use Rattle.std.proofs.lemmas.List.Sums.{sum_by-take-le}
-use Rattle.std.proofs.lemmas.Option.{slice_get_within, get_or_from_slice_get, slice_get-get_or}
-use Rattle.fleet_model.specs.declared.program.ActionId.{ActionId}
-use Rattle.fleet_model.specs.declared.program.Await.{Await}
-use Rattle.fleet_model.specs.Program.{Program, moves, actions_of, awaits_of, awaits_before, agent_awaits, total_moves, AreInRange}
-use Rattle.fleet_model.specs.Chain.{IsAction, DirectlyNeeds, IsCriticalCost, awaited}
-use Rattle.fleet_model.specs.declared.program.Action.{Action}
-use Rattle.fleet_model.proofs.Chains.{need_action}
-use Rattle.fleet_model.proofs.Totals.{actions_more, moves_more}
-use Rattle.fleet_needs.specs.Places.{ArePlacesOf, place_of_action}
+use Rattle.fleet_needs.proofs.Words.{◌≡◌, ℕ, zero, suc, ◌+◌, ◌-◌, ◌*◌, ◌<◌, ◌≤◌, List, [], ◌∷◌, length, take, max, cond, set, slice_index, get_or, refl, sym, ap, subst, ◌∙◌, arith, inl, inr, ◌⊎◌, replicate, slice_get, nat_lt, Some, cases_lt, cases_eq, lt-ltb, le-ltb, mul-le, get_or-set_same, get_or-set_other, set-set, set-get_or, take_all, length-set, get_or-replicate, sum_by-take-le, slice_get_within, get_or_from_slice_get, slice_get-get_or, ActionId, Await, Program, moves, actions_of, awaits_of, awaits_before, agent_awaits, total_moves, AreInRange, IsAction, DirectlyNeeds, IsCriticalCost, awaited, Action, need_action, actions_more, moves_more, ArePlacesOf, place_of_action, EndsInTime, IsNotedCost, AreNotedCosts, value_at, Walked, after, next_in, IsGreatestTo, IsStage, IsReadyStage, HasAll, IsCostWalk, HaveGrown, IsUnmet, IsGoal, IsRow, stage_in, no_stage, gone_on, rested, Stage, Standing, MAX_COST}
 use Rattle.fleet_needs.specs.Order.{IsCounted}
-use Rattle.fleet_needs.specs.Critical.{EndsInTime, IsNotedCost, AreNotedCosts, value_at}
-use Rattle.fleet_needs.specs.CostWalk.{Walked, after, next_in, IsGreatestTo, IsStage, IsReadyStage, HasAll, IsCostWalk, HaveGrown, IsUnmet, IsGoal, IsRow, stage_in, no_stage, gone_on, rested}
-use Rattle.fleet_needs.specs.declared.cost_walk.Stage.{Stage}
-use Rattle.fleet_needs.specs.declared.cost_walk.Standing.{Standing}
-use Rattle.fleet_needs.specs.declared.critical.TheConstants.{MAX_COST}
 use Rattle.fleet_needs.specs.declared.finish_order.TheConstants.{MAX_TICKS}
 use Rattle.fleet_needs.proofs.Free.{count, needs_before, none_started, all_finished}
 use Rattle.fleet_needs.proofs.Costing.{noted_next}

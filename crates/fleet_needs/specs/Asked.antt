@@ -1,7 +1,6 @@
 -- Questions for chains of needs, and their answers.
 use Rattle.std.specs.Prelude.{◌≡◌, ℕ, ◌<◌, ◌≤◌, Bool, true, false, List, length, get_or, slice_get, Some, ◌↔◌}
-use Rattle.fleet_model.specs.Program.{Program}
-use Rattle.fleet_model.specs.Chain.{IsAction, Reaches}
+use Rattle.fleet_needs.specs.Words.{Program, IsAction, Reaches}
 use Rattle.fleet_needs.specs.declared.questions.Question.{Question}
 
 -- the first is of an agent of the program, though it may be beyond the agent's last action, and the last is an action

@@ -1,7 +1,6 @@
 -- The columns of one block, and what its rows answer.
 use Rattle.std.specs.Prelude.{◌≡◌, ℕ, Bool, true, false, List, length, get_or, slice_get, Some, None, ◌⊎◌, ◌↔◌}
-use Rattle.fleet_model.specs.Program.{Program}
-use Rattle.fleet_model.specs.Chain.{Reaches}
+use Rattle.fleet_needs.specs.Words.{Program, Reaches}
 use Rattle.fleet_needs.specs.Columns.{column_of}
 use Rattle.fleet_needs.specs.declared.schedule.Columns.{Columns}
 use Rattle.fleet_needs.specs.declared.questions.Question.{Question}

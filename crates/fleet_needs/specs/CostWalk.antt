@@ -1,10 +1,7 @@
 -- Actions finished in any order that respects needs, and the costs of their critical paths.
 use Rattle.std.specs.Prelude.{◌≡◌, ℕ, ◌+◌, ◌^◌, ◌<◌, ◌≤◌, ◌⊎◌, Bool, true, List, length, set, get_or, slice_index, Vec, Contains}
 use Rattle.std.specs.declared.alloc.Global.{Global}
-use Rattle.fleet_model.specs.declared.program.ActionId.{ActionId}
-use Rattle.fleet_model.specs.declared.program.Await.{Await}
-use Rattle.fleet_model.specs.Program.{Program, moves, awaits_of, awaits_before, agent_awaits, total_moves}
-use Rattle.fleet_model.specs.Chain.{DirectlyNeeds, IsCriticalCost}
+use Rattle.fleet_needs.specs.Words.{ActionId, Await, Program, moves, awaits_of, awaits_before, agent_awaits, total_moves, DirectlyNeeds, IsCriticalCost}
 use Rattle.fleet_needs.specs.Places.{ArePlacesOf}
 use Rattle.fleet_needs.specs.Order.{IsCounted}
 use Rattle.fleet_needs.specs.Critical.{EndsInTime, AreNotedCosts}

@@ -1,9 +1,6 @@
 -- The cost of the critical path of each action, as it is noted.
 use Rattle.std.specs.Prelude.{◌≡◌, ℕ, ◌*◌, ◌≤◌, List, [], length, slice_index}
-use Rattle.fleet_model.specs.declared.program.ActionId.{ActionId}
-use Rattle.fleet_model.specs.Program.{Program, total_moves, AreInRange}
-use Rattle.fleet_model.specs.Machine.{IsFinish}
-use Rattle.fleet_model.specs.Chain.{IsAction, IsCriticalCost}
+use Rattle.fleet_needs.specs.Words.{ActionId, Program, total_moves, AreInRange, IsFinish, IsAction, IsCriticalCost}
 use Rattle.fleet_needs.specs.Places.{ArePlacesOf, place_of_action}
 use Rattle.fleet_needs.specs.Settled.{IsFinishedBy}
 use Rattle.fleet_needs.specs.declared.await_places.ActionPlaces.{ActionPlaces}

@@ -2,10 +2,7 @@
 use Rattle.std.specs.Borrow.{Bor}
 use Rattle.std.proofs.Common.{refl, ◌∙◌}
 use Rattle.std.specs.Prelude.{◌≡◌, true, Option, IfSome, ℕ, ◌+◌, ◌<◌, ◌≤◌, Bool, false, List, length, get_or, set, slice_get, Some, None}
-use Rattle.fleet_model.specs.declared.program.Await.{Await}
-use Rattle.fleet_model.specs.declared.program.ActionId.{ActionId}
-use Rattle.fleet_model.specs.Program.{Program, awaits_of, total_awaits}
-use Rattle.fleet_model.specs.Chain.{IsAction}
+use Rattle.fleet_needs.specs.Words.{Await, ActionId, Program, awaits_of, total_awaits, IsAction}
 use Rattle.fleet_needs.specs.Block.{HasColumn}
 use Rattle.fleet_needs.specs.Columns.{column_of}
 use Rattle.fleet_needs.specs.JoinPass.{IsMade}

@@ -1,9 +1,6 @@
 -- Awaits that others imply, and the places of their flags.
 use Rattle.std.specs.Prelude.{◌≡◌, ◌≢◌, ℕ, ◌+◌, ◌-◌, ◌<◌, ◌≤◌, ◌⊎◌, Bool, true, false, List, length, take, sum_by, slice_index, slice_get, get_or, Some, ◌↔◌}
-use Rattle.fleet_model.specs.declared.program.Await.{Await}
-use Rattle.fleet_model.specs.declared.program.ActionId.{ActionId}
-use Rattle.fleet_model.specs.Program.{Program, actions_of, awaits_of, total_awaits}
-use Rattle.fleet_model.specs.Chain.{IsAction, DirectlyNeeds, Reaches, awaited}
+use Rattle.fleet_needs.specs.Words.{Await, ActionId, Program, actions_of, awaits_of, total_awaits, IsAction, DirectlyNeeds, Reaches, awaited}
 
 -- the awaited action begins a chain that ends with another action that a directly needs
 abbrev pub IsImplied : Program → ActionId → Await → Type 0

@@ -1,7 +1,6 @@
 -- A pass over the rows of a schedule: the row that is next.
 use Rattle.std.specs.Prelude.{◌≡◌, ◌≢◌, ℕ, ◌<◌, ◌≤◌, List, length, slice_index}
-use Rattle.fleet_model.specs.declared.program.ActionId.{ActionId}
-use Rattle.fleet_model.specs.Program.{Program, awaits_of}
+use Rattle.fleet_needs.specs.Words.{ActionId, Program, awaits_of}
 use Rattle.fleet_needs.specs.Block.{HasColumn}
 use Rattle.fleet_needs.specs.Joins.{IsRow}
 use Rattle.fleet_needs.specs.Rows.{IsJoined, OfOthers}

@@ -1,3 +1,4 @@
+pub mod Words
 pub mod Kernels
 pub mod Asked
 pub mod Columns

@@ -1,9 +1,7 @@
 -- Counts of chains, kept as pieces.
 use Rattle.std.specs.Prelude.{◌≡◌, ◌≢◌, ℕ, ◌+◌, ◌-◌, ◌*◌, ◌<◌, ◌≤◌, List, length, min, Contains}
 use Rattle.std.specs.List.Sorted.{IsNonDecreasingBy}
-use Rattle.fleet_model.specs.declared.program.ActionId.{ActionId}
-use Rattle.fleet_model.specs.Program.{Program}
-use Rattle.fleet_model.specs.Chain.{IsAction}
+use Rattle.fleet_needs.specs.Words.{ActionId, Program, IsAction}
 use Rattle.fleet_needs.specs.Rows.{IsColumn}
 use Rattle.fleet_needs.specs.declared.gather.Piece.{Piece}
 use Rattle.fleet_needs.specs.declared.gather.TheConstants.{AGENTS, NUMBERS}

@@ -1,9 +1,6 @@
 -- Rows of counts: for each agent, how many of its actions begin a chain that ends with an action.
 use Rattle.std.specs.Prelude.{◌≡◌, ◌≢◌, ℕ, ◌-◌, ◌<◌, ◌≤◌, ◌↔◌, ◌⊎◌, slice_get, Some}
-use Rattle.fleet_model.specs.declared.program.ActionId.{ActionId}
-use Rattle.fleet_model.specs.declared.program.Await.{Await}
-use Rattle.fleet_model.specs.Program.{Program, awaits_of}
-use Rattle.fleet_model.specs.Chain.{Reaches, awaited}
+use Rattle.fleet_needs.specs.Words.{ActionId, Await, Program, awaits_of, Reaches, awaited}
 
 -- n is the greatest c such that action c of agent j begins a chain that ends with the action, or 0
 abbrev pub IsColumn : Program → ActionId → ℕ → ℕ → Type 0

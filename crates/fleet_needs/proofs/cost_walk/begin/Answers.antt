@@ -1,5 +1,4 @@
-use Rattle.std.proofs.Common.{◌≡◌, ℕ, List, length, replicate, ap, ◌∙◌, arith}
-use Rattle.std.proofs.lemmas.List.{length-replicate}
+use Rattle.fleet_needs.proofs.Words.{◌≡◌, ℕ, List, length, replicate, ap, ◌∙◌, arith, length-replicate}
 use Rattle.fleet_needs.proofs.Walking.{walk_begins}
 use Rattle.fleet_needs.proofs.cost_walk.begin.Goals as goal
 

@@ -1,6 +1,4 @@
-use Rattle.std.proofs.Common.{◌≡◌, ℕ, length}
-use Rattle.std.specs.Prelude.{slice_get, Some}
-use Rattle.fleet_needs.specs.declared.cost_walk.Stage.{Stage}
+use Rattle.fleet_needs.proofs.Words.{◌≡◌, ℕ, length, slice_get, Some, Stage}
 use Rattle.fleet_needs.proofs.Walking.{IsFirstStage}
 use Rattle.fleet_needs.proofs.cost_walk.begin.Given as goal
 

@@ -1,5 +1,4 @@
-use Rattle.std.proofs.Common.{rules, ◌+◌, ◌∙◌, arith, refl}
-use Rattle.fleet_needs.specs.declared.cost_walk.Standing.{Standing}
+use Rattle.fleet_needs.proofs.Words.{rules, ◌+◌, ◌∙◌, arith, refl, Standing}
 use Rattle.fleet_needs.proofs.Walking.{rest_more}
 use Rattle.fleet_needs.proofs.cost_walk.fill.Goals as goal
 

@@ -1,6 +1,4 @@
-use Rattle.std.proofs.Common.{◌≡◌, ◌-◌, ◌<◌, ◌≤◌, ◌^◌, ℕ, length}
-use Rattle.fleet_model.specs.Program.{Program}
-use Rattle.fleet_needs.specs.CostWalk.{Walked, IsCostWalk, IsRow, rested}
+use Rattle.fleet_needs.proofs.Words.{◌≡◌, ◌-◌, ◌<◌, ◌≤◌, ◌^◌, ℕ, length, Program, Walked, IsCostWalk, IsRow, rested}
 use Rattle.fleet_needs.proofs.cost_walk.fill.Given as goal
 
 abbrev pub invariant-loop-come : goal.invariant-loop-come

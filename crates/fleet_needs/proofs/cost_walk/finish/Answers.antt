@@ -1,7 +1,4 @@
-use Rattle.std.proofs.Common.{◌+◌, ℕ, List, set, ap, ◌∙◌, refl, arith}
-use Rattle.fleet_needs.specs.Places.{place_of_action}
-use Rattle.fleet_needs.specs.CostWalk.{after}
-use Rattle.fleet_needs.specs.declared.cost_walk.Stage.{Stage}
+use Rattle.fleet_needs.proofs.Words.{◌+◌, ℕ, List, set, ap, ◌∙◌, refl, arith, place_of_action, after, Stage}
 use Rattle.fleet_needs.proofs.Walking.{costs_here, costs_fit, finished}
 use Rattle.fleet_needs.proofs.cost_walk.finish.Goals as goal
 

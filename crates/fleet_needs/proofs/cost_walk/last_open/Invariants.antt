@@ -1,7 +1,4 @@
-use Rattle.std.proofs.Common.{◌≡◌, ◌<◌, ◌≤◌, ℕ, length, take}
-use Rattle.std.specs.Prelude.{All, get_or}
-use Rattle.fleet_model.specs.declared.program.Await.{Await}
-use Rattle.fleet_needs.specs.CostWalk.{IsGoal, IsOpen}
+use Rattle.fleet_needs.proofs.Words.{◌≡◌, ◌<◌, ◌≤◌, ℕ, length, take, All, get_or, Await, IsGoal, IsOpen}
 use Rattle.fleet_needs.proofs.cost_walk.last_open.Given as goal
 
 abbrev pub invariant-loop-goal : goal.invariant-loop-goal

@@ -1,12 +1,5 @@
-use Rattle.std.proofs.Common.{◌≡◌, ◌+◌, ◌-◌, ◌≤◌, ℕ, slice_index, refl, sym, ap, subst, ◌∙◌, arith}
-use Rattle.std.specs.Prelude.{slice_get, Some}
-use Rattle.std.proofs.lemmas.Option.{slice_get_within, get_or_from_slice_get}
-use Rattle.fleet_model.specs.Program.{awaits_of}
-use Rattle.fleet_model.specs.Chain.{IsCriticalCost, awaited}
-use Rattle.fleet_model.proofs.Totals.{few_awaits_of}
+use Rattle.fleet_needs.proofs.Words.{◌≡◌, ◌+◌, ◌-◌, ◌≤◌, ℕ, slice_index, refl, sym, ap, subst, ◌∙◌, arith, slice_get, Some, slice_get_within, get_or_from_slice_get, awaits_of, IsCriticalCost, awaited, few_awaits_of, IsStage, IsReadyStage, Stage}
 use Rattle.fleet_needs.specs.Order.{IsCounted}
-use Rattle.fleet_needs.specs.CostWalk.{IsStage, IsReadyStage}
-use Rattle.fleet_needs.specs.declared.cost_walk.Stage.{Stage}
 use Rattle.fleet_needs.proofs.Joining.{awaited_action}
 use Rattle.fleet_needs.proofs.Walking.{stage_on, stage_ready, awaits_within}
 use Rattle.fleet_needs.proofs.cost_walk.next_stage.Goals as goal

@@ -1,6 +1,5 @@
-use Rattle.std.proofs.Common.{◌≡◌}
+use Rattle.fleet_needs.proofs.Words.{◌≡◌, IsStage}
 use Rattle.fleet_needs.specs.Order.{IsCounted}
-use Rattle.fleet_needs.specs.CostWalk.{IsStage}
 use Rattle.fleet_needs.proofs.cost_walk.next_stage.Given as goal
 
 abbrev pub invariant-loop-k : goal.invariant-loop-k

@@ -1,7 +1,4 @@
-use Rattle.std.proofs.Common.{refl, sym, subst, arith}
-use Rattle.std.specs.Prelude.{All}
-use Rattle.std.proofs.lemmas.List.Elements.{All-push}
-use Rattle.fleet_needs.specs.CostWalk.{IsGoal}
+use Rattle.fleet_needs.proofs.Words.{refl, sym, subst, arith, All, All-push, IsGoal}
 use Rattle.fleet_needs.proofs.Walking.{goes_on, unmet_goal}
 use Rattle.fleet_needs.proofs.cost_walk.reach.Goals as goal
 

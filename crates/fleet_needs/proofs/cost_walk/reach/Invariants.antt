@@ -1,5 +1,4 @@
-use Rattle.std.specs.Prelude.{All}
-use Rattle.fleet_needs.specs.CostWalk.{IsCostWalk, IsGoal, IsOpen, HaveGrown}
+use Rattle.fleet_needs.proofs.Words.{All, IsCostWalk, IsGoal, IsOpen, HaveGrown}
 use Rattle.fleet_needs.proofs.Walking.{to_go}
 use Rattle.fleet_needs.proofs.cost_walk.reach.Given as goal
 

@@ -1,5 +1,4 @@
-use Rattle.std.proofs.Common.{ℕ, sym, ap, subst, ◌∙◌}
-use Rattle.fleet_needs.specs.CostWalk.{IsCostWalk, gone_on}
+use Rattle.fleet_needs.proofs.Words.{ℕ, sym, ap, subst, ◌∙◌, IsCostWalk, gone_on}
 use Rattle.fleet_needs.proofs.Walking.{stopped}
 use Rattle.fleet_needs.proofs.cost_walk.run_agent.Goals as goal
 

@@ -1,5 +1,4 @@
-use Rattle.std.proofs.Common.{◌-◌, slice_index}
-use Rattle.fleet_needs.specs.CostWalk.{IsCostWalk, HaveGrown}
+use Rattle.fleet_needs.proofs.Words.{◌-◌, slice_index, IsCostWalk, HaveGrown}
 use Rattle.fleet_needs.proofs.cost_walk.run_agent.Given as goal
 
 abbrev pub invariant-loop-alloc : goal.invariant-loop-alloc

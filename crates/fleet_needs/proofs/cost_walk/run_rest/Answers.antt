@@ -1,9 +1,4 @@
-use Rattle.std.proofs.Common.{◌≡◌, ℕ, true, List, length, set, slice_index, sym, ap, subst, ◌∙◌, arith}
-use Rattle.std.proofs.lemmas.List.{with_items_is}
-use Rattle.fleet_needs.specs.CostTable.{costs_of, is_narrow}
-use Rattle.fleet_needs.specs.CostWalk.{IsCostWalk, rested}
-use Rattle.fleet_needs.specs.declared.cost_walk.Stage.{Stage}
-use Rattle.fleet_needs.specs.declared.cost_walk.Standing.{Standing}
+use Rattle.fleet_needs.proofs.Words.{◌≡◌, ℕ, true, List, length, set, slice_index, sym, ap, subst, ◌∙◌, arith, with_items_is, costs_of, is_narrow, IsCostWalk, rested, Stage, Standing}
 use Rattle.fleet_needs.proofs.Walking.{places_within, rest_begins}
 use Rattle.fleet_needs.proofs.cost_walk.run_rest.Goals as goal
 

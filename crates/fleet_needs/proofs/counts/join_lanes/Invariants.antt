@@ -1,5 +1,4 @@
-use Rattle.std.proofs.Common.{◌≡◌, ◌≤◌, ◌-◌, ℕ, length, get_or}
-use Rattle.fleet_needs.specs.Kernels.{AreJoined}
+use Rattle.fleet_needs.proofs.Words.{◌≡◌, ◌≤◌, ◌-◌, ℕ, length, get_or, AreJoined}
 use Rattle.fleet_needs.proofs.counts.join_lanes.Given as goal
 
 abbrev pub invariant-loop-row : goal.invariant-loop-row

@@ -1,5 +1,4 @@
-use Rattle.std.proofs.Common.{◌≡◌, ◌≤◌, ℕ, get_or}
-use Rattle.fleet_needs.specs.Kernels.{AreJoined}
+use Rattle.fleet_needs.proofs.Words.{◌≡◌, ◌≤◌, ℕ, get_or, AreJoined}
 use Rattle.fleet_needs.proofs.counts.join_rows.Given as goal
 
 abbrev pub invariant-loop-k : goal.invariant-loop-k

@@ -1,5 +1,4 @@
-use Rattle.std.proofs.Common.{◌≡◌, ◌-◌, length}
-use Rattle.fleet_needs.specs.Flags.{AreFlaggedTo}
+use Rattle.fleet_needs.proofs.Words.{◌≡◌, ◌-◌, length, AreFlaggedTo}
 use Rattle.fleet_needs.proofs.implied.flag_all.Given as goal
 
 abbrev pub invariant-loop-columns : goal.invariant-loop-columns

@@ -1,11 +1,4 @@
-use Rattle.std.proofs.Common.{◌≡◌, ◌+◌, ℕ, Bool, false, get_or, set, refl, sym, subst, ap, ◌∙◌, arith}
-use Rattle.std.specs.Prelude.{nat_le, slice_index}
-use Rattle.std.proofs.lemmas.List.{set-get_or, length-set}
-use Rattle.std.proofs.lemmas.Option.{same_Some, none-some, slice_get_within, get_or_from_slice_get}
-use Rattle.fleet_model.specs.Program.{awaits_of}
-use Rattle.fleet_needs.specs.Counts.{counts_of}
-use Rattle.fleet_needs.specs.Flags.{flags_of}
-use Rattle.fleet_needs.specs.Implied.{IsImpliedFlag, first_await}
+use Rattle.fleet_needs.proofs.Words.{◌≡◌, ◌+◌, ℕ, Bool, false, get_or, set, refl, sym, subst, ap, ◌∙◌, arith, nat_le, slice_index, set-get_or, length-set, same_Some, none-some, slice_get_within, get_or_from_slice_get, awaits_of, counts_of, flags_of, IsImpliedFlag, first_await}
 use Rattle.fleet_needs.proofs.Flagged.{flagged_of}
 use Rattle.fleet_needs.proofs.Joining.{awaited_action}
 use Rattle.fleet_needs.proofs.RowsMade.{row_of_action}

@@ -1,8 +1,4 @@
-use Rattle.std.proofs.Common.{◌≡◌, ◌+◌, ◌<◌, ℕ, length, subst, arith}
-use Rattle.std.proofs.lemmas.Option.{slice_get_within}
-use Rattle.fleet_model.specs.Program.{awaits_of}
-use Rattle.fleet_needs.specs.Flags.{AreFlagged, flags_of}
-use Rattle.fleet_needs.specs.Implied.{first_await}
+use Rattle.fleet_needs.proofs.Words.{◌≡◌, ◌+◌, ◌<◌, ℕ, length, subst, arith, slice_get_within, awaits_of, AreFlagged, flags_of, first_await}
 use Rattle.fleet_needs.proofs.AwaitOrder.{noted_none, flag_within}
 use Rattle.fleet_needs.proofs.Flagged.{flagged_next}
 use Rattle.fleet_needs.proofs.RowsMade.{row_of_action, row_join, row_need}

@@ -1,5 +1,4 @@
-use Rattle.std.proofs.Common.{◌∙◌, Bool, false, List, get_or, sym, ap}
-use Rattle.fleet_needs.specs.Flags.{flags_of}
+use Rattle.fleet_needs.proofs.Words.{◌∙◌, Bool, false, List, get_or, sym, ap, flags_of}
 use Rattle.fleet_needs.proofs.Flagged.{flagged_if_none, sure_of}
 use Rattle.fleet_needs.proofs.implied.flag_implied.Goals as goal
 

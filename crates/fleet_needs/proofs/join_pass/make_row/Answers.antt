@@ -1,5 +1,4 @@
-use Rattle.std.proofs.Common.{sym, subst}
-use Rattle.fleet_needs.specs.JoinPass.{HasOthers, HasWhole}
+use Rattle.fleet_needs.proofs.Words.{sym, subst, HasOthers, HasWhole}
 use Rattle.fleet_needs.proofs.join_pass.make_row.Goals as goal
 
 pub see_others-requires-clause-others : goal.see_others-requires-clause-others

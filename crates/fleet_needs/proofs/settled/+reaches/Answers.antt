@@ -1,9 +1,4 @@
-use Rattle.std.proofs.Common.{◌≡◌, true, false, length, sym, ap, ◌∙◌, subst, arith, inl, leb-true, le-leb}
-use Rattle.std.specs.Prelude.{Some}
-use Rattle.std.proofs.lemmas.Option.{same_Some}
-use Rattle.fleet_model.specs.Program.{awaits_of}
-use Rattle.fleet_model.specs.Chain.{Reaches}
-use Rattle.fleet_needs.specs.Settled.{finish_tick}
+use Rattle.fleet_needs.proofs.Words.{◌≡◌, true, false, length, sym, ap, ◌∙◌, subst, arith, inl, leb-true, le-leb, Some, same_Some, awaits_of, Reaches, finish_tick}
 use Rattle.fleet_needs.proofs.Joining.{own_first, by_await, step_on}
 use Rattle.fleet_needs.proofs.Settling.{await_of, none_if_low, own_only, apart_more, none_before, none_reached, no_is_not_yes, yes_is_not_no}
 use Rattle.fleet_needs.proofs.settled.+reaches.Goals as goal

@@ -1,8 +1,4 @@
-use Rattle.std.proofs.Common.{sym, ap, ◌∙◌, subst}
-use Rattle.std.proofs.lemmas.Option.{same_Some}
-use Rattle.fleet_model.specs.declared.program.Await.{Await}
-use Rattle.fleet_model.specs.Chain.{awaited}
-use Rattle.fleet_needs.specs.Implied.{IsImplied}
+use Rattle.fleet_needs.proofs.Words.{sym, ap, ◌∙◌, subst, same_Some, Await, awaited, IsImplied}
 use Rattle.fleet_needs.proofs.Settling.{await_of, by_other}
 use Rattle.fleet_needs.proofs.settled.is_implied.Goals as goal
 

@@ -1,7 +1,4 @@
-use Rattle.std.proofs.Common.{◌≡◌, true, false, length, refl, sym, ap, ◌∙◌, subst, arith}
-use Rattle.std.specs.Prelude.{Some}
-use Rattle.fleet_model.specs.Program.{awaits_of}
-use Rattle.fleet_model.specs.Chain.{Reaches}
+use Rattle.fleet_needs.proofs.Words.{◌≡◌, true, false, length, refl, sym, ap, ◌∙◌, subst, arith, Some, awaits_of, Reaches}
 use Rattle.fleet_needs.proofs.Settling.{await_of, apart_but, none_before, by_other, by_own, none_implied}
 use Rattle.fleet_needs.proofs.settled.reaches_other.Goals as goal
 use Rattle.fleet_needs.proofs.settled.reaches_other.Goals.{then-is_other+in-Some-false, then-is_other+in-None, else-is_other}

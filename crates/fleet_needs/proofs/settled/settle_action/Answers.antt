@@ -1,9 +1,4 @@
-use Rattle.std.proofs.Common.{◌≡◌, ◌+◌, ℕ, length, set, subst, ap, ◌∙◌, arith}
-use Rattle.std.proofs.lemmas.List.{length-set}
-use Rattle.fleet_model.specs.Program.{awaits_of}
-use Rattle.fleet_needs.specs.Flags.{flags_of}
-use Rattle.fleet_needs.specs.Implied.{first_await}
-use Rattle.fleet_needs.specs.Settled.{IsSettled, AreSettledTo}
+use Rattle.fleet_needs.proofs.Words.{◌≡◌, ◌+◌, ℕ, length, set, subst, ap, ◌∙◌, arith, length-set, awaits_of, flags_of, first_await, IsSettled, AreSettledTo}
 use Rattle.fleet_needs.proofs.AwaitOrder.{noted_none, noted_next}
 use Rattle.fleet_needs.proofs.Settling.{settled_by, still_settled}
 use Rattle.fleet_needs.proofs.settled.settle_action.Goals as goal

@@ -1,5 +1,4 @@
-use Rattle.fleet_needs.specs.Flags.{AreFlags, flags_of}
-use Rattle.fleet_needs.specs.Settled.{AreSettledTo, AreMoreAsked}
+use Rattle.fleet_needs.proofs.Words.{AreFlags, flags_of, AreSettledTo, AreMoreAsked}
 use Rattle.fleet_needs.proofs.settled.settle_action.Given as goal
 
 abbrev pub invariant-loop-k : goal.invariant-loop-k

@@ -1,6 +1,4 @@
-use Rattle.std.proofs.Common.{◌+◌, arith}
-use Rattle.fleet_needs.specs.Flags.{flags_of}
-use Rattle.fleet_needs.specs.Settled.{IsSettled, IsUpTo}
+use Rattle.fleet_needs.proofs.Words.{◌+◌, arith, flags_of, IsSettled, IsUpTo}
 use Rattle.fleet_needs.proofs.AwaitOrder.{noted_on}
 use Rattle.fleet_needs.proofs.Settling.{still_settled, one_up}
 use Rattle.fleet_needs.proofs.settled.settle_agent.Goals as goal

@@ -1,5 +1,4 @@
-use Rattle.fleet_needs.specs.Flags.{AreFlags, flags_of}
-use Rattle.fleet_needs.specs.Settled.{AreSettledOf, IsUpTo}
+use Rattle.fleet_needs.proofs.Words.{AreFlags, flags_of, AreSettledOf, IsUpTo}
 use Rattle.fleet_needs.proofs.settled.settle_agent.Given as goal
 
 abbrev pub invariant-loop-finished : goal.invariant-loop-finished

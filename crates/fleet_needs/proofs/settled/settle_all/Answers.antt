@@ -1,8 +1,4 @@
-use Rattle.std.proofs.Common.{◌≡◌, ◌+◌, Bool, List, length, sym, subst, ◌∙◌, ap, arith}
-use Rattle.std.specs.Prelude.{drop}
-use Rattle.std.proofs.lemmas.List.{take_at}
-use Rattle.fleet_needs.specs.Flags.{flags_of}
-use Rattle.fleet_needs.specs.Settled.{AreTicks, AreSettledOf, IsUpTo}
+use Rattle.fleet_needs.proofs.Words.{◌≡◌, ◌+◌, Bool, List, length, sym, subst, ◌∙◌, ap, arith, drop, take_at, flags_of, AreTicks, AreSettledOf, IsUpTo}
 use Rattle.fleet_needs.proofs.Settling.{agent_up}
 use Rattle.fleet_needs.proofs.settled.settle_all.Goals as goal
 

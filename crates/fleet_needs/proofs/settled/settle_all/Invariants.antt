@@ -1,6 +1,4 @@
-use Rattle.std.proofs.Common.{◌≡◌, length}
-use Rattle.fleet_needs.specs.Flags.{AreFlags, flags_of}
-use Rattle.fleet_needs.specs.Settled.{AreTicks, AreSettledOf, IsUpTo}
+use Rattle.fleet_needs.proofs.Words.{◌≡◌, length, AreFlags, flags_of, AreTicks, AreSettledOf, IsUpTo}
 use Rattle.fleet_needs.proofs.settled.settle_all.Given as goal
 
 abbrev pub invariant-loop-agent : goal.invariant-loop-agent

@@ -1,5 +1,4 @@
-use Rattle.std.proofs.Common.{◌≡◌, ◌+◌, ◌*◌, ◌<◌, ◌≤◌, ℕ, List, length, slice_index, arith, inl, inr, sym, ap, ◌∙◌, refl}
-use Rattle.fleet_needs.specs.Counts.{counts_of}
+use Rattle.fleet_needs.proofs.Words.{◌≡◌, ◌+◌, ◌*◌, ◌<◌, ◌≤◌, ℕ, List, length, slice_index, arith, inl, inr, sym, ap, ◌∙◌, refl, counts_of}
 use Rattle.fleet_needs.proofs.Counting.{count_read}
 use Rattle.fleet_needs.proofs.Placed.{row_ends, outside}
 use Rattle.fleet_needs.proofs.RowsMade.{rows_more}

@@ -1,0 +1,46 @@
+-- The words that proofs here cite: of std, of programs and chains, and of the specs of this crate.
+pub use Rattle.std.proofs.Common.{◌≡◌, ◌≢◌, ℕ, ◌+◌, ◌-◌, ◌<◌, ◌≤◌, Bool, false, List, length, take, get_or, set, map, refl, sym, ap, subst, ◌∙◌, arith, inl, inr, ◌⊎◌, zero, suc, ◌*◌, [], ◌∷◌, ◌++◌, slice_index, true, rules, ◌%◌, cond, ltb, max, w32, IsTrue, nat_eq, leb-true, le-leb, replicate, ◌^◌, leb}
+pub use Rattle.std.specs.Prelude.{slice_get, Some, sum_by, not, Contains, Option, nat_le, ◌↔◌, None, nat_lt, All, drop}
+pub use Rattle.std.proofs.lemmas.Bool.{cases_eq, cases_order, cases_lt, false≢true, ltb-true, ltb-false, true≢false, lt-ltb, le-ltb, leb-false}
+pub use Rattle.std.proofs.lemmas.Nat.{mul-le}
+pub use Rattle.std.proofs.lemmas.Option.{slice_get_within, get_or_from_slice_get, same_Some, slice_get-get_or, none-some}
+pub use Rattle.std.proofs.lemmas.List.{get_or-map, length-map, get_or-set_same, get_or-set_other, get_or_append_left, get_or_push, length_push, length-set, get_or_read, get_or_past, get_or_default, take-take, set-set, set-get_or, take_all, get_or-replicate, length-replicate, with_items_is, get_or-drop, take_at}
+pub use Rattle.std.proofs.lemmas.List.Elements.{All-contains, All-push, All-set}
+pub use Rattle.std.proofs.lemmas.List.Sums.{sum_by-take-le}
+pub use Rattle.fleet_model.specs.declared.program.ActionId.{ActionId}
+pub use Rattle.fleet_model.specs.declared.program.Await.{Await}
+pub use Rattle.fleet_model.specs.declared.program.Action.{Action}
+pub use Rattle.fleet_model.specs.declared.program.AgentProgram.{AgentProgram}
+pub use Rattle.fleet_model.specs.Program.{Program, actions_of, awaits_of, agent_awaits, total_awaits, AreInRange, IsWellFormed, moves, total_moves, AreAwaits, awaits_before}
+pub use Rattle.fleet_model.specs.Chain.{IsAction, DirectlyNeeds, ChainFrom, IsCriticalCost, Reaches, awaited, IsNumbering}
+pub use Rattle.fleet_model.specs.Machine.{run, is_finished}
+pub use Rattle.fleet_model.proofs.Totals.{awaits_more, actions_more, moves_more, awaits_fit, few_awaits_of}
+pub use Rattle.fleet_model.proofs.Chains.{need_action, ends_alone, ends_dearer, Reaches-last, chain_ends_by_step, Reaches-rises}
+pub use Rattle.fleet_needs.specs.Block.{HasColumn}
+pub use Rattle.fleet_needs.specs.Columns.{AreColumns, BlocksLeft, IsNextBlock, column_of}
+pub use Rattle.fleet_needs.specs.CostTable.{costs_of, is_narrow}
+pub use Rattle.fleet_needs.specs.CostWalk.{Walked, after, next_in, IsGreatestTo, IsStage, IsReadyStage, HasAll, IsCostWalk, HaveGrown, IsUnmet, IsGoal, IsRow, stage_in, no_stage, gone_on, rested, IsOpen}
+pub use Rattle.fleet_needs.specs.Counts.{counts_of, are_narrow, CanHold, AreAlike}
+pub use Rattle.fleet_needs.specs.Critical.{IsNotedCost, EndsInTime, AreNotedCosts, value_at}
+pub use Rattle.fleet_needs.specs.Flags.{AreSure, AreSureIf, IsFirstSet, IsPassed, AreSet, AreFlags, IsFlagged, IsFlaggedAt, AreFlagged, AreFlaggedFor, IsLeft, AreLeft, AreAllFlagged, AreAwaitFlags, AreFlaggedTo, AreImplied, flags_of}
+pub use Rattle.fleet_needs.specs.Gather.{raised, IsNoted, IsPairAt, HasSamePieces, link_at, no_link, AreLinked, IsWithin, AreOthersSame, AreBelow, IsLinkedBefore, IsLinkedAt, IsOfBlock, AreChosen, AreEnds, IsNotedTo, IsGathering, GoesOn, IsOpenPiece, IsNone}
+pub use Rattle.fleet_needs.specs.Implied.{EachFlag, AreNoted, first_await, IsImplied, IsImpliedFlag}
+pub use Rattle.fleet_needs.specs.JoinPass.{AreOthers, IsMade, IsJoinRow, HasOthers, HasWhole}
+pub use Rattle.fleet_needs.specs.Kernels.{AreJoined}
+pub use Rattle.fleet_needs.specs.Pieces.{IsOf, IsTold, AreTold, key_of, AreSorted, IsLatest, AreLater, count_by}
+pub use Rattle.fleet_needs.specs.Places.{ArePlaces, action_place, ArePlacesOf, place_of_action}
+pub use Rattle.fleet_needs.specs.Rows.{IsColumn, IsJoined, OfFirst, OfOthers, OfOthersOrFirst, action_before, ByOneOf}
+pub use Rattle.fleet_needs.specs.Settled.{IsFinishedBy, AreSettled, IsSettled, AreSettledOf, AreMoreAsked, IsUpTo, finish_tick, AreSettledTo, AreTicks}
+pub use Rattle.fleet_needs.specs.declared.schedule.Columns.{Columns}
+pub use Rattle.fleet_needs.specs.declared.schedule.Schedule.{Schedule}
+pub use Rattle.fleet_needs.specs.declared.gather.Piece.{Piece}
+pub use Rattle.fleet_needs.specs.declared.gather.Link.{Link}
+pub use Rattle.fleet_needs.specs.declared.gather.Gathering.{Gathering}
+pub use Rattle.fleet_needs.specs.declared.gather.TheConstants.{AGENTS, NUMBERS}
+pub use Rattle.fleet_needs.specs.declared.cost_walk.Stage.{Stage}
+pub use Rattle.fleet_needs.specs.declared.cost_walk.Standing.{Standing}
+pub use Rattle.fleet_needs.specs.declared.critical.TheConstants.{MAX_COST}
+pub use Rattle.fleet_needs.specs.declared.join_pass.JoinRow.{JoinRow}
+pub use Rattle.fleet_needs.specs.declared.join_pass.SlotRows.{SlotRows}
+pub use Rattle.fleet_needs.specs.declared.counts.Counts.{Counts}
+pub use Rattle.fleet_needs.specs.declared.implied.ImpliedAwaits.{ImpliedAwaits}

@@ -17,12 +17,12 @@ use Rattle.fleet_model.specs.Schedule.{Schedule, IsSchedule, HasBegunBy, HasEnde
 use Rattle.fleet_model.proofs.Chains.{chain_first, chain_last, chain_join, own_reach, Reaches-trans, ends_dearer, need_action, Reaches-need, Reaches-refl}
 use Rattle.fleet_needs.proofs.Costing.{one_cost, own_cost}
 use Rattle.fleet_needs.proofs.Free.{but_last}
-use Rattle.fleet_verify.proofs.Timed.{ends_in_time, needs_unended, by_or_not}
+use Rattle.fleet_verify.proofs.Timed.{critical, ends_in_time, needs_unended, by_or_not}
 use Rattle.fleet_needs.specs.Critical.{critical_cost}
 use Rattle.fleet_verify.specs.Ahead.{level_in}
 use Rattle.fleet_verify.specs.declared.times.Ends.{Ends}
 use Rattle.fleet_verify.specs.declared.times.Ends.TheVariants.{Costs, Levels}
-use Rattle.fleet_verify.specs.Times.{AreEnds, HaveArrivedAt, IsLatest, IsLater, IsAwaitedUntil, IsNeedUntil, LeadsBack, IsWayTo, IsStretchTo, of_agent, IsPathOfCost, IsCriticalPath, IsFreeTo, AreReached, StopsOthers, is_broken, broken_cost, last_action}
+use Rattle.fleet_verify.specs.Times.{AreEnds, HaveArrivedAt, IsLatest, IsLater, IsAwaitedUntil, IsNeedUntil, LeadsBack, IsWayTo, IsStretchTo, of_agent, IsPathOfCost, IsCriticalPath, EachFits, IsFreeTo, EachFreeTo, AreReached, StopsOthers, is_broken, broken_cost, last_action}
 use Rattle.fleet_verify.specs.Stretch.{first_of, stretch_actions, stretch_between, path_actions}
 use Rattle.fleet_verify.specs.declared.stretch.Stretch.{Stretch}
 use Rattle.fleet_verify.specs.declared.times.TheConstants.{LONGEST}
@@ -325,32 +325,30 @@ pub way_action : (p : Program) (cost : ActionId → ℕ) (last : ActionId) (tota
 way_action p cost last total path first end h = chain_first p first h.rest last h.chain
 
 -- the counts of free first actions are those that are reached
-pub reached_of : (p : Program) (breaks : List ℕ) → ((b : ActionId) → IsAction p b → (m : ℕ) × IsCriticalCost p (broken_cost breaks) b m) → (counts : List ℕ) → length counts ≡ length p
-    → ((i : ℕ) → i < length p → IsFreeTo p (broken_cost breaks) i (get_or counts i 0)) → AreReached p breaks counts
-reached_of p breaks cost_of counts all free = record {
-  all = all;
+pub reached_of : (p : Program) → AreInRange p → (number : ActionId → ℕ) → IsNumbering p number → (breaks counts : List ℕ) → EachFreeTo p (broken_cost breaks) counts → AreReached p breaks counts
+reached_of p range number numbered breaks counts free = record {
+  all = free.all;
   within = λ i. elim (cases_lt i (length p)) [
-    | inl l ↦ (free i l).within
-    | inr l ↦ (let none : get_or counts i 0 ≡ 0 = get_or_past counts i 0 (omega (arith, l, all)) in omega (arith, none))
+    | inl l ↦ (free.each i l).within
+    | inr l ↦ (let none : get_or counts i 0 ≡ 0 = get_or_past counts i 0 (omega (arith, l, free.all)) in omega (arith, none))
   ];
-  each = λ b act. free_reached p breaks cost_of b.agent (get_or counts b.agent 0) (free b.agent act.agent) b act refl;
+  each = λ b act. free_reached p breaks (critical p (broken_cost breaks) range number numbered) b.agent (get_or counts b.agent 0) (free.each b.agent act.agent) b act refl;
 }
 
--- one number more, of which the same is true
-pub each_more : (P : ℕ → ℕ → Type 0) (numbers : List ℕ) (i r : ℕ) → length numbers ≡ i → ((j : ℕ) → j < i → P j (get_or numbers j 0)) → P i r
-    → (more : List ℕ) → more ≡ numbers ++ r ∷ [] → (length more ≡ i + 1) × ((j : ℕ) → j < i + 1 → P j (get_or more j 0))
-each_more P numbers i r all each here more is = (
-  ap (λ (xs : List ℕ). length xs) is ∙ length_push numbers r ∙ ap (λ n. n + 1) all,
-  λ j l. elim (cases_lt j i) [
+-- one entry more
+pub each_more : (Fits : ℕ → ℕ → Type 0) (entries : List ℕ) (i r : ℕ) → EachFits Fits i entries → Fits i r → (more : List ℕ) → more ≡ entries ++ r ∷ [] → EachFits Fits (i + 1) more
+each_more Fits entries i r h here more is = record {
+  all = ap (λ (xs : List ℕ). length xs) is ∙ length_push entries r ∙ ap (λ n. n + 1) h.all;
+  each = λ j l. elim (cases_lt j i) [
     | inl s ↦
-        let e : get_or numbers j 0 ≡ get_or more j 0 = sym (ap (λ (xs : List ℕ). get_or xs j 0) is ∙ get_or_append_left numbers (r ∷ []) 0 j (omega (arith, s, all))) in
-        subst (P j) e (each j s)
+        let e : get_or entries j 0 ≡ get_or more j 0 = sym (ap (λ (xs : List ℕ). get_or xs j 0) is ∙ get_or_append_left entries (r ∷ []) 0 j (omega (arith, s, h.all))) in
+        subst (Fits j) e (h.each j s)
     | inr s ↦
         let same : i ≡ j = omega (arith, s, l) in
-        let e : r ≡ get_or more j 0 = sym (ap (λ (xs : List ℕ). get_or xs j 0) is ∙ get_or_push numbers r 0 j (omega (arith, s, l, all))) in
-        subst (P j) e (subst (λ n. P n r) same here)
-  ],
-)
+        let e : r ≡ get_or more j 0 = sym (ap (λ (xs : List ℕ). get_or xs j 0) is ∙ get_or_push entries r 0 j (omega (arith, s, l, h.all))) in
+        subst (Fits j) e (subst (λ n. Fits n r) same here)
+  ];
+}
 
 -- ---- how many agents do not arrive
 

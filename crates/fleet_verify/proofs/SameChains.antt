@@ -1,6 +1,7 @@
 -- Programs with the same chains, and those of them with the fewest awaits.
 use Rattle.std.proofs.Common.{◌≡◌, ℕ, zero, suc, ◌+◌, ◌<◌, ◌≤◌, List, [], ◌∷◌, length, map, take, drop, get_or, Option, Some, None, refl, sym, ap, ap₂, ◌∙◌, arith, Bool, true, false, cond, not, ◌&&◌, ◌++◌, subst, inl, inr, ◌≢◌}
 use Rattle.std.specs.Prelude.{slice_get, option_map, false, if◌then◌else◌, Contains, ◌⊎◌, Option}
+use Rattle.std.specs.Cmp.{both_ways}
 use Rattle.std.specs.Option.{option_map_or}
 use Rattle.std.proofs.lemmas.List.{length-map, ext_get_or, take-map, drop-map, length-append}
 use Rattle.std.proofs.lemmas.Option.{slice_get-map, slice_get_past}
@@ -41,13 +42,11 @@ action_there p q h a k =
     let g : a.number ≤ moves p a.agent = k.last in
     record { agent = omega arith; first = k.first; last = omega arith }
 
+pub alike_back : (p q : Program) → DiffersInAwaits p q → DiffersInAwaits q p
+alike_back p q h = record { agents = sym h.agents; starts = λ i. sym (h.starts i); goals = λ i. sym (h.goals i); steps = λ i. sym (h.steps i) }
+
 pub action_back : (p q : Program) → DiffersInAwaits p q → (a : ActionId) → IsAction q a → IsAction p a
-action_back p q h a k =
-    let n : length q ≡ length p = h.agents in
-    let m : moves q a.agent ≡ moves p a.agent = same_moves p q h a.agent in
-    let l : a.agent < length q = k.agent in
-    let g : a.number ≤ moves q a.agent = k.last in
-    record { agent = omega arith; first = k.first; last = omega arith }
+action_back p q h = action_there q p (alike_back p q h)
 
 -- an action moves its agent by its step alone
 finished_same : (s : Standing) (o u : Option Action) → option_map (λ a. a.step) o ≡ option_map (λ a. a.step) u → finished_one s o ≡ finished_one s u
@@ -137,12 +136,7 @@ visit_there p q h x v k =
     record { agent = omega arith; position = omega arith; entered = entry_there p q h v.agent v.position ∙ k.entered; place = path_there p q h v.agent v.position ∙ k.place }
 
 pub visit_back : (p q : Program) → DiffersInAwaits p q → (x : Place) (v : Visit) → IsVisitOf q x v → IsVisitOf p x v
-visit_back p q h x v k =
-    let n : length q ≡ length p = h.agents in
-    let m : moves q v.agent ≡ moves p v.agent = same_moves p q h v.agent in
-    let l : v.agent < length q = k.agent in
-    let g : v.position ≤ moves q v.agent = k.position in
-    record { agent = omega arith; position = omega arith; entered = sym (entry_there p q h v.agent v.position) ∙ k.entered; place = sym (path_there p q h v.agent v.position) ∙ k.place }
+visit_back p q h = visit_there q p (alike_back p q h)
 
 pub lists_there : (p q : Program) → DiffersInAwaits p q → (x : Place) (l : List Visit) → ListsVisits p x l → ListsVisits q x l
 lists_there p q h x l k = record {
@@ -153,7 +147,7 @@ lists_there p q h x l k = record {
 
 pub turned : (p q : Program) → HaveSameChains p q → HaveSameChains q p
 turned p q h = record {
-  rest = record { agents = sym h.rest.agents; starts = λ i. sym (h.rest.starts i); goals = λ i. sym (h.rest.goals i); steps = λ i. sym (h.rest.steps i) };
+  rest = alike_back p q h.rest;
   chains = λ a b. ((h.chains a b).1, (h.chains a b).0);
 }
 
@@ -261,14 +255,9 @@ ready_over p q range h holds t i r = ready_from q c i (record { left = left; met
           | inr done ↦ done
         ]
 
-same_test : (a b : Bool) → (a ≡ true → b ≡ true) → (b ≡ true → a ≡ true) → a ≡ b
-same_test true b f g = sym (f refl)
-same_test false true f g = g refl
-same_test false false f g = refl
-
 ready_same : (p q : Program) → AreInRange p → AreInRange q → HaveSameChains p q → (holds : Holds) (t : ℕ) → run p holds t ≡ run q holds t → (i : ℕ) → is_ready q (run p holds t) i ≡ is_ready p (run p holds t) i
 ready_same p q range range' h holds t e i =
-    same_test (is_ready q (run p holds t) i) (is_ready p (run p holds t) i)
+    both_ways (is_ready q (run p holds t) i) (is_ready p (run p holds t) i)
     (λ r. subst (λ c. is_ready p c i ≡ true) (sym e) (ready_over q p range (turned p q h) holds t i (subst (λ c. is_ready q c i ≡ true) e r)))
     (λ r. ready_over p q range' h holds t i r)
 

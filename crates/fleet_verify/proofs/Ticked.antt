@@ -1,39 +1,34 @@
 -- Runs in ticks are schedules.
-use Rattle.std.proofs.Common.{◌≡◌, ℕ, zero, suc, ◌+◌, ◌-◌, ◌<◌, ◌≤◌, Bool, true, false, not, ◌&&◌, ◌||◌, cond, length, Option, Some, None, nat_le, refl, ap, sym, ◌∙◌, subst, arith, add-one, inl, inr, ◌⊎◌, leb-true, leb-false, le-leb}
+use Rattle.std.proofs.Common.{◌≡◌, ℕ, zero, suc, ◌+◌, ◌-◌, ◌<◌, ◌≤◌, Bool, true, false, cond, length, Option, Some, None, nat_le, refl, ap, sym, ◌∙◌, subst, arith, add-one, inl, inr, ◌⊎◌, leb-true, leb-false, le-leb}
 use Rattle.std.specs.Prelude.{option_map, Contains, ◌↔◌}
-use Rattle.std.specs.List.{list_any}
 use Rattle.std.proofs.lemmas.Bool.{cases_lt, cases_order}
 use Rattle.std.proofs.lemmas.Option.{same_Some}
 use Rattle.fleet_model.specs.declared.geometry.Place.{Place}
 use Rattle.fleet_model.specs.declared.program.ActionId.{ActionId}
 use Rattle.fleet_model.specs.Program.{Program, moves, path, awaits_of, AreInRange}
-use Rattle.fleet_model.specs.Machine.{Configuration, Holds, is_held, run, count_at, place_at, is_ready, is_finished, is_over, indices, IsLeast, IsDone, IsDue}
+use Rattle.fleet_model.specs.Machine.{Configuration, Holds, is_held, run, count_at, place_at, is_ready, is_over, IsLeast, IsDone, IsDue}
 use Rattle.fleet_model.specs.Claims.{Claims, MayBeOn}
 use Rattle.fleet_model.specs.Geometry.{stepped}
 use Rattle.fleet_model.specs.Chain.{IsAction}
 use Rattle.fleet_model.proofs.Tick.{ready_left, path_more}
 use Rattle.fleet_model.specs.Schedule.{Schedule, IsBy, HasBegunBy, HasEndedBy, IsSchedule, MayBeOnAt}
 use Rattle.fleet_model.specs.RunSchedule.{IsFinishedIn, IsScheduleOf, BeginsWhenDue, TakesOneTick}
-use Rattle.fleet_verify.proofs.RunCounts.{counts, readies, run_counts, run_place, count_opening, count_past, any_below, finished_all, grows, first_passing, first_is, run_ends}
+use Rattle.fleet_verify.proofs.RunCounts.{counts, readies, run_counts, run_place, count_opening, count_past, grows, first_passing, first_is, run_ends}
 use Rattle.fleet_verify.proofs.Finish.{count_within, needs_of_ready}
 use Rattle.fleet_verify.proofs.Claimed.{order_says, ready_lasts, still_claims}
 use Rattle.fleet_verify.proofs.Waiting.{ready_says, ready_from}
+use Rattle.fleet_verify.proofs.UnderWay.{ready_not_over}
 use Rattle.fleet_verify.proofs.Timed.{by_later}
 use Rattle.fleet_model.proofs.Chains.{need_action}
 
 -- ---- a run that is over stays as it is
 
 over_unready : (p : Program) (c : Configuration) → is_over p c ≡ true → (i : ℕ) → i < length p → is_ready p c i ≡ false
-over_unready p c e i h = go (is_finished p c) (list_any (is_ready p c) (indices (length p))) refl refl e
+over_unready p c e i h = go (is_ready p c i) refl
   where
-    unready : (b : Bool) → is_ready p c i ≡ b → moves p i ≤ count_at c i → is_ready p c i ≡ false
-    unready false e all = e
-    unready true e all = absurd (omega (arith, all, ready_left p c i e))
-
-    go : (f a : Bool) → is_finished p c ≡ f → list_any (is_ready p c) (indices (length p)) ≡ a → (f || (not f && not a)) ≡ true → is_ready p c i ≡ false
-    go true a is s e = unready (is_ready p c i) refl (finished_all p c is i h)
-    go false false is s e = any_below (is_ready p c) (length p) i h s
-    go false true is s e = absurd cc
+    go : (b : Bool) → is_ready p c i ≡ b → is_ready p c i ≡ false
+    go false r = r
+    go true r = absurd (let n = ready_not_over p c i h r in cc)
 
 module _ (p : Program) (holds : Holds) where
   pub count_up : (s t i : ℕ) → s ≤ t → count_at (run p holds s) i ≤ count_at (run p holds t) i

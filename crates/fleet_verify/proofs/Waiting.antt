@@ -1,5 +1,5 @@
 -- When an agent is ready, who waits, and for whom.
-use Rattle.std.proofs.Common.{◌≡◌, ℕ, suc, ◌<◌, ◌≤◌, Bool, true, false, length, refl, ap, arith, inl, inr, ◌+◌, List, [], ◌∷◌, ◌++◌, take, get_or, slice_index, Some, sym, ◌∙◌, subst, ◌≢◌, zero, ◌-◌, IsTrue, reverse, not}
+use Rattle.std.proofs.Common.{◌≡◌, ℕ, suc, ◌<◌, ◌≤◌, Bool, true, false, length, refl, ap, arith, inl, inr, ◌+◌, List, [], ◌∷◌, ◌++◌, take, get_or, slice_index, Some, sym, ◌∙◌, subst, ◌≢◌, zero, ◌-◌, IsTrue, reverse, not, Option, None, IfSome, IfNone, is_none, unwrap_or, ◌↔◌}
 use Rattle.std.specs.Prelude.{Contains, ◌⊎◌, slice_get}
 use Rattle.fleet_model.specs.declared.standing.Standing.{Standing}
 use Rattle.fleet_model.specs.declared.program.Await.{Await}
@@ -15,7 +15,7 @@ use Rattle.fleet_model.specs.declared.program.ActionId.{ActionId}
 use Rattle.fleet_model.specs.Chain.{IsAction, DirectlyNeeds}
 use Rattle.fleet_verify.proofs.Members.{same_action}
 use Rattle.fleet_verify.specs.Ring.{IsToldRing, IsActionUpTo}
-use Rattle.fleet_verify.specs.Blocked.{nth, IsBlocked, want_at, AreWants, next_of, need_of, WaitsBack, IsLeastBack, down_from}
+use Rattle.fleet_verify.specs.Blocked.{nth, IsBlocked, IsUnmet, want_at, AreWants, next_of, need_of, WaitsBack, IsLeastBack, down_from}
 use Rattle.std.proofs.lemmas.List.FromFn.{get_or-map-range_with_len, length-map-range_with_len}
 use Rattle.fleet_model.proofs.Pigeon.{IsRepeat, repeated}
 use Rattle.std.specs.List.{list_any}
@@ -93,10 +93,17 @@ ready_yes p counts i l k n h = record {
   met = λ w (m, g, e). h m w (omega arith) (slice_get-get_or (awaits_of p i (slice_index counts i + 1)) m w g ∙ ap Some e);
 }
 
-pub ready_no : (p : Program) (counts : List ℕ) (i k : ℕ) (w : Await) → slice_get (awaits_of p i (slice_index counts i + 1)) k ≡ Some w → slice_index counts w.agent < w.count → IsReadyBy p counts i → ⊥
-ready_no p counts i k w e l r =
-    let h : w.count ≤ slice_index counts w.agent = r.met w (k, slice_get_within (awaits_of p i (slice_index counts i + 1)) k w e, get_or_from_slice_get (awaits_of p i (slice_index counts i + 1)) k w w e) in
-    omega arith
+-- an agent with an action left is ready exactly if no await of it is found that is not met
+pub none_unmet : (p : Program) (counts : List ℕ) (i : ℕ) (o : Option Await) → slice_index counts i < moves p i → IfSome o (IsUnmet p counts i)
+    → IfNone o (slice_index counts i < moves p i → IsReadyBy p counts i) → IsTrue (is_none o) ↔ IsReadyBy p counts i
+none_unmet p counts i None left some none = (λ t. none left, λ r. refl)
+none_unmet p counts i (Some w) left some none = (λ t. absurd cc, λ r. absurd (omega (arith, r.met w some.awaited, some.unmet)))
+
+-- what is found for one that waits
+pub unmet_found : (p : Program) (counts : List ℕ) (i : ℕ) (o : Option Await) (d : Await) → IfSome o (IsUnmet p counts i)
+    → IfNone o (slice_index counts i < moves p i → IsReadyBy p counts i) → (IsReadyBy p counts i → ⊥) → IsBlocked p counts i → IsUnmet p counts i (unwrap_or o d)
+unmet_found p counts i None d some none stuck b = absurd (stuck (none b.left))
+unmet_found p counts i (Some w) d some none stuck b = some
 
 -- readiness by counts is that of the configuration
 pub ready_by : (p : Program) (c : Configuration) (counts : List ℕ) → AreCounts c counts → (i : ℕ) → IsReadyTo p c i → IsReadyBy p counts i

@@ -37,10 +37,14 @@ pub record ArrivesAt (p : Program) (cost : ActionId → ℕ) (i m : ℕ) : Type 
   pub stays : moves p i ≡ 0 → m ≡ 0
   pub moves_last : 1 ≤ moves p i → IsCriticalCost p cost (last_action p i) m
 
+-- each of the first n agents has an entry, which fits it
+pub record EachFits (Fits : ℕ → ℕ → Type 0) (n : ℕ) (entries : List ℕ) : Type 0 where
+  pub all : length entries ≡ n
+  pub each : (i : ℕ) → i < n → Fits i (get_or entries i 0)
+
 -- each agent arrives at its time at the soonest
-pub record EachArrivesAt (p : Program) (cost : ActionId → ℕ) (arrivals : List ℕ) : Type 0 where
-  pub all : length arrivals ≡ length p
-  pub each : (i : ℕ) → i < length p → ArrivesAt p cost i (get_or arrivals i 0)
+abbrev pub EachArrivesAt : Program → (ActionId → ℕ) → List ℕ → Type 0
+EachArrivesAt p cost arrivals = EachFits (ArrivesAt p cost) (length p) arrivals
 
 -- all have arrived at m at the soonest: when the dearest chain ends, or at once if there are no actions
 pub record HaveArrivedAt (p : Program) (cost : ActionId → ℕ) (m : ℕ) : Type 0 where
@@ -161,3 +165,7 @@ pub record IsFreeTo (p : Program) (cost : ActionId → ℕ) (i n : ℕ) : Type 0
   pub within : n ≤ moves p i
   pub free : (m : ℕ) → 1 ≤ m → m ≤ n → IsCriticalCost p cost (record { agent = i; number = m }) 0
   pub next : n < moves p i → (k : ℕ) × (1 ≤ k) × IsCriticalCost p cost (record { agent = i; number = n + 1 }) k
+
+-- it is so of each agent
+abbrev pub EachFreeTo : Program → (ActionId → ℕ) → List ℕ → Type 0
+EachFreeTo p cost counts = EachFits (IsFreeTo p cost) (length p) counts

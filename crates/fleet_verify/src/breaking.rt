@@ -14,6 +14,7 @@ ghost use Rattle.fleet_model.specs.Breaking.{AreBreakingHolds, MeetOn};
 ghost use Rattle.fleet_verify.specs.Needed.{AreNeeded};
 
 use crate::needed::{needed_for, zeros};
+use crate::ring::unmet;
 use fleet_model::{OutOfMemory, ProgramView, Visit, total_moves};
 use std::alloc::Global;
 
@@ -92,26 +93,13 @@ fn run_tick<P: ProgramView>(
 }
 
 /// Whether an agent, by these counts of finished actions, has an action left, each await of which is met.
+#[tactic(auto, using(crate::proofs::Waiting::none_unmet))]
 fn is_ready<P: ProgramView>(program: &P, counts: &[u32], i: u16) -> bool
     requires agent { i < length (P.program program.now) }
     requires counts { length counts.now ≡ length (P.program program.now) }
     ensures { IsTrue result ↔ IsReadyBy (P.program program.now) counts.now i }
 {
-    let agents = program.agents();
-    let done = counts[i as usize];
-    if done >= program.moves(i) {
-        return false;
-    }
-    let number = done + 1;
-    for k in 0..program.await_count(i, number) {
-        let awaited = program.await_at(i, number, k);
-        prove!(awaited.agent < agents);
-        let is_short = counts[awaited.agent as usize] < awaited.count;
-        if is_short {
-            return false;
-        }
-    }
-    true
+    counts[i as usize] < program.moves(i) && unmet(program, counts, i).is_none()
 }
 
 /// Whether an agent has an action left, and the next one is not needed.

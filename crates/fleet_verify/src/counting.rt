@@ -1,18 +1,10 @@
-//! Levels and rows of counts. These functions do nothing: their contracts are the laws.
+//! Rows of counts. This function does nothing: its contract is the law.
 
 ghost use Rattle.std.specs.Prelude.{ℕ};
 ghost use Rattle.fleet_model.specs.declared.program.ActionId.{ActionId};
 ghost use Rattle.fleet_model.specs.Program.{Program};
 ghost use Rattle.fleet_model.specs.Chain.{IsAction, DirectlyNeeds};
-ghost use Rattle.fleet_verify.specs.Listing.{AreLevels};
-ghost use Rattle.fleet_verify.specs.Rows.{IsCountedUp, IsRow, IsRowOfNeeds};
-
-/// Levels are found by counting up: an action's level is 1, or one more than that of an action that it directly needs,
-/// and above those of all of them.
-pub fn levels_are_counted_up()
-    ensures { (p : Program) (level : ActionId → ℕ) →
-        ((a : ActionId) → IsAction p a → IsCountedUp p level a) → AreLevels p level }
-{}
+ghost use Rattle.fleet_verify.specs.Rows.{IsRow, IsRowOfNeeds};
 
 /// The row of an action is made of the rows of the actions that it directly needs.
 pub fn rows_are_joined()

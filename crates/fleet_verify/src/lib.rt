@@ -65,7 +65,7 @@ mod verifier;
 
 pub use ahead_laws::{begun_visits_are_orderly, counted_levels_are_levels};
 pub use breaking::breaking_holds;
-pub use counting::{levels_are_counted_up, rows_are_joined};
+pub use counting::rows_are_joined;
 pub use covers::row_covers;
 pub use exactness::{
     acceptance_is_exact, breaking_holds_are_one_list, breaking_holds_by_rows,

@@ -1,6 +1,6 @@
 //! A ring of actions of which each needs the one before, in a run without holds that is stuck.
 
-ghost use Rattle.std.specs.Prelude.{◌≡◌, ◌<◌, ◌≤◌, ◌+◌, ◌-◌, ◌++◌, ◌↔◌, ℕ, length, IsTrue, IfOk, OnOk};
+ghost use Rattle.std.specs.Prelude.{◌≡◌, ◌<◌, ◌≤◌, ◌+◌, ◌-◌, ◌++◌, ◌↔◌, ℕ, length, slice_index, IsTrue, IfSome, IfNone, IfOk, OnOk};
 ghost use Rattle.fleet_model.specs.Program.{moves};
 ghost use Rattle.fleet_model.specs.Machine.{is_stuck};
 ghost use Rattle.fleet_machine.specs.Machine.{Runs};
@@ -70,34 +70,35 @@ fn all_wants<P: ProgramView>(
 {
     let mut wants = Vec::new(alloc);
     for i in 0..program.agents() {
-        let want = if counts[i as usize] < program.moves(i) {
-            unmet(program, counts, i)
-        } else {
-            Await::default()
-        };
+        let want = unmet(program, counts, i).unwrap_or(Await { agent: 0, count: 0 });
         wants.push(want)?;
     }
     Ok(wants)
 }
 
-/// The first await of an agent's next action that is not met.
-fn unmet<P: ProgramView>(program: &P, counts: &[u32], i: u16) -> Await
-    requires blocked { IsBlocked (P.program program.now) counts.now i }
+/// The first await of an agent's next action that is not met, if it has one.
+pub fn unmet<P: ProgramView>(program: &P, counts: &[u32], i: u16) -> Option<Await>
+    requires agent { i < length (P.program program.now) }
     requires counts { length counts.now ≡ length (P.program program.now) }
-    requires stuck { IsReadyBy (P.program program.now) counts.now i → ⊥ }
-    ensures { IsUnmet (P.program program.now) counts.now i result }
+    ensures some { IfSome result (IsUnmet (P.program program.now) counts.now i) }
+    ensures none { IfNone result (slice_index counts.now i < moves (P.program program.now) i
+        → IsReadyBy (P.program program.now) counts.now i) }
 {
     let agents = program.agents();
-    let number = counts[i as usize] + 1;
+    let done = counts[i as usize];
+    if done >= program.moves(i) {
+        return None;
+    }
+    let number = done + 1;
     for k in 0..program.await_count(i, number) {
         let awaited = program.await_at(i, number, k);
         prove!(awaited.agent < agents);
         let is_short = counts[awaited.agent as usize] < awaited.count;
         if is_short {
-            return awaited;
+            return Some(awaited);
         }
     }
-    unreachable!()
+    None
 }
 
 /// The least agent whose waiting leads back to it.

@@ -61,12 +61,7 @@ pub fn reached_counts<P: ProgramView>(
 {
     schedules_end_in_time();
     let costs = Breaks { numbers: breaks };
+    let _ = accepted.chain();
     let times = Times::of(alloc, accepted, &costs)?;
-    let program = accepted.program();
-    let agents = program.agents();
-    let mut counts = Vec::with_capacity(alloc, usize::from(agents))?;
-    for i in 0..agents {
-        counts.push(times.free_count(i))?;
-    }
-    Ok(counts)
+    times.free_counts(alloc)
 }

@@ -6,7 +6,7 @@ ghost use Rattle.fleet_model.specs.declared.program.ActionId.{ActionId};
 ghost use Rattle.fleet_verify.specs.declared.times.TheConstants.{LONGEST};
 ghost use Rattle.fleet_model.specs.Program.{moves, AreInRange};
 ghost use Rattle.fleet_model.specs.Chain.{IsAction, IsCriticalCost};
-ghost use Rattle.fleet_verify.specs.Times.{ArrivesAt, EachArrivesAt, HaveArrivedAt, IsCriticalPath, IsLatest, IsLater, LeadsBack, IsAwaitedUntil, IsOwnUntil, FollowsOwn, IsNeedUntil, IsFreeTo, IsWayTo, IsStretchTo, IsWholeTo, of_agent};
+ghost use Rattle.fleet_verify.specs.Times.{ArrivesAt, EachArrivesAt, HaveArrivedAt, IsCriticalPath, IsLatest, IsLater, LeadsBack, IsAwaitedUntil, IsOwnUntil, FollowsOwn, IsNeedUntil, IsFreeTo, EachFreeTo, IsWayTo, IsStretchTo, IsWholeTo, of_agent};
 ghost use Rattle.fleet_verify.specs.Stretch.{first_of, stretch_actions, path_actions};
 
 use crate::kept_levels::Levels;
@@ -208,6 +208,19 @@ impl<'a, P: ProgramView, C: ActionCosts> Times<'a, P, C> {
             }
         }
         moves
+    }
+
+    /// The same of each agent. It fails only if memory is refused.
+    pub(crate) fn free_counts(&self, alloc: Global) -> Result<Vec<u32>, OutOfMemory>
+        ensures { IfOk result (λ counts. EachFreeTo
+            (P.program self.now.program) (C.cost self.now.costs) counts.items) }
+    {
+        let agents = self.program.agents();
+        let mut counts = Vec::with_capacity(alloc, usize::from(agents))?;
+        for i in 0..agents {
+            counts.push(self.free_count(i))?;
+        }
+        Ok(counts)
     }
 
     /// When all agents have arrived. Takes no memory.

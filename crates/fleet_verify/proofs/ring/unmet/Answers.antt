@@ -8,17 +8,16 @@ pub prove-unreachable-requires : goal.prove-unreachable-requires
 prove-unreachable-requires g c =
     omega (arith, await_agent (g.P.ProgramView.program c.args.program.now) c.agents-agents.ensures.well_formed c.args.i (slice_index c.args.counts.now c.args.i + 1) c.loop-k.k c.await_at-awaited.result c.await_at-awaited.ensures)
 
-pub returns-then-is_short : goal.returns-then-is_short
-returns-then-is_short g c =
+pub returns-then-is_short-clause-some : goal.returns-then-is_short-clause-some
+returns-then-is_short-clause-some g c =
     let awaits = awaits_of (g.P.ProgramView.program c.args.program.now) c.args.i (slice_index c.args.counts.now c.args.i + 1) in
     record {
       awaited = (c.loop-k.k, slice_get_within awaits c.loop-k.k c.await_at-awaited.result c.await_at-awaited.ensures, get_or_from_slice_get awaits c.loop-k.k c.await_at-awaited.result c.await_at-awaited.result c.await_at-awaited.ensures);
       unmet = c.if-is_short.true;
     }
 
-pub unreachable-requires : goal.unreachable-requires
-unreachable-requires g c =
-    c.requires.stuck (ready_yes (g.P.ProgramView.program c.args.program.now) c.args.counts.now c.args.i c.requires.blocked.left c.loop-k.k (omega arith) c.loop-k.invariant)
+pub returns-clause-none : goal.returns-clause-none
+returns-clause-none g c = λ left. ready_yes (g.P.ProgramView.program c.args.program.now) c.args.counts.now c.args.i left c.loop-k.k (omega arith) c.loop-k.invariant
 
 pub loop-k-preserved : goal.loop-k-preserved
 loop-k-preserved g c =

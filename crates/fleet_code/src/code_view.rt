@@ -1,15 +1,16 @@
 //! Programs in place: a view of the bytes that spell one.
 
-ghost use Rattle.std.specs.Prelude.{◌≢◌, ◌≡◌, ◌≤◌, ◌<◌, ◌+◌, ◌++◌, ◌^◌, ℕ, List, length, IfOk, IfErr};
+ghost use Rattle.std.specs.Prelude.{◌≢◌, ◌≡◌, ◌≤◌, ◌<◌, ◌+◌, ◌++◌, ◌^◌, ℕ, true, List, length, IfOk, IfErr};
 ghost use Rattle.fleet_model.specs.declared.geometry.Cell.{Cell};
 ghost use Rattle.fleet_model.specs.declared.program.Await.{Await};
 ghost use Rattle.fleet_model.specs.declared.program.AgentProgram.{AgentProgram};
 ghost use Rattle.fleet_model.specs.Answer.{IsDueUnless};
-ghost use Rattle.fleet_model.specs.Program.{IsCell, IsWellFormed, moves, awaits_before};
+ghost use Rattle.fleet_model.specs.Program.{IsCell, IsWellFormed, NeverStays, moves, awaits_before};
 ghost use Rattle.fleet_code.specs.Spelling.{Spells, SpellsNothing, two_bytes, count, count_len, most_count, cell, await};
 ghost use Rattle.fleet_code.specs.LoadFaults.{IsFirstLoadFault};
-ghost use Rattle.fleet_code.specs.Offsets.{Viewed, StandsAt, await_len, after_opcodes, begin_of, end_of, part_at};
+ghost use Rattle.fleet_code.specs.Offsets.{Viewed, program_in, StandsAt, await_len, after_opcodes, begin_of, end_of, part_at};
 
+use crate::encoder::never_stays;
 use crate::fault::LoadFault;
 use crate::format::{AWAIT, CELL_LEN, NUMBER_LEN, Version, step_of};
 use crate::loader::version_of;
@@ -19,12 +20,14 @@ use std::alloc::Global;
 use std::marker::Model;
 
 /// A program in the bytes that spell it, which are lent. Beside them it keeps where each agent's part and each action
-/// begins, so an answer reads a few bytes and takes no memory.
+/// begins, so an answer reads a few bytes and takes no memory; and whether each action is known to be a move.
 #[derive(Drop)]
 pub struct CodeView<'a> {
     bytes: &'a [u8],
     version: Version,
     parts: Vec<Part>,
+    all_move: bool,
+    ghost move_always: { all_move ≡ true → NeverStays (program_in bytes.now) },
 }
 
 impl<'a> Model for CodeView<'a> {
@@ -58,11 +61,35 @@ pub fn view(alloc: Global, bytes: &[u8]) -> Result<CodeView<'_>, LoadFault>
 {
     let version = version_of(bytes);
     let parts = parts_in(alloc, version, bytes)?;
-    Ok(CodeView {
+    let unknown = CodeView {
         bytes,
         version,
         parts,
-    })
+        all_move: false,
+    };
+    Ok(with_stays_known(unknown))
+}
+
+/// The same view, which knows whether each action is a move. Version 1 has no byte for a stay.
+fn with_stays_known(view: CodeView<'_>) -> CodeView<'_>
+    ensures { result ≡ view.entry }
+{
+    let all_move = match view.version {
+        Version::One => true,
+        Version::Two => never_stays(&view),
+    };
+    let CodeView {
+        bytes,
+        version,
+        parts,
+        ..
+    } = view;
+    CodeView {
+        bytes,
+        version,
+        parts,
+        all_move,
+    }
 }
 
 /// The number of two bytes at the offset `at`.
@@ -202,11 +229,7 @@ impl<'a> ProgramView for CodeView<'a> {
     }
 
     fn never_stays(&self) -> bool {
-        // Version 1 has no byte for a stay.
-        match self.version {
-            Version::One => true,
-            Version::Two => false,
-        }
+        self.all_move
     }
 
     fn await_count(&self, i: u16, p: u32) -> u16 {

@@ -3,6 +3,7 @@ use Rattle.fleet_model.specs.Program.{Program}
 use Rattle.fleet_code.proofs.InPlace.{view_is, program_found}
 use Rattle.std.proofs.lemmas.Result.{err_from_is_err_and}
 use Rattle.fleet_code.specs.Spelling.{SpellsIn}
+use Rattle.fleet_code.specs.Offsets.{Viewed, program_in}
 use Rattle.fleet_code.specs.Reading.{program_at}
 use Rattle.fleet_code.proofs.Versions.{program_takes_at, program_again_at, refused_spells_nothing, is_first_at}
 use Rattle.fleet_code.proofs.code_view.view.Goals as goal
@@ -23,8 +24,8 @@ returns-in_err-parts-clause-refused c =
     let q = err_from_is_err_and c.from_residual.result c.from_residual.ensures.1 in
     rw (q.1, q.2) (λ other. refused_spells_nothing c.args.bytes.now c.in_err-parts.field-0.0 (rw c.version_of-version.ensures at (c.in_err-parts.ensures other)))
 
-pub invariant_of-result : goal.invariant_of-result
-invariant_of-result c =
+pub invariant_of-unknown : goal.invariant_of-unknown
+invariant_of-unknown c =
     let found = c.in_ok-parts.ensures in
     let read : program_at c.args.bytes.now ≡ Ok found.0 = rw c.version_of-version.ensures at found.1 in
     let spelled : SpellsIn c.version_of-version.result c.args.bytes.now found.0 = rw c.version_of-version.ensures (program_takes_at c.args.bytes.now found.0 (λ i. omega (arith, c.type_inv.bytes i)) read) in
@@ -35,7 +36,11 @@ returns-clause-found c =
     let found = c.in_ok-parts.ensures in
     let read : program_at c.args.bytes.now ≡ Ok found.0 = rw c.version_of-version.ensures at found.1 in
     let spelled : SpellsIn c.version_of-version.result c.args.bytes.now found.0 = rw c.version_of-version.ensures (program_takes_at c.args.bytes.now found.0 (λ i. omega (arith, c.type_inv.bytes i)) read) in
-    record { version = c.version_of-version.result; spelling = subst (SpellsIn c.version_of-version.result c.args.bytes.now) (sym (program_found c.args.bytes.now found.0 read)) spelled }
+    let there : SpellsIn c.version_of-version.result c.args.bytes.now (program_in c.args.bytes.now) = subst (SpellsIn c.version_of-version.result c.args.bytes.now) (sym (program_found c.args.bytes.now found.0 read)) spelled in
+    let same : program_in c.args.bytes.now ≡ c.with_stays_known.result.program = sym (ap (λ (w : Viewed). w.program) c.with_stays_known.ensures) in
+    record { version = c.version_of-version.result; spelling = subst (SpellsIn c.version_of-version.result c.args.bytes.now) same there }
 
 pub returns-clause-only : goal.returns-clause-only
-returns-clause-only c = λ p spells. ap (λ (q : Program). Ok q) (sym (program_found c.args.bytes.now p (program_again_at c.args.bytes.now p spells)))
+returns-clause-only c = λ p spells.
+    let same : program_in c.args.bytes.now ≡ c.with_stays_known.result.program = sym (ap (λ (w : Viewed). w.program) c.with_stays_known.ensures) in
+    ap (λ (q : Program). Ok q) (sym (program_found c.args.bytes.now p (program_again_at c.args.bytes.now p spells)) ∙ same)

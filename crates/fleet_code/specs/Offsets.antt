@@ -1,5 +1,5 @@
 -- Where the parts of a program stand in its bytes.
-use Rattle.std.specs.Prelude.{◌≡◌, ◌≢◌, ℕ, Bool, nat_lt, ◌+◌, ◌-◌, ◌*◌, ◌^◌, ◌<◌, List, [], ◌∷◌, ◌++◌, length, map, take, drop, slice_index_or, All, ◌≤◌, Result, Ok, Err}
+use Rattle.std.specs.Prelude.{◌≡◌, ◌≢◌, ℕ, ◌+◌, ◌-◌, ◌*◌, ◌^◌, ◌<◌, List, [], ◌∷◌, ◌++◌, length, map, take, drop, slice_index_or, All, ◌≤◌, Result, Ok, Err}
 use Rattle.std.specs.List.{flat_map, range_with_len}
 use Rattle.std.specs.Result.{result_unwrap_or}
 use Rattle.fleet_model.specs.declared.program.Action.{Action}
@@ -69,13 +69,6 @@ IsEvenFrom offsets at stride =
 abbrev pub last_step : Version → ℕ
 last_step One = 3
 last_step Two = 4
-
--- above the greatest opcode of a step in version 1, and in version 2
-abbrev pub is_no_move : ℕ → Bool
-is_no_move b = nat_lt 3 b
-
-abbrev pub is_no_step : ℕ → Bool
-is_no_step b = nat_lt 4 b
 
 -- each of the next bytes is there and a step
 pub record AreBare (v : Version) (count : ℕ) (bytes : List ℕ) : Type 0 where

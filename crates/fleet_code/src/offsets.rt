@@ -1,12 +1,13 @@
 //! Where the actions of an agent stand in the bytes.
 
-ghost use Rattle.std.specs.Prelude.{◌≡◌, ◌<◌, ◌≤◌, ◌+◌, ◌-◌, ◌/◌, ◌∷◌, [], min, replicate, true, length, take, vec_len, vec_capacity, IfOk, IfSome, IfNone, IsTrue, ◌↔◌, ℕ, Ok, List, ◌^◌, All, slice_index_or};
+ghost use Rattle.std.specs.Prelude.{◌≡◌, ◌≢◌, ◌<◌, ◌≤◌, ◌+◌, ◌-◌, ◌/◌, ◌∷◌, [], min, replicate, true, length, take, vec_len, vec_capacity, IfOk, IfSome, IfNone, IsTrue, ◌↔◌, nat_lt, ℕ, Ok, List, ◌^◌, All, slice_index_or};
 ghost use Rattle.fleet_model.specs.Answer.{IsDueUnless};
 ghost use Rattle.fleet_model.specs.declared.program.Action.{Action};
+ghost use Rattle.fleet_code.specs.declared.format.Version.TheVariants.{One};
 ghost use Rattle.fleet_code.specs.Spelling.{action, agent};
 ghost use Rattle.fleet_code.specs.Heads.{head_at, agent_head_at};
 ghost use Rattle.fleet_code.specs.Reading.{action_at, actions_at, agent_at, agents_at, program_as};
-ghost use Rattle.fleet_code.specs.Offsets.{Finds, last_step, is_no_move, is_no_step, AreBare, head_len, opcodes, ends_of, part_of, parts_of, IsEvenFrom};
+ghost use Rattle.fleet_code.specs.Offsets.{Finds, last_step, AreBare, head_len, opcodes, ends_of, part_of, parts_of, IsEvenFrom};
 ghost use Rattle.std.specs.List.{range_with_len};
 
 use crate::fault::LoadFault;
@@ -93,14 +94,17 @@ struct Head {
     agents: u16,
 }
 
-/// The bytes after the next action of agent `own`, if it is seen at one look to be right: one await and a move in version
-/// 1, of which most programs are made.
+/// The bytes after the next action of agent `own`, if it has one await, in version 1: it is seen at one look to be
+/// right.
 #[inline(always)]
 fn after_short_action(head: Head, own: u16, bytes: &[u8]) -> Option<&[u8]>
     ensures found { IfSome result (λ after. (a : Action) × (opcodes a ≡ 2)
         × (action_at head.version (length bytes.now) head.whole head.agents own 0 bytes.now
         ≡ Ok (a, after.now))) }
     ensures shorter { IfSome result (λ after. length bytes.now ≡ 6 + length after.now) }
+    ensures none { IfNone result (head.version ≡ One → (x : Action × List ℕ)
+        → action_at One (length bytes.now) head.whole head.agents own 0 bytes.now ≡ Ok x
+        → opcodes x.0 ≢ 2) }
 {
     let Version::One = head.version else {
         return None;
@@ -132,24 +136,10 @@ fn after_action(head: Head, own: u16, bytes: &[u8]) -> Result<(u32, &[u8]), Load
     ensures few { IfOk result (λ x. x.0 ≤ MAX_AGENTS + 1) }
     ensures shorter { IfOk result (λ x. length x.1.now < length bytes.now) }
 {
-    match after_short_action(head, own, bytes) {
-        Some(after) => Ok((2, after)),
-        None => after_any_action(head, own, bytes),
+    if let Some(after) = after_short_action(head, own, bytes) {
+        return Ok((2, after));
     }
-}
-
-/// The same of any action, opcode by opcode.
-#[inline(always)]
-fn after_any_action(head: Head, own: u16, bytes: &[u8]) -> Result<(u32, &[u8]), LoadFault>
-    requires whole { length bytes.now ≤ head.whole }
-    requires few { head.agents ≤ MAX_AGENTS }
-    ensures value { Finds
-        (λ x due. (x.0 ≡ opcodes due.0) × (x.1.now ≡ due.1)
-        × (length bytes.now ≡ length (action head.version due.0) + length x.1.now))
-        result (action_at head.version (length bytes.now) head.whole head.agents own 0 bytes.now) }
-    ensures few { IfOk result (λ x. x.0 ≤ MAX_AGENTS + 1) }
-    ensures shorter { IfOk result (λ x. length x.1.now < length bytes.now) }
-{
+    // The others are judged opcode by opcode.
     let mut least = 0;
     let mut opcodes = 1;
     let mut rest = bytes;
@@ -198,33 +188,18 @@ fn actions_after(
     Ok((offsets, rest))
 }
 
-/// The bytes that are no move.
-struct NoMove;
+/// The bytes above this one.
+struct Above<const MOST: u8>;
 
-impl ByteClass for NoMove {
-    ghost test = { is_no_move };
+impl<const MOST: u8> ByteClass for Above<MOST> {
+    ghost test = { λ b. nat_lt MOST b };
 
     fn has(byte: u8) -> bool {
-        byte > LAST_MOVE
+        byte > MOST
     }
 
     fn mask(block: u8x64) -> u64 {
-        block.simd_gt(u8x64::splat(LAST_MOVE)).to_bitmask()
-    }
-}
-
-/// The bytes that are neither a move nor a stay.
-struct NoStep;
-
-impl ByteClass for NoStep {
-    ghost test = { is_no_step };
-
-    fn has(byte: u8) -> bool {
-        byte > DWELL
-    }
-
-    fn mask(block: u8x64) -> u64 {
-        block.simd_gt(u8x64::splat(DWELL)).to_bitmask()
+        block.simd_gt(u8x64::splat(MOST)).to_bitmask()
     }
 }
 
@@ -233,8 +208,8 @@ fn are_steps(version: Version, actions: &[u8]) -> bool
     ensures { IsTrue result ↔ All (λ b. b ≤ last_step version) actions.now }
 {
     match version {
-        Version::One => matches!(first_of::<NoMove>(actions), None),
-        Version::Two => matches!(first_of::<NoStep>(actions), None),
+        Version::One => matches!(first_of::<Above<LAST_MOVE>>(actions), None),
+        Version::Two => matches!(first_of::<Above<DWELL>>(actions), None),
     }
 }
 

@@ -149,22 +149,27 @@ own-none numbers lists e = record {
   apart = λ k l ne s. ap (λ n. number_at n k) e ∙ number-past [] k (omega arith);
 }
 
+-- each key has its list as before, by these numbers and lists
+pub record AreAsBefore {V : Type 0} (numbers new : List (Vec ℕ Global)) (lists more : List (Vec V Global)) : Type 0 where
+  pub own : HaveOwnLists new more
+  pub same : (k : Key) → list_of new more k ≡ list_of numbers lists k
+
 -- a list is added
 module _ {V : Type 0} (numbers : List (Vec ℕ Global)) (lists : List (Vec V Global)) (own : HaveOwnLists numbers lists) (w : Vec V Global) (none : w.items ≡ []) where
   -- which no key has
-  pub added-unused : (new : List (Vec ℕ Global)) → ((k : Key) → number_at new k ≡ number_at numbers k) → (k : Key) → list_of new (lists ++ w ∷ []) k ≡ list_of numbers lists k
-  added-unused new same k = ap (list_numbered (lists ++ w ∷ [])) (same k) ∙ numbered-before lists (number_at numbers k) w (own.few k)
-
-  pub own-unused : (new : List (Vec ℕ Global)) → ((k : Key) → number_at new k ≡ number_at numbers k) → HaveOwnLists new (lists ++ w ∷ [])
-  own-unused new same = record {
-    few = λ k. (let f = own.few k in omega (arith, same k, length-append lists (w ∷ [])));
-    apart = λ k l ne e. same k ∙ own.apart k l ne (sym (same k) ∙ e ∙ same l);
+  pub added-unused : (new : List (Vec ℕ Global)) → ((k : Key) → number_at new k ≡ number_at numbers k) → AreAsBefore numbers new lists (lists ++ w ∷ [])
+  added-unused new same = record {
+    own = record {
+      few = λ k. (let f = own.few k in omega (arith, same k, length-append lists (w ∷ [])));
+      apart = λ k l ne e. same k ∙ own.apart k l ne (sym (same k) ∙ e ∙ same l);
+    };
+    same = λ k. ap (list_numbered (lists ++ w ∷ [])) (same k) ∙ numbered-before lists (number_at numbers k) w (own.few k);
   }
 
   module _ (key : Key) (before : number_at numbers key ≡ 0) (new : List (Vec ℕ Global)) (put : IsNumbered numbers new key (length lists + 1)) where
     -- which the key has
-    pub added-begun : (k : Key) → list_of new (lists ++ w ∷ []) k ≡ list_of numbers lists k
-    added-begun k = elim (key_cases k key) [
+    same-begun : (k : Key) → list_of new (lists ++ w ∷ []) k ≡ list_of numbers lists k
+    same-begun k = elim (key_cases k key) [
       | inr ne ↦ ap (list_numbered (lists ++ w ∷ [])) (put.others k ne) ∙ numbered-before lists (number_at numbers k) w (own.few k)
       | inl s ↦
           ap (list_numbered (lists ++ w ∷ [])) (ap (number_at new) s ∙ put.here)
@@ -174,7 +179,7 @@ module _ {V : Type 0} (numbers : List (Vec ℕ Global)) (lists : List (Vec V Glo
           ∙ ap (list_numbered lists) (sym (ap (number_at numbers) s ∙ before))
     ]
 
-    pub own-begun : HaveOwnLists new (lists ++ w ∷ [])
+    own-begun : HaveOwnLists new (lists ++ w ∷ [])
     own-begun = record {
       few = λ k. elim (key_cases k key) [
         | inr ne ↦ (let f = own.few k in omega (arith, put.others k ne, length-append lists (w ∷ [])))
@@ -188,6 +193,9 @@ module _ {V : Type 0} (numbers : List (Vec ℕ Global)) (lists : List (Vec V Glo
         ]
       ];
     }
+
+    pub added-begun : AreAsBefore numbers new lists (lists ++ w ∷ [])
+    added-begun = record { own = own-begun; same = same-begun }
 
 -- a list is exchanged
 module _ {V : Type 0} (numbers : List (Vec ℕ Global)) (lists : List (Vec V Global)) (own : HaveOwnLists numbers lists) (key : Key) (place : ℕ) (v w : Vec V Global) (n : number_at numbers key ≡ place + 1) (l : place < length lists) (e : v ≡ get_or lists place v) where

@@ -88,6 +88,21 @@ ends_action p n b h = chain_last p h.0 h.1 b h.2
 pub level_is : (p : Program) (number : ActionId → ℕ) → IsNumbering p number → (b : ActionId) → EndsChain p (number b) b → IsLevel p b (number b)
 level_is p number is b some = record { some = some; most = λ m h. ends_within p number is m b h }
 
+-- a chain of more than one action, but for its last
+pub record ButLast (p : Program) (a : ActionId) (cs : List ActionId) (b : ActionId) : Type 0 where
+  pub before : ActionId
+  pub others : List ActionId
+  pub chain : ChainFrom p a others before
+  pub needs : DirectlyNeeds p b before
+  pub total : (cost : ActionId → ℕ) → sum_by cost (a ∷ cs) ≡ sum_by cost (a ∷ others) + cost b
+
+pub but_last : (p : Program) (a c : ActionId) (cs : List ActionId) (b : ActionId) → ChainFrom p a (c ∷ cs) b → ButLast p a (c ∷ cs) b
+but_last p a c [] b (act, n, (k, e)) =
+    record { before = a; others = []; chain = (act, refl); needs = subst (λ (x : ActionId). DirectlyNeeds p x a) e n; total = λ cost. (let same : cost c ≡ cost b = ap cost e in omega arith) }
+but_last p a c (d ∷ cs) b (act, n, k) =
+    let r = but_last p c d cs b k in
+    record { before = r.before; others = c ∷ r.others; chain = (act, n, r.chain); needs = r.needs; total = λ cost. omega (arith, r.total cost, sum_by-cons cost a (c ∷ d ∷ cs), sum_by-cons cost a (c ∷ r.others)) }
+
 pub chain_join : (p : Program) (a : ActionId) (cs : List ActionId) (b : ActionId) (ds : List ActionId) (d : ActionId) → ChainFrom p a cs b → ChainFrom p b ds d → ChainFrom p a (cs ++ ds) d
 chain_join p a [] b ds d (h, e) k = subst (λ x. ChainFrom p x ds d) (sym e) k
 chain_join p a (c ∷ cs) b ds d (h, n, k) l = (h, n, chain_join p c cs b ds d k l)

@@ -1,6 +1,6 @@
 -- The costs of critical paths: that of an action from those of what it directly needs.
-use Rattle.fleet_needs.proofs.Words.{◌≡◌, ℕ, zero, suc, ◌+◌, ◌*◌, ◌≤◌, List, [], ◌∷◌, refl, ap, sym, subst, arith, inl, inr, ◌⊎◌, sum_by, ActionId, Program, AreInRange, IsAction, DirectlyNeeds, ChainFrom, IsCriticalCost, need_action, ends_alone, ends_dearer, IsNotedCost, IsFinishedBy, MAX_COST}
-use Rattle.fleet_needs.proofs.Free.{but_last, needs_before, none_started}
+use Rattle.fleet_needs.proofs.Words.{◌≡◌, ℕ, zero, suc, ◌+◌, ◌*◌, ◌≤◌, List, [], ◌∷◌, refl, ap, sym, subst, arith, inl, inr, ◌⊎◌, sum_by, ActionId, Program, AreInRange, IsAction, DirectlyNeeds, ChainFrom, IsCriticalCost, need_action, but_last, ends_alone, ends_dearer, IsNotedCost, IsFinishedBy, MAX_COST}
+use Rattle.fleet_needs.proofs.Free.{needs_before, none_started}
 
 module _ (p : Program) (cost : ActionId → ℕ) where
   -- no chain that ends with the action costs more

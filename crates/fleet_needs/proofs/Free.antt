@@ -7,7 +7,7 @@ use Rattle.fleet_model.specs.Program.{Program, moves, awaits_of, AreInRange}
 use Rattle.fleet_model.specs.Machine.{run, is_held, is_ready, count_at, Configuration, is_finished, tick, is_moving, indices}
 use Rattle.fleet_model.specs.Chain.{IsAction, DirectlyNeeds, ChainFrom, Reaches, EndsChain, IsLevel, unit_cost}
 use Rattle.fleet_model.proofs.Tick.{ready_met, unready_waits, standing_at_tick, standing_at_opening, free_moves, other_stays, ready_left, tick_agree}
-use Rattle.fleet_model.proofs.Chains.{Reaches-kept, chain_last, ends_one, ends_more}
+use Rattle.fleet_model.proofs.Chains.{Reaches-kept, chain_last, but_last, ends_one, ends_more}
 use Rattle.std.proofs.lemmas.List.{take-replicate, get_or-replicate, get_or_past, length-replicate}
 use Rattle.std.proofs.lemmas.List.FromFn.{get_or-map-range_with_len, get_or-range_with_len, length-range_with_len}
 use Rattle.std.specs.Prelude.{nat_le, sum_by}
@@ -79,21 +79,6 @@ module _ (p : Program) where
 
   -- ---- levels
 
-  -- a chain of more than one action, but for its last
-  pub record ButLast (a : ActionId) (cs : List ActionId) (b : ActionId) : Type 0 where
-    pub before : ActionId
-    pub others : List ActionId
-    pub chain : ChainFrom p a others before
-    pub needs : DirectlyNeeds p b before
-    pub total : (cost : ActionId → ℕ) → sum_by cost (a ∷ cs) ≡ sum_by cost (a ∷ others) + cost b
-
-  pub but_last : (a c : ActionId) (cs : List ActionId) (b : ActionId) → ChainFrom p a (c ∷ cs) b → ButLast a (c ∷ cs) b
-  but_last a c [] b (act, n, (k, e)) =
-      record { before = a; others = []; chain = (act, refl); needs = subst (λ (x : ActionId). DirectlyNeeds p x a) e n; total = λ cost. (let same : cost c ≡ cost b = ap cost e in omega arith) }
-  but_last a c (d ∷ cs) b (act, n, k) =
-      let r = but_last c d cs b k in
-      record { before = r.before; others = c ∷ r.others; chain = (act, n, r.chain); needs = r.needs; total = λ cost. omega (arith, r.total cost, sum_by-cons cost a (c ∷ d ∷ cs), sum_by-cons cost a (c ∷ r.others)) }
-
   -- no tick finishes two actions of a chain
   ends_in_time : (t n : ℕ) (b : ActionId) → EndsChain p n b → IsAction p b → b.number ≤ count t b.agent → n ≤ t
   ends_in_time zero n b h k done = absurd (omega (arith, k.first, count_start b.agent))
@@ -102,7 +87,7 @@ module _ (p : Program) where
     | inl l ↦ elim h.1 as (λ cs. ChainFrom p h.0 cs b → n ≡ sum_by unit_cost (h.0 ∷ cs) → n ≤ suc t) [
       | [] ↦ λ chain e. omega (arith, e, sum_by-cons unit_cost h.0 [])
       | c ∷ cs ↦ λ chain e.
-          let s = but_last h.0 c cs b chain in
+          let s = but_last p h.0 c cs b chain in
           let before = needs_done t b s.before k l done s.needs in
           omega (arith, e, s.total unit_cost, ends_in_time t (sum_by unit_cost (h.0 ∷ s.others)) s.before (h.0, s.others, s.chain, refl) (chain_last p h.0 s.others s.before s.chain) before)
     ] h.2 h.3

@@ -15,7 +15,7 @@ pub use Rattle.fleet_model.specs.Program.{Program, actions_of, awaits_of, agent_
 pub use Rattle.fleet_model.specs.Chain.{IsAction, DirectlyNeeds, ChainFrom, IsCriticalCost, Reaches, awaited, IsNumbering}
 pub use Rattle.fleet_model.specs.Machine.{run, is_finished}
 pub use Rattle.fleet_model.proofs.Totals.{awaits_more, actions_more, moves_more, awaits_fit, few_awaits_of}
-pub use Rattle.fleet_model.proofs.Chains.{need_action, ends_alone, ends_dearer, Reaches-last, chain_ends_by_step, Reaches-rises}
+pub use Rattle.fleet_model.proofs.Chains.{but_last, need_action, ends_alone, ends_dearer, Reaches-last, chain_ends_by_step, Reaches-rises}
 pub use Rattle.fleet_needs.specs.Block.{HasColumn}
 pub use Rattle.fleet_needs.specs.Columns.{AreColumns, BlocksLeft, IsNextBlock, column_of}
 pub use Rattle.fleet_needs.specs.CostTable.{costs_of, is_narrow}

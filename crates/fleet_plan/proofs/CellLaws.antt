@@ -1,13 +1,13 @@
 -- A cell that is read byte by byte is the one that the word in front spells.
-use Rattle.std.proofs.Common.{◌≡◌, ℕ, ◌+◌, ◌-◌, ◌*◌, true, false, cond, eqb, ltb, List, [], ◌∷◌, ◌++◌, filter, Option, Some, None, refl, sym, ap, subst, ◌∙◌, arith, inl, inr}
+use Rattle.std.proofs.Common.{◌≡◌, ℕ, ◌+◌, ◌-◌, ◌*◌, true, false, cond, eqb, ltb, List, [], ◌∷◌, ◌++◌, filter, Option, Some, None, refl, sym, ap, subst, ◌∙◌, inl, inr}
 use Rattle.std.specs.Prelude.{option_map, option_and_then, ◌⊎◌}
 use Rattle.std.specs.List.{AllByRecursion, slice_split, onto_first}
 use Rattle.std.proofs.lemmas.Bool.{cases_Bool, eqb-true}
 use Rattle.std.proofs.lemmas.List.{append-nil}
 use Rattle.std.proofs.lemmas.Option.{none-some, same_Some}
 use Rattle.fleet_model.specs.declared.geometry.Cell.{Cell}
-use Rattle.fleet_text.specs.Text.{Bytes, is_blank, is_word, starts_blank, is_digit, words, digits_front, number_front, number_after, number, small, small_number, small_number_front}
-use Rattle.fleet_text.proofs.TextLaws.{words_blank}
+use Rattle.fleet_text.specs.Text.{Bytes, is_blank, is_word, starts_blank, is_digit, words, digits_front, number_front, number_after, number, small_number, small_number_front}
+use Rattle.fleet_text.proofs.TextLaws.{words_blank, digit_no_blank, small_number_is}
 use Rattle.fleet_plan.specs.PlanText.{cell_of_parts, spelled_cell}
 use Rattle.fleet_plan.specs.PlanReading.{spelled_cells}
 use Rattle.fleet_plan.specs.CellReading.{after_comma, after_blanks, after_word, cell_front, begins_with_word}
@@ -73,16 +73,6 @@ no_blank_is_left (b ∷ text) =
     ]
 
 -- ---- digits
-
-digit_no_blank : (d : ℕ) → is_digit d ≡ true → is_blank d ≡ false
-digit_no_blank d h =
-    elim (cases_Bool (eqb d 32)) [
-      | inl t ↦ absurd (let f : is_digit 32 ≡ true = subst (λ (x : ℕ). is_digit x ≡ true) (eqb-true d 32 t) h in let g : false ≡ true = f in cc)
-      | inr t ↦ elim (cases_Bool (eqb d 9)) [
-        | inl u ↦ absurd (let f : is_digit 9 ≡ true = subst (λ (x : ℕ). is_digit x ≡ true) (eqb-true d 9 u) h in let g : false ≡ true = f in cc)
-        | inr u ↦ rw (t, u) refl
-      ]
-    ]
 
 digit_no_comma : (d : ℕ) → is_digit d ≡ true → eqb d 44 ≡ false
 digit_no_comma d h =
@@ -236,13 +226,6 @@ abbrev Goes : Bytes → Type 0
 Goes text =
     ((small_number_front text ≡ None) × IsWrong text)
     ⊎ ((n : ℕ) × (ds rest : Bytes) × (small_number_front text ≡ Some (n, rest)) × (small_number ds ≡ Some n) × EndsDigits text ds rest)
-
-small_number_is : (d : ℕ) (ds : Bytes) (n : ℕ) → is_digit d ≡ true → number_after (d - 48) ds ≡ Some n → small_number (d ∷ ds) ≡ small n
-unfolding small_number number number_after
-small_number_is d ds n t e =
-    let same : 10 * 0 + (d - 48) ≡ d - 48 = omega arith in
-    let h : number_after (10 * 0 + (d - 48)) ds ≡ Some n = ap (λ (x : ℕ). number_after x ds) same ∙ e in
-    rw (t, h) refl
 
 wrong_front : (text ds rest : Bytes) → small_number ds ≡ None → EndsDigits text ds rest → IsWrong text
 wrong_front text ds rest none (inl h) = record { part = ds; more = []; parts = h.parts; none = none }

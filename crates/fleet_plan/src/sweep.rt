@@ -3,7 +3,7 @@
 
 ghost use Rattle.std.specs.Prelude.{◌≡◌, ◌≢◌, ℕ, ◌+◌, ◌<◌, ◌≤◌, ◌⊎◌, ◌↔◌, IfOk, IfSome, IfNone, length, slice_index, Some, None, All, IsTrue, false, EachIndex};
 ghost use Rattle.fleet_grid.specs.Ground.{is_passable};
-ghost use Rattle.fleet_model.specs.declared.limits.TheConstants.{MAX_AGENTS};
+ghost use Rattle.fleet_model.specs.declared.limits.TheConstants.{MAX_AGENTS, MAX_HORIZON};
 ghost use Rattle.fleet_plan.specs.FirstFault.{GoesRight, IsFirstConflict, HasNoConflict};
 ghost use Rattle.fleet_plan.specs.Rings.{NamesAgents, ahead_of, walk_of};
 ghost use Rattle.fleet_plan.specs.Sweep.{StandOnMap, StandOnPlaces, IsFirstMeeting, IsEntered, IsAhead, AreAhead, Exchange, IsFirstExchange, HasNone, IsFirstAhead, IsFreeAhead, OthersStandAt, HasIn, Stays, NamesMovers, AreAgentsSettled, AreOtherAgentsSettled, AreFresh, IsSweep, HasComeTo, HasLookedAhead, HaveArrived};
@@ -303,7 +303,7 @@ const DROPPED_EACH: u32 = 8;
 /// Drops the agents that have arrived by the end of the step after `time`, in the first step and in each eighth one: an
 /// agent that has arrived and is still looked at stays where it is.
 fn drop_arrived(agents: &mut Vec<u16>, plan: &Plan, time: u32)
-    requires time { time < 4294967295 }
+    requires time { time ≤ MAX_HORIZON }
     requires covers { Covers plan.now time agents.old.items }
     ensures { Covers plan.now (time + 1) agents.new.items }
 {
@@ -389,7 +389,7 @@ impl Sweep {
     fn step(&mut self, plan: &Plan, grid: &Grid, time: u32) -> Result<Option<Conflict>, AllocError>
         requires on_map { StandOnMap grid.now plan.now }
         requires few { length plan.now ≤ MAX_AGENTS }
-        requires time { time < 4294967295 }
+        requires time { time ≤ MAX_HORIZON }
         requires swept { HasComeTo grid.now plan.now time self.old }
         ensures some { IfOk result (λ found. IfSome found (IsFirstConflict plan.now)) }
         ensures none { IfOk result (λ found. IfNone found
@@ -412,7 +412,7 @@ impl Sweep {
     fn look_ahead(&mut self, plan: &Plan, grid: &Grid, time: u32) -> Option<Conflict>
         requires on_map { StandOnMap grid.now plan.now }
         requires few { length plan.now ≤ MAX_AGENTS }
-        requires time { time < 4294967295 }
+        requires time { time ≤ MAX_HORIZON }
         requires swept { HasComeTo grid.now plan.now time self.old }
         ensures some { IfSome result (IsFirstConflict plan.now) }
         ensures none { IfNone result (IsSweep grid.now plan.now self.new.next (time + 1)) }
@@ -434,7 +434,7 @@ impl Sweep {
     /// have come to their next places.
     fn arrive(&mut self, plan: &Plan, time: u32) -> Result<Option<(u16, u16)>, AllocError>
         requires few { length plan.now ≤ MAX_AGENTS }
-        requires time { time < 4294967295 }
+        requires time { time ≤ MAX_HORIZON }
         requires ahead { HasLookedAhead plan.now time self.old }
         ensures some { IfOk result (λ found. IfSome found
             (λ pair. IsFirstMeeting self.old.next pair.0 pair.1)) }

@@ -1,5 +1,5 @@
 -- The fields of an agent's line that are read.
-use Rattle.std.specs.Prelude.{ℕ, Bool, true, false, List, [], ◌∷◌, Option, Some, None, option_map}
+use Rattle.std.specs.Prelude.{ℕ, Bool, true, false, List, [], ◌∷◌, Option, Some, None, option_map, if◌then◌else◌}
 use Rattle.fleet_text.specs.Text.{Bytes, is_blank, small_number}
 use Rattle.fleet_scen.specs.declared.reading.Fields.{Fields}
 
@@ -8,6 +8,11 @@ abbrev pub two_words : List Bytes → Option (Bytes × Bytes × List Bytes)
 two_words [] = None
 two_words (first ∷ []) = None
 two_words (first ∷ second ∷ others) = Some (first, second, others)
+
+-- a line without one blank in front
+abbrev pub past_blank : Bytes → Bytes
+past_blank [] = []
+past_blank (b ∷ line) = if is_blank b then line else b ∷ line
 
 -- a word ends before these bytes
 abbrev pub ends_word : Bytes → Bool

@@ -1,12 +1,12 @@
 //! Reading a scenario from its text.
 
-ghost use Rattle.std.specs.Prelude.{◌≡◌, ◌≢◌, ◌<◌, ◌+◌, ◌^◌, List, [], length, All, Some, IfSome, IfOk, IfErr, IsOkUnless, option_map};
+ghost use Rattle.std.specs.Prelude.{◌≡◌, ◌≢◌, ◌<◌, ◌+◌, ◌^◌, ℕ, List, [], true, length, All, Some, IfSome, IfNone, IfOk, IfErr, IsOkUnless, option_map};
 ghost use Rattle.fleet_model.specs.declared.task.Task.{Task};
 ghost use Rattle.fleet_model.specs.Answer.{IsDueUnless};
-ghost use Rattle.fleet_text.specs.Text.{lines, words};
+ghost use Rattle.fleet_text.specs.Text.{Bytes, lines, words, starts_blank};
 ghost use Rattle.fleet_scen.specs.ScenText.{is_filled, is_version, HasPassableEnds, IsScenText, IsFirstScenFault};
 ghost use Rattle.fleet_scen.specs.ScenReading.{pair_at, numbers_at, task_at, lacks, enough_tasks, tasks_at, after_version, judge_asked, scen_at};
-ghost use Rattle.fleet_scen.specs.Fields.{two_words, ends_word, next_number, two_numbers, is_one_word, fields_of};
+ghost use Rattle.fleet_scen.specs.Fields.{two_words, past_blank, ends_word, next_number, two_numbers, is_one_word, fields_of};
 
 use crate::fault::ScenFault;
 use crate::instance::Instance;
@@ -252,7 +252,8 @@ fn two_words(line: &[u8]) -> Option<(&[u8], &[u8], &[u8])>
 /// The line without one blank in front.
 #[inline(always)]
 fn past_blank(line: &[u8]) -> &[u8]
-    ensures { words result.now ≡ words line.now }
+    ensures line { result.now ≡ past_blank line.now }
+    ensures words { words result.now ≡ words line.now }
 {
     match line {
         [first, after @ ..] if is_blank(*first) => after,
@@ -275,7 +276,11 @@ fn ends_word(rest: &[u8]) -> bool
 /// end is found as it is read.
 #[inline(always)]
 fn number_word(line: &[u8]) -> Option<(u16, &[u8])>
-    ensures { IfSome result (λ x. next_number (words line.now) ≡ Some (Some x.0, words x.1.now)) }
+    ensures some { IfSome result
+        (λ x. next_number (words line.now) ≡ Some (Some x.0, words x.1.now)) }
+    ensures none { IfNone result ((n : ℕ) (others : List Bytes)
+        → next_number (words line.now) ≡ Some (Some n, others)
+        → starts_blank (past_blank line.now) ≡ true) }
 {
     let (number, rest) = small_number_front(past_blank(line))?;
     if ends_word(rest) {

@@ -1,5 +1,5 @@
 -- The first line of a text, the first word of a line, and the digits of a number one after the other.
-use Rattle.std.proofs.Common.{◌≡◌, ℕ, suc, ◌+◌, ◌-◌, ◌*◌, ◌≤◌, ◌<◌, min, Bool, true, false, not, eqb, ltb, List, [], ◌∷◌, length, get_or, map, filter, take, drop, Option, Some, None, option_map, refl, sym, ap, subst, ◌∙◌, arith, inl, inr, add-zero}
+use Rattle.std.proofs.Common.{◌≡◌, ℕ, suc, ◌+◌, ◌-◌, ◌*◌, ◌≤◌, ◌<◌, min, Bool, true, false, not, eqb, eqb-true, ltb, List, [], ◌∷◌, length, get_or, map, filter, take, drop, Option, Some, None, option_map, refl, sym, ap, subst, ◌∙◌, arith, inl, inr, add-zero}
 use Rattle.std.specs.Prelude.{position, sum_by, slice_index, option_and_then}
 use Rattle.std.specs.List.{position_or_len, slice_split, onto_first}
 use Rattle.std.specs.Str.Lines.{strip_carriage_return}
@@ -8,7 +8,7 @@ use Rattle.std.proofs.lemmas.List.Quantifiers.{position-Some}
 use Rattle.std.proofs.lemmas.Bool.{cases_Bool, cases_eq, lt-ltb, le-ltb, ltb-true, ltb-false, not-true}
 use Rattle.std.proofs.lemmas.List.{drop_more, drop_all, get_or-drop, drop-drop, length-drop, length-take, length-take-le, length-map}
 use Rattle.std.proofs.lemmas.List.Sums.{sum_by-cons}
-use Rattle.fleet_text.specs.Text.{Bytes, is_lf, is_blank, is_word, ended_lines, lines, words, words_from_front, is_digit, digits_front, number_front, at_most, number_after, number, small_only, small_number_front}
+use Rattle.fleet_text.specs.Text.{Bytes, is_lf, is_blank, is_word, ended_lines, lines, words, words_from_front, is_digit, digits_front, number_front, at_most, number_after, number, small, small_number, small_only, small_number_front}
 use Rattle.fleet_text.specs.declared.numbers.TheConstants.{TOO_LARGE}
 
 one_more : (n : ℕ) → 1 + n ≡ suc n
@@ -147,6 +147,24 @@ unfolding words
 words_nil = refl
 
 -- ---- numbers
+
+pub digit_no_blank : (d : ℕ) → is_digit d ≡ true → is_blank d ≡ false
+digit_no_blank d h =
+    elim (cases_Bool (eqb d 32)) [
+      | inl t ↦ absurd (let f : is_digit 32 ≡ true = subst (λ (x : ℕ). is_digit x ≡ true) (eqb-true d 32 t) h in let g : false ≡ true = f in cc)
+      | inr t ↦ elim (cases_Bool (eqb d 9)) [
+        | inl u ↦ absurd (let f : is_digit 9 ≡ true = subst (λ (x : ℕ). is_digit x ≡ true) (eqb-true d 9 u) h in let g : false ≡ true = f in cc)
+        | inr u ↦ rw (t, u) refl
+      ]
+    ]
+
+-- the digits after the first one spell the number of a word
+pub small_number_is : (d : ℕ) (ds : Bytes) (n : ℕ) → is_digit d ≡ true → number_after (d - 48) ds ≡ Some n → small_number (d ∷ ds) ≡ small n
+unfolding small_number number number_after
+small_number_is d ds n t e =
+    let same : 10 * 0 + (d - 48) ≡ d - 48 = omega arith in
+    let h : number_after (10 * 0 + (d - 48)) ds ≡ Some n = ap (λ (x : ℕ). number_after x ds) same ∙ e in
+    rw (t, h) refl
 
 cap_early : (most m : ℕ) (text : Bytes) → at_most most (digits_front (min m most) text) ≡ at_most most (digits_front m text)
 unfolding digits_front

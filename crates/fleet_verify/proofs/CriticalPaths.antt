@@ -14,9 +14,8 @@ use Rattle.fleet_model.specs.Program.{Program, moves, awaits_of, AreInRange}
 use Rattle.fleet_model.specs.Chain.{IsAction, DirectlyNeeds, ChainFrom, Reaches, EndsChainOfCost, IsCriticalCost, IsNumbering, awaited}
 use Rattle.fleet_model.specs.Machine.{indices}
 use Rattle.fleet_model.specs.Schedule.{Schedule, IsSchedule, HasBegunBy, HasEndedBy, NeedsNoStalled}
-use Rattle.fleet_model.proofs.Chains.{chain_first, chain_last, chain_join, own_reach, Reaches-trans, ends_dearer, need_action, Reaches-need, Reaches-refl}
+use Rattle.fleet_model.proofs.Chains.{but_last, chain_first, chain_last, chain_join, own_reach, Reaches-trans, ends_dearer, need_action, Reaches-need, Reaches-refl}
 use Rattle.fleet_needs.proofs.Costing.{one_cost, own_cost}
-use Rattle.fleet_needs.proofs.Free.{but_last}
 use Rattle.fleet_verify.proofs.Timed.{critical, ends_in_time, needs_unended, by_or_not}
 use Rattle.fleet_needs.specs.Critical.{critical_cost}
 use Rattle.fleet_verify.specs.Ahead.{level_in}

@@ -9,6 +9,10 @@ overflow_add-end c =
     let few : c.steps-end.result ≤ MAX_HORIZON = omega (arith, c.steps-end.ensures.time, few_steps c.args.plan.now c.steps-end.ensures.limits.paths) in
     search rules
 
+pub step-requires-clause-time : goal.step-requires-clause-time
+step-requires-clause-time c =
+    omega (arith, c.steps-end.ensures.time, few_steps c.args.plan.now c.steps-end.ensures.limits.paths, c.loop-time-test.true)
+
 pub returns-clause-none : goal.returns-clause-none
 returns-clause-none c =
     swept_all c.args.plan.now c.loop-time.time c.loop-time.invariant.swept.sweep.earlier (omega (arith, c.steps-end.ensures.time, c.loop-time-test.false))

@@ -2,7 +2,7 @@ use Rattle.std.proofs.Common.{◌≡◌, ◌≤◌, ◌+◌, List, length}
 use Rattle.fleet_model.specs.declared.program.Await.{Await}
 use Rattle.fleet_code.specs.Reading.{action_at}
 use Rattle.fleet_code.proofs.ActionLoop.{ActionGoesOn}
-use Rattle.fleet_code.proofs.offsets.after_any_action.Given as goal
+use Rattle.fleet_code.proofs.offsets.after_action.Given as goal
 
 abbrev pub invariant-loop-opcode : goal.invariant-loop-opcode
 invariant-loop-opcode l = record {

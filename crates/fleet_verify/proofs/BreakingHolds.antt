@@ -1,34 +1,36 @@
 -- Holds that bring two agents onto one cell: that there are such, and how they are found by counts.
-use Rattle.std.proofs.Common.{◌≡◌, ℕ, suc, ◌+◌, ◌<◌, ◌≤◌, Bool, true, List, [], ◌∷◌, length, get_or, refl, ap₂, ◌∙◌, subst, arith, inl, inr, zero, false, ◌-◌, ◌++◌, sym, ap, slice_index}
-use Rattle.std.specs.Prelude.{Contains, filter, ◌⊎◌, ◌==◌, ◌↔◌}
+use Rattle.std.proofs.Common.{◌≡◌, ℕ, suc, ◌+◌, ◌<◌, ◌≤◌, Bool, true, List, [], ◌∷◌, length, get_or, refl, ap₂, ◌∙◌, subst, arith, inl, inr, zero, false, ◌-◌, ◌++◌, sym, ap, slice_index, add-one, map}
+use Rattle.std.specs.Prelude.{Contains, filter, ◌⊎◌, ◌==◌, ◌↔◌, nat_lt, nat_le}
+use Rattle.std.specs.Cmp.{both_ways}
 use Rattle.std.specs.List.{range_with_len, list_any}
 use Rattle.std.specs.List.Sorted.{IsStrictlyIncreasing}
 use Rattle.std.proofs.lemmas.List.Kept.{AllPairs-from_increasing, IsStrictlyIncreasing-filter}
 use Rattle.std.proofs.lemmas.List.FromFn.{length-range_with_len, get_or-range_with_len}
 use Rattle.fleet_verify.proofs.Members.{filter_has, filter_from, contains_head, contains_later, contains_cases, contains_none}
-use Rattle.std.proofs.lemmas.Bool.{cases_lt, cases_eq, eqb-true, eq-eqb, or_cases, or_left, or_right, cases_order, le-leb}
+use Rattle.std.proofs.lemmas.Bool.{cases_lt, cases_eq, eqb-true, eq-eqb, or_cases, or_left, or_right, cases_order, le-leb, leb-true, ltb-true, lt-ltb, and_parts, and_from}
 use Rattle.fleet_model.specs.declared.geometry.Place.{Place}
 use Rattle.fleet_model.specs.declared.program.ActionId.{ActionId}
 use Rattle.fleet_model.specs.declared.program.Visit.{Visit}
 use Rattle.fleet_model.specs.Program.{Program, moves, awaits_of, AreInRange, total_moves}
-use Rattle.fleet_model.specs.Machine.{count_at, place_at, Holds, is_held, run, Configuration, tick, IsDone}
+use Rattle.fleet_model.specs.Machine.{count_at, place_at, Holds, is_held, is_among, opening, indices, run, Configuration, tick, IsDone}
 use Rattle.fleet_model.specs.Chain.{IsAction, Reaches, IsNumbering, DirectlyNeeds, awaited}
 use Rattle.fleet_model.specs.Visit.{next_move, IsVisitOf, entering, leaving, AreUnordered, IsVisit}
 use Rattle.fleet_model.specs.Breaking.{IsNeededFor, IsHeldBack, AreBreakingHolds, MeetOn, IsPrepared}
-use Rattle.fleet_verify.proofs.Waiting.{Moves, step, IsReadyTo, ready_by, by_ready}
+use Rattle.fleet_verify.proofs.Waiting.{Moves, step, IsReadyTo}
 use Rattle.fleet_verify.proofs.RunCounts.{count_past, count_opening, run_place, longest_exists, finish_exists, unheld_is_longest, longest_small}
+use Rattle.fleet_model.proofs.Tick.{tick_agree}
 use Rattle.fleet_model.proofs.Chains.{stays_to, Reaches-refl, Reaches-rises, Reaches-need}
 use Rattle.fleet_verify.specs.Listing.{entry_level}
 use Rattle.fleet_verify.proofs.Listing.{rank_rises}
 use Rattle.fleet_verify.proofs.Finish.{count_within, count_grows, Reaches-done, run_numbers, finished_says, done_after, done_first}
-use Rattle.std.proofs.lemmas.List.{get_or_past, get_or_append_left, get_or_push, length_push, ext_get_or, get_or_default}
+use Rattle.fleet_model.proofs.Indices.{indices-more}
+use Rattle.std.proofs.lemmas.List.Elements.{filter-append}
+use Rattle.std.proofs.lemmas.List.{append-nil, map-append, get_or_past, get_or_append_left, get_or_push, length_push, ext_get_or}
 use Rattle.fleet_model.specs.declared.program.Await.{Await}
 use Rattle.fleet_verify.proofs.Looking.{needed_action, needed_on}
 use Rattle.fleet_verify.proofs.Decide.{Reaches-dec, before_in}
 use Rattle.fleet_verify.specs.Rows.{IsRow}
-use Rattle.std.proofs.lemmas.List.Elements.{Contains-push, Contains-push_cases, Contains-append_left}
-use Rattle.fleet_verify.specs.Walk.{AreCounts, IsReadyBy}
-use Rattle.fleet_verify.specs.Breaking.{IsHeldBy, AreAdvanced}
+use Rattle.fleet_verify.specs.Breaking.{is_held_by, held_row}
 use Rattle.fleet_verify.specs.Needed.{AreNeeded}
 
 -- ---- rows of agents in rising order
@@ -95,6 +97,16 @@ those_has test n i c = (filter_from test (range_with_len 0 n) i c).1
 
 pub those_keep : (test : ℕ → Bool) (n i : ℕ) → i < n → test i ≡ true → Contains (those_below test n) i
 those_keep test n i l h = filter_has test (range_with_len 0 n) i (range_all n i l) h
+
+-- one number more
+pub those_more : (test : ℕ → Bool) (row : List ℕ) (i : ℕ) → row ≡ those_below test i → (b : Bool) → b ≡ test i → b ≡ true → row ++ i ∷ [] ≡ those_below test (i + 1)
+those_more test row i e b is passes = let t : test i ≡ true = sym is ∙ passes in rw (indices-more i, filter-append, t, e) refl
+
+pub those_same : (test : ℕ → Bool) (row : List ℕ) (i : ℕ) → row ≡ those_below test i → (b : Bool) → b ≡ test i → b ≡ false → row ≡ those_below test (i + 1)
+those_same test row i e b is fails = let t : test i ≡ false = sym is ∙ fails in rw (indices-more i, filter-append, t) (e ∙ sym (append-nil (those_below test i)))
+
+pub tests_more : (test : ℕ → Bool) (flags : List Bool) (i : ℕ) → flags ≡ map test (indices i) → (b : Bool) → b ≡ test i → flags ++ b ∷ [] ≡ map test (indices (i + 1))
+tests_more test flags i e b is = rw (indices-more i, map-append, e, is) refl
 
 -- ---- holds that bring two agents onto one cell
 
@@ -476,157 +488,69 @@ breaking_short p number s range v w holds b n l m =
 
 -- ---- what the code of breaking holds rests on
 
--- the numbers below i that are so, in rising order
-pub record IsRowBelow (P : ℕ → Type 0) (row : List ℕ) (i : ℕ) : Type 0 where
-  pub rising : IsStrictlyIncreasing row
-  pub who : (j : ℕ) → Contains row j ↔ ((j < i) × P j)
-
-pub push_rises : (row : List ℕ) (i : ℕ) → IsStrictlyIncreasing row → ((j : ℕ) → Contains row j → j < i) → IsStrictlyIncreasing (row ++ i ∷ [])
-push_rises row i h below k l =
-    let n : length (row ++ i ∷ []) ≡ length row + 1 = length_push row i in
-    elim (cases_eq (k + 1) (length row)) [
-      | inl e ↦ (
-          let last : get_or (row ++ i ∷ []) (k + 1) 0 ≡ i = get_or_push row i 0 (k + 1) (sym e) in
-          let here : get_or (row ++ i ∷ []) k 0 ≡ get_or row k 0 = get_or_append_left row (i ∷ []) 0 k (omega arith) in
-          let low : get_or row k 0 < i = below (get_or row k 0) (k, (omega arith), get_or_default row k (get_or row k 0) 0 (omega arith)) in
-          omega arith)
-      | inr m ↦ (
-          let here : get_or (row ++ i ∷ []) k 0 ≡ get_or row k 0 = get_or_append_left row (i ∷ []) 0 k (omega arith) in
-          let next : get_or (row ++ i ∷ []) (k + 1) 0 ≡ get_or row (k + 1) 0 = get_or_append_left row (i ∷ []) 0 (k + 1) (omega arith) in
-          let low : get_or row k 0 < get_or row (k + 1) 0 = h k (omega arith) in
-          omega arith)
-    ]
-
-pub row_more : (P : ℕ → Type 0) (row : List ℕ) (i : ℕ) → IsRowBelow P row i → P i → IsRowBelow P (row ++ i ∷ []) (i + 1)
-row_more P row i h x = record { rising = push_rises row i h.rising (λ j c. ((h.who j).0 c).0); who = λ j. ((λ c. into j (Contains-push_cases row i j c)), (λ (l, y). out j l y (cases_eq j i))) }
-  where
-    into : (j : ℕ) → Contains row j ⊎ (i ≡ j) → (j < i + 1) × P j
-    into j (inl c) = let l : j < i = ((h.who j).0 c).0 in ((omega arith), ((h.who j).0 c).1)
-    into j (inr e) = ((omega arith), subst P e x)
-
-    out : (j : ℕ) → j < i + 1 → P j → (j ≡ i) ⊎ (j ≡ i → ⊥) → Contains (row ++ i ∷ []) j
-    out j l y (inl e) = subst (Contains (row ++ i ∷ [])) (sym e) (Contains-push row i)
-    out j l y (inr n) = Contains-append_left row (i ∷ []) j ((h.who j).1 ((omega arith), y))
-
-pub row_same : (P : ℕ → Type 0) (row : List ℕ) (i : ℕ) → IsRowBelow P row i → (P i → ⊥) → IsRowBelow P row (i + 1)
-row_same P row i h n = record { rising = h.rising; who = λ j. ((λ c. (let l : j < i = ((h.who j).0 c).0 in omega arith, ((h.who j).0 c).1)), (λ (l, y). out j l y (cases_eq j i))) }
-  where
-    out : (j : ℕ) → j < i + 1 → P j → (j ≡ i) ⊎ (j ≡ i → ⊥) → Contains row j
-    out j l y (inl e) = absurd (n (subst P e y))
-    out j l y (inr m) = (h.who j).1 ((omega arith), y)
-
--- the counts after a tick, of the agents below i
-pub record AreAdvancedBelow (p : Program) (counts needed next : List ℕ) (i : ℕ) : Type 0 where
-  pub all : length next ≡ i
-  pub moved : (j : ℕ) → j < i → IsReadyBy p counts j → (IsHeldBy p counts needed j → ⊥) → slice_index next j ≡ slice_index counts j + 1
-  pub stayed : (j : ℕ) → j < i → (IsReadyBy p counts j → IsHeldBy p counts needed j) → slice_index next j ≡ slice_index counts j
-
-pub advanced_more : (p : Program) (counts needed next : List ℕ) (i x : ℕ) → AreAdvancedBelow p counts needed next i → (IsReadyBy p counts i → (IsHeldBy p counts needed i → ⊥) → x ≡ slice_index counts i + 1) → ((IsReadyBy p counts i → IsHeldBy p counts needed i) → x ≡ slice_index counts i) → AreAdvancedBelow p counts needed (next ++ x ∷ []) (i + 1)
-advanced_more p counts needed next i x h go stay = record {
-  all = length_push next x ∙ (let e : length next ≡ i = h.all in omega arith);
-  moved = λ j l r n. moved j l r n (cases_eq j i);
-  stayed = λ j l r. stayed j l r (cases_eq j i);
-}
-  where
-    here : slice_index (next ++ x ∷ []) i ≡ x
-    here = get_or_push next x 0 i h.all
-
-    before : (j : ℕ) → j < i → slice_index (next ++ x ∷ []) j ≡ slice_index next j
-    before j l = get_or_append_left next (x ∷ []) 0 j (let e : length next ≡ i = h.all in omega arith)
-
-    moved : (j : ℕ) → j < i + 1 → IsReadyBy p counts j → (IsHeldBy p counts needed j → ⊥) → (j ≡ i) ⊎ (j ≡ i → ⊥) → slice_index (next ++ x ∷ []) j ≡ slice_index counts j + 1
-    moved j l r n (inl e) =
-        ap (slice_index (next ++ x ∷ [])) e ∙ here ∙ go (subst (IsReadyBy p counts) e r) (λ k. n (subst (IsHeldBy p counts needed) (sym e) k)) ∙ ap (λ k. slice_index counts k + 1) (sym e)
-    moved j l r n (inr m) = before j (omega arith) ∙ h.moved j (omega arith) r n
-
-    stayed : (j : ℕ) → j < i + 1 → (IsReadyBy p counts j → IsHeldBy p counts needed j) → (j ≡ i) ⊎ (j ≡ i → ⊥) → slice_index (next ++ x ∷ []) j ≡ slice_index counts j
-    stayed j l r (inl e) = ap (slice_index (next ++ x ∷ [])) e ∙ here ∙ stay (subst (λ k. IsReadyBy p counts k → IsHeldBy p counts needed k) e r) ∙ ap (slice_index counts) (sym e)
-    stayed j l r (inr m) = before j (omega arith) ∙ h.stayed j (omega arith) r
-
--- holds by rows are those of the configuration
-held_by : (p : Program) (v w : Visit) (needed : List ℕ) → AreNeeded p v w (slice_index needed) → (c : Configuration) (counts : List ℕ) → AreCounts c counts → (i : ℕ) → IsHeldBy p counts needed i ↔ IsHeldBack p v w c i
-held_by p v w needed f c counts a i = (
+-- those that are held are the ones that are held back
+held_has : (p : Program) (v w : Visit) (needed : List ℕ) → AreNeeded p v w (slice_index needed) → (c : Configuration) (i : ℕ) → Contains (held_row p c needed) i ↔ IsHeldBack p v w c i
+held_has p v w needed f c i = (
+  (λ k.
+      let both = and_parts (nat_lt (count_at c i) (moves p i)) (nat_le (slice_index needed i) (count_at c i)) (those_has (is_held_by p c needed) (length p) i k) in
+      let past = leb-true (slice_index needed i) (count_at c i) both.1 in
+      record { left = ltb-true (count_at c i) (moves p i) both.0; unneeded = λ r. omega (arith, ((f i (count_at c i + 1)).0 r).1, past) }),
   (λ h.
-      let e : slice_index counts i ≡ count_at c i = a i in
-      record { left = omega (arith, h.left); unneeded = λ k. omega (arith, ((f i (count_at c i + 1)).0 k).1, h.past) }),
-  (λ h.
-      let e : slice_index counts i ≡ count_at c i = a i in
-      record {
-        left = omega (arith, h.left);
-        past = elim (cases_lt (slice_index counts i) (slice_index needed i)) [
-          | inr l ↦ l
-          | inl l ↦ absurd (h.unneeded ((f i (count_at c i + 1)).1 (omega arith, omega arith)))
-        ];
-      }),
+      let left : count_at c i < moves p i = h.left in
+      let past : slice_index needed i ≤ count_at c i = elim (cases_lt (count_at c i) (slice_index needed i)) [ inr l ↦ l | inl l ↦ absurd (h.unneeded ((f i (count_at c i + 1)).1 (omega arith, omega arith))) ] in
+      those_keep (is_held_by p c needed) (length p) i (moves_within p i (omega arith)) (and_from _ _ (lt-ltb (count_at c i) (moves p i) left) (le-leb (slice_index needed i) (count_at c i) past))),
 )
 
 -- one tick more
-pub meeting_more : (p : Program) (v w : Visit) (needed : List ℕ) → IsVisit p v → IsVisit p w → AreNeeded p v w (slice_index needed) → (holds : Holds) → IsBegun p v w holds → (counts : List ℕ) → AreCounts (run p holds (length holds)) counts → (v.position ≤ slice_index counts v.agent → w.position ≤ slice_index counts w.agent → ⊥) → (row : List ℕ) → IsStrictlyIncreasing row → ((i : ℕ) → Contains row i ↔ IsHeldBy p counts needed i) → (next : List ℕ) → AreAdvanced p counts needed next → IsBegun p v w (holds ++ row ∷ []) × AreCounts (run p (holds ++ row ∷ []) (length holds + 1)) next
-meeting_more p v w needed a b f holds g counts at open_yet row rises who next adv = (
-  grown p v w holds g not_prepared row rises
-      (λ i. ((λ k. (held_by p v w needed f (run p holds n) counts at i).0 ((who i).0 k)), (λ k. (who i).1 ((held_by p v w needed f (run p holds n) counts at i).1 k)))),
-  counts_at,
-)
+pub meeting_step : (p : Program) (v w : Visit) (needed : List ℕ) → IsVisit p v → IsVisit p w → AreNeeded p v w (slice_index needed) → (holds : Holds) → IsBegun p v w holds
+    → (c d : Configuration) → c ≡ run p holds (length holds) → ((v.position ≤ count_at c v.agent) × (w.position ≤ count_at c w.agent) → ⊥) → d ≡ tick p (is_held_by p c needed) c
+    → (more : Holds) → more ≡ holds ++ held_row p c needed ∷ [] → IsBegun p v w more × (d ≡ run p more (length more)) × (length more ≡ length holds + 1)
+meeting_step p v w needed a b f holds g c d here open_yet next more is =
+    subst (λ h. IsBegun p v w h × (d ≡ run p h (length h)) × (length h ≡ length holds + 1)) (sym is)
+    (grown p v w holds g not_prepared row (those_rise test (length p)) has, next ∙ ticked ∙ ap (run p longer) (sym (long ∙ add-one n)), long)
   where
     n : ℕ
     n = length holds
 
-    more : Holds
-    more = holds ++ row ∷ []
+    test : ℕ → Bool
+    test = is_held_by p c needed
+
+    row : List ℕ
+    row = held_row p c needed
+
+    longer : Holds
+    longer = holds ++ row ∷ []
+
+    long : length longer ≡ n + 1
+    long = length_push holds row
 
     not_prepared : IsPrepared p v w (run p holds n) → ⊥
-    not_prepared h =
-        let both : (v.position ≤ count_at (run p holds n) v.agent) × (w.position ≤ count_at (run p holds n) w.agent) = (prepared_by_counts p v w a b holds n).0 h in
-        let l : v.position ≤ count_at (run p holds n) v.agent = both.0 in
-        let m : w.position ≤ count_at (run p holds n) w.agent = both.1 in
-        let e : slice_index counts v.agent ≡ count_at (run p holds n) v.agent = at v.agent in
-        let k : slice_index counts w.agent ≡ count_at (run p holds n) w.agent = at w.agent in
-        open_yet (omega arith) (omega arith)
+    not_prepared h = open_yet (subst (λ x. (v.position ≤ count_at x v.agent) × (w.position ≤ count_at x w.agent)) (sym here) ((prepared_by_counts p v w a b holds n).0 h))
 
-    same : run p more n ≡ run p holds n
-    same = run_same p more holds n (λ x l. get_or_append_left holds (row ∷ []) [] x l)
+    has : (i : ℕ) → Contains row i ↔ IsHeldBack p v w (run p holds n) i
+    has i = subst (λ x. Contains row i ↔ IsHeldBack p v w x i) here (held_has p v w needed f c i)
 
-    here : AreCounts (run p more n) counts
-    here = subst (λ c. AreCounts c counts) (sym same) at
-
-    this : get_or more n [] ≡ row
+    this : get_or longer n [] ≡ row
     this = get_or_push holds row [] n refl
 
-    held_row : (i : ℕ) → IsHeldBy p counts needed i → is_held more n i ≡ true
-    held_row i h = subst (λ r. list_any (λ j. j == i) r ≡ true) (sym this) (Contains-any i row ((who i).1 h))
+    agree : (i : ℕ) → i < length p → test i ≡ is_among (get_or longer n []) i
+    agree i l =
+        both_ways (test i) (is_among (get_or longer n []) i)
+        (λ t. subst (λ r. is_among r i ≡ true) (sym this) (Contains-any i row (those_keep test (length p) i l t)))
+        (λ t. those_has test (length p) i (any_Contains i row (subst (λ r. is_among r i ≡ true) this t)))
 
-    row_held : (i : ℕ) → is_held more n i ≡ true → IsHeldBy p counts needed i
-    row_held i h = (who i).0 (any_Contains i row (subst (λ r. list_any (λ j. j == i) r ≡ true) this h))
-
-    after : (i : ℕ) → (i < length p) ⊎ (length p ≤ i) → slice_index next i ≡ count_at (run p more (suc n)) i
-    after i (inr l) =
-        let long : length next ≡ length p = adv.all in
-        get_or_past next i 0 (omega arith) ∙ sym (count_past p more (suc n) i l)
-    after i (inl l) =
-        elim (step p more n i l) [
-          | inl m ↦ (
-              let e : slice_index next i ≡ slice_index counts i + 1 = adv.moved i l (ready_by p (run p more n) counts here i m.ready) (λ h. let t = held_row i h in let u = m.free in (let x : ⊥ = cc in x)) in
-              let k : slice_index counts i ≡ count_at (run p more n) i = here i in
-              let c : count_at (run p more (suc n)) i ≡ suc (count_at (run p more n) i) = m.count in
-              omega arith)
-          | inr m ↦ (
-              let e : slice_index next i ≡ slice_index counts i = adv.stayed i l (λ r. row_held i (m.why (by_ready p (run p more n) counts here i r))) in
-              let k : slice_index counts i ≡ count_at (run p more n) i = here i in
-              let c : count_at (run p more (suc n)) i ≡ count_at (run p more n) i = m.count in
-              omega arith)
-        ]
-
-    counts_at : AreCounts (run p more (n + 1)) next
-    counts_at i = let e : suc n ≡ n + 1 = omega arith in subst (λ t. slice_index next i ≡ count_at (run p more t) i) e (after i (cases_lt i (length p)))
+    ticked : tick p test c ≡ run p longer (suc n)
+    ticked =
+        tick_agree p test (is_held longer n) c agree
+        ∙ ap (tick p (is_held longer n)) (here ∙ sym (run_same p longer holds n (λ x l. get_or_append_left holds (row ∷ []) [] x l)))
 
 -- the end: both have arrived, or the ticks are as many as the levels
-pub meeting_arrived : (p : Program) (v w : Visit) → IsVisit p v → IsVisit p w → (holds : Holds) → IsBegun p v w holds → (counts : List ℕ) → AreCounts (run p holds (length holds)) counts → v.position ≤ slice_index counts v.agent → w.position ≤ slice_index counts w.agent → AreBreakingHolds p v w holds
-meeting_arrived p v w a b holds g counts at l m =
-    let e : slice_index counts v.agent ≡ count_at (run p holds (length holds)) v.agent = at v.agent in
-    let k : slice_index counts w.agent ≡ count_at (run p holds (length holds)) w.agent = at w.agent in
-    record { rising = g.rising; rows = g.rows; sooner = g.sooner; prepared = (prepared_by_counts p v w a b holds (length holds)).1 ((omega arith), (omega arith)) }
+pub meeting_arrived : (p : Program) (v w : Visit) → IsVisit p v → IsVisit p w → (holds : Holds) → IsBegun p v w holds → (c : Configuration) → c ≡ run p holds (length holds)
+    → (v.position ≤ count_at c v.agent) × (w.position ≤ count_at c w.agent) → AreBreakingHolds p v w holds
+meeting_arrived p v w a b holds g c here h =
+    record { rising = g.rising; rows = g.rows; sooner = g.sooner; prepared = (prepared_by_counts p v w a b holds (length holds)).1 (subst (λ x. (v.position ≤ count_at x v.agent) × (w.position ≤ count_at x w.agent)) here h) }
 
-pub meeting_late : (p : Program) (v w : Visit) (number : ActionId → ℕ) → IsNumbering p number → AreInRange p → (holds : Holds) → IsBegun p v w holds → ((a : ActionId) → IsNeededFor p v w a → number a ≤ length holds) → AreBreakingHolds p v w holds
+meeting_late : (p : Program) (v w : Visit) (number : ActionId → ℕ) → IsNumbering p number → AreInRange p → (holds : Holds) → IsBegun p v w holds → ((a : ActionId) → IsNeededFor p v w a → number a ≤ length holds) → AreBreakingHolds p v w holds
 meeting_late p v w number s range holds g low = record { rising = g.rising; rows = g.rows; sooner = g.sooner; prepared = prepared_at p number s range v w holds g (length holds) (omega arith) low }
 
 -- with a numbering there is one by numbers up to that of all actions
@@ -648,25 +572,7 @@ meeting_last p v w (number, s) range holds g l =
     let short = short_numbers p range number s in
     meeting_late p v w short.0 short.1 range holds g (λ a k. omega (arith, short.2 a (needed_action p v w a k)))
 
-pub meeting_start : (p : Program) (v w : Visit) → IsBegun p v w []
-meeting_start p v w = record {
-  rising = λ t k m. absurd (omega arith);
-  rows = λ t i l. absurd (omega arith);
-  sooner = λ t l. absurd (omega arith);
-}
-
-pub start_counts : (p : Program) (v w : Visit) (holds : Holds) → holds ≡ [] → (counts : List ℕ) → ((j : ℕ) → slice_index counts j ≡ 0) → IsBegun p v w holds × AreCounts (run p holds (length holds)) counts × (length holds ≡ 0)
-start_counts p v w holds e counts z =
-    subst (λ h. IsBegun p v w h × AreCounts (run p h (length h)) counts × (length h ≡ 0)) (sym e)
-    (meeting_start p v w, (λ i. z i ∙ sym (count_opening p [] i)), refl)
-
--- the same, of lists that are known to be equal to these
-pub meeting_step : (p : Program) (v w : Visit) (needed : List ℕ) → IsVisit p v → IsVisit p w → AreNeeded p v w (slice_index needed) → (holds : Holds) → IsBegun p v w holds → (counts : List ℕ) → AreCounts (run p holds (length holds)) counts → (t : ℕ) → length holds ≡ t → (seen other another : List ℕ) → seen ≡ counts → other ≡ counts → another ≡ counts → ((v.position ≤ slice_index seen v.agent) × (w.position ≤ slice_index seen w.agent) → ⊥) → (row : List ℕ) → IsStrictlyIncreasing row → ((i : ℕ) → Contains row i ↔ IsHeldBy p other needed i) → (next : List ℕ) → AreAdvanced p another needed next → (more : Holds) → more ≡ holds ++ row ∷ [] → IsBegun p v w more × AreCounts (run p more (length more)) next × (length next ≡ length p) × (length more ≡ t + 1)
-meeting_step p v w needed a b f holds g counts at t long seen other another e1 e2 e3 open_yet row rises who next adv more em =
-    let both : IsBegun p v w (holds ++ row ∷ []) × AreCounts (run p (holds ++ row ∷ []) (length holds + 1)) next =
-    meeting_more p v w needed a b f holds g counts at
-    (λ l m. open_yet (subst (λ c. (v.position ≤ slice_index c v.agent) × (w.position ≤ slice_index c w.agent)) (sym e1) (l, m)))
-    row rises (subst (λ c. (i : ℕ) → Contains row i ↔ IsHeldBy p c needed i) e2 who) next (subst (λ c. AreAdvanced p c needed next) e3 adv) in
-    let n : length (holds ++ row ∷ []) ≡ length holds + 1 = length_push holds row in
-    subst (λ h. IsBegun p v w h × AreCounts (run p h (length h)) next × (length next ≡ length p) × (length h ≡ t + 1)) (sym em)
-    (both.0, subst (λ k. AreCounts (run p (holds ++ row ∷ []) k) next) (sym n) both.1, adv.all, (omega arith))
+pub meeting_start : (p : Program) (v w : Visit) (holds : Holds) → holds ≡ [] → (c : Configuration) → c ≡ opening p → IsBegun p v w holds × (c ≡ run p holds (length holds)) × (length holds ≡ 0)
+meeting_start p v w holds e c here =
+    subst (λ h. IsBegun p v w h × (c ≡ run p h (length h)) × (length h ≡ 0)) (sym e)
+    (record { rising = λ t k m. absurd (omega arith); rows = λ t i l. absurd (omega arith); sooner = λ t l. absurd (omega arith) }, here, refl)

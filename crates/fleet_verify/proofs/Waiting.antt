@@ -93,12 +93,6 @@ ready_yes p counts i l k n h = record {
   met = λ w (m, g, e). h m w (omega arith) (slice_get-get_or (awaits_of p i (slice_index counts i + 1)) m w g ∙ ap Some e);
 }
 
--- an agent with an action left is ready exactly if no await of it is found that is not met
-pub none_unmet : (p : Program) (counts : List ℕ) (i : ℕ) (o : Option Await) → slice_index counts i < moves p i → IfSome o (IsUnmet p counts i)
-    → IfNone o (slice_index counts i < moves p i → IsReadyBy p counts i) → IsTrue (is_none o) ↔ IsReadyBy p counts i
-none_unmet p counts i None left some none = (λ t. none left, λ r. refl)
-none_unmet p counts i (Some w) left some none = (λ t. absurd cc, λ r. absurd (omega (arith, r.met w some.awaited, some.unmet)))
-
 -- what is found for one that waits
 pub unmet_found : (p : Program) (counts : List ℕ) (i : ℕ) (o : Option Await) (d : Await) → IfSome o (IsUnmet p counts i)
     → IfNone o (slice_index counts i < moves p i → IsReadyBy p counts i) → (IsReadyBy p counts i → ⊥) → IsBlocked p counts i → IsUnmet p counts i (unwrap_or o d)

@@ -1,17 +1,12 @@
--- A tick in which those are held whose next action is not needed, by counts.
-use Rattle.std.specs.Prelude.{◌≡◌, List, ℕ, ◌+◌, ◌<◌, ◌≤◌, length, slice_index}
+-- Whom a tick holds: those whose next action is not needed.
+use Rattle.std.specs.Prelude.{ℕ, Bool, ◌&&◌, List, length, filter, slice_index, nat_lt, nat_le}
 use Rattle.fleet_model.specs.Program.{Program, moves}
-use Rattle.fleet_verify.specs.Walk.{IsReadyBy}
+use Rattle.fleet_model.specs.Machine.{Configuration, count_at, indices}
 
--- by counts, and how many actions of each agent are needed: agent i has an action left, and the next one is not needed
-pub record IsHeldBy (p : Program) (counts needed : List ℕ) (i : ℕ) : Type 0 where
-  pub left : slice_index counts i < moves p i
-  pub past : slice_index needed i ≤ slice_index counts i
+-- by how many actions of each agent are needed: agent i has an action left, and the next one is not needed
+abbrev pub is_held_by : Program → Configuration → List ℕ → ℕ → Bool
+is_held_by p c needed i = nat_lt (count_at c i) (moves p i) && nat_le (slice_index needed i) (count_at c i)
 
--- the counts after a tick in which those are held
-pub record AreAdvanced (p : Program) (counts needed next : List ℕ) : Type 0 where
-  pub all : length next ≡ length p
-  pub moved : (i : ℕ) → i < length p → IsReadyBy p counts i → (IsHeldBy p counts needed i → ⊥)
-      → slice_index next i ≡ slice_index counts i + 1
-  pub stayed : (i : ℕ) → i < length p → (IsReadyBy p counts i → IsHeldBy p counts needed i)
-      → slice_index next i ≡ slice_index counts i
+-- the agents that are held so
+abbrev pub held_row : Program → Configuration → List ℕ → List ℕ
+held_row p c needed = filter (is_held_by p c needed) (indices (length p))

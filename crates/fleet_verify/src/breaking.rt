@@ -1,20 +1,21 @@
 //! Holds that bring two agents onto one cell, if their visits of it have no order.
 
-ghost use Rattle.std.specs.Prelude.{◌≡◌, ℕ, ◌+◌, ◌<◌, ◌≤◌, ◌↔◌, IsTrue, IfOk, OnOk, All, Contains, length, slice_index, map};
+ghost use Rattle.std.specs.Prelude.{◌≡◌, ℕ, ◌<◌, ◌≤◌, ◌↔◌, IsTrue, IfOk, OnOk, All, length, slice_index, map};
 ghost use Rattle.std.specs.List.Sorted.{IsStrictlyIncreasing};
 ghost use Rattle.fleet_model.specs.declared.geometry.Place.{Place};
 ghost use Rattle.fleet_model.specs.declared.program.ActionId.{ActionId};
 ghost use Rattle.fleet_model.specs.Program.{AreInRange};
 ghost use Rattle.fleet_model.specs.Chain.{IsNumbering};
 ghost use Rattle.fleet_model.specs.Visit.{IsVisit};
-ghost use Rattle.fleet_verify.specs.Walk.{IsReadyBy};
+ghost use Rattle.fleet_model.specs.Machine.{count_at, indices, tick};
+ghost use Rattle.fleet_machine.specs.Machine.{Runs};
 ghost use Rattle.fleet_model.specs.Visit.{AreUnordered};
-ghost use Rattle.fleet_verify.specs.Breaking.{IsHeldBy, AreAdvanced};
+ghost use Rattle.fleet_verify.specs.Breaking.{is_held_by, held_row};
 ghost use Rattle.fleet_model.specs.Breaking.{AreBreakingHolds, MeetOn};
 ghost use Rattle.fleet_verify.specs.Needed.{AreNeeded};
 
-use crate::needed::{needed_for, zeros};
-use crate::ring::unmet;
+use crate::needed::needed_for;
+use fleet_machine::Machine;
 use fleet_model::{OutOfMemory, ProgramView, Visit, total_moves};
 use std::alloc::Global;
 
@@ -60,129 +61,85 @@ fn holds_by<P: ProgramView>(
     ensures { IfOk result (λ holds.
         AreBreakingHolds (P.program program.now) v w (map (λ row. row.items) holds.items)) }
 {
-    let mut counts = zeros(alloc, program.agents())?;
+    let mut machine = Machine::start(alloc, program)?;
     let mut holds = Vec::new(alloc);
     for t in 0..total_moves(program) {
-        if have_arrived(&counts, v, w) {
+        if have_arrived(&machine, v, w) {
             return Ok(holds);
         }
-        let row = run_tick(alloc, program, &mut counts, needed)?;
+        let row = run_tick(alloc, program, &mut machine, needed)?;
         holds.push(row)?;
     }
     Ok(holds)
 }
 
-/// The agents that are held in a tick, in rising order. It leaves in `counts` those after the tick.
+/// The agents that are held in a tick, in rising order. The machine makes it.
 fn run_tick<P: ProgramView>(
     alloc: Global,
     program: &P,
-    counts: &mut Vec<u32>,
+    machine: &mut Machine,
     needed: &[u32],
 ) -> Result<Vec<u16>, OutOfMemory>
-    requires counts { length counts.old.items ≡ length (P.program program.now) }
+    requires runs { Runs (P.program program.now) machine.old }
     requires needed { length needed.now ≡ length (P.program program.now) }
-    ensures rising { IfOk result (λ row. IsStrictlyIncreasing row.items) }
-    ensures who { IfOk result (λ row. (i : ℕ) →
-        Contains row.items i ↔ IsHeldBy (P.program program.now) counts.old.items needed.now i) }
-    ensures advanced { OnOk result
-        (AreAdvanced (P.program program.now) counts.old.items needed.now counts.new.items) }
+    ensures row { IfOk result (λ row. row.items
+        ≡ held_row (P.program program.now) machine.old.configuration needed.now) }
+    ensures runs { OnOk result (Runs (P.program program.now) machine.new) }
+    ensures after { OnOk result (machine.new.configuration ≡ tick (P.program program.now)
+        (is_held_by (P.program program.now) machine.old.configuration needed.now)
+        machine.old.configuration) }
 {
-    let row = held_agents(alloc, program, counts, needed)?;
-    *counts = advance(alloc, program, counts, needed)?;
+    let (row, flags) = held_agents(alloc, program, machine, needed)?;
+    machine.tick(program, &flags);
     Ok(row)
 }
 
-/// Whether an agent, by these counts of finished actions, has an action left, each await of which is met.
-#[tactic(auto, using(crate::proofs::Waiting::none_unmet))]
-fn is_ready<P: ProgramView>(program: &P, counts: &[u32], i: u16) -> bool
-    requires agent { i < length (P.program program.now) }
-    requires counts { length counts.now ≡ length (P.program program.now) }
-    ensures { IsTrue result ↔ IsReadyBy (P.program program.now) counts.now i }
-{
-    counts[i as usize] < program.moves(i) && unmet(program, counts, i).is_none()
-}
-
-/// Whether an agent has an action left, and the next one is not needed.
-fn is_held<P: ProgramView>(program: &P, counts: &[u32], needed: &[u32], i: u16) -> bool
-    requires agent { i < length (P.program program.now) }
-    requires counts { length counts.now ≡ length (P.program program.now) }
-    requires needed { length needed.now ≡ length (P.program program.now) }
-    ensures { IsTrue result ↔ IsHeldBy (P.program program.now) counts.now needed.now i }
-{
-    let done = counts[i as usize];
-    done < program.moves(i) && needed[i as usize] <= done
-}
-
-/// The agents that are held, in rising order.
+/// The agents that are held, in rising order, and for each agent whether it is one of them.
 fn held_agents<P: ProgramView>(
     alloc: Global,
     program: &P,
-    counts: &[u32],
+    machine: &Machine,
     needed: &[u32],
-) -> Result<Vec<u16>, OutOfMemory>
-    requires counts { length counts.now ≡ length (P.program program.now) }
+) -> Result<(Vec<u16>, Vec<bool>), OutOfMemory>
+    requires runs { Runs (P.program program.now) machine.now }
     requires needed { length needed.now ≡ length (P.program program.now) }
-    ensures rising { IfOk result (λ row. IsStrictlyIncreasing row.items) }
-    ensures who { IfOk result (λ row. (i : ℕ) →
-        Contains row.items i ↔ IsHeldBy (P.program program.now) counts.now needed.now i) }
+    ensures row { IfOk result (λ held. held.0.items
+        ≡ held_row (P.program program.now) machine.now.configuration needed.now) }
+    ensures flags { IfOk result (λ held. held.1.items
+        ≡ map (is_held_by (P.program program.now) machine.now.configuration needed.now)
+        (indices (length (P.program program.now)))) }
 {
     let mut row = Vec::new(alloc);
+    let mut flags = Vec::new(alloc);
     for i in 0..program.agents() {
-        if is_held(program, counts, needed, i) {
+        let is_held = is_held(program, machine, needed, i);
+        flags.push(is_held)?;
+        if is_held {
             row.push(i)?;
         }
     }
-    Ok(row)
+    Ok((row, flags))
 }
 
-/// The counts after a tick.
-fn advance<P: ProgramView>(
-    alloc: Global,
-    program: &P,
-    counts: &[u32],
-    needed: &[u32],
-) -> Result<Vec<u32>, OutOfMemory>
-    requires counts { length counts.now ≡ length (P.program program.now) }
-    requires needed { length needed.now ≡ length (P.program program.now) }
-    ensures { IfOk result (λ next.
-        AreAdvanced (P.program program.now) counts.now needed.now next.items) }
-{
-    let mut next = Vec::with_capacity(alloc, usize::from(program.agents()))?;
-    for i in 0..program.agents() {
-        next.push(count_after(program, counts, needed, i))?;
-    }
-    Ok(next)
-}
-
-/// The count of an agent after a tick.
-fn count_after<P: ProgramView>(program: &P, counts: &[u32], needed: &[u32], i: u16) -> u32
+/// Whether an agent has an action left, and the next one is not needed.
+fn is_held<P: ProgramView>(program: &P, machine: &Machine, needed: &[u32], i: u16) -> bool
     requires agent { i < length (P.program program.now) }
-    requires counts { length counts.now ≡ length (P.program program.now) }
+    requires machine { length machine.now.configuration ≡ length (P.program program.now) }
     requires needed { length needed.now ≡ length (P.program program.now) }
-    ensures moved { IsReadyBy (P.program program.now) counts.now i
-        → (IsHeldBy (P.program program.now) counts.now needed.now i → ⊥)
-        → result ≡ slice_index counts.now i + 1 }
-    ensures stayed { (IsReadyBy (P.program program.now) counts.now i
-        → IsHeldBy (P.program program.now) counts.now needed.now i)
-        → result ≡ slice_index counts.now i }
+    ensures { result
+        ≡ is_held_by (P.program program.now) machine.now.configuration needed.now i }
 {
-    let done = counts[i as usize];
-    let last = program.moves(i);
-    if is_ready(program, counts, i) && !is_held(program, counts, needed, i) {
-        prove!(done < last);
-        done + 1
-    } else {
-        done
-    }
+    let done = machine.agent(i).count;
+    done < program.moves(i) && needed[i as usize] <= done
 }
 
 /// Whether both agents have come to their visits.
-fn have_arrived(counts: &[u32], v: Visit, w: Visit) -> bool
-    requires v { v.agent < length counts.now }
-    requires w { w.agent < length counts.now }
+fn have_arrived(machine: &Machine, v: Visit, w: Visit) -> bool
+    requires v { v.agent < length machine.now.configuration }
+    requires w { w.agent < length machine.now.configuration }
     ensures { IsTrue result
-        ↔ ((v.position ≤ slice_index counts.now v.agent)
-        × (w.position ≤ slice_index counts.now w.agent)) }
+        ↔ ((v.position ≤ count_at machine.now.configuration v.agent)
+        × (w.position ≤ count_at machine.now.configuration w.agent)) }
 {
-    v.position <= counts[v.agent as usize] && w.position <= counts[w.agent as usize]
+    v.position <= machine.agent(v.agent).count && w.position <= machine.agent(w.agent).count
 }

@@ -1,6 +1,9 @@
-use Rattle.fleet_verify.specs.Breaking.{IsHeldBy}
-use Rattle.fleet_verify.proofs.BreakingHolds.{IsRowBelow}
+use Rattle.std.proofs.Common.{◌≡◌, map, filter}
+use Rattle.fleet_model.specs.Machine.{indices}
+use Rattle.fleet_verify.specs.Breaking.{is_held_by}
 use Rattle.fleet_verify.proofs.breaking.held_agents.Given as goal
 
 abbrev pub invariant-loop-i : goal.invariant-loop-i
-invariant-loop-i g l = IsRowBelow (IsHeldBy (g.P.ProgramView.program l.program) l.counts l.needed) l.row.items l.i
+invariant-loop-i g l =
+    let test = is_held_by (g.P.ProgramView.program l.program) l.machine.configuration l.needed in
+    record { row : l.row.items ≡ filter test (indices l.i); flags : l.flags.items ≡ map test (indices l.i) }

@@ -1,16 +1,6 @@
 -- What a run without holds shows that finishes all actions: every place on its way, and that each await was met.
-use Rattle.std.proofs.Common.{◌≡◌, ℕ, zero, suc, ◌<◌, ◌≤◌, Bool, true, List, [], length, Some, nat_le, ap, ◌∙◌, subst, arith, inl, inr, leb-true, le-leb}
-use Rattle.std.specs.Prelude.{Contains}
-use Rattle.std.proofs.lemmas.Bool.{cases_lt}
-use Rattle.std.proofs.lemmas.Option.{slice_get-get_or}
-use Rattle.fleet_model.specs.declared.geometry.Place.{Place}
-use Rattle.fleet_model.specs.declared.task.Task.{Task}
-use Rattle.fleet_model.specs.declared.program.Await.{Await}
-use Rattle.fleet_model.specs.declared.program.ActionId.{ActionId}
-use Rattle.fleet_model.specs.declared.program.Visit.{Visit}
-use Rattle.fleet_model.specs.Program.{Program, moves, awaits_of, IsWellFormed}
-use Rattle.fleet_model.specs.Machine.{count_at, run, is_finished, IsLeast}
-use Rattle.fleet_verify.specs.Faults.{EachAgent, EachAction, EndsRight, StandsRight, AwaitsRight, HasStarts, HasRanges}
+use Rattle.fleet_verify.proofs.Words.{EachIndex, ◌≡◌, ℕ, zero, suc, ◌<◌, ◌≤◌, Bool, true, List, [], length, Some, nat_le, ap, ◌∙◌, subst, arith, inl, inr, leb-true, le-leb, Contains, cases_lt, slice_get-get_or, Place, Task, Await, ActionId, Visit, Program, moves, awaits_of, IsWellFormed, count_at, run, is_finished, IsLeast}
+use Rattle.fleet_verify.specs.Faults.{EachAction, EndsRight, StandsRight, AwaitsRight, HasStarts, HasRanges}
 use Rattle.fleet_verify.specs.Walk.{begun_in, AreOnGround}
 use Rattle.fleet_verify.proofs.RunCounts.{count_opening}
 use Rattle.fleet_verify.proofs.Finish.{count_within, done_after, done_first}
@@ -53,7 +43,7 @@ module _ (p : Program) (t : ℕ) (finished : is_finished p (run p [] t) ≡ true
       subst (λ (v : Visit). StandsRight passable p v.agent v.position) found.2 (on_ground found.0 visit found.1)
 
   -- where each agent also stands on its goal, all that is judged agent by agent is right
-  pub all_right : (passable : Place → Bool) (tasks : List Task) → HasStarts tasks p → IsWellFormed p → AreOnGround passable p (begun_in p t) → EachAgent p (EndsRight tasks p) → HasRanges passable tasks p
+  pub all_right : (passable : Place → Bool) (tasks : List Task) → HasStarts tasks p → IsWellFormed p → AreOnGround passable p (begun_in p t) → EachIndex p (EndsRight tasks p) → HasRanges passable tasks p
   all_right passable tasks starts wf on_ground ends = record {
     before = record { before = record { before = starts; ends = ends }; steps = steps_hold passable on_ground };
     ranges = ranges_hold wf;

@@ -1,32 +1,12 @@
 -- Holds that bring two agents onto one cell: that there are such, and how they are found by counts.
-use Rattle.std.proofs.Common.{◌≡◌, ℕ, suc, ◌+◌, ◌<◌, ◌≤◌, Bool, true, List, [], ◌∷◌, length, get_or, refl, ap₂, ◌∙◌, subst, arith, inl, inr, zero, false, ◌-◌, ◌++◌, sym, ap, slice_index, add-one, map}
-use Rattle.std.specs.Prelude.{Contains, filter, ◌⊎◌, ◌==◌, ◌↔◌, nat_lt, nat_le}
+use Rattle.fleet_verify.proofs.Words.{◌≡◌, ℕ, suc, ◌+◌, ◌<◌, ◌≤◌, Bool, true, List, [], ◌∷◌, length, get_or, refl, ap₂, ◌∙◌, subst, arith, inl, inr, zero, false, ◌-◌, ◌++◌, sym, ap, slice_index, add-one, map, Contains, filter, ◌⊎◌, ◌==◌, ◌↔◌, nat_lt, nat_le, range_with_len, list_any, IsStrictlyIncreasing, AllPairs-from_increasing, IsStrictlyIncreasing-filter, length-range_with_len, get_or-range_with_len, cases_lt, cases_eq, eqb-true, eq-eqb, or_cases, or_left, or_right, cases_order, le-leb, leb-true, ltb-true, lt-ltb, and_parts, and_from, Place, ActionId, Visit, Program, moves, awaits_of, AreInRange, total_moves, count_at, place_at, Holds, is_held, is_among, opening, indices, run, Configuration, tick, IsDone, IsAction, Reaches, IsNumbering, DirectlyNeeds, awaited, next_move, IsVisitOf, entering, leaving, AreUnordered, IsVisit, IsNeededFor, IsHeldBack, AreBreakingHolds, MeetOn, IsPrepared, tick_agree, stays_to, Reaches-refl, Reaches-rises, Reaches-need, indices-more, filter-append, append-nil, map-append, get_or_past, get_or_append_left, get_or_push, length_push, ext_get_or, Await}
 use Rattle.std.specs.Cmp.{both_ways}
-use Rattle.std.specs.List.{range_with_len, list_any}
-use Rattle.std.specs.List.Sorted.{IsStrictlyIncreasing}
-use Rattle.std.proofs.lemmas.List.Kept.{AllPairs-from_increasing, IsStrictlyIncreasing-filter}
-use Rattle.std.proofs.lemmas.List.FromFn.{length-range_with_len, get_or-range_with_len}
 use Rattle.fleet_verify.proofs.Members.{filter_has, filter_from, contains_head, contains_later, contains_cases, contains_none}
-use Rattle.std.proofs.lemmas.Bool.{cases_lt, cases_eq, eqb-true, eq-eqb, or_cases, or_left, or_right, cases_order, le-leb, leb-true, ltb-true, lt-ltb, and_parts, and_from}
-use Rattle.fleet_model.specs.declared.geometry.Place.{Place}
-use Rattle.fleet_model.specs.declared.program.ActionId.{ActionId}
-use Rattle.fleet_model.specs.declared.program.Visit.{Visit}
-use Rattle.fleet_model.specs.Program.{Program, moves, awaits_of, AreInRange, total_moves}
-use Rattle.fleet_model.specs.Machine.{count_at, place_at, Holds, is_held, is_among, opening, indices, run, Configuration, tick, IsDone}
-use Rattle.fleet_model.specs.Chain.{IsAction, Reaches, IsNumbering, DirectlyNeeds, awaited}
-use Rattle.fleet_model.specs.Visit.{next_move, IsVisitOf, entering, leaving, AreUnordered, IsVisit}
-use Rattle.fleet_model.specs.Breaking.{IsNeededFor, IsHeldBack, AreBreakingHolds, MeetOn, IsPrepared}
 use Rattle.fleet_verify.proofs.Waiting.{Moves, step, IsReadyTo}
 use Rattle.fleet_verify.proofs.RunCounts.{count_past, count_opening, run_place, longest_exists, finish_exists, unheld_is_longest, longest_small}
-use Rattle.fleet_model.proofs.Tick.{tick_agree}
-use Rattle.fleet_model.proofs.Chains.{stays_to, Reaches-refl, Reaches-rises, Reaches-need}
 use Rattle.fleet_verify.specs.Listing.{entry_level}
 use Rattle.fleet_verify.proofs.Listing.{rank_rises}
 use Rattle.fleet_verify.proofs.Finish.{count_within, count_grows, Reaches-done, run_numbers, finished_says, done_after, done_first}
-use Rattle.fleet_model.proofs.Indices.{indices-more}
-use Rattle.std.proofs.lemmas.List.Elements.{filter-append}
-use Rattle.std.proofs.lemmas.List.{append-nil, map-append, get_or_past, get_or_append_left, get_or_push, length_push, ext_get_or}
-use Rattle.fleet_model.specs.declared.program.Await.{Await}
 use Rattle.fleet_verify.proofs.Looking.{needed_action, needed_on}
 use Rattle.fleet_verify.proofs.Decide.{Reaches-dec, before_in}
 use Rattle.fleet_verify.specs.Rows.{IsRow}

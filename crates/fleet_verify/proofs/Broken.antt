@@ -1,12 +1,5 @@
 -- What is refused for its order runs badly.
-use Rattle.std.proofs.Common.{Bool, List, Some, ap, ◌∙◌}
-use Rattle.std.proofs.lemmas.Option.{slice_get-get_or}
-use Rattle.fleet_model.specs.declared.geometry.Place.{Place}
-use Rattle.fleet_model.specs.declared.task.Task.{Task}
-use Rattle.fleet_model.specs.declared.program.Visit.{Visit}
-use Rattle.fleet_model.specs.Geometry.{place_of}
-use Rattle.fleet_model.specs.Program.{Program, AreInRange}
-use Rattle.fleet_model.specs.Visit.{ComesAfterByChain, AreUnordered}
+use Rattle.fleet_verify.proofs.Words.{Bool, List, Some, ap, ◌∙◌, slice_get-get_or, Place, Task, Visit, place_of, Program, AreInRange, ComesAfterByChain, AreUnordered}
 use Rattle.fleet_verify.specs.declared.fault.VerifyFault.{VerifyFault}
 use Rattle.fleet_verify.specs.declared.fault.VerifyFault.TheVariants.{OutOfMemory, OtherFleet, Start, Goal, Step, AwaitRange, Cyclic, Unordered}
 use Rattle.fleet_verify.specs.Broken.{MeetUnordered, IsBrokenBy}

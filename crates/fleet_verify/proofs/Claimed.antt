@@ -1,19 +1,6 @@
 -- Moves that take time: what agents claim, and that an order lasts until its move is finished.
-use Rattle.std.proofs.Common.{◌≡◌, ℕ, not, List, [], get_or, filter, add-one, zero, suc, ◌+◌, ◌-◌, ◌<◌, ◌≤◌, Bool, true, false, ◌&&◌, length, Option, Some, None, cond, IsTrue, slice_get, refl, ap, sym, ◌∙◌, subst, arith, inl, inr}
-use Rattle.std.specs.Prelude.{option_map}
-use Rattle.std.proofs.lemmas.Option.{same_Some}
-use Rattle.std.proofs.lemmas.List.{get_or-map}
-use Rattle.std.proofs.Math.Bool.{and-false}
-use Rattle.fleet_model.specs.declared.geometry.Place.{Place}
-use Rattle.fleet_model.specs.declared.geometry.Step.{Step}
-use Rattle.fleet_model.specs.declared.program.Action.{Action}
-use Rattle.fleet_model.specs.declared.standing.Standing.{Standing}
-use Rattle.fleet_model.specs.Geometry.{stepped}
-use Rattle.fleet_model.specs.Program.{Program, actions_of, path}
-use Rattle.fleet_model.specs.Machine.{Configuration, Holds, is_among, is_held, indices, run, tick, standing_at, place_at, count_at, next_action, is_ready, IsReached}
-use Rattle.fleet_model.specs.Claims.{order_of, Claims, KeepsOrder, MayBeOn, is_new, orders_given, holds_of}
+use Rattle.fleet_verify.proofs.Words.{◌≡◌, ℕ, not, List, [], get_or, filter, add-one, zero, suc, ◌+◌, ◌-◌, ◌<◌, ◌≤◌, Bool, true, false, ◌&&◌, length, Option, Some, None, cond, IsTrue, slice_get, refl, ap, sym, ◌∙◌, subst, arith, inl, inr, option_map, same_Some, get_or-map, and-false, Place, Step, Action, Standing, stepped, Program, actions_of, path, Configuration, Holds, is_among, is_held, indices, run, tick, standing_at, place_at, count_at, next_action, is_ready, IsReached, order_of, Claims, KeepsOrder, MayBeOn, is_new, orders_given, holds_of, tick_agree}
 use Rattle.fleet_verify.proofs.RunCounts.{tick_free, tick_stays, run_place, count_opening, reached_tick, agents_held}
-use Rattle.fleet_model.proofs.Tick.{tick_agree}
 use Rattle.fleet_verify.proofs.Finish.{count_grows, count_grows_to}
 use Rattle.fleet_verify.proofs.Waiting.{ready_says, ready_from}
 

@@ -1,20 +1,5 @@
 -- Critical paths: when actions end by their costs, and that something may always be done.
-use Rattle.std.proofs.Common.{◌≡◌, ◌≢◌, ℕ, zero, suc, ◌+◌, ◌-◌, ◌<◌, ◌≤◌, Bool, true, false, List, [], ◌∷◌, ◌++◌, length, get_or, refl, ap, sym, subst, ◌∙◌, arith, inl, inr, ◌⊎◌, Option, Some, None, cond, map, map-id}
-use Rattle.std.specs.Prelude.{sum_by, count_by, nat_lt, IsTrue, ◌↔◌, slice_get, reverse, IfSome, IfNone, Contains}
-use Rattle.std.proofs.lemmas.Bool.{cases_lt}
-use Rattle.std.proofs.lemmas.List.{reverse-append, get_or_past, length_push, get_or_push, get_or_append_left, append-nil}
-use Rattle.std.proofs.lemmas.Option.{same_Some, none-some, slice_get_past, slice_get-get_or, slice_get_within, get_or_from_slice_get}
-use Rattle.std.specs.Option.{option_map_or}
-use Rattle.fleet_model.specs.declared.program.AgentProgram.{AgentProgram}
-use Rattle.std.proofs.lemmas.List.Sums.{sum_by-append, sum_by-cons, sum_by_push}
-use Rattle.std.proofs.lemmas.List.FromFn.{map-range_with_len_more}
-use Rattle.fleet_model.specs.declared.program.ActionId.{ActionId}
-use Rattle.fleet_model.specs.declared.program.Await.{Await}
-use Rattle.fleet_model.specs.Program.{Program, moves, awaits_of, AreInRange}
-use Rattle.fleet_model.specs.Chain.{IsAction, DirectlyNeeds, ChainFrom, Reaches, EndsChainOfCost, IsCriticalCost, IsNumbering, awaited}
-use Rattle.fleet_model.specs.Machine.{indices}
-use Rattle.fleet_model.specs.Schedule.{Schedule, IsSchedule, HasBegunBy, HasEndedBy, NeedsNoStalled}
-use Rattle.fleet_model.proofs.Chains.{but_last, chain_first, chain_last, chain_join, own_reach, Reaches-trans, ends_dearer, need_action, Reaches-need, Reaches-refl}
+use Rattle.fleet_verify.proofs.Words.{◌≡◌, ◌≢◌, ℕ, zero, suc, ◌+◌, ◌-◌, ◌<◌, ◌≤◌, Bool, true, false, List, [], ◌∷◌, ◌++◌, length, get_or, refl, ap, sym, subst, ◌∙◌, arith, inl, inr, ◌⊎◌, Option, Some, None, cond, map, map-id, sum_by, count_by, nat_lt, IsTrue, ◌↔◌, slice_get, reverse, IfSome, IfNone, Contains, cases_lt, reverse-append, get_or_past, length_push, get_or_push, get_or_append_left, append-nil, same_Some, none-some, slice_get_past, slice_get-get_or, slice_get_within, get_or_from_slice_get, option_map_or, AgentProgram, sum_by-append, sum_by-cons, sum_by_push, map-range_with_len_more, ActionId, Await, Program, moves, awaits_of, AreInRange, IsAction, DirectlyNeeds, ChainFrom, Reaches, EndsChainOfCost, IsCriticalCost, IsNumbering, awaited, indices, Schedule, IsSchedule, HasBegunBy, HasEndedBy, NeedsNoStalled, but_last, chain_first, chain_last, chain_join, own_reach, Reaches-trans, ends_dearer, need_action, Reaches-need, Reaches-refl, range_with_len}
 use Rattle.fleet_needs.proofs.Costing.{one_cost, own_cost}
 use Rattle.fleet_verify.proofs.Timed.{critical, ends_in_time, needs_unended, by_or_not}
 use Rattle.fleet_needs.specs.Critical.{critical_cost}
@@ -25,7 +10,6 @@ use Rattle.fleet_verify.specs.Times.{AreEnds, HaveArrivedAt, IsLatest, IsLater, 
 use Rattle.fleet_verify.specs.Stretch.{first_of, stretch_actions, stretch_between, path_actions}
 use Rattle.fleet_verify.specs.declared.stretch.Stretch.{Stretch}
 use Rattle.fleet_verify.specs.declared.times.TheConstants.{LONGEST}
-use Rattle.std.specs.List.{range_with_len}
 use Rattle.fleet_verify.proofs.Members.{same_action}
 use Rattle.fleet_verify.proofs.Decide.{IsAction-dec, action-dec, some-dec, before_in, needs_before}
 

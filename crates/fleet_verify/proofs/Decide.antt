@@ -1,13 +1,6 @@
 -- Whether a chain leads from one action to another can be computed if there is a numbering.
-use Rattle.std.proofs.Common.{◌≡◌, ℕ, zero, suc, ◌-◌, ◌<◌, ◌≤◌, List, [], ◌∷◌, length, refl, sym, ap, subst, arith, inl, inr}
-use Rattle.std.specs.Prelude.{Contains, ◌⊎◌}
-use Rattle.std.proofs.lemmas.Bool.{cases_lt, cases_eq}
-use Rattle.fleet_model.specs.declared.program.Await.{Await}
-use Rattle.fleet_model.specs.declared.program.ActionId.{ActionId}
-use Rattle.fleet_model.specs.Program.{Program, moves, awaits_of}
+use Rattle.fleet_verify.proofs.Words.{◌≡◌, ℕ, zero, suc, ◌-◌, ◌<◌, ◌≤◌, List, [], ◌∷◌, length, refl, sym, ap, subst, arith, inl, inr, Contains, ◌⊎◌, cases_lt, cases_eq, Await, ActionId, Program, moves, awaits_of, IsAction, DirectlyNeeds, ChainFrom, Reaches, IsNumbering, awaited, chain_last, Reaches-need, Reaches-trans, LastStep, chain_ends_by_step}
 use Rattle.fleet_verify.proofs.Members.{same_action, contains_head, contains_later, contains_none, contains_cases}
-use Rattle.fleet_model.specs.Chain.{IsAction, DirectlyNeeds, ChainFrom, Reaches, IsNumbering, awaited}
-use Rattle.fleet_model.proofs.Chains.{chain_last, Reaches-need, Reaches-trans, LastStep, chain_ends_by_step}
 
 pub IsAction-dec : (p : Program) (a : ActionId) → Dec (IsAction p a)
 IsAction-dec p a =

@@ -1,19 +1,5 @@
 -- Accepted programs are those that run well under every list of holds.
-use Rattle.std.proofs.Common.{◌≡◌, ◌≢◌, ℕ, Bool, List, [], length, sym, ◌∙◌, inl, inr}
-use Rattle.std.specs.Prelude.{◌⊎◌}
-use Rattle.std.proofs.lemmas.Bool.{cases_eq, cases_order}
-use Rattle.fleet_model.specs.declared.geometry.Place.{Place}
-use Rattle.fleet_model.specs.declared.program.ActionId.{ActionId}
-use Rattle.fleet_model.specs.declared.program.Visit.{Visit}
-use Rattle.fleet_model.specs.Program.{Program, AreInRange}
-use Rattle.fleet_model.specs.Machine.{Holds, place_at, run}
-use Rattle.fleet_model.specs.Chain.{Reaches, IsNumbering}
-use Rattle.fleet_model.specs.Visit.{IsVisitOf, ComesAfterByChain, entering, leaving}
-use Rattle.fleet_model.specs.declared.task.Task.{Task}
-use Rattle.fleet_model.specs.Accepted.{IsRight, IsAcceptedBy}
-use Rattle.fleet_model.specs.Visit.{AreUnordered}
-use Rattle.fleet_model.specs.Breaking.{AreBreakingHolds}
-use Rattle.fleet_model.specs.Run.{RunsWell}
+use Rattle.fleet_verify.proofs.Words.{◌≡◌, ◌≢◌, ℕ, Bool, List, [], length, sym, ◌∙◌, inl, inr, ◌⊎◌, cases_eq, cases_order, Place, ActionId, Visit, Program, AreInRange, Holds, place_at, run, Reaches, IsNumbering, IsVisitOf, ComesAfterByChain, entering, leaving, Task, IsRight, IsAcceptedBy, AreUnordered, AreBreakingHolds, RunsWell}
 use Rattle.fleet_verify.proofs.Decide.{Reaches-dec}
 use Rattle.fleet_verify.proofs.BreakingHolds.{breaking_conflict, breaking_made}
 use Rattle.fleet_verify.proofs.Listing.{as_visit, after_reaches}

@@ -1,18 +1,8 @@
 -- The actions of a run end when their critical paths do, if an action costs one tick and those in which it is held up.
-use Rattle.std.proofs.Common.{◌≡◌, ℕ, zero, suc, ◌+◌, ◌-◌, ◌<◌, ◌≤◌, ◌==◌, ◌&&◌, Bool, true, false, length, Some, refl, ap, sym, ◌∙◌, subst, arith, add-one, inl, inr, ◌⊎◌}
-use Rattle.std.proofs.lemmas.Bool.{cases_lt, cases_Bool, eq-eqb, eqb-true}
-use Rattle.std.proofs.lemmas.Option.{same_Some}
-use Rattle.fleet_model.specs.declared.program.ActionId.{ActionId}
-use Rattle.fleet_model.specs.declared.standing.Standing.{Standing}
-use Rattle.fleet_model.specs.Program.{Program, AreInRange}
-use Rattle.fleet_model.specs.Machine.{Holds, is_held, run, count_at, is_ready, IsDone, IsDue}
-use Rattle.fleet_model.specs.Chain.{IsAction, DirectlyNeeds, IsCriticalCost, IsNumbering}
-use Rattle.fleet_model.specs.Schedule.{Schedule, HasEndedBy, EndInTime, TakeAtLeast}
-use Rattle.fleet_model.specs.RunSchedule.{IsFinishedIn, IsScheduleOf, BeginsWhenDue, is_held_up, held_up_ticks, ticks_taken}
+use Rattle.fleet_verify.proofs.Words.{◌≡◌, ℕ, zero, suc, ◌+◌, ◌-◌, ◌<◌, ◌≤◌, ◌==◌, ◌&&◌, Bool, true, false, length, Some, refl, ap, sym, ◌∙◌, subst, arith, add-one, inl, inr, ◌⊎◌, cases_lt, cases_Bool, eq-eqb, eqb-true, same_Some, ActionId, Standing, Program, AreInRange, Holds, is_held, run, count_at, is_ready, IsDone, IsDue, IsAction, DirectlyNeeds, IsCriticalCost, IsNumbering, Schedule, HasEndedBy, EndInTime, TakeAtLeast, IsFinishedIn, IsScheduleOf, BeginsWhenDue, is_held_up, held_up_ticks, ticks_taken, need_action}
 use Rattle.fleet_verify.proofs.RunCounts.{counts, readies, run_counts, tick_stays, held_past, ready_or_needs}
 use Rattle.fleet_verify.proofs.Levels.{due_done}
 use Rattle.fleet_verify.proofs.Timed.{no_sooner, critical, ends_in_time}
-use Rattle.fleet_model.proofs.Chains.{need_action}
 use Rattle.fleet_verify.proofs.Ticked.{done_later, longest, ended_done, done_ended, is_schedule}
 
 module _ (p : Program) (holds : Holds) where

@@ -1,16 +1,5 @@
 -- Whether an agent has left its visit.
-use Rattle.std.proofs.Common.{◌≡◌, ℕ, zero, suc, ◌+◌, ◌<◌, ◌≤◌, true, false, List, [], ◌∷◌, Some, drop, slice_get, length, refl, ap, sym, ◌∙◌, subst, arith, add-one, inl, inr}
-use Rattle.std.specs.Option.{option_map_or}
-use Rattle.fleet_model.specs.declared.geometry.Step.{Step}
-use Rattle.fleet_model.specs.Geometry.{is_move}
-use Rattle.std.proofs.lemmas.Bool.{cases_lt}
-use Rattle.std.proofs.lemmas.Option.{slice_get-get_or, slice_get_within, get_or_from_slice_get, same_Some}
-use Rattle.fleet_model.specs.declared.program.Await.{Await}
-use Rattle.fleet_model.specs.declared.program.Action.{Action}
-use Rattle.fleet_model.specs.declared.program.Visit.{Visit}
-use Rattle.fleet_model.specs.Program.{Program, actions_of, awaits_of, step_of, AreMoves, NeverStays}
-use Rattle.fleet_model.specs.Visit.{is_entry, stays_before, next_move, leaving, IsLaterVisit, ComesAfterByAwait}
-use Rattle.fleet_model.proofs.Chains.{next_upto, stay_on}
+use Rattle.fleet_verify.proofs.Words.{◌≡◌, ℕ, zero, suc, ◌+◌, ◌<◌, ◌≤◌, true, false, List, [], ◌∷◌, Some, drop, slice_get, length, refl, ap, sym, ◌∙◌, subst, arith, add-one, inl, inr, option_map_or, Step, is_move, cases_lt, slice_get-get_or, slice_get_within, get_or_from_slice_get, same_Some, Await, Action, Visit, Program, actions_of, awaits_of, step_of, AreMoves, NeverStays, is_entry, stays_before, next_move, leaving, IsLaterVisit, ComesAfterByAwait, next_upto, stay_on}
 use Rattle.fleet_verify.proofs.Paths.{action_with}
 
 -- a position begins a visit if its action is a move

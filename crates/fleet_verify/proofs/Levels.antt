@@ -1,14 +1,7 @@
 -- Levels, and how they are counted up.
-use Rattle.std.proofs.Common.{◌≡◌, ◌≢◌, ℕ, suc, ◌+◌, ◌<◌, ◌≤◌, true, false, subst, arith, inl, inr, ◌⊎◌, zero, sym, ap}
-use Rattle.fleet_model.specs.declared.program.ActionId.{ActionId}
-use Rattle.fleet_model.specs.Program.{Program, AreInRange}
-use Rattle.fleet_model.specs.Machine.{Holds, is_held, run, IsDone, IsDue}
-use Rattle.fleet_model.specs.Chain.{IsAction, DirectlyNeeds, Reaches, unit_cost, IsLevel, IsNumbering, EndsChain}
+use Rattle.fleet_verify.proofs.Words.{◌≡◌, ◌≢◌, ℕ, suc, ◌+◌, ◌<◌, ◌≤◌, true, false, subst, arith, inl, inr, ◌⊎◌, zero, sym, ap, ActionId, Program, AreInRange, Holds, is_held, run, IsDone, IsDue, IsAction, DirectlyNeeds, Reaches, unit_cost, IsLevel, IsNumbering, EndsChain, ends_more, own_reach, LastStep, chain_ends_by_step, Reaches-trans, ends_one, ends_within, Reaches-first, Reaches-last, Reaches-need, cases_eq}
 use Rattle.fleet_verify.proofs.RunCounts.{counts, readies, run_counts, chain_due, ready_or_needs}
-use Rattle.fleet_model.proofs.Chains.{ends_more, own_reach, LastStep, chain_ends_by_step, Reaches-trans, ends_one, ends_within, Reaches-first, Reaches-last, Reaches-need}
 use Rattle.fleet_verify.proofs.Timed.{critical}
-use Rattle.std.specs.Prelude.{◌⊎◌}
-use Rattle.std.proofs.lemmas.Bool.{cases_eq}
 use Rattle.fleet_verify.specs.Listing.{AreLevels}
 use Rattle.fleet_verify.specs.Rows.{IsCountedUp, IsRow, IsRowOfNeeds}
 

@@ -1,3 +1,4 @@
+pub mod Words
 pub mod Members
 pub mod RunCounts
 pub mod Finish

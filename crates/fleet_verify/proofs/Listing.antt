@@ -1,22 +1,9 @@
 -- Orders of visits, the listing sorted by the levels of the entering actions, and the chains between two visits of a
 -- place.
-use Rattle.std.proofs.Common.{◌≡◌, ℕ, zero, suc, ◌+◌, ◌<◌, ◌≤◌, Bool, true, cond, List, length, get_or, refl, sym, ap, subst, arith, inl, inr, Some, ◌∙◌}
-use Rattle.std.specs.Prelude.{Contains, slice_get, ◌⊎◌}
-use Rattle.std.proofs.lemmas.Bool.{cases_lt, eq-eqb, ne_eqb, cases_order}
-use Rattle.fleet_model.specs.declared.geometry.Place.{Place}
-use Rattle.fleet_model.specs.declared.program.Await.{Await}
-use Rattle.fleet_model.specs.declared.program.ActionId.{ActionId}
-use Rattle.fleet_model.specs.declared.program.Visit.{Visit}
-use Rattle.fleet_model.specs.declared.task.Task.{Task}
-use Rattle.fleet_model.specs.Program.{Program, moves, awaits_of, AreInRange}
-use Rattle.fleet_model.specs.Chain.{IsAction, Reaches, IsNumbering, awaited}
-use Rattle.fleet_model.specs.Visit.{is_entry, next_move, IsVisitOf, ListsVisits, Adjacent, ComesAfterByAwait, ComesAfterByChain, entering, leaving, IsVisit, AreUnordered}
-use Rattle.fleet_model.specs.Accepted.{IsAcceptedBy}
+use Rattle.fleet_verify.proofs.Words.{◌≡◌, ℕ, zero, suc, ◌+◌, ◌<◌, ◌≤◌, Bool, true, cond, List, length, get_or, refl, sym, ap, subst, arith, inl, inr, Some, ◌∙◌, Contains, slice_get, ◌⊎◌, cases_lt, eq-eqb, ne_eqb, cases_order, Place, Await, ActionId, Visit, Task, Program, moves, awaits_of, AreInRange, IsAction, Reaches, IsNumbering, awaited, is_entry, next_move, IsVisitOf, ListsVisits, Adjacent, ComesAfterByAwait, ComesAfterByChain, entering, leaving, IsVisit, AreUnordered, IsAcceptedBy, next_upto, Reaches-first, Reaches-last, Reaches-need, ends_one, ends_more, own_reach, Reaches-rises, Reaches-trans, slice_get_within, get_or_from_slice_get}
 use Rattle.fleet_verify.specs.Listing.{AreLevels, entry_level, IsBefore, IsSortedListing}
-use Rattle.fleet_model.proofs.Chains.{next_upto, Reaches-first, Reaches-last, Reaches-need, ends_one, ends_more, own_reach, Reaches-rises, Reaches-trans}
 use Rattle.fleet_verify.proofs.Members.{contains_none}
 use Rattle.fleet_verify.proofs.Neighbours.{adjacent_at, adjacent_from, same_neighbours, any_two, Found, place_in}
-use Rattle.std.proofs.lemmas.Option.{slice_get_within, get_or_from_slice_get}
 
 -- levels are a numbering
 pub levels_number : (p : Program) (level : ActionId → ℕ) → AreLevels p level → IsNumbering p level

@@ -1,22 +1,7 @@
 -- How far actions are looked at, and what they need.
-use Rattle.std.proofs.Common.{inl, inr, ◌≡◌, ℕ, ◌+◌, ◌<◌, List, [], ◌∷◌, ◌++◌, length, refl, ◌-◌, sym, ap, ◌∙◌, subst, arith, ◌≢◌, ◌≤◌, slice_index, set, Some, slice_get, get_or-set_same, get_or-set_other}
-use Rattle.fleet_model.specs.declared.program.ActionId.{ActionId}
-use Rattle.fleet_model.specs.declared.program.Visit.{Visit}
-use Rattle.fleet_model.specs.Program.{Program, moves, total_moves, awaits_of, AreInRange}
-use Rattle.fleet_model.specs.Chain.{IsAction, Reaches, DirectlyNeeds}
-use Rattle.fleet_model.specs.Visit.{entering, IsVisit}
-use Rattle.fleet_model.proofs.Chains.{Reaches-first, Reaches-trans, Reaches-last, Reaches-need, Reaches-kept, own_reach}
-use Rattle.fleet_model.specs.Breaking.{IsNeededFor}
-use Rattle.std.specs.Prelude.{◌⊎◌, Contains}
-use Rattle.std.proofs.lemmas.Bool.{cases_eq, cases_lt}
-use Rattle.std.proofs.lemmas.List.{map-append, length_push, get_or_push, get_or_append_left}
-use Rattle.fleet_model.specs.declared.program.Await.{Await}
+use Rattle.fleet_verify.proofs.Words.{inl, inr, ◌≡◌, ℕ, ◌+◌, ◌<◌, List, [], ◌∷◌, ◌++◌, length, refl, ◌-◌, sym, ap, ◌∙◌, subst, arith, ◌≢◌, ◌≤◌, slice_index, set, Some, slice_get, get_or-set_same, get_or-set_other, ActionId, Visit, Program, moves, total_moves, awaits_of, AreInRange, IsAction, Reaches, DirectlyNeeds, entering, IsVisit, Reaches-first, Reaches-trans, Reaches-last, Reaches-need, Reaches-kept, own_reach, IsNeededFor, ◌⊎◌, Contains, cases_eq, cases_lt, map-append, length_push, get_or_push, get_or_append_left, Await, sum_by-le-sum_by, same_Some, slice_get-get_or, slice_get_within, get_or_from_slice_get, length-set, indices}
 use Rattle.fleet_verify.specs.Blocked.{IsBlocked, IsUnmet, want_at, AreWants, down_from}
 use Rattle.fleet_machine.proofs.Indices.{indices-more}
-use Rattle.std.proofs.lemmas.List.Sums.{sum_by-le-sum_by}
-use Rattle.std.proofs.lemmas.Option.{same_Some, slice_get-get_or, slice_get_within, get_or_from_slice_get}
-use Rattle.std.proofs.Math.ListN.{length-set}
-use Rattle.fleet_model.specs.Machine.{indices}
 use Rattle.fleet_verify.proofs.RunCounts.{sum_rises, sum_of_moves}
 use Rattle.fleet_verify.specs.Needed.{IsRaised, IsLooking, looked_sum, AreNeeded}
 

@@ -1,9 +1,5 @@
 -- Members of lists, and actions and visits that are the same.
-use Rattle.std.proofs.Common.{◌≡◌, zero, suc, Bool, true, false, List, [], ◌∷◌, map, refl, sym, ap, ◌∙◌, subst, arith, inl, inr}
-use Rattle.std.specs.Prelude.{Contains, ◌⊎◌}
-use Rattle.std.specs.List.{filter}
-use Rattle.fleet_model.specs.declared.program.ActionId.{ActionId}
-use Rattle.fleet_model.specs.declared.program.Visit.{Visit}
+use Rattle.fleet_verify.proofs.Words.{◌≡◌, zero, suc, Bool, true, false, List, [], ◌∷◌, map, refl, sym, ap, ◌∙◌, subst, arith, inl, inr, Contains, ◌⊎◌, filter, ActionId, Visit}
 
 pub same_action : (a b : ActionId) → a.agent ≡ b.agent → a.number ≡ b.number → a ≡ b
 same_action a b e g = λ i. record { agent = e i; number = g i }

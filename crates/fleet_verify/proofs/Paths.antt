@@ -1,18 +1,5 @@
 -- One step of a path.
-use Rattle.std.proofs.Common.{◌≡◌, ℕ, Bool, zero, suc, ◌+◌, ◌≤◌, [], Option, Some, None, get_or, slice_get, false, refl, ap, sym, ◌∙◌, subst, arith, add-one}
-use Rattle.std.specs.Prelude.{option_map, pos, ◌+ℤ◌, ◌≤ℤ◌}
-use Rattle.std.proofs.lemmas.Int.{ints}
-use Rattle.std.proofs.lemmas.Option.{same_Some, slice_get-get_or}
-use Rattle.fleet_model.specs.declared.geometry.Cell.{Cell}
-use Rattle.fleet_model.specs.declared.geometry.Dir.TheVariants.{North, East, South, West}
-use Rattle.fleet_model.specs.declared.geometry.Place.{Place}
-use Rattle.fleet_model.specs.declared.geometry.Step.{Step}
-use Rattle.fleet_model.specs.declared.geometry.Step.TheVariants.{Go, Dwell}
-use Rattle.fleet_model.specs.declared.limits.TheConstants.{MAX_COORDINATE}
-use Rattle.fleet_model.specs.declared.program.Action.{Action}
-use Rattle.fleet_model.specs.Geometry.{IsInReach, place_of, stepped}
-use Rattle.fleet_model.specs.Program.{Program, start_of, actions_of, moves, step_of, path, IsCell, IsWellFormed}
-use Rattle.fleet_model.proofs.Tick.{path_more}
+use Rattle.fleet_verify.proofs.Words.{◌≡◌, ℕ, Bool, zero, suc, ◌+◌, ◌≤◌, [], Option, Some, None, get_or, slice_get, false, refl, ap, sym, ◌∙◌, subst, arith, add-one, option_map, pos, ◌+ℤ◌, ◌≤ℤ◌, ints, same_Some, slice_get-get_or, Cell, North, East, South, West, Place, Step, Go, Dwell, MAX_COORDINATE, Action, IsInReach, place_of, stepped, Program, start_of, actions_of, moves, step_of, path, IsCell, IsWellFormed, path_more}
 use Rattle.fleet_verify.specs.Faults.{StandsRight, IsFirstNumber}
 
 pub action_with : (o : Option Action) (d : Step) → option_map (λ a. a.step) o ≡ Some d → (a : Action) × (o ≡ Some a) × (a.step ≡ d)

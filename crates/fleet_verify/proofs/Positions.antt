@@ -1,16 +1,6 @@
 -- One action further along a path, and one agent more.
-use Rattle.std.proofs.Common.{◌≡◌, ℕ, ℤ, pos, negsuc, ◌+◌, ◌<◌, ◌<ℤ◌, ◌≤ℤ◌, ◌≤◌, ◌⊎◌, inl, inr, refl, length, Bool, Option, Some, None, false, sym, ◌∙◌, subst, arith, IsTrue}
-use Rattle.std.proofs.lemmas.Int.{ints}
-use Rattle.fleet_grid.specs.Ground.{Ground, IsGround, is_passable, passable_at}
+use Rattle.fleet_verify.proofs.Words.{◌≡◌, ℕ, ℤ, pos, negsuc, ◌+◌, ◌<◌, ◌<ℤ◌, ◌≤ℤ◌, ◌≤◌, ◌⊎◌, inl, inr, refl, length, Bool, Option, Some, None, false, sym, ◌∙◌, subst, arith, IsTrue, ints, Ground, IsGround, is_passable, passable_at, option_map, option_or, Cell, Place, Step, ActionId, IsInReach, place_of, stepped, Program, moves, path, step_of, IsWellFormed}
 use Rattle.fleet_grid.proofs.StoredLaws.{off_map}
-use Rattle.std.specs.Prelude.{option_map}
-use Rattle.std.specs.Option.{option_or}
-use Rattle.fleet_model.specs.declared.geometry.Cell.{Cell}
-use Rattle.fleet_model.specs.declared.geometry.Place.{Place}
-use Rattle.fleet_model.specs.declared.geometry.Step.{Step}
-use Rattle.fleet_model.specs.declared.program.ActionId.{ActionId}
-use Rattle.fleet_model.specs.Geometry.{IsInReach, place_of, stepped}
-use Rattle.fleet_model.specs.Program.{Program, moves, path, step_of, IsWellFormed}
 use Rattle.fleet_verify.specs.declared.path.Position.TheVariants.{OnGround, OffGround}
 use Rattle.fleet_verify.specs.Faults.{StandsRight}
 use Rattle.fleet_verify.specs.Path.{IsPosition, AnswersFirst, AnswersFirstAction}

@@ -1,16 +1,5 @@
 -- What is promised of an accepted program, and of a refusal.
-use Rattle.std.proofs.Common.{◌≡◌, ℕ, ◌≤◌, ◌&&◌, Bool, true, false, List, sym, subst, ◌∙◌}
-use Rattle.std.specs.Prelude.{◌≢◌, IsTrue}
-use Rattle.fleet_model.specs.declared.geometry.Place.{Place}
-use Rattle.fleet_model.specs.declared.task.Task.{Task}
-use Rattle.fleet_model.specs.declared.program.ActionId.{ActionId}
-use Rattle.fleet_model.specs.Program.{Program, IsWellFormed}
-use Rattle.fleet_model.specs.Machine.{Holds, run, is_held, is_ready, IsDue}
-use Rattle.fleet_model.specs.Chain.{IsAction, IsLongestChain}
-use Rattle.fleet_model.specs.Accepted.{IsRight, IsAccepted}
-use Rattle.fleet_model.specs.Run.{RunsWell, RunsRight}
-use Rattle.fleet_model.specs.Progress.{IsOfLeastLevel, Progresses, IsFinishedInTime}
-use Rattle.fleet_model.specs.Schedule.{Schedule, IsSchedule}
+use Rattle.fleet_verify.proofs.Words.{◌≡◌, ℕ, ◌≤◌, ◌&&◌, Bool, true, false, List, sym, subst, ◌∙◌, ◌≢◌, IsTrue, Place, Task, ActionId, Program, IsWellFormed, Holds, run, is_held, is_ready, IsDue, IsAction, IsLongestChain, IsRight, IsAccepted, RunsWell, RunsRight, IsOfLeastLevel, Progresses, IsFinishedInTime, Schedule, IsSchedule}
 use Rattle.fleet_verify.specs.declared.fault.VerifyFault.{VerifyFault}
 use Rattle.fleet_verify.specs.declared.fault.VerifyFault.TheVariants.{OutOfMemory}
 use Rattle.fleet_verify.specs.Faults.{IsFault}

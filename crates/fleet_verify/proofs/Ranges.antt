@@ -1,9 +1,5 @@
 -- The awaits of an action, one after another.
-use Rattle.std.proofs.Common.{◌≡◌, ◌≢◌, ℕ, ◌+◌, ◌<◌, ◌≤◌, length, get_or, Some, slice_get, sym, ap, ◌∙◌, subst, arith, inl, inr}
-use Rattle.std.proofs.lemmas.Bool.{cases_eq}
-use Rattle.std.proofs.lemmas.Option.{same_Some, slice_get-get_or, slice_get_within, get_or_from_slice_get}
-use Rattle.fleet_model.specs.declared.program.Await.{Await}
-use Rattle.fleet_model.specs.Program.{Program, moves, awaits_of, IsInRange, IsWellFormed}
+use Rattle.fleet_verify.proofs.Words.{◌≡◌, ◌≢◌, ℕ, ◌+◌, ◌<◌, ◌≤◌, length, get_or, Some, slice_get, sym, ap, ◌∙◌, subst, arith, inl, inr, cases_eq, same_Some, slice_get-get_or, slice_get_within, get_or_from_slice_get, Await, Program, moves, awaits_of, IsInRange, IsWellFormed}
 use Rattle.fleet_verify.specs.Faults.{AwaitsRight}
 
 -- the first k awaits can be met

@@ -1,34 +1,11 @@
 -- The rest of a program.
-use Rattle.std.proofs.Common.{◌≡◌, ℕ, zero, suc, ◌+◌, ◌-◌, ◌<◌, ◌≤◌, Bool, true, false, not, List, [], ◌∷◌, ◌++◌, length, map, get_or, drop, take, Option, Some, None, slice_get, Contains, IsTrue, refl, ap, sym, ◌∙◌, subst, arith, inl, inr, leb-true, leb-false, get_or-append-add, ◌==◌}
-use Rattle.std.specs.Prelude.{option_map, filter, ◌⊎◌}
-use Rattle.std.specs.Option.{option_map_or}
-use Rattle.std.specs.List.{list_any, range_with_len}
-use Rattle.std.proofs.lemmas.Bool.{cases_lt}
-use Rattle.std.proofs.lemmas.List.{get_or_append_left, length-map}
-use Rattle.std.proofs.lemmas.List.FromFn.{length-map-range_with_len, get_or-map-range_with_len}
-use Rattle.std.proofs.lemmas.Option.{slice_get_past, slice_get-map, slice_get_within, same_Some}
-use Rattle.fleet_model.specs.declared.geometry.Cell.{Cell}
-use Rattle.fleet_model.specs.declared.geometry.Place.{Place}
-use Rattle.fleet_model.specs.declared.program.Await.{Await}
-use Rattle.fleet_model.specs.declared.program.Action.{Action}
-use Rattle.fleet_model.specs.declared.program.AgentProgram.{AgentProgram}
-use Rattle.fleet_model.specs.declared.task.Task.{Task}
-use Rattle.fleet_model.specs.Geometry.{place_of, stepped}
-use Rattle.fleet_model.specs.Program.{Program, origin, start_of, goal_of, actions_of, moves, awaits_of, path, walked, IsInRange, AreInRange, total_moves, IsCell, AreAwaits, IsWellFormed}
-use Rattle.fleet_model.specs.Machine.{Configuration, Holds, is_held, is_met, run, tick, place_at, count_at, is_finished, indices, IsReached, IsFinish, opening}
-use Rattle.fleet_model.specs.Visit.{ComesAfterByChain}
-use Rattle.fleet_model.specs.Accepted.{IsRight, IsAcceptedBy}
-use Rattle.fleet_model.specs.Run.{RunsWell, motion}
-use Rattle.fleet_model.proofs.Tick.{tick_agree}
+use Rattle.fleet_verify.proofs.Words.{◌≡◌, ℕ, zero, suc, ◌+◌, ◌-◌, ◌<◌, ◌≤◌, Bool, true, false, not, List, [], ◌∷◌, ◌++◌, length, map, get_or, drop, take, Option, Some, None, slice_get, Contains, IsTrue, refl, ap, sym, ◌∙◌, subst, arith, inl, inr, leb-true, leb-false, get_or-append-add, ◌==◌, option_map, filter, ◌⊎◌, option_map_or, list_any, range_with_len, cases_lt, get_or_append_left, length-map, length-map-range_with_len, get_or-map-range_with_len, slice_get_past, slice_get-map, slice_get_within, same_Some, Cell, Place, Await, Action, AgentProgram, Task, place_of, stepped, Program, origin, start_of, goal_of, actions_of, moves, awaits_of, path, walked, IsInRange, AreInRange, total_moves, IsCell, AreAwaits, IsWellFormed, Configuration, Holds, is_held, is_met, run, tick, place_at, count_at, is_finished, indices, IsReached, IsFinish, opening, ComesAfterByChain, IsRight, IsAcceptedBy, RunsWell, motion, tick_agree, HasVertexConflict, AwaitsFrom, any_begins, awaits_are, awaits_from, no_awaits, moves_more}
 use Rattle.fleet_verify.specs.Rest.{StandOn, rest_await, rest_awaits, rest_action, rest_agent, rest, rest_tasks}
 use Rattle.fleet_verify.proofs.Members.{contains_head, contains_later, contains_cases, contains_none, filter_has, filter_from, contains_map}
-use Rattle.fleet_model.specs.Conflict.{HasVertexConflict}
 use Rattle.fleet_verify.proofs.UnderWay.{within_moves}
 use Rattle.fleet_verify.proofs.RunCounts.{finished_all, unfinished_one, run_counts, run_place, count_opening, count_past, least_of}
 use Rattle.fleet_verify.proofs.Exact.{accepted_runs, runs_accepted}
 use Rattle.fleet_verify.proofs.Waiting.{IsReadyTo, Moves, StaysBehind, step}
-use Rattle.fleet_model.proofs.OnePass.{AwaitsFrom, any_begins, awaits_are, awaits_from, no_awaits}
-use Rattle.fleet_model.proofs.Totals.{moves_more}
 
 -- ---- the parts of the rest
 

@@ -1,8 +1,5 @@
 -- Rows of counts.
-use Rattle.std.proofs.Common.{◌≡◌, ℕ, List, [], ◌++◌, length, map, get_or, subst}
-use Rattle.std.specs.Prelude.{take, drop, All}
-use Rattle.std.specs.List.Sorted.{IsStrictlyIncreasing}
-use Rattle.std.proofs.lemmas.List.{take_at, get_or-map}
+use Rattle.fleet_verify.proofs.Words.{◌≡◌, ℕ, List, [], ◌++◌, length, map, get_or, subst, take, drop, All, IsStrictlyIncreasing, take_at, get_or-map}
 
 -- what a call wrote through a slice of a whole vector
 pub written_back : {X : Type 0} (n : ℕ) (new old : List X) → length new ≡ n → take n (new ++ drop (length new) old) ≡ new

@@ -1,25 +1,6 @@
 -- Runs by counts of finished actions: what is finished before what, how runs end, and from how far an action is
 -- reached.
-use Rattle.std.proofs.Common.{◌≡◌, ℕ, zero, suc, ◌+◌, ◌<◌, ◌≤◌, Bool, true, false, not, ◌&&◌, length, Contains, refl, ap, sym, ◌∙◌, inl, inr, ◌⊎◌, List, [], ◌∷◌, get_or, nat_le, arith, leb-true, leb-false, subst, cond, ◌||◌, sum_by, IsTrue, ◌++◌, map, filter, ◌==◌, eqb-true, get_or-append-add}
-use Rattle.std.proofs.lemmas.Bool.{cases_lt, and_right, cases_Bool, cond-true, cond-false, cases_eq}
-use Rattle.fleet_model.specs.declared.geometry.Place.{Place}
-use Rattle.fleet_model.specs.declared.program.Await.{Await}
-use Rattle.fleet_model.specs.Geometry.{stepped}
-use Rattle.fleet_model.specs.Program.{Program, moves, awaits_of, path, AreInRange, total_moves}
-use Rattle.fleet_model.specs.declared.standing.Standing.{Standing}
-use Rattle.fleet_model.specs.Machine.{Configuration, standing_at, place_at, count_at, is_ready, tick, Holds, is_held, run, is_ready_held, held_ticks, indices, is_finished, IsLeast, IsFinish, is_stuck, is_over, opening, IsReached}
-use Rattle.fleet_model.proofs.Tick.{ready_left, ready_met, unready_waits, standing_at_tick, standing_at_past, standing_at_opening, free_moves, other_stays, path_more, fails_at, tick_agree}
-use Rattle.std.specs.List.{list_any, range_with_len}
-use Rattle.std.proofs.lemmas.List.{get_or_past, get_or_append_left}
-use Rattle.std.proofs.lemmas.List.FromFn.{length-range_with_len, get_or-range_with_len, length-map-range_with_len, get_or-map-range_with_len}
-use Rattle.std.proofs.lemmas.List.Folds.{list_any_at, Any-from_list_any}
-use Rattle.std.proofs.lemmas.List.Sums.{AllPass-from_list_all, sum_by-cons, sum_by-le-sum_by}
-use Rattle.fleet_model.specs.declared.program.ActionId.{ActionId}
-use Rattle.fleet_model.specs.Chain.{DirectlyNeeds, ChainFrom, IsAction, EndsChain, IsLongestChain, IsNumbering}
-use Rattle.fleet_model.proofs.Chains.{chain_first, ends_long, ends_within, ends_action, ends_one, ends_more, numbers_bound, longest_is_one}
-use Rattle.fleet_model.specs.Run.{motion, IsSafe, IsSafeStep}
-use Rattle.fleet_model.specs.declared.program.AgentProgram.{AgentProgram}
-use Rattle.std.proofs.lemmas.Bool.Decides.{nat_tests}
+use Rattle.fleet_verify.proofs.Words.{◌≡◌, ℕ, zero, suc, ◌+◌, ◌<◌, ◌≤◌, Bool, true, false, not, ◌&&◌, length, Contains, refl, ap, sym, ◌∙◌, inl, inr, ◌⊎◌, List, [], ◌∷◌, get_or, nat_le, arith, leb-true, leb-false, subst, cond, ◌||◌, sum_by, IsTrue, ◌++◌, map, filter, ◌==◌, eqb-true, get_or-append-add, cases_lt, and_right, cases_Bool, cond-true, cond-false, cases_eq, Place, Await, stepped, Program, moves, awaits_of, path, AreInRange, total_moves, Standing, Configuration, standing_at, place_at, count_at, is_ready, tick, Holds, is_held, run, is_ready_held, held_ticks, indices, is_finished, IsLeast, IsFinish, is_stuck, is_over, opening, IsReached, ready_left, ready_met, unready_waits, standing_at_tick, standing_at_past, standing_at_opening, free_moves, other_stays, path_more, fails_at, tick_agree, list_any, range_with_len, get_or_past, get_or_append_left, length-range_with_len, get_or-range_with_len, length-map-range_with_len, get_or-map-range_with_len, list_any_at, Any-from_list_any, AllPass-from_list_all, sum_by-cons, sum_by-le-sum_by, ActionId, DirectlyNeeds, ChainFrom, IsAction, EndsChain, IsLongestChain, IsNumbering, chain_first, ends_long, ends_within, ends_action, ends_one, ends_more, numbers_bound, longest_is_one, motion, IsSafe, IsSafeStep, AgentProgram, nat_tests}
 use Rattle.fleet_needs.specs.Rows.{IsColumn}
 use Rattle.fleet_verify.specs.Reach.{IsGreatest}
 

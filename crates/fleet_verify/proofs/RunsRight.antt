@@ -1,18 +1,5 @@
 -- Programs of which each run is right are accepted.
-use Rattle.std.proofs.Common.{◌≡◌, ℕ, zero, suc, ◌+◌, ◌<◌, ◌≤◌, Bool, true, List, [], length, IsTrue, ap, sym, ◌∙◌, subst, arith, add-one, inl, inr}
-use Rattle.fleet_model.specs.declared.geometry.Place.{Place}
-use Rattle.fleet_model.specs.declared.program.ActionId.{ActionId}
-use Rattle.fleet_model.specs.declared.task.Task.{Task}
-use Rattle.fleet_model.specs.Geometry.{place_of}
-use Rattle.fleet_model.specs.Program.{Program, goal_of, moves, path, AreInRange, IsWellFormed}
-use Rattle.fleet_model.specs.Machine.{Holds, is_held, run, place_at, count_at, is_finished, held_ticks, IsFinish}
-use Rattle.fleet_model.specs.Chain.{IsAction, IsLevel}
-use Rattle.fleet_model.specs.Visit.{ComesAfterByChain}
-use Rattle.fleet_model.specs.Accepted.{IsRight, IsAcceptedBy, HasTasks}
-use Rattle.fleet_model.specs.Run.{RunsWell, RunsRight}
-use Rattle.fleet_model.proofs.Chains.{ends_action}
-use Rattle.fleet_model.specs.Schedule.{Schedule, IsSchedule, MayBeOnAt, IsSafeSchedule}
-use Rattle.fleet_model.specs.RunSchedule.{IsFinishedIn}
+use Rattle.fleet_verify.proofs.Words.{◌≡◌, ℕ, zero, suc, ◌+◌, ◌<◌, ◌≤◌, Bool, true, List, [], length, IsTrue, ap, sym, ◌∙◌, subst, arith, add-one, inl, inr, Place, ActionId, Task, place_of, Program, goal_of, moves, path, AreInRange, IsWellFormed, Holds, is_held, run, place_at, count_at, is_finished, held_ticks, IsFinish, IsAction, IsLevel, ComesAfterByChain, IsRight, IsAcceptedBy, HasTasks, RunsWell, RunsRight, ends_action, Schedule, IsSchedule, MayBeOnAt, IsSafeSchedule, IsFinishedIn}
 use Rattle.fleet_verify.proofs.RunCounts.{counts, readies, run_counts, run_place, count_opening, run_held, longest_exists, finish_exists, finish_stays, unfinished_ends, ends_in_time}
 use Rattle.fleet_verify.proofs.Finish.{finished_says, done_after, run_numbers}
 use Rattle.fleet_verify.proofs.FreeRun.{runs_free, runs_on_ground}

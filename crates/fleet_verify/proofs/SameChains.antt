@@ -1,35 +1,13 @@
 -- Programs with the same chains, and those of them with the fewest awaits.
-use Rattle.std.proofs.Common.{◌≡◌, ℕ, zero, suc, ◌+◌, ◌<◌, ◌≤◌, List, [], ◌∷◌, length, map, take, drop, get_or, Option, Some, None, refl, sym, ap, ap₂, ◌∙◌, arith, Bool, true, false, cond, not, ◌&&◌, ◌++◌, subst, inl, inr, ◌≢◌}
-use Rattle.std.specs.Prelude.{slice_get, option_map, false, if◌then◌else◌, Contains, ◌⊎◌, Option}
+use Rattle.fleet_verify.proofs.Words.{◌≡◌, ℕ, zero, suc, ◌+◌, ◌<◌, ◌≤◌, List, [], ◌∷◌, length, map, take, drop, get_or, Option, Some, None, refl, sym, ap, ap₂, ◌∙◌, arith, Bool, true, false, cond, not, ◌&&◌, ◌++◌, subst, inl, inr, ◌≢◌, slice_get, option_map, if◌then◌else◌, Contains, ◌⊎◌, option_map_or, length-map, ext_get_or, take-map, drop-map, length-append, slice_get-map, slice_get_past, Place, Step, Action, ActionId, Visit, Standing, place_of, stepped, is_move, Program, origin, start_of, actions_of, moves, path, walked, awaits_of, AreInRange, IsInRange, Configuration, standing_at, count_at, next_action, finished_one, opening, is_ready, standing_after, indices, tick, Holds, is_held, run, IsAction, DirectlyNeeds, ChainFrom, Reaches, EndsChain, IsLevel, IsLongestChain, IsNumbering, awaited, is_entry, stays_before, next_move, IsVisitOf, ListsVisits, leaving, Adjacent, ComesAfterByChain, entering, length_opening, standing_at_opening, Task, Await, IsAcceptedBy, chain_first, chain_rises, ends_by, ends_long, Reaches-need, chain_join, chain_last, Reaches-first, Reaches-last, Reaches-trans, Reaches-refl, cases_lt, AgentProgram}
 use Rattle.std.specs.Cmp.{both_ways}
-use Rattle.std.specs.Option.{option_map_or}
-use Rattle.std.proofs.lemmas.List.{length-map, ext_get_or, take-map, drop-map, length-append}
-use Rattle.std.proofs.lemmas.Option.{slice_get-map, slice_get_past}
-use Rattle.fleet_model.specs.declared.geometry.Place.{Place}
-use Rattle.fleet_model.specs.declared.geometry.Step.{Step}
-use Rattle.fleet_model.specs.declared.program.Action.{Action}
-use Rattle.fleet_model.specs.declared.program.ActionId.{ActionId}
-use Rattle.fleet_model.specs.declared.program.Visit.{Visit}
-use Rattle.fleet_model.specs.declared.standing.Standing.{Standing}
-use Rattle.fleet_model.specs.Geometry.{place_of, stepped, is_move}
-use Rattle.fleet_model.specs.Program.{Program, origin, start_of, actions_of, moves, path, walked, awaits_of, AreInRange, IsInRange}
-use Rattle.fleet_model.specs.Machine.{Configuration, standing_at, count_at, next_action, finished_one, opening, is_ready, standing_after, indices, tick, Holds, is_held, run}
-use Rattle.fleet_model.specs.Chain.{IsAction, DirectlyNeeds, ChainFrom, Reaches, EndsChain, IsLevel, IsLongestChain, IsNumbering, awaited}
-use Rattle.fleet_model.specs.Visit.{is_entry, stays_before, next_move, IsVisitOf, ListsVisits, leaving, Adjacent, ComesAfterByChain, entering}
-use Rattle.fleet_model.proofs.Tick.{length_opening, standing_at_opening}
 use Rattle.fleet_verify.specs.Reduced.{DiffersInAwaits, HaveSameChains, IsThinned, IsReduced, HasLeastAwaits}
-use Rattle.fleet_model.specs.declared.task.Task.{Task}
-use Rattle.fleet_model.specs.declared.program.Await.{Await}
-use Rattle.fleet_model.specs.Accepted.{IsAcceptedBy}
-use Rattle.fleet_model.proofs.Chains.{chain_first, chain_rises, ends_by, ends_long, Reaches-need, chain_join, chain_last, Reaches-first, Reaches-last, Reaches-trans, Reaches-refl}
 use Rattle.fleet_verify.proofs.RunCounts.{counts, readies, run_counts, chain_due}
 use Rattle.fleet_verify.proofs.Waiting.{ready_says, ready_from}
 use Rattle.fleet_verify.proofs.BreakingHolds.{moves_within}
 use Rattle.fleet_verify.proofs.Members.{same_action, contains_none}
 use Rattle.fleet_needs.specs.Implied.{IsImplied}
 use Rattle.fleet_verify.proofs.Decide.{some-dec, action-dec, before_in, needs_before, Reaches-dec}
-use Rattle.std.proofs.lemmas.Bool.{cases_lt}
-use Rattle.fleet_model.specs.declared.program.AgentProgram.{AgentProgram}
 
 pub same_moves : (p q : Program) → DiffersInAwaits p q → (i : ℕ) → moves q i ≡ moves p i
 same_moves p q h i = sym (length-map (actions_of q i) (λ a. a.step)) ∙ ap length (h.steps i) ∙ length-map (actions_of p i) (λ a. a.step)

@@ -1,25 +1,6 @@
 -- The stays of a finished run without holds have all visits, sorted.
-use Rattle.std.proofs.Common.{◌≡◌, ℕ, zero, suc, ◌<◌, ◌≤◌, Bool, true, false, List, [], ◌∷◌, length, map, get_or, Some, slice_get, refl, ap, sym, ◌∙◌, subst, arith, inl, inr}
-use Rattle.std.specs.Prelude.{Contains, All, option_map}
-use Rattle.std.specs.List.{filter, AllPairs}
-use Rattle.std.proofs.lemmas.Bool.{cases_order}
-use Rattle.std.proofs.lemmas.List.{get_or_default, length-map}
-use Rattle.std.proofs.lemmas.List.Kept.{AllPairs-filter}
-use Rattle.std.proofs.lemmas.Option.{slice_get_within, get_or_from_slice_get, same_Some}
-use Rattle.fleet_model.specs.declared.geometry.Place.{Place}
-use Rattle.fleet_model.specs.declared.task.Task.{Task}
-use Rattle.fleet_model.specs.declared.program.Await.{Await}
-use Rattle.fleet_model.specs.declared.program.ActionId.{ActionId}
-use Rattle.fleet_model.specs.declared.program.Visit.{Visit}
-use Rattle.fleet_model.specs.Geometry.{place_of, is_same_place}
-use Rattle.fleet_model.specs.Machine.{run, is_finished, IsEnd, IsFinish}
-use Rattle.fleet_model.specs.Program.{Program, moves, actions_of, awaits_of, path, start_of, goal_of}
-use Rattle.fleet_model.specs.Chain.{IsLongestChain, IsNumbering}
-use Rattle.fleet_model.specs.Visit.{is_entry, IsVisitOf, ListsVisits, ComesAfter, IsOrderly}
-use Rattle.fleet_model.specs.Accepted.{IsAccepted}
-use Rattle.fleet_model.specs.Program.{AreInRange}
+use Rattle.fleet_verify.proofs.Words.{◌≡◌, ℕ, zero, suc, ◌<◌, ◌≤◌, Bool, true, false, List, [], ◌∷◌, length, map, get_or, Some, slice_get, refl, ap, sym, ◌∙◌, subst, arith, inl, inr, Contains, All, option_map, filter, AllPairs, cases_order, get_or_default, length-map, AllPairs-filter, slice_get_within, get_or_from_slice_get, same_Some, Place, Task, Await, ActionId, Visit, place_of, is_same_place, run, is_finished, IsEnd, IsFinish, Program, moves, actions_of, awaits_of, path, start_of, goal_of, IsLongestChain, IsNumbering, is_entry, IsVisitOf, ListsVisits, ComesAfter, IsOrderly, IsAccepted, AreInRange, IsVisit, is_same_place-true, is_same_place-eq}
 use Rattle.fleet_verify.proofs.RunCounts.{unheld_is_longest}
-use Rattle.fleet_model.specs.Visit.{IsVisit}
 use Rattle.fleet_verify.specs.Listing.{IsBefore, IsSortedListing}
 use Rattle.fleet_verify.proofs.Members.{filter_has, filter_from, contains_map}
 use Rattle.fleet_verify.proofs.Listing.{levels_number}
@@ -31,7 +12,6 @@ use Rattle.fleet_verify.proofs.Arrived.{all_right}
 use Rattle.fleet_verify.specs.Order.{visits_of, entries, AreAllPlaced, IsVisitPlaced, AreAdded, AreAllAdded}
 use Rattle.fleet_verify.specs.declared.order.VisitOrder.{VisitOrder}
 use Rattle.fleet_verify.specs.Faults.{HasStarts, HasRanges, AwaitsRight, EachAction}
-use Rattle.fleet_model.proofs.Cells.{is_same_place-true, is_same_place-eq}
 use Rattle.fleet_verify.proofs.FreeRun.{level, levels_are, order_all, IsOrder}
 
 -- ---- awaits

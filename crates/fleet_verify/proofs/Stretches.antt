@@ -1,7 +1,5 @@
 -- The words of stretches.
-use Rattle.std.proofs.Common.{◌≡◌, ℕ, List, [], ◌∷◌, ◌++◌, map, refl, ap, ◌∙◌}
-use Rattle.std.proofs.lemmas.List.{map-append}
-use Rattle.std.specs.List.{flat_map, range_with_len}
+use Rattle.fleet_verify.proofs.Words.{◌≡◌, ℕ, List, [], ◌∷◌, ◌++◌, map, refl, ap, ◌∙◌, map-append, flat_map, range_with_len}
 use Rattle.fleet_text.specs.Words.{numbered_text, numbered_words}
 use Rattle.fleet_verify.specs.RefusalWords.{action_text}
 use Rattle.fleet_verify.specs.Stretch.{stretch_actions, path_actions}

@@ -1,25 +1,11 @@
 -- Runs in ticks are schedules.
-use Rattle.std.proofs.Common.{◌≡◌, ℕ, zero, suc, ◌+◌, ◌-◌, ◌<◌, ◌≤◌, Bool, true, false, cond, length, Option, Some, None, nat_le, refl, ap, sym, ◌∙◌, subst, arith, add-one, inl, inr, ◌⊎◌, leb-true, leb-false, le-leb}
-use Rattle.std.specs.Prelude.{option_map, Contains, ◌↔◌}
-use Rattle.std.proofs.lemmas.Bool.{cases_lt, cases_order}
-use Rattle.std.proofs.lemmas.Option.{same_Some}
-use Rattle.fleet_model.specs.declared.geometry.Place.{Place}
-use Rattle.fleet_model.specs.declared.program.ActionId.{ActionId}
-use Rattle.fleet_model.specs.Program.{Program, moves, path, awaits_of, AreInRange}
-use Rattle.fleet_model.specs.Machine.{Configuration, Holds, is_held, run, count_at, place_at, is_ready, is_over, IsLeast, IsDone, IsDue}
-use Rattle.fleet_model.specs.Claims.{Claims, MayBeOn}
-use Rattle.fleet_model.specs.Geometry.{stepped}
-use Rattle.fleet_model.specs.Chain.{IsAction}
-use Rattle.fleet_model.proofs.Tick.{ready_left, path_more}
-use Rattle.fleet_model.specs.Schedule.{Schedule, IsBy, HasBegunBy, HasEndedBy, IsSchedule, MayBeOnAt}
-use Rattle.fleet_model.specs.RunSchedule.{IsFinishedIn, IsScheduleOf, BeginsWhenDue, TakesOneTick}
+use Rattle.fleet_verify.proofs.Words.{◌≡◌, ℕ, zero, suc, ◌+◌, ◌-◌, ◌<◌, ◌≤◌, Bool, true, false, cond, length, Option, Some, None, nat_le, refl, ap, sym, ◌∙◌, subst, arith, add-one, inl, inr, ◌⊎◌, leb-true, leb-false, le-leb, option_map, Contains, ◌↔◌, cases_lt, cases_order, same_Some, Place, ActionId, Program, moves, path, awaits_of, AreInRange, Configuration, Holds, is_held, run, count_at, place_at, is_ready, is_over, IsLeast, IsDone, IsDue, Claims, MayBeOn, stepped, IsAction, ready_left, path_more, Schedule, IsBy, HasBegunBy, HasEndedBy, IsSchedule, MayBeOnAt, IsFinishedIn, IsScheduleOf, BeginsWhenDue, TakesOneTick, need_action}
 use Rattle.fleet_verify.proofs.RunCounts.{counts, readies, run_counts, run_place, count_opening, count_past, grows, first_passing, first_is, run_ends}
 use Rattle.fleet_verify.proofs.Finish.{count_within, needs_of_ready}
 use Rattle.fleet_verify.proofs.Claimed.{order_says, ready_lasts, still_claims}
 use Rattle.fleet_verify.proofs.Waiting.{ready_says, ready_from}
 use Rattle.fleet_verify.proofs.UnderWay.{ready_not_over}
 use Rattle.fleet_verify.proofs.Timed.{by_later}
-use Rattle.fleet_model.proofs.Chains.{need_action}
 
 -- ---- a run that is over stays as it is
 

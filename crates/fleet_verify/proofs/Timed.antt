@@ -1,19 +1,6 @@
 -- Schedules, when they end by the costs of actions, and orders that are given ahead.
-use Rattle.std.proofs.Common.{◌≡◌, ◌≢◌, ℕ, zero, suc, ◌+◌, ◌<◌, ◌≤◌, List, [], ◌∷◌, length, Option, Some, None, refl, ap, sym, ◌∙◌, subst, arith, inl, inr, ◌⊎◌, Bool, true, false, ◌-◌, ◌++◌}
-use Rattle.std.specs.Prelude.{sum_by, ◌↔◌, Contains, option_map}
-use Rattle.std.proofs.lemmas.Bool.{cases_lt, cases_order}
-use Rattle.std.proofs.lemmas.List.Sums.{sum_by-cons}
-use Rattle.std.proofs.lemmas.Option.{same_Some}
-use Rattle.fleet_model.specs.declared.geometry.Place.{Place}
-use Rattle.fleet_model.specs.declared.program.ActionId.{ActionId}
-use Rattle.fleet_model.specs.Program.{Program, moves, path, AreInRange, awaits_of}
-use Rattle.fleet_model.specs.Chain.{IsAction, DirectlyNeeds, ChainFrom, Reaches, awaited, IsCriticalCost, IsNumbering}
-use Rattle.fleet_model.specs.Visit.{IsVisitOf, ComesAfterByChain, IsOrderly, entering, leaving, next_move}
-use Rattle.fleet_model.proofs.Chains.{chain_first, Reaches-first, Reaches-last, own_reach, IsIn, is_in, need_action, chain_last, Reaches-need, Reaches-refl, Reaches-trans, ends_alone, ends_dearer, chain_push, chain_cost_push}
-use Rattle.fleet_model.specs.Schedule.{Schedule, IsBy, HasBegunBy, HasEndedBy, IsSchedule, MayBeOnAt, TakeAtLeast, EndInTime}
+use Rattle.fleet_verify.proofs.Words.{◌≡◌, ◌≢◌, ℕ, zero, suc, ◌+◌, ◌<◌, ◌≤◌, List, [], ◌∷◌, length, Option, Some, None, refl, ap, sym, ◌∙◌, subst, arith, inl, inr, ◌⊎◌, Bool, true, false, ◌-◌, ◌++◌, sum_by, ◌↔◌, Contains, option_map, cases_lt, cases_order, sum_by-cons, same_Some, Place, ActionId, Program, moves, path, AreInRange, awaits_of, IsAction, DirectlyNeeds, ChainFrom, Reaches, awaited, IsCriticalCost, IsNumbering, IsVisitOf, ComesAfterByChain, IsOrderly, entering, leaving, next_move, chain_first, Reaches-first, Reaches-last, own_reach, IsIn, is_in, need_action, chain_last, Reaches-need, Reaches-refl, Reaches-trans, ends_alone, ends_dearer, chain_push, chain_cost_push, Schedule, IsBy, HasBegunBy, HasEndedBy, IsSchedule, MayBeOnAt, TakeAtLeast, EndInTime, Dispatch, OrdersAwait, IsCarriedOut, IsPrompt, Await}
 use Rattle.fleet_verify.proofs.Listing.{two_ordered}
-use Rattle.fleet_model.specs.Dispatch.{Dispatch, OrdersAwait, IsCarriedOut, IsPrompt}
-use Rattle.fleet_model.specs.declared.program.Await.{Await}
 use Rattle.fleet_needs.proofs.Costing.{IsBound, bound_of, bound_on, own_cost}
 use Rattle.fleet_verify.proofs.Members.{same_action, contains_head, contains_later, contains_none, contains_cases}
 use Rattle.fleet_verify.proofs.Decide.{IsAction-dec, before_in, needs_before}

@@ -1,25 +1,9 @@
 -- Runs without holds that are under way, and the visits that have begun in them.
-use Rattle.std.proofs.Common.{◌≡◌, ℕ, zero, suc, ◌+◌, ◌<◌, ◌≤◌, Bool, true, false, List, [], ◌∷◌, ◌++◌, length, map, Option, None, Some, refl, ap, sym, ◌∙◌, subst, arith, add-one, rules, IsTrue, inl, inr, ◌≢◌, ◌&&◌, not, get_or}
-use Rattle.std.specs.Prelude.{IfNone, IfSome, IsSome, ◌⊎◌}
-use Rattle.std.specs.List.{filter, list_any}
-use Rattle.std.proofs.lemmas.List.{map-append, append_assoc}
-use Rattle.std.proofs.lemmas.List.Elements.{filter-append}
-use Rattle.std.proofs.lemmas.Bool.{cases_lt, cases_eq}
-use Rattle.std.proofs.lemmas.Option.{same_Some}
-use Rattle.fleet_model.specs.declared.geometry.Cell.{Cell}
-use Rattle.fleet_model.specs.declared.geometry.Step.{Step}
-use Rattle.fleet_model.specs.declared.geometry.Place.{Place}
-use Rattle.fleet_model.specs.declared.program.Visit.{Visit}
-use Rattle.fleet_model.specs.Geometry.{place_of, stepped}
-use Rattle.fleet_model.specs.Machine.{indices, Configuration, count_at, run, tick, moved_in, is_held, is_moving, is_ready, is_over, is_finished, place_at, IsLeast, IsReached}
-use Rattle.fleet_model.specs.Program.{Program, moves, step_of, path, total_moves}
+use Rattle.fleet_verify.proofs.Words.{◌≡◌, ℕ, zero, suc, ◌+◌, ◌<◌, ◌≤◌, Bool, true, false, List, [], ◌∷◌, ◌++◌, length, map, Option, None, Some, refl, ap, sym, ◌∙◌, subst, arith, add-one, rules, IsTrue, inl, inr, ◌≢◌, ◌&&◌, not, get_or, IfNone, IfSome, IsSome, ◌⊎◌, filter, list_any, map-append, append_assoc, filter-append, cases_lt, cases_eq, same_Some, Cell, Step, Place, Visit, place_of, stepped, indices, Configuration, count_at, run, tick, moved_in, is_held, is_moving, is_ready, is_over, is_finished, place_at, IsLeast, IsReached, Program, moves, step_of, path, total_moves, get_or-map-range_with_len, and-true, tick_agree}
 use Rattle.fleet_machine.proofs.Indices.{indices-more, some_counted, none_counts}
 use Rattle.fleet_verify.specs.Faults.{EachAction, StandsRight}
 use Rattle.fleet_verify.specs.Walk.{positions_of, begun_by, begun_in, moved_to, IsEnded}
 use Rattle.fleet_verify.proofs.Paths.{path_step}
-use Rattle.std.proofs.lemmas.List.FromFn.{get_or-map-range_with_len}
-use Rattle.std.proofs.Math.Bool.{and-true}
-use Rattle.fleet_model.proofs.Tick.{tick_agree}
 use Rattle.fleet_machine.specs.Machine.{MachineState, Runs, flag_of, moving_flags}
 use Rattle.fleet_machine.proofs.Ready.{rests_if}
 use Rattle.fleet_verify.proofs.RunCounts.{finished_all, any_below, held_past, tick_free, run_place, run_ends, some_ready}

@@ -1,5 +1,5 @@
 -- The first of the faults of a program, for a ground and the tasks of an instance.
-use Rattle.std.specs.Prelude.{option_map, ◌≡◌, ℕ, ◌+◌, ◌<◌, ◌≤◌, Bool, IsTrue, List, length, ◌⊎◌, Contains, slice_get, Some}
+use Rattle.std.specs.Prelude.{option_map, ◌≡◌, ℕ, ◌+◌, ◌<◌, ◌≤◌, Bool, IsTrue, List, length, EachIndex, ◌⊎◌, Contains, slice_get, Some}
 use Rattle.fleet_model.specs.declared.geometry.Place.{Place}
 use Rattle.fleet_model.specs.declared.task.Task.{Task}
 use Rattle.fleet_model.specs.declared.program.Await.{Await}
@@ -38,10 +38,6 @@ StandsRight passable p i n = IsTrue (passable (path p i n))
 pub record AwaitsRight (p : Program) (i n : ℕ) : Type 0 where
   pub met : (w : Await) → Contains (awaits_of p i n) w → IsInRange p i w
 
--- it is so for each agent
-abbrev pub EachAgent : Program → (ℕ → Type 0) → Type 0
-EachAgent p Right = (i : ℕ) → i < length p → Right i
-
 -- it is so for each agent after each number of its actions
 abbrev pub EachAction : Program → (ℕ → ℕ → Type 0) → Type 0
 EachAction p Right = (i n : ℕ) → i < length p → n ≤ moves p i → Right i n
@@ -51,12 +47,12 @@ EachAction p Right = (i n : ℕ) → i < length p → n ≤ moves p i → Right 
 -- the fleet, and the starts
 pub record HasStarts (tasks : List Task) (p : Program) : Type 0 where
   pub fleet : HasFleet tasks p
-  pub starts : EachAgent p (StartsRight tasks p)
+  pub starts : EachIndex p (StartsRight tasks p)
 
 -- and the goals
 pub record HasEnds (tasks : List Task) (p : Program) : Type 0 where
   pub before : HasStarts tasks p
-  pub ends : EachAgent p (EndsRight tasks p)
+  pub ends : EachIndex p (EndsRight tasks p)
 
 -- and the steps
 pub record HasSteps (passable : Place → Bool) (tasks : List Task) (p : Program) : Type 0 where

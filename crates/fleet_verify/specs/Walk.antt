@@ -1,5 +1,5 @@
 -- The run without holds, and the positions of the agents in the order in which it reaches them.
-use Rattle.std.specs.Prelude.{◌≡◌, ℕ, zero, suc, ◌+◌, ◌<◌, ◌≤◌, Bool, List, [], ◌++◌, length, map, filter, slice_index, Contains, All, IsTrue}
+use Rattle.std.specs.Prelude.{◌≡◌, ℕ, zero, suc, ◌+◌, ◌<◌, ◌≤◌, Bool, List, [], ◌++◌, length, map, filter, slice_index, Contains, All, IsTrue, EachIndex}
 use Rattle.fleet_model.specs.declared.program.Await.{Await}
 use Rattle.fleet_model.specs.declared.program.Visit.{Visit}
 use Rattle.fleet_model.specs.Program.{Program, moves, awaits_of}
@@ -10,7 +10,7 @@ use Rattle.fleet_machine.specs.Machine.{MachineState, Runs, flag_of}
 use Rattle.fleet_verify.specs.declared.unheld_run.UnheldRun.{UnheldRun}
 use Rattle.fleet_verify.specs.declared.unheld_run.Stop.{Stop}
 use Rattle.fleet_verify.specs.declared.unheld_run.Stop.TheVariants.{OutOfMemory, OffGround}
-use Rattle.fleet_verify.specs.Faults.{EachAgent, EachAction, EndsRight, StandsRight}
+use Rattle.fleet_verify.specs.Faults.{EachAction, EndsRight, StandsRight}
 use Rattle.fleet_verify.specs.Order.{AreAdded}
 
 -- the counts of the configuration
@@ -81,4 +81,4 @@ pub record IsRunOnGround (passable : Place → Bool) (p : Program) (run : Unheld
 -- all actions are finished, and each agent has the goal of its task and stands on it
 pub record HasArrived (tasks : List Task) (p : Program) (c : Configuration) : Type 0 where
   pub finished : IsTrue (is_finished p c)
-  pub ends : EachAgent p (EndsRight tasks p)
+  pub ends : EachIndex p (EndsRight tasks p)

@@ -7,7 +7,7 @@ ghost use Rattle.fleet_model.specs.declared.program.ActionId.{ActionId};
 ghost use Rattle.fleet_model.specs.Program.{AreInRange};
 ghost use Rattle.fleet_model.specs.Chain.{IsNumbering};
 ghost use Rattle.fleet_model.specs.Visit.{IsVisit};
-ghost use Rattle.fleet_model.specs.Machine.{count_at, indices, tick};
+ghost use Rattle.fleet_model.specs.Machine.{count_at, indices, opening, tick};
 ghost use Rattle.fleet_machine.specs.Machine.{Runs};
 ghost use Rattle.fleet_model.specs.Visit.{AreUnordered};
 ghost use Rattle.fleet_verify.specs.Breaking.{is_held_by, held_row};
@@ -41,17 +41,21 @@ pub fn breaking_holds<P: ProgramView>(
         MeetOn (P.program program.now) q first second (map (λ row. row.items) holds.items)) }
 {
     let needed = needed_for(alloc, program, first, second)?;
-    holds_by(alloc, program, first, second, &needed)
+    let mut machine = Machine::start(alloc, program)?;
+    holds_by(alloc, program, first, second, &needed, &mut machine)
 }
 
-/// The same holds, by how many actions of each agent are needed.
+/// The same holds, by how many actions of each agent are needed. The machine is at its start.
 fn holds_by<P: ProgramView>(
     alloc: Global,
     program: &P,
     v: Visit,
     w: Visit,
     needed: &[u32],
+    machine: &mut Machine,
 ) -> Result<Vec<Vec<u16>>, OutOfMemory>
+    requires runs { Runs (P.program program.now) machine.old }
+    requires opening { machine.old.configuration ≡ opening (P.program program.now) }
     requires v { IsVisit (P.program program.now) v }
     requires w { IsVisit (P.program program.now) w }
     requires all { length needed.now ≡ length (P.program program.now) }
@@ -61,13 +65,12 @@ fn holds_by<P: ProgramView>(
     ensures { IfOk result (λ holds.
         AreBreakingHolds (P.program program.now) v w (map (λ row. row.items) holds.items)) }
 {
-    let mut machine = Machine::start(alloc, program)?;
     let mut holds = Vec::new(alloc);
     for t in 0..total_moves(program) {
-        if have_arrived(&machine, v, w) {
+        if have_arrived(machine, v, w) {
             return Ok(holds);
         }
-        let row = run_tick(alloc, program, &mut machine, needed)?;
+        let row = run_tick(alloc, program, machine, needed)?;
         holds.push(row)?;
     }
     Ok(holds)

@@ -26,8 +26,8 @@
 //! and all others nothing, so that what costs nothing needs none of them. `fault` has the refusals.
 //! `covers` compares two rows of counts, for callers alone.
 //!
-//! `needed` finds for two visits how many actions of each agent they need, and `breaking` runs the counts of the
-//! machine, tick by tick, and says whom each tick holds: those whose next action is not needed.
+//! `needed` finds for two visits how many actions of each agent they need, and `breaking` runs the machine, tick by
+//! tick, and says whom each tick holds: those whose next action is not needed.
 //!
 //! `let _agents = program.agents();` stands where what that call ensures is needed: the program is well-formed.
 #![tactic(auto)]

@@ -1,7 +1,4 @@
-use Rattle.std.proofs.Common.{◌≡◌, ◌<◌, length, ap, sym, ◌∙◌, arith}
-use Rattle.fleet_model.specs.declared.standing.Standing.{Standing}
-use Rattle.fleet_model.specs.Program.{moves, path}
-use Rattle.fleet_model.specs.Machine.{count_at}
+use Rattle.fleet_verify.proofs.Words.{◌≡◌, ◌<◌, length, ap, sym, ◌∙◌, arith, Standing, moves, path, count_at}
 use Rattle.fleet_verify.proofs.RunCounts.{finished_all}
 use Rattle.fleet_verify.proofs.UnderWay.{on_path, within_moves}
 use Rattle.fleet_verify.proofs.agents.has_arrived.Goals as goal

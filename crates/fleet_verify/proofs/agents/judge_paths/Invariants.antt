@@ -1,5 +1,4 @@
-use Rattle.std.proofs.Common.{ℕ, ◌<◌}
-use Rattle.fleet_grid.specs.Ground.{is_passable}
+use Rattle.fleet_verify.proofs.Words.{ℕ, ◌<◌, is_passable}
 use Rattle.fleet_verify.specs.Faults.{EndsRight, StandsRight, AwaitsRight}
 use Rattle.fleet_verify.specs.Path.{AnswersFirstAction}
 use Rattle.fleet_verify.proofs.agents.judge_paths.Given as goal

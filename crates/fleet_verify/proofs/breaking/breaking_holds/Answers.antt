@@ -1,5 +1,4 @@
-use Rattle.std.proofs.Common.{ℕ, List, slice_index, map, subst, sym}
-use Rattle.std.proofs.lemmas.Result.{IfOk-weaker}
+use Rattle.fleet_verify.proofs.Words.{ℕ, List, slice_index, map, subst, sym, IfOk-weaker}
 use Rattle.fleet_verify.specs.Needed.{AreNeeded}
 use Rattle.fleet_verify.proofs.BreakingHolds.{breaking_conflict}
 use Rattle.fleet_verify.proofs.Rows.{rising_rows}

@@ -1,5 +1,4 @@
-use Rattle.std.proofs.Common.{◌≡◌, map, filter}
-use Rattle.fleet_model.specs.Machine.{indices}
+use Rattle.fleet_verify.proofs.Words.{◌≡◌, map, filter, indices}
 use Rattle.fleet_verify.specs.Breaking.{is_held_by}
 use Rattle.fleet_verify.proofs.breaking.held_agents.Given as goal
 

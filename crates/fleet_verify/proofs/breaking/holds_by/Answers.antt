@@ -1,13 +1,12 @@
-use Rattle.std.proofs.Common.{◌≡◌, [], ◌∷◌, ◌++◌, map, ap, ◌∙◌, arith}
-use Rattle.std.proofs.lemmas.List.{map_push}
+use Rattle.fleet_verify.proofs.Words.{◌≡◌, [], ◌∷◌, ◌++◌, map, ap, ◌∙◌, arith, map_push}
 use Rattle.fleet_verify.specs.Breaking.{held_row}
 use Rattle.fleet_verify.proofs.BreakingHolds.{meeting_start, meeting_arrived, meeting_last, meeting_step}
 use Rattle.fleet_verify.proofs.breaking.holds_by.Goals as goal
 
 pub loop-t-init : goal.loop-t-init
 loop-t-init g c =
-    let s = meeting_start (g.P.ProgramView.program c.args.program.now) c.args.v c.args.w _ (ap (map (λ row. row.items)) c.new-holds.ensures.items) c.in_ok-machine.machine.configuration c.in_ok-machine.ensures.opening in
-    record { begun = s.0; runs = c.in_ok-machine.ensures.runs; here = s.1; ticks = s.2 }
+    let s = meeting_start (g.P.ProgramView.program c.args.program.now) c.args.v c.args.w _ (ap (map (λ row. row.items)) c.new-holds.ensures.items) c.args.machine.now.configuration c.requires.opening in
+    record { begun = s.0; runs = c.requires.runs; here = s.1; ticks = s.2 }
 
 pub loop-t-preserved : goal.loop-t-preserved
 loop-t-preserved g c =

@@ -1,5 +1,4 @@
-use Rattle.std.proofs.Common.{◌≡◌, length, map}
-use Rattle.fleet_model.specs.Machine.{run}
+use Rattle.fleet_verify.proofs.Words.{◌≡◌, length, map, run}
 use Rattle.fleet_machine.specs.Machine.{Runs}
 use Rattle.fleet_verify.proofs.BreakingHolds.{IsBegun}
 use Rattle.fleet_verify.proofs.breaking.holds_by.Given as goal

@@ -1,6 +1,4 @@
-use Rattle.std.proofs.Common.{false, get_or, length, ap, ◌∙◌, arith}
-use Rattle.std.proofs.lemmas.List.FromFn.{get_or-map-range_with_len, length-map-range_with_len}
-use Rattle.fleet_model.proofs.Tick.{tick_agree}
+use Rattle.fleet_verify.proofs.Words.{false, get_or, length, ap, ◌∙◌, arith, get_or-map-range_with_len, length-map-range_with_len, tick_agree}
 use Rattle.fleet_machine.specs.Machine.{flag_of}
 use Rattle.fleet_verify.specs.Breaking.{is_held_by}
 use Rattle.fleet_verify.proofs.breaking.run_tick.Goals as goal

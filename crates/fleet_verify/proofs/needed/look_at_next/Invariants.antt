@@ -1,6 +1,4 @@
-use Rattle.std.proofs.Common.{◌≡◌, ℕ, ◌<◌, ◌≤◌, IsTrue, false, length, slice_index}
-use Rattle.fleet_model.specs.declared.program.Visit.{Visit}
-use Rattle.fleet_model.specs.Program.{moves}
+use Rattle.fleet_verify.proofs.Words.{◌≡◌, ℕ, ◌<◌, ◌≤◌, IsTrue, false, length, slice_index, Visit, moves}
 use Rattle.fleet_verify.specs.Needed.{IsLooking, looked_sum}
 use Rattle.fleet_verify.proofs.needed.look_at_next.Given as goal
 

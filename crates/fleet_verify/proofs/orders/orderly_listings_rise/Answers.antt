@@ -1,5 +1,4 @@
-use Rattle.std.proofs.Common.{◌<◌}
-use Rattle.fleet_model.specs.Visit.{ComesAfterByAwait, ComesAfterByChain}
+use Rattle.fleet_verify.proofs.Words.{◌<◌, ComesAfterByAwait, ComesAfterByChain}
 use Rattle.fleet_verify.specs.Listing.{entry_level}
 use Rattle.fleet_verify.proofs.Neighbours.{adjacent_from}
 use Rattle.fleet_verify.proofs.Listing.{levels_number, listing_rises, after_reaches, await_chain}

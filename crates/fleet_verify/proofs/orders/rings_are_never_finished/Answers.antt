@@ -1,5 +1,4 @@
-use Rattle.std.proofs.Common.{◌∙◌, ap, Some, arith}
-use Rattle.std.proofs.lemmas.Option.{slice_get-get_or}
+use Rattle.fleet_verify.proofs.Words.{◌∙◌, ap, Some, arith, slice_get-get_or}
 use Rattle.fleet_verify.proofs.Finish.{ring_never, ring_unnumbered}
 use Rattle.fleet_verify.proofs.orders.rings_are_never_finished.Goals as goal
 

@@ -1,5 +1,4 @@
-use Rattle.std.proofs.Common.{inl, inr, arith}
-use Rattle.std.proofs.lemmas.Int.{ints}
+use Rattle.fleet_verify.proofs.Words.{inl, inr, arith, ints}
 use Rattle.fleet_verify.proofs.Positions.{beyond_map}
 use Rattle.fleet_verify.proofs.path.map_cell.Goals as goal
 use Rattle.fleet_verify.proofs.path.map_cell.Goals.{then-is_left-via-then-is_left, then-is_left-via-else-is_left+then-is_right, then-is_left-via-else-is_left+else-is_right+then-is_above, then-is_left-via-else-is_left+else-is_right+else-is_above+then-is_below}

@@ -1,7 +1,4 @@
-use Rattle.std.proofs.Common.{arith, ap, ◌∙◌}
-use Rattle.fleet_model.specs.declared.geometry.Place.{Place}
-use Rattle.fleet_model.specs.Geometry.{stepped}
-use Rattle.fleet_grid.specs.Ground.{is_passable}
+use Rattle.fleet_verify.proofs.Words.{arith, ap, ◌∙◌, Place, stepped, is_passable}
 use Rattle.fleet_verify.proofs.Positions.{stays_on, leads_off, goes_on, place_in_reach}
 use Rattle.fleet_verify.proofs.path.position_after.Goals as goal
 

@@ -1,5 +1,4 @@
-use Rattle.std.proofs.Common.{◌≡◌, ◌<◌, ℕ, List, length, refl, ap, sym, ◌∙◌, subst}
-use Rattle.std.proofs.lemmas.List.{length-map}
+use Rattle.fleet_verify.proofs.Words.{◌≡◌, ◌<◌, ℕ, List, length, refl, ap, sym, ◌∙◌, subst, length-map}
 use Rattle.fleet_verify.specs.Walk.{IsReadyBy, counts_of}
 use Rattle.fleet_verify.specs.Blocked.{IsBlocked}
 use Rattle.fleet_verify.proofs.Waiting.{none_ready, some_blocked}

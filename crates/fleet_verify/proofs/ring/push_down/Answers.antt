@@ -1,6 +1,4 @@
-use Rattle.std.proofs.Common.{◌++◌, ◌∷◌, [], ◌-◌, ap, sym, ◌∙◌}
-use Rattle.std.proofs.lemmas.List.{append_assoc}
-use Rattle.fleet_model.specs.declared.program.ActionId.{ActionId}
+use Rattle.fleet_verify.proofs.Words.{◌++◌, ◌∷◌, [], ◌-◌, ap, sym, ◌∙◌, append_assoc, ActionId}
 use Rattle.fleet_verify.specs.Blocked.{down_from}
 use Rattle.fleet_verify.proofs.Looking.{down_more}
 use Rattle.fleet_verify.proofs.ring.push_down.Goals as goal

@@ -1,6 +1,4 @@
-use Rattle.std.proofs.Common.{arith, slice_index, ◌+◌}
-use Rattle.std.proofs.lemmas.Option.{slice_get_within, get_or_from_slice_get}
-use Rattle.fleet_model.specs.Program.{awaits_of}
+use Rattle.fleet_verify.proofs.Words.{arith, slice_index, ◌+◌, slice_get_within, get_or_from_slice_get, awaits_of}
 use Rattle.fleet_verify.proofs.Waiting.{await_agent, met_more, ready_yes}
 use Rattle.fleet_verify.proofs.ring.unmet.Goals as goal
 

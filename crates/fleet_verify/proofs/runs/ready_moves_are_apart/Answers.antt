@@ -1,13 +1,4 @@
-use Rattle.std.proofs.Common.{Bool, List, length, ℕ, ◌<◌, IsTrue, refl, subst, arith}
-use Rattle.std.specs.Prelude.{◌≢◌}
-use Rattle.fleet_model.specs.declared.geometry.Place.{Place}
-use Rattle.fleet_model.specs.declared.task.Task.{Task}
-use Rattle.fleet_model.specs.Program.{Program}
-use Rattle.fleet_model.specs.Machine.{Holds, run}
-use Rattle.fleet_model.specs.Visit.{ComesAfterByChain}
-use Rattle.fleet_model.specs.Accepted.{IsAcceptedBy}
-use Rattle.fleet_model.specs.Claims.{AreApart, Claims, MayBeOn}
-use Rattle.fleet_model.specs.Schedule.{MayBeOnAt}
+use Rattle.fleet_verify.proofs.Words.{Bool, List, length, ℕ, ◌<◌, IsTrue, refl, subst, arith, ◌≢◌, Place, Task, Program, Holds, run, ComesAfterByChain, IsAcceptedBy, AreApart, Claims, MayBeOn, MayBeOnAt}
 use Rattle.fleet_verify.proofs.Claimed.{held_keeps}
 use Rattle.fleet_verify.proofs.Ticked.{is_schedule, longest, claimed}
 use Rattle.fleet_verify.proofs.Timed.{no_two_on}

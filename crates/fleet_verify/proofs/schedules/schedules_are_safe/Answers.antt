@@ -1,6 +1,4 @@
-use Rattle.std.proofs.Common.{subst}
-use Rattle.std.specs.Prelude.{IsTrue}
-use Rattle.fleet_model.specs.declared.geometry.Place.{Place}
+use Rattle.fleet_verify.proofs.Words.{subst, IsTrue, Place}
 use Rattle.fleet_verify.proofs.Timed.{no_two_on, places_on}
 use Rattle.fleet_verify.proofs.schedules.schedules_are_safe.Goals as goal
 

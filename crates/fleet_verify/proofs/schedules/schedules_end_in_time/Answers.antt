@@ -1,5 +1,4 @@
-use Rattle.std.proofs.Common.{sym, ◌∙◌, subst}
-use Rattle.std.specs.Prelude.{◌≤◌}
+use Rattle.fleet_verify.proofs.Words.{sym, ◌∙◌, subst, ◌≤◌}
 use Rattle.fleet_verify.proofs.Timed.{at_end, no_sooner, needs_unended, critical, ends_in_time, soonest_is}
 use Rattle.fleet_verify.proofs.schedules.schedules_end_in_time.Goals as goal
 

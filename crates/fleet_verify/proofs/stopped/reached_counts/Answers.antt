@@ -1,7 +1,4 @@
-use Rattle.std.proofs.Common.{ℕ, List, ap, subst}
-use Rattle.std.proofs.lemmas.Result.{IfOk-weaker}
-use Rattle.fleet_model.specs.declared.program.ActionId.{ActionId}
-use Rattle.fleet_model.specs.Program.{Program}
+use Rattle.fleet_verify.proofs.Words.{ℕ, List, ap, subst, IfOk-weaker, ActionId, Program}
 use Rattle.fleet_verify.specs.Times.{EachFreeTo, AreReached, broken_cost}
 use Rattle.fleet_verify.specs.declared.stopped.Breaks.{Breaks}
 use Rattle.fleet_verify.proofs.CriticalPaths.{reached_of, stops_of}

@@ -1,6 +1,4 @@
-use Rattle.std.proofs.Common.{◌≡◌, ◌≤◌}
-use Rattle.std.specs.Prelude.{count_by}
-use Rattle.fleet_model.specs.Machine.{indices}
+use Rattle.fleet_verify.proofs.Words.{◌≡◌, ◌≤◌, count_by, indices}
 use Rattle.fleet_verify.proofs.CriticalPaths.{misses}
 use Rattle.fleet_verify.proofs.stopped.stopped_agents.Given as goal
 

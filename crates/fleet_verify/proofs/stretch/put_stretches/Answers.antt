@@ -1,6 +1,4 @@
-use Rattle.std.proofs.Common.{rules, ◌∙◌, ap, sym, subst}
-use Rattle.std.specs.List.{flat_map}
-use Rattle.std.proofs.lemmas.List.{take_all}
+use Rattle.fleet_verify.proofs.Words.{rules, ◌∙◌, ap, sym, subst, flat_map, take_all}
 use Rattle.fleet_text.specs.Words.{next_words}
 use Rattle.fleet_text.specs.Row.{PassesOn}
 use Rattle.fleet_text.proofs.SinkLemmas.{gathers_err, passed_words, stops_within_words}

@@ -1,5 +1,4 @@
-use Rattle.std.proofs.Common.{take}
-use Rattle.std.specs.List.{flat_map}
+use Rattle.fleet_verify.proofs.Words.{take, flat_map}
 use Rattle.fleet_text.specs.Row.{PassesOn}
 use Rattle.fleet_text.specs.Words.{next_words}
 use Rattle.fleet_verify.proofs.Stretches.{words_of}

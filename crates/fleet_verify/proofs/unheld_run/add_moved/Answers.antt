@@ -1,9 +1,4 @@
-use Rattle.std.proofs.Common.{◌<◌, ◌++◌, List, length, refl, sym, subst, arith}
-use Rattle.std.proofs.lemmas.List.Elements.{All-push}
-use Rattle.std.proofs.lemmas.Result.{err_from_is_err_and}
-use Rattle.fleet_model.specs.declared.program.Visit.{Visit}
-use Rattle.fleet_model.specs.Machine.{count_at}
-use Rattle.fleet_grid.specs.Ground.{is_passable}
+use Rattle.fleet_verify.proofs.Words.{◌<◌, ◌++◌, List, length, refl, sym, subst, arith, All-push, err_from_is_err_and, Visit, count_at, is_passable}
 use Rattle.fleet_machine.specs.Machine.{flag_of}
 use Rattle.fleet_machine.specs.AgentSet.{IsNextFrom, AreNoneFrom}
 use Rattle.fleet_verify.specs.Faults.{StandsRight}

@@ -1,6 +1,4 @@
-use Rattle.std.proofs.Common.{◌++◌, ◌-◌, ◌≤◌, List, length}
-use Rattle.fleet_model.specs.declared.program.Visit.{Visit}
-use Rattle.fleet_grid.specs.Ground.{is_passable}
+use Rattle.fleet_verify.proofs.Words.{◌++◌, ◌-◌, ◌≤◌, List, length, Visit, is_passable}
 use Rattle.fleet_verify.specs.Order.{AreAdded}
 use Rattle.fleet_verify.specs.Walk.{moved_to, AreOnGround}
 use Rattle.fleet_verify.proofs.unheld_run.add_moved.Given as goal

@@ -1,9 +1,4 @@
-use Rattle.std.proofs.Common.{◌≡◌, false, ap, sym, ◌∙◌, subst, arith, IsTrue}
-use Rattle.fleet_model.specs.declared.geometry.Place.{Place}
-use Rattle.fleet_model.specs.declared.standing.Standing.{Standing}
-use Rattle.fleet_model.specs.Program.{path}
-use Rattle.fleet_model.specs.Machine.{count_at}
-use Rattle.fleet_grid.specs.Ground.{is_passable}
+use Rattle.fleet_verify.proofs.Words.{◌≡◌, false, ap, sym, ◌∙◌, subst, arith, IsTrue, Place, Standing, path, count_at, is_passable}
 use Rattle.fleet_verify.proofs.UnderWay.{on_path, within_moves}
 use Rattle.fleet_verify.proofs.unheld_run.add_position.Goals as goal
 

@@ -1,7 +1,4 @@
-use Rattle.std.proofs.Common.{◌≡◌, ◌<◌, ℕ, List, length, arith, subst, sym, ◌∙◌}
-use Rattle.std.proofs.lemmas.List.Elements.{All-append}
-use Rattle.fleet_model.specs.declared.program.Visit.{Visit}
-use Rattle.fleet_grid.specs.Ground.{is_passable}
+use Rattle.fleet_verify.proofs.Words.{◌≡◌, ◌<◌, ℕ, List, length, arith, subst, sym, ◌∙◌, All-append, Visit, is_passable}
 use Rattle.fleet_machine.specs.Machine.{flag_of}
 use Rattle.fleet_verify.specs.Faults.{StandsRight}
 use Rattle.fleet_verify.specs.Order.{AreAdded}

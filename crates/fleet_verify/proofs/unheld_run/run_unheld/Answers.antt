@@ -1,6 +1,4 @@
-use Rattle.std.proofs.Common.{arith}
-use Rattle.std.proofs.lemmas.Result.{err_from_is_err_and}
-use Rattle.fleet_model.specs.declared.limits.TheConstants.{MAX_AGENTS}
+use Rattle.fleet_verify.proofs.Words.{arith, err_from_is_err_and, MAX_AGENTS}
 use Rattle.fleet_needs.proofs.Free.{none_flagged}
 use Rattle.fleet_verify.proofs.unheld_run.run_unheld.Goals as goal
 

@@ -1,5 +1,4 @@
-use Rattle.std.proofs.lemmas.Result.{err_from_is_err_and}
-use Rattle.fleet_grid.specs.Ground.{is_passable}
+use Rattle.fleet_verify.proofs.Words.{err_from_is_err_and, is_passable}
 use Rattle.fleet_verify.proofs.verifier.judge.Goals as goal
 
 pub returns-in_err-check_starts-clause-err : goal.returns-in_err-check_starts-clause-err

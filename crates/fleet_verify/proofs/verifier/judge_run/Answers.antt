@@ -1,5 +1,4 @@
-use Rattle.std.proofs.lemmas.Result.{err_from_is_err_and}
-use Rattle.fleet_grid.specs.Ground.{is_passable}
+use Rattle.fleet_verify.proofs.Words.{err_from_is_err_and, is_passable}
 use Rattle.fleet_verify.proofs.Stays.{accepted, whole_run}
 use Rattle.fleet_verify.proofs.verifier.judge_run.Goals as goal
 

@@ -1,5 +1,4 @@
-use Rattle.std.proofs.Common.{[], sym, subst}
-use Rattle.fleet_model.specs.Machine.{IsFinish}
+use Rattle.fleet_verify.proofs.Words.{[], sym, subst, IsFinish}
 use Rattle.fleet_verify.proofs.RunCounts.{longest_finishes}
 use Rattle.fleet_verify.proofs.reach.Reach.of.Goals as goal
 

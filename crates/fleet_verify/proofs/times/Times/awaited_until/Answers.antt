@@ -1,8 +1,4 @@
-use Rattle.std.proofs.Common.{◌≡◌, ◌+◌, ◌-◌, ◌≤◌, ℕ, length, Some, ap, subst, sym, ◌∙◌, arith}
-use Rattle.std.specs.Prelude.{slice_get}
-use Rattle.std.proofs.lemmas.Option.{slice_get_within}
-use Rattle.fleet_model.specs.Program.{awaits_of}
-use Rattle.fleet_model.proofs.Totals.{few_awaits_of}
+use Rattle.fleet_verify.proofs.Words.{◌≡◌, ◌+◌, ◌-◌, ◌≤◌, ℕ, length, Some, ap, subst, sym, ◌∙◌, arith, slice_get, slice_get_within, awaits_of, few_awaits_of}
 use Rattle.fleet_needs.proofs.Joining.{awaited_action}
 use Rattle.fleet_verify.specs.Times.{TimesParts}
 use Rattle.fleet_verify.proofs.CriticalPaths.{none_more, none_all, until_here}

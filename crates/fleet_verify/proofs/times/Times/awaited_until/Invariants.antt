@@ -1,5 +1,4 @@
-use Rattle.std.proofs.Common.{◌≡◌, ◌≤◌, ◌+◌, ◌-◌, length}
-use Rattle.fleet_model.specs.Program.{awaits_of}
+use Rattle.fleet_verify.proofs.Words.{◌≡◌, ◌≤◌, ◌+◌, ◌-◌, length, awaits_of}
 use Rattle.fleet_verify.proofs.CriticalPaths.{NoneUntil}
 use Rattle.fleet_verify.proofs.times.Times.awaited_until.Given as goal
 

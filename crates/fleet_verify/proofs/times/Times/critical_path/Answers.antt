@@ -1,5 +1,4 @@
-use Rattle.std.proofs.Common.{refl, ap, sym, subst}
-use Rattle.fleet_model.specs.Chain.{IsCriticalCost}
+use Rattle.fleet_verify.proofs.Words.{refl, ap, sym, subst, IsCriticalCost}
 use Rattle.fleet_verify.specs.Times.{IsPathOfCost, IsCriticalPath, LeadsBack}
 use Rattle.fleet_verify.specs.Stretch.{first_of, stretch_actions, path_actions}
 use Rattle.fleet_verify.proofs.CriticalPaths.{arrived_none, way_action, way_falls, way_first, way_join, way_ends, path_before}

@@ -1,6 +1,4 @@
-use Rattle.std.proofs.Common.{reverse}
-use Rattle.fleet_model.specs.declared.program.ActionId.{ActionId}
-use Rattle.fleet_model.specs.Chain.{IsAction, IsCriticalCost}
+use Rattle.fleet_verify.proofs.Words.{reverse, ActionId, IsAction, IsCriticalCost}
 use Rattle.fleet_verify.specs.Times.{IsLatest, IsWayTo}
 use Rattle.fleet_verify.specs.Stretch.{first_of, path_actions}
 use Rattle.fleet_verify.proofs.times.Times.critical_path.Given as goal

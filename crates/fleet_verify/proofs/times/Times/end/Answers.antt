@@ -1,5 +1,4 @@
-use Rattle.std.proofs.Common.{sym, subst, arith}
-use Rattle.fleet_model.specs.Chain.{IsAction, IsCriticalCost}
+use Rattle.fleet_verify.proofs.Words.{sym, subst, arith, IsAction, IsCriticalCost}
 use Rattle.fleet_verify.specs.Times.{TimesParts, AreTimes}
 use Rattle.fleet_verify.proofs.times.Times.end.Goals as goal
 

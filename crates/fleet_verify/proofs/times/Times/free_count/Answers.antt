@@ -1,7 +1,4 @@
-use Rattle.std.proofs.Common.{◌≡◌, ℕ, ◌+◌, ap, subst, arith, inl, inr}
-use Rattle.std.proofs.lemmas.Bool.{cases_lt}
-use Rattle.fleet_model.specs.Program.{moves}
-use Rattle.fleet_model.specs.Chain.{IsCriticalCost}
+use Rattle.fleet_verify.proofs.Words.{◌≡◌, ℕ, ◌+◌, ap, subst, arith, inl, inr, cases_lt, moves, IsCriticalCost}
 use Rattle.fleet_verify.specs.Times.{TimesParts}
 use Rattle.fleet_verify.proofs.times.Times.free_count.Goals as goal
 

@@ -1,5 +1,4 @@
-use Rattle.std.proofs.Common.{◌≤◌, ℕ}
-use Rattle.fleet_model.specs.Chain.{IsCriticalCost}
+use Rattle.fleet_verify.proofs.Words.{◌≤◌, ℕ, IsCriticalCost}
 use Rattle.fleet_verify.proofs.times.Times.free_count.Given as goal
 
 abbrev pub invariant-loop-finished : goal.invariant-loop-finished

@@ -1,6 +1,4 @@
-use Rattle.std.proofs.Common.{◌≡◌, refl, sym, subst, ◌∙◌, arith, inl, inr}
-use Rattle.std.proofs.lemmas.Option.{same_Some, none-some}
-use Rattle.fleet_model.specs.Chain.{IsAction, IsCriticalCost}
+use Rattle.fleet_verify.proofs.Words.{◌≡◌, refl, sym, subst, ◌∙◌, arith, inl, inr, same_Some, none-some, IsAction, IsCriticalCost}
 use Rattle.fleet_needs.proofs.Costing.{one_cost}
 use Rattle.fleet_verify.proofs.CriticalPaths.{some_from}
 use Rattle.fleet_verify.proofs.times.Times.later.Goals as goal

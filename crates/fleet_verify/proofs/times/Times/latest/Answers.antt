@@ -1,6 +1,4 @@
-use Rattle.std.proofs.Common.{◌≡◌, ℕ, ◌+◌, length, sym, ap, subst, ◌∙◌, arith, inl, inr}
-use Rattle.std.proofs.lemmas.Bool.{cases_lt}
-use Rattle.fleet_model.specs.Program.{moves}
+use Rattle.fleet_verify.proofs.Words.{◌≡◌, ℕ, ◌+◌, length, sym, ap, subst, ◌∙◌, arith, inl, inr, cases_lt, moves}
 use Rattle.fleet_verify.specs.Times.{TimesParts, IsLater, IsLatest}
 use Rattle.fleet_verify.proofs.CriticalPaths.{IsLatestOf, latest_stays, latest_more, arrived_latest, no_moves, some_of, none_of}
 use Rattle.fleet_verify.proofs.times.Times.latest.Goals as goal

@@ -1,6 +1,4 @@
-use Rattle.std.proofs.Common.{◌≡◌, ◌-◌, sym, subst, arith}
-use Rattle.fleet_model.specs.declared.program.ActionId.{ActionId}
-use Rattle.fleet_model.specs.Chain.{IsCriticalCost}
+use Rattle.fleet_verify.proofs.Words.{◌≡◌, ◌-◌, sym, subst, arith, ActionId, IsCriticalCost}
 use Rattle.fleet_verify.proofs.Members.{same_action}
 use Rattle.fleet_needs.proofs.Costing.{one_cost}
 use Rattle.fleet_verify.proofs.times.Times.own_until.Goals as goal

@@ -1,5 +1,4 @@
-use Rattle.std.proofs.Common.{◌≡◌, ◌≢◌, ℕ, ◌+◌, ◌-◌, ◌≤◌, sym, subst, arith}
-use Rattle.fleet_model.specs.Chain.{IsAction}
+use Rattle.fleet_verify.proofs.Words.{◌≡◌, ◌≢◌, ℕ, ◌+◌, ◌-◌, ◌≤◌, sym, subst, arith, IsAction}
 use Rattle.fleet_verify.specs.Ahead.{level_in}
 use Rattle.fleet_verify.specs.Times.{TimesParts, AreTimes, IsStretchTo, IsWholeTo, of_agent}
 use Rattle.fleet_verify.proofs.ClimbingBack.{climbed_back}

@@ -20,8 +20,23 @@ use Rattle.fleet_needs.proofs.AwaitOrder.{await_below}
 use Rattle.fleet_adg.proofs.Short.{short_in_range, short_moves}
 use Rattle.fleet_verify.specs.Reduced.{IsThinned}
 use Rattle.fleet_verify.proofs.SameChains.{same_moves as moves_there, thinned_range}
-use Rattle.fleet_verify.proofs.BreakingHolds.{push_rises}
 use Rattle.fleet_adg.specs.Thinned.{AreUnimplied, IsThinnedAction, AreThinnedActions, IsThinnedAgent, AreThinnedAgents}
+
+-- a greater number at the end of a list that rises
+push_rises : (xs : List ℕ) (x : ℕ) → IsStrictlyIncreasing xs → ((y : ℕ) → Contains xs y → y < x) → IsStrictlyIncreasing (xs ++ x ∷ [])
+push_rises xs x h below k l =
+    let n : length (xs ++ x ∷ []) ≡ length xs + 1 = length_push xs x in
+    let here : get_or (xs ++ x ∷ []) k 0 ≡ get_or xs k 0 = get_or_append_left xs (x ∷ []) 0 k (omega arith) in
+    elim (cases_lt (k + 1) (length xs)) [
+      | inl m ↦ (
+          let next : get_or (xs ++ x ∷ []) (k + 1) 0 ≡ get_or xs (k + 1) 0 = get_or_append_left xs (x ∷ []) 0 (k + 1) m in
+          let low : get_or xs k 0 < get_or xs (k + 1) 0 = h k m in
+          omega arith)
+      | inr m ↦ (
+          let last : get_or (xs ++ x ∷ []) (k + 1) 0 ≡ x = get_or_push xs x 0 (k + 1) (omega arith) in
+          let low : get_or xs k 0 < x = below (get_or xs k 0) (k, omega arith, get_or_default xs k (get_or xs k 0) 0 (omega arith)) in
+          omega arith)
+    ]
 
 -- what stands in a list with one more at its end
 push_at : {X : Type 0} (xs : List X) (x : X) (k : ℕ) (y : X) → slice_get (xs ++ x ∷ []) k ≡ Some y → (slice_get xs k ≡ Some y) ⊎ ((k ≡ length xs) × (x ≡ y))

@@ -1,8 +1,8 @@
 -- What is reached, and what is not, by the ticks of actions and by what they directly need.
-use Rattle.fleet_needs.proofs.Words.{◌≡◌, ◌≢◌, ℕ, ◌+◌, ◌-◌, ◌<◌, ◌≤◌, Bool, true, false, List, length, get_or, set, refl, sym, ap, subst, ◌∙◌, arith, inl, inr, ◌⊎◌, Contains, slice_get, Some, None, Option, ◌↔◌, cases_lt, cases_eq, false≢true, true≢false, get_or-set_same, get_or-set_other, get_or_past, slice_get_within, get_or_from_slice_get, same_Some, ActionId, Await, Program, moves, awaits_of, AreInRange, IsWellFormed, IsAction, Reaches, IsNumbering, awaited, chain_ends_by_step, Reaches-rises, Reaches-last, IsImplied, IsSettled, AreSettledOf, AreMoreAsked, IsUpTo, action_before}
+use Rattle.fleet_needs.proofs.Words.{◌≡◌, ◌≢◌, ℕ, ◌+◌, ◌-◌, ◌<◌, ◌≤◌, Bool, true, false, List, length, get_or, set, refl, sym, ap, subst, ◌∙◌, arith, inl, inr, ◌⊎◌, Contains, slice_get, Some, None, Option, ◌↔◌, cases_lt, cases_eq, false≢true, true≢false, get_or-set_same, get_or-set_other, get_or_past, slice_get_within, get_or_from_slice_get, same_Some, ActionId, Await, Program, moves, awaits_of, AreInRange, IsWellFormed, IsAction, Reaches, IsNumbering, awaited, chain_ends_by_step, Reaches-rises, Reaches-last, IsImplied, IsSettled, AreSettledOf, AreMoreAsked, ReachesNeed, IsUpTo, action_before}
 use Rattle.fleet_needs.proofs.AwaitOrder.{other_agent}
 use Rattle.fleet_needs.proofs.RowFlags.{implied_by, implied_back}
-use Rattle.fleet_needs.proofs.Joining.{own_first, by_await, step_back}
+use Rattle.fleet_needs.proofs.Joining.{own_first, by_await, step_back, step_on}
 
 -- the answer of a search that says yes is not the one that says no
 pub no_is_not_yes : Some false ≡ Some true → ⊥
@@ -44,61 +44,69 @@ module _ (p : Program) (number : ActionId → ℕ) (rising : IsNumbering p numbe
 
 -- ---- by what the last action directly needs
 
--- no action that is awaited from place from on, up to another, is reached
-abbrev pub NoneIsReached : Program → ActionId → ActionId → (ℕ → Type 0) → Type 0
-NoneIsReached p first a These = (m : ℕ) (w : Await) → These m → slice_get (awaits_of p a.agent a.number) m ≡ Some w → Reaches p first (awaited w) → ⊥
+-- no action is reached that one of the first n awaits names, but for this one
+abbrev pub NoneIsReached : Program → ActionId → ActionId → ℕ → ℕ → Type 0
+NoneIsReached p first a but n = (m : ℕ) (w : Await) → m < n → m ≢ but → slice_get (awaits_of p a.agent a.number) m ≡ Some w → Reaches p first (awaited w) → ⊥
 
 -- one more is not
-apart_next : (p : Program) (first a : ActionId) (These Next : ℕ → Type 0) (n : ℕ) (v : Await) → slice_get (awaits_of p a.agent a.number) n ≡ Some v → ((m : ℕ) → Next m → These m ⊎ (m ≡ n)) → (Next n → Reaches p first (awaited v) → ⊥)
-    → NoneIsReached p first a These → NoneIsReached p first a Next
-apart_next p first a These Next n v at back none before m w l there r = elim (back m l) [
-  | inl old ↦ before m w old there r
-  | inr e ↦ none (subst Next e l) (subst (λ (x : Await). Reaches p first (awaited x)) (same_Some w v (sym there ∙ ap (slice_get (awaits_of p a.agent a.number)) e ∙ at)) r)
+pub none_next : (p : Program) (first a : ActionId) (but n : ℕ) (v : Await) → slice_get (awaits_of p a.agent a.number) n ≡ Some v → (n ≢ but → Reaches p first (awaited v) → ⊥) → NoneIsReached p first a but n → NoneIsReached p first a but (n + 1)
+none_next p first a but n v at none before m w l other there r = elim (cases_lt m n) [
+  | inl less ↦ before m w less other there r
+  | inr more ↦
+      let e : m ≡ n = omega (arith, l, more) in
+      none (λ f. other (e ∙ f)) (subst (λ (x : Await). Reaches p first (awaited x)) (same_Some w v (sym there ∙ ap (slice_get (awaits_of p a.agent a.number)) e ∙ at)) r)
 ]
-
-pub apart_more : (p : Program) (first a : ActionId) (k : ℕ) (v : Await) → slice_get (awaits_of p a.agent a.number) k ≡ Some v → (Reaches p first (awaited v) → ⊥)
-    → NoneIsReached p first a (λ m. m < k) → NoneIsReached p first a (λ m. m < k + 1)
-apart_more p first a k v at none = apart_next p first a (λ m. m < k) (λ m. m < k + 1) k v at (λ m l. elim (cases_lt m k) [ inl less ↦ inl less | inr more ↦ inr (omega arith) ]) (λ l. none)
-
--- and so among all but one
-pub apart_but : (p : Program) (first a : ActionId) (k n : ℕ) (v : Await) → slice_get (awaits_of p a.agent a.number) n ≡ Some v → (n ≢ k → Reaches p first (awaited v) → ⊥)
-    → NoneIsReached p first a (λ m. (m < n) × (m ≢ k)) → NoneIsReached p first a (λ m. (m < n + 1) × (m ≢ k))
-apart_but p first a k n v at none = apart_next p first a (λ m. (m < n) × (m ≢ k)) (λ m. (m < n + 1) × (m ≢ k)) n v at (λ m l. elim (cases_lt m n) [ inl less ↦ inl (less, l.1) | inr more ↦ inr (omega (arith, l.0)) ]) (λ l. none l.1)
 
 -- nothing reaches the action before the first one
 pub none_before : (p : Program) (x a : ActionId) → a.number ≤ 1 → Reaches p x (action_before a) → ⊥
 none_before p x a first r = let f : 1 ≤ a.number - 1 = (Reaches-last p x (action_before a) r).first in omega arith
 
--- if nothing that the last action directly needs is reached, the last is not reached either
-pub none_reached : (p : Program) (first last : ActionId) → (last.agent ≡ first.agent → ⊥) → NoneIsReached p first last (λ m. m < length (awaits_of p last.agent last.number)) → (Reaches p first (action_before last) → ⊥) → Reaches p first last → ⊥
-none_reached p first last other awaits own r = elim (step_back p first last (λ e. other (sym e)) r) [
-  | inl by ↦ own by
-  | inr by ↦ awaits by.place by.await by.this by.at by.reaches
+-- if none of the awaits and not the action before is reached, nothing is
+pub none_need : (p : Program) (first a : ActionId) (but n : ℕ) → n ≡ length (awaits_of p a.agent a.number) → NoneIsReached p first a but n → (Reaches p first (action_before a) → ⊥) → ReachesNeed p first a but → ⊥
+none_need p first a but n all awaits own (inl r) = own r
+none_need p first a but n all awaits own (inr by) = awaits by.place by.await (omega (arith, all, slice_get_within (awaits_of p a.agent a.number) by.place by.await by.at)) by.this by.at by.reaches
+
+-- what reaches one of those that the action directly needs reaches the action
+pub need_on : (p : Program) (x a : ActionId) (but : ℕ) → IsAction p a → ReachesNeed p x a but → Reaches p x a
+need_on p x a but is (inl r) = step_on p x a is (inl r)
+need_on p x a but is (inr by) = step_on p x a is (inr (record { place = by.place; await = by.await; this = slice_get_within (awaits_of p a.agent a.number) by.place by.await by.at; at = by.at; reaches = by.reaches }))
+
+-- .. and the other way round, if no await is left out
+pub need_back : (p : Program) (x a : ActionId) (but : ℕ) → (a.agent ≡ x.agent → ⊥) → length (awaits_of p a.agent a.number) < but → Reaches p x a → ReachesNeed p x a but
+need_back p x a but other all r = elim (step_back p x a (λ e. other (sym e)) r) [
+  | inl own ↦ inl own
+  | inr by ↦ inr (record { place = by.place; await = by.await; this = λ e. (let l : by.place < length (awaits_of p a.agent a.number) = by.this in omega (arith, e, l, all)); at = by.at; reaches = by.reaches })
 ]
 
--- ---- other actions that an action directly needs
+-- ---- another action that an action directly needs
 
-module _ (p : Program) (formed : IsWellFormed p) (range : AreInRange p) (a : ActionId) (k : ℕ) (w : Await) (at : slice_get (awaits_of p a.agent a.number) k ≡ Some w) (first : ActionId) (is : first ≡ awaited w) where
+module _ (p : Program) (formed : IsWellFormed p) (range : AreInRange p) (a : ActionId) (k : ℕ) (w : Await) (at : slice_get (awaits_of p a.agent a.number) k ≡ Some w) where
   known : Contains (awaits_of p a.agent a.number) w
   known = (k, slice_get_within (awaits_of p a.agent a.number) k w at, get_or_from_slice_get (awaits_of p a.agent a.number) k w w at)
 
-  pub by_other : 1 ≤ a.number → (m : ℕ) (v : Await) → m ≢ k → slice_get (awaits_of p a.agent a.number) m ≡ Some v → Reaches p first (awaited v) → IsImplied p a w
-  by_other some m v ne there r = implied_by p range a w known (formed.awaits a.agent a.number) some (inr (record {
-    place = m;
-    await = v;
-    this = (slice_get_within (awaits_of p a.agent a.number) m v there, other_agent (awaits_of p a.agent a.number) (formed.awaits a.agent a.number).rising m k v w there at ne);
-    at = there;
-    reaches = subst (λ (x : ActionId). Reaches p x (awaited v)) is r;
-  }))
+  -- an await is implied if another such action is reached
+  pub need_implied : 1 ≤ a.number → ReachesNeed p (awaited w) a k → IsImplied p a w
+  need_implied some need = implied_by p range a w known (formed.awaits a.agent a.number) some (elim need [
+    | inl r ↦ inl r
+    | inr by ↦ inr (record {
+      place = by.place;
+      await = by.await;
+      this = (slice_get_within (awaits_of p a.agent a.number) by.place by.await by.at, other_agent (awaits_of p a.agent a.number) (formed.awaits a.agent a.number).rising by.place k by.await w by.at at by.this);
+      at = by.at;
+      reaches = by.reaches;
+    })
+  ])
 
-  pub by_own : 1 ≤ a.number → Reaches p first (action_before a) → IsImplied p a w
-  by_own some r = implied_by p range a w known (formed.awaits a.agent a.number) some (inl (subst (λ (x : ActionId). Reaches p x (action_before a)) is r))
-
-  pub none_implied : NoneIsReached p first a (λ m. (m < length (awaits_of p a.agent a.number)) × (m ≢ k)) → (Reaches p first (action_before a) → ⊥) → IsImplied p a w → ⊥
-  none_implied awaits own implied = elim (implied_back p range a w known (formed.awaits a.agent a.number) implied) [
-    | inl r ↦ own (subst (λ (x : ActionId). Reaches p x (action_before a)) (sym is) r)
-    | inr by ↦ awaits by.place by.await (by.this.0, (λ same. by.this.1 (ap (λ (v : Await). v.agent) (same_Some by.await w (sym by.at ∙ ap (slice_get (awaits_of p a.agent a.number)) same ∙ at))))) by.at
-        (subst (λ (x : ActionId). Reaches p x (awaited by.await)) (sym is) by.reaches)
+  pub implied_need : IsImplied p a w → ReachesNeed p (awaited w) a k
+  implied_need implied = elim (implied_back p range a w known (formed.awaits a.agent a.number) implied) [
+    | inl r ↦ inl r
+    | inr by ↦ inr (record {
+      place = by.place;
+      await = by.await;
+      this = λ same. by.this.1 (ap (λ (v : Await). v.agent) (same_Some by.await w (sym by.at ∙ ap (slice_get (awaits_of p a.agent a.number)) same ∙ at)));
+      at = by.at;
+      reaches = by.reaches;
+    })
   ]
 
 -- ---- an await that another action has too

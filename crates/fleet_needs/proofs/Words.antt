@@ -30,7 +30,7 @@ pub use Rattle.fleet_needs.specs.Kernels.{AreJoined}
 pub use Rattle.fleet_needs.specs.Pieces.{IsOf, IsTold, AreTold, key_of, AreSorted, IsLatest, AreLater, count_by}
 pub use Rattle.fleet_needs.specs.Places.{ArePlaces, action_place, ArePlacesOf, place_of_action}
 pub use Rattle.fleet_needs.specs.Rows.{IsColumn, IsJoined, OfFirst, OfOthers, OfOthersOrFirst, action_before, ByOneOf}
-pub use Rattle.fleet_needs.specs.Settled.{IsFinishedBy, AreSettled, IsSettled, AreSettledOf, AreMoreAsked, IsUpTo, finish_tick, AreSettledTo, AreTicks}
+pub use Rattle.fleet_needs.specs.Settled.{IsFinishedBy, AreSettled, IsSettled, AreSettledOf, AreMoreAsked, IsUpTo, finish_tick, AreSettledTo, AreTicks, ReachesNeed}
 pub use Rattle.fleet_needs.specs.declared.schedule.Columns.{Columns}
 pub use Rattle.fleet_needs.specs.declared.schedule.Schedule.{Schedule}
 pub use Rattle.fleet_needs.specs.declared.gather.Piece.{Piece}

@@ -1,14 +1,15 @@
 -- The tick that finishes each action if nobody is held, and awaits for which a few steps back show whether others imply
 -- them.
-use Rattle.std.specs.Prelude.{◌≡◌, ℕ, ◌-◌, ◌<◌, ◌≤◌, ◌⊎◌, Bool, true, false, List, [], length, get_or, slice_index, Vec}
+use Rattle.std.specs.Prelude.{◌≡◌, ◌≢◌, ℕ, ◌-◌, ◌<◌, ◌≤◌, ◌⊎◌, Bool, true, false, List, [], length, get_or, slice_index, Vec}
 use Rattle.std.specs.declared.alloc.Global.{Global}
 use Rattle.fleet_model.specs.declared.program.Await.{Await}
 use Rattle.fleet_model.specs.declared.program.ActionId.{ActionId}
 use Rattle.fleet_model.specs.Program.{Program, total_moves}
-use Rattle.fleet_model.specs.Chain.{IsAction, IsNumbering}
+use Rattle.fleet_model.specs.Chain.{IsAction, IsNumbering, Reaches}
 use Rattle.fleet_needs.specs.Places.{ArePlacesOf, place_of_action}
 use Rattle.fleet_needs.specs.declared.await_places.ActionPlaces.{ActionPlaces}
 use Rattle.fleet_model.specs.Machine.{run, count_at}
+use Rattle.fleet_needs.specs.Rows.{action_before, ByOneOf}
 use Rattle.fleet_needs.specs.Implied.{IsImplied, IsImpliedFlag, EachFlag, AreNoted}
 
 -- ---- the ticks
@@ -68,6 +69,10 @@ AreMoreAsked old new = (j : ℕ) → get_or old j false ≡ true → get_or new 
 -- the first n awaits of the action are settled, and no other flag has changed
 abbrev pub AreSettledTo : Program → List Bool → ActionId → ℕ → List Bool → List Bool → Type 0
 AreSettledTo p asked a n old new = AreNoted p a (λ k w flag. IsSettled p asked a w flag) n old new
+
+-- x is reached from the action before a, or from one of its awaits, but not this one
+abbrev pub ReachesNeed : Program → ActionId → ActionId → ℕ → Type 0
+ReachesNeed p x a but = Reaches p x (action_before a) ⊎ ByOneOf (λ k w. k ≢ but) p x a
 
 -- the actions of the agents before this one, and its first ones, so many
 abbrev pub IsUpTo : ℕ → ℕ → ActionId → Type 0

@@ -7,7 +7,7 @@ ghost use Rattle.fleet_model.specs.Chain.{IsAction, Reaches};
 ghost use Rattle.fleet_needs.specs.Implied.{IsImplied};
 ghost use Rattle.fleet_needs.specs.Flags.{AreFlags, flags_of};
 ghost use Rattle.fleet_needs.specs.Order.{IsWholeOrder};
-ghost use Rattle.fleet_needs.specs.Settled.{AreTicks, AreSettledBy, AreSettledOf, AreSettledTo, AreMoreAsked, IsUpTo};
+ghost use Rattle.fleet_needs.specs.Settled.{AreTicks, AreSettledBy, AreSettledOf, AreSettledTo, AreMoreAsked, IsUpTo, ReachesNeed};
 ghost use Rattle.fleet_needs.specs.Rows.{action_before};
 
 use crate::finish_order::{FinishOrder, FinishTicks};
@@ -17,6 +17,9 @@ use std::alloc::Global;
 
 /// No step goes back from an action with more awaits.
 const AWAITS: u16 = 16;
+
+/// The place of no await of an action from which a step goes back.
+const NO_AWAIT: u16 = AWAITS + 1;
 
 /// Flags the awaits that others imply, as far as a few steps back show it, and answers a flag for each agent: whether
 /// an await of one of its actions is left open.
@@ -197,17 +200,23 @@ fn is_implied<P: ProgramView>(
 {
     let _ = program.agents();
     let awaited = awaited_at(program, action, k);
+    let awaits = program.await_count(action.agent, action.number);
     if k != latest {
         let other = awaited_at(program, action, latest);
         *from = next_await(program, other, awaited.agent, *from);
         if is_needed(program, awaited, other, *from) {
             return Some(true);
         }
-        if program.await_count(action.agent, action.number) > AWAITS {
+        if awaits > AWAITS {
             return None;
         }
     }
-    reaches_other(program, ticks, action, k, awaited)
+    let needs = Needs {
+        action,
+        awaits,
+        but: k,
+    };
+    reaches_need(program, ticks, awaited, needs, &mut ticks.looks())
 }
 
 /// The first of the awaits of an action, from this one on, that is of this agent or a later one.
@@ -236,54 +245,9 @@ fn is_needed<P: ProgramView>(program: &P, first: ActionId, action: ActionId, k: 
     needed.agent == first.agent && first.number <= needed.count
 }
 
-/// Whether the action of await `k` begins a chain of needs that ends with another action which the same action directly
-/// needs, if a few steps back show it.
-fn reaches_other<P: ProgramView>(
-    program: &P,
-    ticks: &FinishTicks,
-    action: ActionId,
-    k: u16,
-    first: ActionId,
-) -> Option<bool>
-    requires range { AreInRange (P.program program.now) }
-    requires ticks { AreTicks (P.program program.now) ticks.now }
-    requires action { IsAction (P.program program.now) action }
-    requires first { IsAction (P.program program.now) first }
-    requires awaited { slice_get (awaits_of (P.program program.now) action.agent action.number) k
-        ≡ Some (record { agent = first.agent; count = first.number }) }
-    ensures yes { result ≡ Some true
-        → IsImplied (P.program program.now) action
-        (record { agent = first.agent; count = first.number }) }
-    ensures no { result ≡ Some false
-        → IsImplied (P.program program.now) action
-        (record { agent = first.agent; count = first.number }) → ⊥ }
-{
-    let _ = program.agents();
-    let mut steps = ticks.looks();
-    let mut known = true;
-    for m in 0..program.await_count(action.agent, action.number) {
-        let is_other = m != k;
-        if is_other {
-            let other = awaited_at(program, action, m);
-            match reaches(program, ticks, first, other, &mut steps) {
-                Some(true) => return Some(true),
-                Some(false) => {}
-                None => known = false,
-            }
-        }
-    }
-    let is_first = action.number <= 1;
-    if is_first {
-        return join_answers(known, Some(false));
-    }
-    join_answers(
-        known,
-        reaches(program, ticks, first, before(action), &mut steps),
-    )
-}
-
 /// Whether a chain of needs begins with the first action and ends with the last, if so many steps back from the last
 /// show it. `steps` is one less after each step.
+#[cycle(reaches)]
 fn reaches<P: ProgramView>(
     program: &P,
     ticks: &FinishTicks,
@@ -311,20 +275,63 @@ fn reaches<P: ProgramView>(
         return None;
     }
     *steps -= 1;
+    let needs = Needs {
+        action: last,
+        awaits,
+        but: NO_AWAIT,
+    };
+    reaches_need(program, ticks, first, needs, steps)
+}
+
+/// What an action directly needs: the action before, and what all of its awaits but one name.
+#[derive(Clone, Copy)]
+pub struct Needs {
+    pub action: ActionId,
+    /// How many awaits the action has.
+    pub awaits: u16,
+    pub but: u16,
+}
+
+/// Whether a chain of needs begins with the first action and ends with one of these, if so many steps back from them
+/// show it. `steps` is one less after each step.
+#[cycle(reaches)]
+fn reaches_need<P: ProgramView>(
+    program: &P,
+    ticks: &FinishTicks,
+    first: ActionId,
+    needs: Needs,
+    steps: &mut u8,
+) -> Option<bool>
+    requires range { AreInRange (P.program program.now) }
+    requires ticks { AreTicks (P.program program.now) ticks.now }
+    requires first { IsAction (P.program program.now) first }
+    requires action { IsAction (P.program program.now) needs.action }
+    requires awaits { needs.awaits
+        ≡ length (awaits_of (P.program program.now) needs.action.agent needs.action.number) }
+    ensures yes { result ≡ Some true
+        → ReachesNeed (P.program program.now) first needs.action needs.but }
+    ensures no { result ≡ Some false
+        → ReachesNeed (P.program program.now) first needs.action needs.but → ⊥ }
+    ensures fewer { steps.new ≤ steps.old }
+{
     let mut known = true;
-    for k in 0..awaits {
-        let needed = awaited_at(program, last, k);
-        match reaches(program, ticks, first, needed, steps) {
-            Some(true) => return Some(true),
-            Some(false) => {}
-            None => known = false,
+    for k in 0..needs.awaits {
+        let is_other = k != needs.but;
+        if is_other {
+            let needed = awaited_at(program, needs.action, k);
+            match reaches(program, ticks, first, needed, steps) {
+                Some(true) => return Some(true),
+                Some(false) => {}
+                None => known = false,
+            }
         }
     }
-    let is_first = last.number <= 1;
+    let is_first = needs.action.number <= 1;
     if is_first {
         return join_answers(known, Some(false));
     }
-    join_answers(known, reaches(program, ticks, first, before(last), steps))
+    let own = reaches(program, ticks, first, before(needs.action), steps);
+    join_answers(known, own)
 }
 
 /// The action of the same agent right before one that is not its first.

@@ -1,12 +1,15 @@
-use Rattle.std.proofs.Common.{◌≡◌, ◌<◌, true}
+use Rattle.std.proofs.Common.{◌≡◌, ◌+◌, ◌*◌, ◌≤◌, true}
 use Rattle.fleet_needs.proofs.Settling.{NoneIsReached}
 use Rattle.fleet_needs.proofs.settled.+reaches.Given as goal
 
 abbrev pub decreases-reaches : goal.decreases-reaches
-decreases-reaches g l = l.steps.now
+decreases-reaches g l = 2 * l.steps.now
 
-abbrev pub invariant-loop-k : goal.invariant-loop-k
-invariant-loop-k g l = record {
-  fewer : l.steps < l.fn.steps;
-  apart : l.known ≡ true → NoneIsReached (g.P.ProgramView.program l.program) l.first l.last (λ m. m < l.k);
+abbrev pub decreases-reaches_need : goal.decreases-reaches_need
+decreases-reaches_need g l = 2 * l.steps.now + 1
+
+abbrev pub invariant-reaches_need-loop-k : goal.invariant-reaches_need-loop-k
+invariant-reaches_need-loop-k g l = record {
+  fewer : l.steps ≤ l.fn.steps;
+  apart : l.known ≡ true → NoneIsReached (g.P.ProgramView.program l.program) l.first l.needs.action l.needs.but l.k;
 }

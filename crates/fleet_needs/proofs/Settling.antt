@@ -1,5 +1,5 @@
 -- What is reached, and what is not, by the ticks of actions and by what they directly need.
-use Rattle.fleet_needs.proofs.Words.{◌≡◌, ◌≢◌, ℕ, ◌+◌, ◌-◌, ◌<◌, ◌≤◌, Bool, true, false, List, length, get_or, set, refl, sym, ap, subst, ◌∙◌, arith, inl, inr, ◌⊎◌, Contains, slice_get, Some, None, Option, ◌↔◌, cases_lt, cases_eq, false≢true, true≢false, get_or-set_same, get_or-set_other, get_or_past, slice_get_within, get_or_from_slice_get, same_Some, ActionId, Await, Program, moves, awaits_of, AreInRange, IsWellFormed, IsAction, Reaches, IsNumbering, awaited, chain_ends_by_step, Reaches-rises, Reaches-last, IsImplied, IsSettled, AreSettledOf, AreMoreAsked, ReachesNeed, IsUpTo, action_before}
+use Rattle.fleet_needs.proofs.Words.{◌≡◌, ◌≢◌, ℕ, ◌+◌, ◌-◌, ◌<◌, ◌≤◌, Bool, true, false, List, length, get_or, set, refl, sym, ap, subst, ◌∙◌, arith, inl, inr, ◌⊎◌, Contains, slice_get, Some, None, Option, ◌↔◌, cases_lt, cases_eq, false≢true, true≢false, get_or-set_same, get_or-set_other, get_or_past, slice_get_within, get_or_from_slice_get, same_Some, ActionId, Await, Program, moves, awaits_of, AreInRange, IsWellFormed, IsAction, Reaches, IsNumbering, awaited, chain_ends_by_step, Reaches-rises, Reaches-last, IsImplied, IsSettled, AreSettledOf, AreMoreAsked, ReachesNeed, IsUpTo, action_before, ByOneOf, OfFirst, OfOthers}
 use Rattle.fleet_needs.proofs.AwaitOrder.{other_agent}
 use Rattle.fleet_needs.proofs.RowFlags.{implied_by, implied_back}
 use Rattle.fleet_needs.proofs.Joining.{own_first, by_await, step_back, step_on}
@@ -66,48 +66,37 @@ pub none_need : (p : Program) (first a : ActionId) (but n : ℕ) → n ≡ lengt
 none_need p first a but n all awaits own (inl r) = own r
 none_need p first a but n all awaits own (inr by) = awaits by.place by.await (omega (arith, all, slice_get_within (awaits_of p a.agent a.number) by.place by.await by.at)) by.this by.at by.reaches
 
+-- what one of these awaits gives, one of more gives
+by_more : (p : Program) (x a : ActionId) (These More : ℕ → Await → Type 0) → ((k : ℕ) (w : Await) → slice_get (awaits_of p a.agent a.number) k ≡ Some w → These k w → More k w) → Reaches p x (action_before a) ⊎ ByOneOf These p x a
+    → Reaches p x (action_before a) ⊎ ByOneOf More p x a
+by_more p x a These More more (inl r) = inl r
+by_more p x a These More more (inr by) = inr (record { place = by.place; await = by.await; this = more by.place by.await by.at by.this; at = by.at; reaches = by.reaches })
+
 -- what reaches one of those that the action directly needs reaches the action
 pub need_on : (p : Program) (x a : ActionId) (but : ℕ) → IsAction p a → ReachesNeed p x a but → Reaches p x a
-need_on p x a but is (inl r) = step_on p x a is (inl r)
-need_on p x a but is (inr by) = step_on p x a is (inr (record { place = by.place; await = by.await; this = slice_get_within (awaits_of p a.agent a.number) by.place by.await by.at; at = by.at; reaches = by.reaches }))
+need_on p x a but is need = step_on p x a is (by_more p x a (λ k w. k ≢ but) (OfFirst (length (awaits_of p a.agent a.number))) (λ k w at apart. slice_get_within (awaits_of p a.agent a.number) k w at) need)
 
 -- .. and the other way round, if no await is left out
 pub need_back : (p : Program) (x a : ActionId) (but : ℕ) → (a.agent ≡ x.agent → ⊥) → length (awaits_of p a.agent a.number) < but → Reaches p x a → ReachesNeed p x a but
-need_back p x a but other all r = elim (step_back p x a (λ e. other (sym e)) r) [
-  | inl own ↦ inl own
-  | inr by ↦ inr (record { place = by.place; await = by.await; this = λ e. (let l : by.place < length (awaits_of p a.agent a.number) = by.this in omega (arith, e, l, all)); at = by.at; reaches = by.reaches })
-]
+need_back p x a but other all r = by_more p x a (OfFirst (length (awaits_of p a.agent a.number))) (λ k w. k ≢ but) (λ k w at l e. omega (arith, l, e, all)) (step_back p x a (λ e. other (sym e)) r)
 
 -- ---- another action that an action directly needs
 
 module _ (p : Program) (formed : IsWellFormed p) (range : AreInRange p) (a : ActionId) (k : ℕ) (w : Await) (at : slice_get (awaits_of p a.agent a.number) k ≡ Some w) where
+  abbrev Others : ℕ → Await → Type 0
+  Others = OfOthers w.agent (length (awaits_of p a.agent a.number))
+
   known : Contains (awaits_of p a.agent a.number) w
   known = (k, slice_get_within (awaits_of p a.agent a.number) k w at, get_or_from_slice_get (awaits_of p a.agent a.number) k w w at)
 
   -- an await is implied if another such action is reached
   pub need_implied : 1 ≤ a.number → ReachesNeed p (awaited w) a k → IsImplied p a w
-  need_implied some need = implied_by p range a w known (formed.awaits a.agent a.number) some (elim need [
-    | inl r ↦ inl r
-    | inr by ↦ inr (record {
-      place = by.place;
-      await = by.await;
-      this = (slice_get_within (awaits_of p a.agent a.number) by.place by.await by.at, other_agent (awaits_of p a.agent a.number) (formed.awaits a.agent a.number).rising by.place k by.await w by.at at by.this);
-      at = by.at;
-      reaches = by.reaches;
-    })
-  ])
+  need_implied some need = implied_by p range a w known (formed.awaits a.agent a.number) some (by_more p (awaited w) a (λ m v. m ≢ k) Others
+      (λ m v there apart. (slice_get_within (awaits_of p a.agent a.number) m v there, other_agent (awaits_of p a.agent a.number) (formed.awaits a.agent a.number).rising m k v w there at apart)) need)
 
   pub implied_need : IsImplied p a w → ReachesNeed p (awaited w) a k
-  implied_need implied = elim (implied_back p range a w known (formed.awaits a.agent a.number) implied) [
-    | inl r ↦ inl r
-    | inr by ↦ inr (record {
-      place = by.place;
-      await = by.await;
-      this = λ same. by.this.1 (ap (λ (v : Await). v.agent) (same_Some by.await w (sym by.at ∙ ap (slice_get (awaits_of p a.agent a.number)) same ∙ at)));
-      at = by.at;
-      reaches = by.reaches;
-    })
-  ]
+  implied_need implied = by_more p (awaited w) a Others (λ m v. m ≢ k)
+      (λ m v there other same. other.1 (ap (λ (x : Await). x.agent) (same_Some v w (sym there ∙ ap (slice_get (awaits_of p a.agent a.number)) same ∙ at)))) (implied_back p range a w known (formed.awaits a.agent a.number) implied)
 
 -- ---- an await that another action has too
 

@@ -295,6 +295,7 @@ pub struct Needs {
 /// Whether a chain of needs begins with the first action and ends with one of these, if so many steps back from them
 /// show it. `steps` is one less after each step.
 #[cycle(reaches)]
+#[inline(always)]
 fn reaches_need<P: ProgramView>(
     program: &P,
     ticks: &FinishTicks,

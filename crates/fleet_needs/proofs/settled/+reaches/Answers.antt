@@ -1,4 +1,4 @@
-use Rattle.fleet_needs.proofs.Words.{rules, ◌≡◌, true, false, length, sym, ap, ◌∙◌, subst, arith, inl, inr, leb-true, le-leb, Some, same_Some, awaits_of, Reaches, finish_tick}
+use Rattle.fleet_needs.proofs.Words.{rules, ◌≡◌, true, false, sym, ap, ◌∙◌, subst, arith, inl, inr, leb-true, le-leb, Some, same_Some, Reaches, finish_tick}
 use Rattle.fleet_needs.proofs.Joining.{own_first}
 use Rattle.fleet_needs.proofs.Settling.{await_of, none_if_low, own_only, none_next, none_before, none_need, need_on, need_back, no_is_not_yes, yes_is_not_no}
 use Rattle.fleet_needs.proofs.settled.+reaches.Goals as goal

@@ -1,4 +1,4 @@
-use Rattle.fleet_needs.proofs.Words.{sym, ap, ◌∙◌, subst, arith, inr, same_Some, IsImplied}
+use Rattle.fleet_needs.proofs.Words.{sym, ◌∙◌, subst, inr, same_Some, IsImplied}
 use Rattle.fleet_needs.proofs.Settling.{await_of, need_implied, implied_need}
 use Rattle.fleet_needs.proofs.settled.is_implied.Goals as goal
 

@@ -9,7 +9,7 @@ ghost use Rattle.fleet_needs.specs.Implied.{IsImpliedFlag, AreAwaitPlaces, first
 ghost use Rattle.fleet_needs.specs.Joins.{HasRowOr};
 ghost use Rattle.fleet_needs.specs.Settled.{AreSettled};
 ghost use Rattle.fleet_needs.specs.Schedule.{IsSchedule, joins_of};
-ghost use Rattle.fleet_needs.specs.Flags.{AreImplied, AreSet, flags_of, AreFlags, IsFlaggedAt, AreFlagged};
+ghost use Rattle.fleet_needs.specs.Flags.{AreImplied, AreSet, flags_of, AreFlags, IsFlaggedAt};
 ghost use Rattle.fleet_needs.specs.JoinPass.{IsJoinRow, HasOthers};
 
 use crate::await_places::AwaitPlaces;
@@ -132,8 +132,13 @@ impl JoinUse for ImpliedAwaits {
 
     ghost keeps = { λ p columns old new. AreLeft p columns (flags_of old) (flags_of new) };
 
+    /// Flags the awaits of the action whose agents have a column: whether others imply them.
     fn see_others<P: ProgramView>(&mut self, program: &P, row: &JoinRow) {
-        flag_awaits(program, row, self);
+        let join = row.schedule.join_after(program, row.n);
+        for k in 0..join.count {
+            let need = row.schedule.need(program, row.n, &join, k);
+            flag_await(program, row, k, need.wait, self);
+        }
     }
 
     /// The awaits are flagged already.
@@ -145,24 +150,6 @@ impl JoinUse for ImpliedAwaits {
 
     ghost joined = { λ p columns s t u.
         left_joined p columns (flags_of s) (flags_of t) (flags_of u) };
-}
-
-/// Flags the awaits of the action whose agents have a column: whether others imply them.
-fn flag_awaits<P: ProgramView>(program: &P, row: &JoinRow, implied: &mut ImpliedAwaits)
-    requires range { AreInRange (P.program program.now) }
-    requires row { IsJoinRow (P.program program.now) row.now }
-    requires others { HasOthers (P.program program.now) row.now }
-    requires flags { AreFlags (P.program program.now) implied.old }
-    ensures flags { AreFlags (P.program program.now) implied.new }
-    ensures flagged { AreFlagged (P.program program.now) row.now.columns.now row.now.action
-        (length (awaits_of (P.program program.now) row.now.action.agent row.now.action.number))
-        (flags_of implied.old) (flags_of implied.new) }
-{
-    let join = row.schedule.join_after(program, row.n);
-    for k in 0..join.count {
-        let need = row.schedule.need(program, row.n, &join, k);
-        flag_await(program, row, k, need.wait, implied);
-    }
 }
 
 /// Flags await `k` of the action, if its agent has a column: whether others imply it.

@@ -116,29 +116,9 @@ pub(crate) fn use_joins<P: ProgramView, U: JoinUse>(
 {
     let mut row = Counts::zeros(alloc, usize::from(columns.width), schedule.is_narrow)?;
     let mut rows = SlotRows::new(alloc, schedule, columns)?;
-    use_all(program, &mut rows, &mut row, uses)
-}
-
-/// Makes, uses and keeps all rows, from the first on.
-fn use_all<P: ProgramView, U: JoinUse>(
-    program: &P,
-    rows: &mut SlotRows<'_>,
-    row: &mut Counts,
-    uses: &mut U,
-) -> Result<(), OutOfMemory>
-    requires range { AreInRange (P.program program.now) }
-    requires rows { AreRowsTo (P.program program.now) rows.old 0 }
-    requires row { IsRowFor rows.old row.old }
-    requires used { U.used (P.program program.now) rows.old.schedule.now rows.old.columns
-        0 uses.old }
-    ensures used { OnOk result (U.used (P.program program.now) rows.old.schedule.now
-        rows.old.columns (joins_in rows.old.schedule.now) uses.new) }
-    ensures keeps { OnOk result (U.keeps
-        (P.program program.now) rows.old.columns uses.old uses.new) }
-{
-    for n in 0..rows.schedule.joins.len() {
-        make_row(program, rows, n, row, uses)?;
-        rows.keep_row(program, n, row);
+    for n in 0..schedule.joins.len() {
+        make_row(program, &rows, n, &mut row, uses)?;
+        rows.keep_row(program, n, &row);
     }
     Ok(())
 }

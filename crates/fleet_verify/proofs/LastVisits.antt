@@ -22,8 +22,8 @@ pub same_in_square : (c d : Cell) → IsCell c → IsCell d → square_of c ≡ 
 same_in_square c d cs ds e f =
     let down : c.y / 8 ≡ d.y / 8 = omega (arith, e, cs.x, ds.x) in
     let across : c.x / 8 ≡ d.x / 8 = omega (arith, e, down) in
-    let row : c.y % 8 ≡ d.y % 8 = omega (arith, f) in
-    let column : c.x % 8 ≡ d.x % 8 = omega (arith, f, row) in
+    let row : c.y % 8 ≡ d.y % 8 = omega (arith, f, down, across) in
+    let column : c.x % 8 ≡ d.x % 8 = omega (arith, f, row, down, across) in
     let y : c.y ≡ d.y = omega (arith, down, row) in
     let x : c.x ≡ d.x = omega (arith, across, column) in
     λ i. record { x = x i; y = y i }

@@ -2,23 +2,23 @@
 use Rattle.std.specs.Prelude.{◌≡◌, ◌≢◌, ℕ, ◌+◌, ◌-◌, ◌*◌, ◌/◌, ◌%◌, ◌^◌, ◌<◌, bit_and, bit_xor, nat_eq, List, length, get_or, slice_get, Option, Some, None, option_map, if◌then◌else◌}
 use Rattle.indexmap.specs.IndexMap.{IndexMap, get}
 use Rattle.fleet_model.specs.declared.geometry.Cell.{Cell}
-use Rattle.fleet_model.specs.declared.limits.TheConstants.{MAX_AGENTS}
+use Rattle.fleet_model.specs.declared.limits.TheConstants.{MAX_AGENTS, MAX_COORDINATE}
 use Rattle.fleet_model.specs.declared.program.Visit.{Visit}
-use Rattle.fleet_verify.specs.declared.last_visits.TheConstants.{SIDE, ACROSS, HINTS_ACROSS, NO_VISIT}
+use Rattle.fleet_verify.specs.declared.last_visits.TheConstants.{SIDE, CELLS, HINTS_ACROSS, NO_VISIT}
 
--- the number of the square that the cell is in, which no other square has
+-- the number of the square that the cell is in, which no other square has: that of its first cell
 abbrev pub square_of : Cell → ℕ
-square_of c = (c.y / SIDE) * ACROSS + c.x / SIDE
+square_of c = c.y / SIDE * SIDE * (MAX_COORDINATE + 1) + c.x / SIDE * SIDE
 
 -- the cell's place in its square, which no other cell of the square has
 abbrev pub place_in_square : Cell → ℕ
-place_in_square c = (c.y % SIDE) * SIDE + c.x % SIDE
+place_in_square c = (c.y * SIDE + c.x) % CELLS
 
 -- the place of the hint for the square with this number, among so many
 abbrev pub place_of_hint : (number hints : ℕ) → ℕ
 place_of_hint number hints =
-    let row = number / ACROSS in
-    bit_and (bit_xor (row * HINTS_ACROSS + number % HINTS_ACROSS) (row / 8 * 16)) (hints - 1)
+    let row = number / (MAX_COORDINATE + 1) / SIDE in
+    bit_and (bit_xor (row * HINTS_ACROSS + number / SIDE % HINTS_ACROSS) (row / 8 * 16)) (hints - 1)
 
 -- its hint says where it stands, if four bytes can
 abbrev pub IsNoted : (hints : List ℕ) → (number slot : ℕ) → Type 0

@@ -4,6 +4,7 @@ ghost use Rattle.std.specs.Prelude.{◌≡◌, ◌≢◌, ◌<◌, ◌≤◌, �
 ghost use Rattle.fleet_model.specs.declared.geometry.Cell.{Cell};
 ghost use Rattle.fleet_model.specs.declared.program.Visit.{Visit};
 ghost use Rattle.fleet_model.specs.Geometry.{place_of};
+ghost use Rattle.fleet_model.specs.declared.limits.TheConstants.{MAX_AGENTS};
 ghost use Rattle.fleet_verify.specs.Order.{AreAddedBy, IsOpenNext, numbered_cell};
 ghost use Rattle.fleet_model.specs.Program.{Program, start_of, moves, path, IsCell};
 ghost use Rattle.fleet_model.specs.Visit.{IsVisit, ComesAfterByAwait, leaving};
@@ -27,7 +28,8 @@ use crate::queue::Queue;
 use crate::unheld_run::Stop;
 use fleet_grid::Grid;
 use fleet_model::{
-    Await, Cell, Instruction, OutOfMemory, Place, ProgramView, Step, Visit, total_moves,
+    Await, Cell, Instruction, MAX_AGENTS, MAX_MOVES_IN_ALL, OutOfMemory, Place, ProgramView, Step,
+    Visit, total_moves,
 };
 use fleet_scen::Instance;
 use std::alloc::Global;
@@ -88,8 +90,8 @@ fn no_await(agent: u16) -> Await
     Await { agent, count: 0 }
 }
 
-/// No action has a greater level.
-const MOST_LEVEL: u64 = u32::MAX as u64;
+/// No action has a greater level: there are no more actions.
+const MOST_LEVEL: u64 = MAX_MOVES_IN_ALL as u64;
 
 /// What the agent's next action says, or an await of it that is not met.
 #[inline(always)]
@@ -165,6 +167,7 @@ fn finish_next<P: ProgramView>(
     ensures runner { IfOk result (IsRunner (is_passable grid.now) (P.program program.now)
         (P.offset program.now) ahead.new agent) }
     ensures finished { IfOk result (λ r. r.finished ≡ runner.finished + 1) }
+    ensures level { IfOk result (λ r. r.level ≡ needs.level) }
 {
     let _agents = program.agents();
     let number = arrive(program, grid, ahead, agent, runner, needs)?;
@@ -319,14 +322,20 @@ fn enter<P: ProgramView>(
     }
 }
 
-/// Whether the visit is by the agent of the one before, or the await is met only if that is left.
+/// Whether the visit is by the agent of the one before, or the await is met only if that is left. Mostly it is the
+/// first action after that visit that is awaited.
 #[inline(always)]
 fn follows<P: ProgramView>(program: &P, first: Visit, second: Visit, latest: Await) -> bool
+    requires few { first.agent < MAX_AGENTS }
+    requires agent { second.agent < length (P.program program.now) }
     requires latest { IsAwaitOrOwn (P.program program.now) second.agent second.position latest }
     requires earlier { first.agent ≡ second.agent → first.position < second.position }
     ensures { IsTrue result → ComesAfterByAwait (P.program program.now) first second }
 {
     let _agents = program.agents();
+    if is_first_after(first, latest) && program.never_stays() {
+        return true;
+    }
     if first.agent == second.agent {
         return true;
     }
@@ -334,6 +343,19 @@ fn follows<P: ProgramView>(program: &P, first: Visit, second: Visit, latest: Awa
         return false;
     }
     is_left_if_met(program, first, latest)
+}
+
+/// Whether the first action after the visit's position is awaited. Its agent and its number are compared at once.
+#[inline(always)]
+fn is_first_after(visit: Visit, awaited: Await) -> bool
+    requires visit { visit.agent < MAX_AGENTS }
+    requires awaited { awaited.agent < MAX_AGENTS }
+    ensures { IsTrue result
+        ↔ (awaited.agent ≡ visit.agent) × (awaited.count ≡ visit.position + 1) }
+{
+    let agents = MAX_AGENTS as u64;
+    let visited = u64::from(visit.position) * agents + u64::from(visit.agent);
+    visited + agents == u64::from(awaited.count) * agents + u64::from(awaited.agent)
 }
 
 /// Whether the await is met only if the visit is left.
@@ -356,6 +378,7 @@ fn open_unless_follows<P: ProgramView>(
     latest: Await,
     pairs: &mut Vec<OpenPair>,
 ) -> Result<(), OutOfMemory>
+    requires few { first.agent < MAX_AGENTS }
     requires visit { IsVisit (P.program program.now) placed.visit }
     requires latest { IsAwaitOrOwn (P.program program.now) placed.visit.agent placed.visit.position
         latest }
@@ -458,14 +481,13 @@ fn bare_needs<P: ProgramView>(
     requires rows { length rows.now.items ≡ length (P.program program.now) }
     requires next { IsNext (P.program program.now) (P.offset program.now) rows.now.items agent
         runner }
-    ensures { IfSome result (AreNeeds (P.program program.now) (P.offset program.now)
+    requires fits { runner.level < u32.MAX }
+    ensures needs { IfSome result (AreNeeds (P.program program.now) (P.offset program.now)
         (climbed_in rows.now.items agent runner.finished) agent runner.finished) }
+    ensures level { IfSome result (λ n. n.level ≡ runner.level + 1) }
 {
     // Clauses alone speak of the rows.
     let _ = rows;
-    if runner.level == u32::MAX {
-        return None;
-    }
     let reading = program.read(agent, runner.finished, 0, runner.at);
     match reading.instruction {
         Instruction::Await(_) => None,
@@ -513,6 +535,10 @@ fn run_bare<P: ProgramView>(
     ensures finished { IfOk result (λ r. runner.finished ≤ r.finished) }
 {
     let moves = program.moves(agent);
+    let may_be_high = u64::from(runner.level) + u64::from(moves) > u64::from(u32::MAX);
+    if may_be_high {
+        return Ok(runner);
+    }
     let mut runner = runner;
     while runner.finished < moves {
         let Some(needs) = bare_needs(program, &ahead.rows, agent, runner) else {
@@ -544,7 +570,7 @@ fn run_agent<P: ProgramView>(
         match needs_of(program, &ahead.rows, agent, runner) {
             Ok(needs) => {
                 runner = finish_next(program, grid, ahead, agent, runner, needs)?;
-                let is_bare = needs.latest.agent == agent;
+                let is_bare = needs.latest.count == 0;
                 if is_bare {
                     runner = run_bare(program, grid, ahead, agent, copy_of(runner))?;
                 }

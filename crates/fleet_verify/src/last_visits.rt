@@ -1,6 +1,6 @@
 //! The last visit of each cell so far, in squares of cells: most moves stay in the square that was looked at last.
 
-ghost use Rattle.std.specs.Prelude.{◌≡◌, ◌≢◌, ◌≤◌, ◌<◌, ◌^◌, ◌↔◌, ℕ, get_or, Some, None, IfOk, IsOk, IsTrue, OnOk};
+ghost use Rattle.std.specs.Prelude.{◌≡◌, ◌≢◌, ◌≤◌, ◌<◌, ◌^◌, ◌↔◌, ℕ, get_or, Some, None, IfOk, IfSome, IsOk, IsTrue, OnOk};
 ghost use Rattle.fleet_model.specs.declared.geometry.Cell.{Cell};
 ghost use Rattle.fleet_model.specs.declared.limits.TheConstants.{MAX_AGENTS, MAX_MOVES};
 ghost use Rattle.fleet_model.specs.Program.{IsCell};
@@ -16,9 +16,6 @@ const SIDE: u32 = 8;
 
 /// How many cells a square has.
 const CELLS: usize = 64;
-
-/// How many squares lie side by side at most.
-const ACROSS: u32 = (MAX_COORDINATE + 1) / SIDE;
 
 /// Of how many squares, side by side and one below the other, each has a hint of its own at most.
 const HINTS_ACROSS: u32 = 64;
@@ -89,6 +86,7 @@ impl LastVisits {
         requires agent { visit.agent < MAX_AGENTS }
         requires position { visit.position ≤ MAX_MOVES }
         ensures before { IfOk result (λ before. before ≡ kept_at self.old cell) }
+        ensures few { IfOk result (λ before. IfSome before (λ v. v.agent < MAX_AGENTS)) }
         ensures here { OnOk result (kept_at self.new cell ≡ Some visit) }
         ensures others { OnOk result ((c : Cell) → IsCell c → c ≢ cell
             → kept_at self.new c ≡ kept_at self.old c) }
@@ -115,24 +113,24 @@ fn room_for(width: u16, height: u16, visits: u32) -> usize
     squares.min(visits / SIDE).min(MOST_ROOM) as usize
 }
 
-/// The number of the square that the cell is in.
+/// The number of the square that the cell is in: that of its first cell.
 #[inline(always)]
 fn number_of_square(cell: Cell) -> u32
     ensures number { result ≡ square_of cell }
     ensures cell { IsCell cell }
 {
     let Cell { x, y } = cell;
-    (u32::from(y) / SIDE) * ACROSS + u32::from(x) / SIDE
+    u32::from(y) / SIDE * SIDE * (MAX_COORDINATE + 1) + u32::from(x) / SIDE * SIDE
 }
 
-/// The cell's place in its square.
+/// The cell's place in its square. The first cell of one may have any place, the next ones of its rows go on from there.
 #[inline(always)]
 fn place_of_cell(cell: Cell) -> usize
     ensures place { result ≡ place_in_square cell }
     ensures within { result < CELLS }
 {
     let Cell { x, y } = cell;
-    ((u32::from(y) % SIDE) * SIDE + u32::from(x) % SIDE) as usize
+    (u32::from(y) * SIDE + u32::from(x)) as usize % CELLS
 }
 
 /// The number that the visit is kept as.
@@ -148,7 +146,8 @@ fn number_of_visit(visit: Visit) -> u32
 /// The visit that is kept as this number.
 #[inline(always)]
 fn visit_of_number(number: u32) -> Option<Visit>
-    ensures { result ≡ visit_kept number }
+    ensures visit { result ≡ visit_kept number }
+    ensures few { IfSome result (λ v. v.agent < MAX_AGENTS) }
 {
     if number == NO_VISIT {
         return None;
@@ -171,6 +170,7 @@ fn replace_in(
     requires agent { visit.agent < MAX_AGENTS }
     requires position { visit.position ≤ MAX_MOVES }
     ensures before { result ≡ last_in squares.old cell }
+    ensures few { IfSome result (λ v. v.agent < MAX_AGENTS) }
     ensures here { last_in squares.new cell ≡ Some visit }
     ensures others { (c : Cell) → IsCell c → c ≢ cell
         → last_in squares.new c ≡ last_in squares.old c }
@@ -202,8 +202,8 @@ fn hint_place(number: u32, hints: usize) -> usize
     ensures place { result ≡ place_of_hint number hints }
     ensures within { result < hints }
 {
-    let row = number / ACROSS;
-    let column = number % HINTS_ACROSS;
+    let row = number / (MAX_COORDINATE + 1) / SIDE;
+    let column = number / SIDE % HINTS_ACROSS;
     let place = (row * HINTS_ACROSS + column) ^ (row / 8 * 16);
     place as usize & (hints - 1)
 }

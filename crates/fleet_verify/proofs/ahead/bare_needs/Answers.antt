@@ -6,8 +6,8 @@ use Rattle.fleet_verify.proofs.NextLevel.{least_begins, least_ends}
 use Rattle.fleet_verify.proofs.Climbing.{own_row, own_count}
 use Rattle.fleet_verify.proofs.ahead.bare_needs.Goals as goal
 
-pub returns-in-Step : goal.returns-in-Step
-returns-in-Step g c =
+pub returns-in-Step-clause-needs : goal.returns-in-Step-clause-needs
+returns-in-Step-clause-needs g c =
     let p = g.P.ProgramView.program c.args.program.now in
     let next = c.requires.next in
     let rows = c.args.rows.now.items in

@@ -1,4 +1,4 @@
-use Rattle.std.proofs.Common.{◌≤◌, ◌-◌}
+use Rattle.std.proofs.Common.{◌≤◌, ◌+◌, ◌-◌}
 use Rattle.fleet_grid.specs.Ground.{is_passable}
 use Rattle.fleet_verify.specs.Ahead.{IsRunner}
 use Rattle.fleet_verify.proofs.ahead.run_bare.Given as goal
@@ -7,6 +7,7 @@ abbrev pub invariant-loop-runner : goal.invariant-loop-runner
 invariant-loop-runner g l = record {
   runner : IsRunner (is_passable l.grid) (g.P.ProgramView.program l.program) (g.P.ProgramView.offset l.program) l.ahead l.agent l.runner;
   finished : l.initial.runner.finished ≤ l.runner.finished;
+  fits : l.runner.level + l.moves ≤ 4294967295 + l.runner.finished;
 }
 
 abbrev pub decreases-loop-runner : goal.decreases-loop-runner

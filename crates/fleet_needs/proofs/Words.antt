@@ -23,7 +23,7 @@ pub use Rattle.fleet_needs.specs.CostWalk.{Walked, after, next_in, IsGreatestTo,
 pub use Rattle.fleet_needs.specs.Counts.{counts_of, are_narrow, CanHold, AreAlike}
 pub use Rattle.fleet_needs.specs.Critical.{IsNotedCost, EndsInTime, AreNotedCosts, value_at}
 pub use Rattle.fleet_needs.specs.Flags.{AreSure, AreSureIf, IsFirstSet, IsPassed, AreSet, AreFlags, IsFlagged, IsFlaggedAt, AreFlagged, AreFlaggedFor, IsLeft, AreLeft, AreAllFlagged, AreAwaitFlags, AreFlaggedTo, AreImplied, flags_of}
-pub use Rattle.fleet_needs.specs.Gather.{raised, IsNoted, IsPairAt, HasSamePieces, link_at, no_link, AreLinked, IsWithin, AreBelow, IsOfBlock, AreChosen, AreEnds, IsNotedTo, AreNotedOf, IsGathering, IsGatheringRow, GoesOn, IsOpenPiece, IsNone}
+pub use Rattle.fleet_needs.specs.Gather.{raised, IsNoted, IsPairAt, HasSamePieces, link_at, no_link, AreLinked, IsWithin, AreBelow, IsOfBlock, IsNotedTo, AreNotedOf, IsGathering, IsGatheringRow, GoesOn, IsOpenPiece, IsNone}
 pub use Rattle.fleet_needs.specs.Implied.{EachFlag, AreNoted, first_await, IsImplied, IsImpliedFlag}
 pub use Rattle.fleet_needs.specs.JoinPass.{AreOthers, IsMade, IsJoinRow, HasOthers, HasWhole}
 pub use Rattle.fleet_needs.specs.Kernels.{AreJoined}

@@ -1,5 +1,5 @@
 -- Agents that go on as far as their awaits allow: that each step is right, and that they come to the end.
-use Rattle.fleet_needs.proofs.Words.{◌≡◌, ℕ, zero, suc, ◌+◌, ◌-◌, ◌*◌, ◌<◌, ◌≤◌, List, [], ◌∷◌, length, take, max, cond, set, slice_index, get_or, refl, sym, ap, subst, ◌∙◌, arith, inl, inr, ◌⊎◌, replicate, slice_get, nat_lt, Some, cases_lt, cases_eq, lt-ltb, le-ltb, mul-le, get_or-set_same, get_or-set_other, set-set, set-get_or, take_all, length-set, get_or-replicate, sum_by-take-le, slice_get_within, get_or_from_slice_get, slice_get-get_or, ActionId, Await, Program, moves, actions_of, awaits_of, awaits_before, agent_awaits, total_moves, AreInRange, IsAction, DirectlyNeeds, IsCriticalCost, awaited, Action, need_action, actions_more, moves_more, ArePlacesOf, place_of_action, EndsInTime, IsNotedCost, AreNotedCosts, value_at, Walked, after, next_in, IsGreatestTo, IsStage, IsReadyStage, HasAll, IsCostWalk, HaveGrown, IsUnmet, IsGoal, IsRow, stage_in, no_stage, gone_on, rested, Stage, Standing, MAX_COST}
+use Rattle.fleet_needs.proofs.Words.{◌≡◌, ℕ, zero, suc, ◌+◌, ◌-◌, ◌*◌, ◌<◌, ◌≤◌, List, [], ◌∷◌, length, take, max, cond, set, slice_index, get_or, refl, sym, ap, subst, ◌∙◌, arith, inl, inr, ◌⊎◌, replicate, slice_get, nat_lt, Some, cases_lt, cases_eq, lt-ltb, le-ltb, mul-le, get_or-set_same, get_or-set_other, set-set, set-get_or, take_all, length-set, get_or-replicate, sum_by-take-le, slice_get_within, get_or_from_slice_get, slice_get-get_or, ActionId, Await, Program, moves, actions_of, awaits_of, awaits_before, agent_awaits, total_moves, AreInRange, IsAction, DirectlyNeeds, IsCriticalCost, awaited, Action, need_action, actions_more, moves_more, ArePlacesOf, place_of_action, EndsInTime, IsNotedCost, AreNotedCosts, value_at, Walked, after, next_in, IsGreatestTo, IsStage, IsReadyStage, HasAll, IsCostWalk, HaveGrown, IsUnmet, IsGoal, HasFirstPlace, stage_in, no_stage, gone_on, rested, Stage, Standing, MAX_COST}
 use Rattle.fleet_needs.specs.Order.{IsCounted}
 use Rattle.fleet_needs.specs.declared.finish_order.TheConstants.{MAX_TICKS}
 use Rattle.fleet_needs.proofs.Free.{count, needs_before, none_started, all_finished}
@@ -210,7 +210,7 @@ module _ (p : Program) (cost : ActionId → ℕ) (offset : (i finished k : ℕ) 
       subst (IsCostWalk p cost offset) (sym same) h
 
   -- it finishes an action more
-  pub rest_more : (begin last : ℕ) → IsRow p w i begin last → (from : Standing) (table : List ℕ) → from.finished < last → IsCostWalk p cost offset (rested offset w i from table) → (own : ℕ) → own ≡ cost (after i from.finished) → own ≤ MAX_COST
+  pub rest_more : (begin last : ℕ) → HasFirstPlace p w i begin last → (from : Standing) (table : List ℕ) → from.finished < last → IsCostWalk p cost offset (rested offset w i from table) → (own : ℕ) → own ≡ cost (after i from.finished) → own ≤ MAX_COST
       → (to : Standing) → to.finished ≡ from.finished + 1 → to.greatest ≡ from.greatest + own → IsCostWalk p cost offset (rested offset w i to (set table (begin + from.finished) to.greatest))
   rest_more begin last row from table less h own own_is most to up greatest =
       let v : Walked = rested offset w i from table in

@@ -19,7 +19,7 @@ pub use Rattle.fleet_model.proofs.Chains.{but_last, need_action, ends_alone, end
 pub use Rattle.fleet_needs.specs.Block.{HasColumn}
 pub use Rattle.fleet_needs.specs.Columns.{AreColumns, BlocksLeft, IsNextBlock, column_of}
 pub use Rattle.fleet_needs.specs.CostTable.{costs_of, is_narrow}
-pub use Rattle.fleet_needs.specs.CostWalk.{Walked, after, next_in, IsGreatestTo, IsStage, IsReadyStage, HasAll, IsCostWalk, HaveGrown, IsUnmet, IsGoal, IsRow, stage_in, no_stage, gone_on, rested, IsOpen}
+pub use Rattle.fleet_needs.specs.CostWalk.{Walked, after, next_in, IsGreatestTo, IsStage, IsReadyStage, HasAll, IsCostWalk, HaveGrown, IsUnmet, IsGoal, HasFirstPlace, stage_in, no_stage, gone_on, rested, IsOpen}
 pub use Rattle.fleet_needs.specs.Counts.{counts_of, are_narrow, CanHold, AreAlike}
 pub use Rattle.fleet_needs.specs.Critical.{IsNotedCost, EndsInTime, AreNotedCosts, value_at}
 pub use Rattle.fleet_needs.specs.Flags.{AreSure, AreSureIf, IsFirstSet, IsPassed, AreSet, AreFlags, IsFlagged, IsFlaggedAt, AreFlagged, AreFlaggedFor, IsLeft, AreLeft, AreAllFlagged, AreAwaitFlags, AreFlaggedTo, AreImplied, flags_of}

@@ -1,5 +1,5 @@
 -- Actions finished in any order that respects needs, and the costs of their critical paths.
-use Rattle.std.specs.Prelude.{◌≡◌, ℕ, ◌+◌, ◌^◌, ◌<◌, ◌≤◌, ◌⊎◌, Bool, true, List, length, set, get_or, slice_index, Vec, Contains}
+use Rattle.std.specs.Prelude.{◌≡◌, ℕ, ◌+◌, ◌^◌, ◌<◌, ◌≤◌, ◌⊎◌, Bool, true, List, length, take, set, get_or, slice_index, Vec, Contains}
 use Rattle.std.specs.declared.alloc.Global.{Global}
 use Rattle.fleet_needs.specs.Words.{ActionId, Await, Program, moves, awaits_of, awaits_before, agent_awaits, total_moves, DirectlyNeeds, IsCriticalCost}
 use Rattle.fleet_needs.specs.Places.{ArePlacesOf}
@@ -113,7 +113,7 @@ abbrev pub IsAtEnd : Program → (ActionId → ℕ) → Walked → ℕ → Type 
 IsAtEnd p cost w i = (slice_index w.counts i ≡ moves p i) ⊎ (2 ^ 32 ≤ (stage_in w i).greatest + cost (next_in w.counts i))
 
 -- the first action of agent i has the place x, and it has n actions or more
-pub record IsRow (p : Program) (w : Walked) (i x n : ℕ) : Type 0 where
+pub record HasFirstPlace (p : Program) (w : Walked) (i x n : ℕ) : Type 0 where
   pub agent : i < length p
   pub begin : x ≡ slice_index w.places i
   pub last : n ≤ moves p i
@@ -129,8 +129,9 @@ pub record IsGoal (p : Program) (w : Await) : Type 0 where
 abbrev pub goals_of : Vec Await Global → List Await
 goals_of goals = goals.items
 
--- the last goal is the last one of the old ones that is open, or the first of all if none is; it is gone, and those
--- behind it
+-- the last goal is the last one of the old ones that is open, or the first of all if none is; the goals before it are left
 pub record IsLastOpen (counts : List ℕ) (old new : List Await) (first last : Await) : Type 0 where
+  pub front : new ≡ take (length new) old
   pub latest : (k : ℕ) (d : Await) → k < length old → IsOpen counts (get_or old k d) → (k ≤ length new) × (last ≡ get_or old (length new) d)
+  pub one : (IsOpen counts last × (length new < length old) × (last ≡ get_or old (length new) last)) ⊎ (last ≡ first)
   pub still : IsOpen counts first → IsOpen counts last

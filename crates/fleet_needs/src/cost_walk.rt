@@ -1,11 +1,11 @@
 //! Agents that go on as far as their awaits allow, and the costs of the critical paths of what they have finished.
 
 ghost use Rattle.std.specs.Prelude.{◌≡◌, ◌+◌, ◌^◌, ◌<◌, ◌≤◌, ◌↔◌, ℕ, All, IsTrue, IfOk, IfErr, IfSome, IfNone, OnOk, length, set, slice_index};
-ghost use Rattle.fleet_model.specs.Program.{Program, AreInRange, moves};
+ghost use Rattle.fleet_model.specs.Program.{Program, moves};
 ghost use Rattle.fleet_model.specs.Chain.{IsAction, awaited};
 ghost use Rattle.fleet_needs.specs.Critical.{EndsInTime, value_at};
 ghost use Rattle.fleet_needs.specs.Order.{IsCounted, AreAllCounted};
-ghost use Rattle.fleet_needs.specs.CostWalk.{Walked, HasAll, IsCostWalk, IsStage, IsReadyStage, HaveGrown, IsUnmet, IsOpen, IsGoal, IsRow, IsFree, IsAtEnd, IsLastOpen, after, stage_in, gone_on, rested, goals_of};
+ghost use Rattle.fleet_needs.specs.CostWalk.{Walked, HasAll, IsCostWalk, IsStage, IsReadyStage, HaveGrown, IsUnmet, IsOpen, IsGoal, HasFirstPlace, IsFree, IsAtEnd, IsLastOpen, after, stage_in, gone_on, rested, goals_of};
 
 use crate::await_places::ActionPlaces;
 use crate::cost_table::CostTable;
@@ -258,7 +258,7 @@ fn fill<C: ActionCosts>(
     ensures within { result.finished ≤ last }
     ensures more { from.finished ≤ result.finished }
     ensures walk { (p : Program) (offset : (i finished k : ℕ) → ℕ) (w : Walked)
-        → IsRow p w agent begin last
+        → HasFirstPlace p w agent begin last
         → IsCostWalk p (C.cost costs.now) offset (rested offset w agent from table.old)
         → IsCostWalk p (C.cost costs.now) offset (rested offset w agent result table.new) }
     ensures stops { result.finished < last → 2 ^ 32

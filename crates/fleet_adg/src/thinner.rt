@@ -1,11 +1,14 @@
 //! Programs without the awaits that others imply.
 
-ghost use Rattle.std.specs.Prelude.{◌≡◌, ◌≤◌, ◌<◌, ◌+◌, ◌-◌, ◌↔◌, ℕ, List, length, IfOk, OnOk, IsTrue};
+ghost use Rattle.std.specs.Prelude.{◌≡◌, ◌≤◌, ◌<◌, ◌+◌, ◌-◌, ◌↔◌, ℕ, List, Some, false, length, slice_get, IfOk, OnOk, IsTrue};
 ghost use Rattle.fleet_model.specs.declared.limits.TheConstants.{MAX_MOVES_V1};
 ghost use Rattle.fleet_model.specs.Program.{Program, moves, awaits_of, NeverStays, AreShort};
+ghost use Rattle.fleet_model.specs.declared.program.Await.{Await};
 ghost use Rattle.fleet_model.specs.Chain.{IsAction};
 ghost use Rattle.fleet_grid.specs.Ground.{is_passable};
 ghost use Rattle.fleet_code.specs.Spelling.{most_count, spelling};
+ghost use Rattle.fleet_needs.specs.Implied.{IsImplied};
+ghost use Rattle.fleet_needs.specs.Flags.{AreImplied};
 ghost use Rattle.fleet_adg.specs.ProgramBytes.{AreBytesOf};
 ghost use Rattle.fleet_adg.specs.Thinned.{FitsFirst, IsThinnedFor, CanThin, AreThinnedAgents, AddsAwaits, AddsAction, AddsActions};
 
@@ -157,7 +160,7 @@ fn put_action<P: ProgramView>(
         let reading = program.read(action.agent, finished, k, at);
         match reading.instruction {
             Instruction::Await(one) => {
-                if !implied.is_implied(program, action, k) {
+                if is_kept(program, implied, action, k) {
                     put_await(out, version, one)?;
                 }
                 at = reading.after;
@@ -169,4 +172,17 @@ fn put_action<P: ProgramView>(
             }
         }
     }
+}
+
+/// Whether await `k` of the action is kept: if others do not imply it.
+#[inline(always)]
+fn is_kept<P: ProgramView>(program: &P, implied: &ImpliedAwaits, action: ActionId, k: u16) -> bool
+    requires implied { AreImplied (P.program program.now) implied.now }
+    requires action { IsAction (P.program program.now) action }
+    requires place { k < length (awaits_of (P.program program.now) action.agent action.number) }
+    ensures { (w : Await)
+        → slice_get (awaits_of (P.program program.now) action.agent action.number) k ≡ Some w
+        → (result ≡ false) ↔ IsImplied (P.program program.now) action w }
+{
+    !implied.is_implied(program, action, k)
 }

@@ -9,7 +9,7 @@ use Rattle.fleet_needs.specs.Implied.{IsImplied}
 use Rattle.fleet_adg.specs.Thinned.{AreUnimplied}
 use Rattle.fleet_adg.proofs.Thinning.{keep_one}
 use Rattle.fleet_adg.proofs.ThinnedBytes.{adds_none, adds_more, adds_same, adds_step}
-use Rattle.fleet_adg.proofs.thinner.put_action.Goals.{then-not-is_implied+in_ok-put_await-in-Await, else-not-is_implied}
+use Rattle.fleet_adg.proofs.thinner.put_action.Goals.{then-is_kept+in_ok-put_await-in-Await, else-is_kept}
 use Rattle.fleet_adg.proofs.thinner.put_action.Goals as goal
 
 pub instructions-init : goal.instructions-init
@@ -19,8 +19,8 @@ instructions-init g c = record {
   put = adds_none c.args.version (g.P.ProgramView.program c.args.program.now) c.args.action c.args.out.now.items;
 }
 
-pub is_implied-requires-clause-place : goal.is_implied-requires-clause-place
-is_implied-requires-clause-place g c =
+pub is_kept-requires-clause-place : goal.is_kept-requires-clause-place
+is_kept-requires-clause-place g c =
     let p = g.P.ProgramView.program c.args.program.now in
     let a = c.args.action in
     let same : a.number - 1 + 1 ≡ a.number = omega (arith, c.requires.action.first) in
@@ -69,11 +69,11 @@ instructions-preserved g c =
     record {
       within = omega (arith, within);
       at = rw c.in-Await.is at c.read-reading.ensures.after;
-      put = elim c.if-not-is_implied.branch [
-        | then-not-is_implied+in_ok-put_await-in-Await w ↦
-            let stays : IsImplied p a one → ⊥ = λ i. false≢true (sym w.if-not-is_implied.true ∙ (c.is_implied.ensures one at).1 i) in
+      put = elim c.if-is_kept.branch [
+        | then-is_kept+in_ok-put_await-in-Await w ↦
+            let stays : IsImplied p a one → ⊥ = λ i. false≢true (sym ((c.is_kept.ensures one at).1 i) ∙ w.if-is_kept.true) in
             rw w.out-is (adds_more (await v) (AreUnimplied p a k) (AreUnimplied p a (k + 1)) one before out w.put_await.new.out.items put (λ ws made. keep_one p formed a k ws made one at stays) w.in_ok-put_await-in-Await.ensures)
-        | else-not-is_implied w ↦ rw w.out-is (adds_same v p formed a k before out put within (λ x there. (c.is_implied.ensures x there).0 w.if-not-is_implied.false))
+        | else-is_kept w ↦ rw w.out-is (adds_same v p formed a k before out put within (λ x there. (c.is_kept.ensures x there).0 w.if-is_kept.false))
       ];
     }
 

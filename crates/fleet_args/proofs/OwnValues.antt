@@ -17,7 +17,7 @@ use Rattle.clap.proofs.CallerLemmas.{entry_by_id, required_has_value, same_rules
 use Rattle.clap.proofs.CallerReads.{signed_reads}
 use Rattle.clap.proofs.SimpleLemmas.{ready_simple, simple_groups}
 use Rattle.clap.proofs.TakesLemmas.{each_rule, free_arg}
-use Rattle.clap.proofs.WalkLemmas.{both}
+use Rattle.clap.proofs.WalkLemmas.{both, list_any-map}
 use Rattle.fleet_model.specs.declared.deps.Deps.TheVariants as deps
 use Rattle.fleet_args.specs.declared.{arguments.Argument.Argument, arguments.CommandText.CommandText, arguments.Form.Form, arguments.OptionNames.OptionNames}
 use Rattle.fleet_args.specs.declared.arguments.Argument.TheVariants as argument_is
@@ -66,10 +66,6 @@ by_bits most P each = small (nat_lt most 65536) refl
 
 -- ---- names
 
-any_lent : (p : Text → Bool) (xs : List (Bor Text)) → list_any (λ x. p x.now) xs ≡ list_any p (map (λ x. x.now) xs)
-any_lent p [] = refl
-any_lent p (x ∷ xs) = ap (λ b. p x.now || b) (any_lent p xs)
-
 -- what the first of two names that a text is stands for
 abbrev chosen : {A : Type 0} → Text → A → Text → A → Text → Option A
 chosen one x two y text = if bytes_eq text one then Some x else (if bytes_eq text two then Some y else None)
@@ -98,7 +94,7 @@ known {A} one two x y text h = pick (bytes_eq text one) (bytes_eq text two) (eit
 named_value : {A : Type 0} (lent : Bor (List (Bor Text))) (one two : Text) (x y : A) (text : Text) → map (λ name. name.now) lent.now ≡ one ∷ two ∷ []
     → Accepts false (parser.Names lent) text → (v : A) × (chosen one x two y text ≡ Some v)
 named_value lent one two x y text are pass =
-    known one two x y text (sym (any_lent (λ name. bytes_eq name text) lent.now ∙ ap (list_any (λ name. bytes_eq name text)) are) ∙ pass)
+    known one two x y text (sym (list_any-map (λ name. bytes_eq name text) (λ name. name.now) lent.now ∙ ap (list_any (λ name. bytes_eq name text)) are) ∙ pass)
 
 -- ---- arguments apart
 

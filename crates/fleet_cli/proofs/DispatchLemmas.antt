@@ -5,10 +5,10 @@ use Rattle.std.specs.Borrow.{Bor}
 use Rattle.fleet_text.specs.Sink.{SinkState}
 use Rattle.fleet_model.specs.Program.{Program}
 use Rattle.fleet_dispatch.specs.Talk.{Talk}
-use Rattle.fleet_dispatch.specs.declared.{form.ReportForm.ReportForm, pace.Pace.Pace, run.DispatchReport.DispatchReport, fault.DispatchFault.DispatchFault, run.Session.Session}
+use Rattle.fleet_dispatch.specs.declared.{form.ReportForm.ReportForm, run.DispatchReport.DispatchReport, fault.DispatchFault.DispatchFault, run.Session.Session}
 use Rattle.fleet_dispatch.specs.Dispatch.{Course, Left, Dispatches}
-use Rattle.fleet_dispatch.specs.Session.{first_course, course_in, left_in}
-use Rattle.fleet_dispatch.specs.Replay.{GoesOn, IsLedOn, LeadsOn, DispatchesAfter}
+use Rattle.fleet_dispatch.specs.Session.{course_in, left_in}
+use Rattle.fleet_dispatch.specs.Replay.{IsLedOn, LeadsOn}
 use Rattle.fleet_dispatch.proofs.Said.{dispatches_more, led_stops}
 use Rattle.fleet_args.specs.declared.commands.DispatchRequest.{DispatchRequest}
 use Rattle.fleet_cli.specs.declared.fault.Fault.{Fault}
@@ -36,25 +36,17 @@ module _ (d : Course) (left : Left) (talks : (log log' : SinkState) → ReportFo
   -- what a log said in the named file
   pub kept : (held : Option (List ℕ)) (after : Option Store) (name : Bor (List ℕ)) (first last : SinkState) (failed : Bool) → first ≡ log_state held false → last ≡ log_state (bytes_of after name.now) failed
       → Dispatches d (talks first last form) left told → Dispatches d (IsKeptAfter held after (Some name) talks form) left told
-  kept held after name first last failed begun ended h =
-      let from = subst (λ (log : SinkState). Dispatches d (talks log last form) left told) begun h in
-      let to = subst (λ (log : SinkState). Dispatches d (talks (log_state held false) log form) left told) ended from in
-      dispatches_more _ (IsKeptAfter held after (Some name) talks form) (λ talk said. (failed, said)) d left told to
+  kept held after name first last failed begun ended h = dispatches_more _ (IsKeptAfter held after (Some name) talks form) (λ talk said. (failed, said)) d left told (rw (begun, ended) at h)
 
--- the past led to a session, the log was begun, and the session went on, logged behind what the log held then
-pub led : (files mid after : Option Store) (r : DispatchRequest) (p : Program) (past : List ℕ) (untold : Type 0) (talks : (log log' : SinkState) → ReportForm → Talk → Type 0)
-    (told : Result DispatchReport DispatchFault) (result : Result ℕ Fault) (pace : Pace) (s s' : Session) → IfSome (log_in files r.log) (IsOwnLog past) → log_in mid r.log ≡ lines_in files r.log → pace ≡ pace_of r
-    → IsLedOn p pace past s → Dispatches (course_in p pace s) (IsKeptAfter (log_in mid r.log) after r.log talks pace.form) (left_in s') told → AnswersTold told result
-    → Leads files after r p past untold talks result
-led files mid after r p past untold talks told result pace s s' own begun same on h answer =
-    let from = subst (λ (held : Option (List ℕ)). Dispatches (course_in p pace s) (IsKeptAfter held after r.log talks pace.form) (left_in s') told) begun h in
-    let there : GoesOn (first_course p pace) past (IsKeptAfter (lines_in files r.log) after r.log talks pace.form) told = record { past = left_in s; replayed = on.replayed; left = left_in s'; dispatches = from } in
-    inl (own, told, subst (λ (x : Pace). GoesOn (first_course p x) past (IsKeptAfter (lines_in files r.log) after r.log talks x.form) told) same there, answer)
+module _ (files mid after : Option Store) (r : DispatchRequest) (p : Program) (past : List ℕ) (untold : Type 0) (talks : (log log' : SinkState) → ReportForm → Talk → Type 0) where
+  -- the past led to a session, the log was begun, and the session went on, logged behind what the log held then
+  pub led : (told : Result DispatchReport DispatchFault) (result : Result ℕ Fault) (s s' : Session) → IfSome (log_in files r.log) (IsOwnLog past) → log_in mid r.log ≡ lines_in files r.log
+      → IsLedOn p (pace_of r) past s → Dispatches (course_in p (pace_of r) s) (IsKeptAfter (log_in mid r.log) after r.log talks (pace_of r).form) (left_in s') told → AnswersTold told result
+      → Leads files after r p past untold talks result
+  led told result s s' own begun on h answer =
+      let from = subst (λ (held : Option (List ℕ)). Dispatches (course_in p (pace_of r) s) (IsKeptAfter held after r.log talks (pace_of r).form) (left_in s') told) begun h in
+      inl (own, told, record { past = left_in s; replayed = on.replayed; left = left_in s'; dispatches = from }, answer)
 
--- the past stopped it, or there was no memory
-pub unled : (files after : Option Store) (r : DispatchRequest) (p : Program) (past : List ℕ) (untold : Type 0) (talks : (log log' : SinkState) → ReportForm → Talk → Type 0)
-    (stop : DispatchFault) (pace : Pace) → pace ≡ pace_of r → LeadsOn p pace past (Err stop) → AreUnchanged files after → untold
-    → Leads files after r p past untold talks (Err (f.Dispatch stop))
-unled files after r p past untold talks stop pace same h kept none =
-    let silent = led_stops p pace past (λ talk. talk ≡ []) stop h refl in
-    inr (f.Dispatch stop, refl, inl (stop, refl, subst (λ (x : Pace). DispatchesAfter (first_course p x) past (λ talk. talk ≡ []) (Err stop)) same silent, kept), none)
+  -- the past stopped it, or there was no memory
+  pub unled : (stop : DispatchFault) → LeadsOn p (pace_of r) past (Err stop) → AreUnchanged files after → untold → Leads files after r p past untold talks (Err (f.Dispatch stop))
+  unled stop h kept none = inr (f.Dispatch stop, refl, inl (stop, refl, led_stops p (pace_of r) past (λ talk. talk ≡ []) stop h refl, kept), none)

@@ -1,5 +1,5 @@
 -- What the program does for its words.
-use Rattle.std.specs.Prelude.{◌≡◌, ℕ, List, [], ◌∷◌, ◌⊎◌, Option, Some, None, Result, Ok, Err, codes, string_bytes}
+use Rattle.std.specs.Prelude.{◌≡◌, ℕ, List, [], ◌∷◌, ◌⊎◌, Option, Some, None, option_map, Result, Ok, Err, codes, string_bytes}
 use Rattle.std.specs.Borrow.{Bor}
 use Rattle.clap.specs.Words.{Text}
 use Rattle.fleet_args.specs.Request.{ReadsFleet}
@@ -22,31 +22,27 @@ use Rattle.fleet_dispatch.specs.Talk.{Talk}
 use Rattle.fleet_dispatch.specs.declared.form.ReportForm.{ReportForm}
 use Rattle.fleet_cli.specs.declared.fault.Fault.TheVariants as f
 
--- the files of a map and a scenario, and these
-abbrev pub names_for : Tasks → (subject holds log : Option (Bor (List ℕ))) → FileNames
-names_for t subject holds log = record { map = Some t.map; scen = Some t.scen; subject = subject; holds = holds; log = log }
+-- the files of a request: those of its tasks, if it has some, what it is about, the holds and the log
+abbrev pub names_for : Option Tasks → (subject holds log : Option (Bor (List ℕ))) → FileNames
+names_for tasks subject holds log = record { map = option_map (λ t. t.map) tasks; scen = option_map (λ t. t.scen) tasks; subject = subject; holds = holds; log = log }
 
--- the files of a program for tasks, and these
+-- the files of a request about a program for tasks
 abbrev pub names_of_program : ProgramFor → (holds log : Option (Bor (List ℕ))) → FileNames
-names_of_program p holds log = names_for p.tasks (Some p.program) holds log
-
--- the file of a program, and that of the holds
-abbrev pub names_alone : Bor (List ℕ) → Option (Bor (List ℕ)) → FileNames
-names_alone program holds = record { map = None; scen = None; subject = Some program; holds = holds; log = None }
+names_of_program p holds log = names_for (Some p.tasks) (Some p.program) holds log
 
 -- the files that each command reads, those of the holds and of the log last
 abbrev pub names_of : Request → FileNames
-names_of (r.Instance q) = names_for q None None None
-names_of (r.Check q) = names_for q.tasks (Some q.plan) None None
-names_of (r.Plan q) = names_for q.tasks None None None
-names_of (r.Compile q) = names_for q.tasks (Some q.plan) None None
+names_of (r.Instance q) = names_for (Some q) None None None
+names_of (r.Check q) = names_for (Some q.tasks) (Some q.plan) None None
+names_of (r.Plan q) = names_for (Some q.tasks) None None None
+names_of (r.Compile q) = names_for (Some q.tasks) (Some q.plan) None None
 names_of (r.Verify q) = names_of_program q None None
 names_of (r.Run q) = names_of_program q.subject q.holds None
-names_of (r.Rehearse q) = names_alone q.program q.holds
-names_of (r.Auto q) = names_for q.tasks None q.holds None
+names_of (r.Rehearse q) = names_for None (Some q.program) q.holds None
+names_of (r.Auto q) = names_for (Some q.tasks) None q.holds None
 names_of (r.Thin q) = names_of_program q.subject None None
-names_of (r.Migrate q) = names_alone q.program None
-names_of (r.List q) = names_alone q.program None
+names_of (r.Migrate q) = names_for None (Some q.program) None None
+names_of (r.List q) = names_for None (Some q.program) None None
 names_of (r.Dispatch q) = names_of_program q.subject None q.resume
 names_of (r.Times q) = names_of_program q.subject q.costs None
 names_of (r.Rest q) = names_of_program q.subject None (Some q.reports)
@@ -60,7 +56,7 @@ pub record Around : Type 1 where
   pub unwritten : Type 0
   pub talks : (log log' : SinkState) → ReportForm → Talk → Type 0
 
--- .. these
+-- .. these, as one
 abbrev pub around : (files after : Option Store) → (unread unwritten : Type 0) → ((log log' : SinkState) → ReportForm → Talk → Type 0) → Around
 around files after unread unwritten talks = record { files = files; after = after; unread = unread; unwritten = unwritten; talks = talks }
 

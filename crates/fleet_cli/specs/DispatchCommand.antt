@@ -42,6 +42,5 @@ Leads files after r p past untold talks result =
 -- before
 abbrev pub AnswersDispatch : (files after : Option Store) → DispatchRequest → FileTexts → (untold : Type 0) → ((log log' : SinkState) → ReportForm → Talk → Type 0) → Result ℕ Fault → Type 0
 AnswersDispatch files after r texts untold talks result =
-    ((x : AcceptsTexts texts.map.items texts.scen.items r.subject.tasks.agents texts.subject.items)
-    × Leads files after r x.program texts.log.items untold talks result × ChangesOnlyLog files after r.log)
-    ⊎ ((fault : Fault) × (result ≡ Err fault) × IsTextsRefusal texts.map.items texts.scen.items r.subject.tasks.agents texts.subject.items fault × AreUnchanged files after × untold)
+    AcceptsTexts texts r.subject.tasks.agents (λ g tasks p chain. Leads files after r p texts.log.items untold talks result × ChangesOnlyLog files after r.log)
+    ⊎ ((fault : Fault) × (result ≡ Err fault) × IsTextsRefusal texts r.subject.tasks.agents fault × AreUnchanged files after × untold)

@@ -48,10 +48,9 @@ abbrev pub Prints : List ℕ → (out out' : SinkState) → Result ℕ Fault →
 Prints text out out' (Ok status) = IsDelivered out out' text × (status ≡ 0)
 Prints text out out' (Err fault) = IsOutFault fault × FailsAfter out out' text
 
--- What a command answers that makes something of its texts, before anything is written, and then does something with
--- it: it was made, and this is what came after it; or it was refused, and nothing was written
-abbrev pub Does : (A : Type 0) → (Fault → Type 0) → (A → (out out' : SinkState) → Result ℕ Fault → Type 0) → (out out' : SinkState) → Result ℕ Fault → Type 0
-Does A Refuses After out out' result = ((a : A) × After a out out' result) ⊎ ((fault : Fault) × (result ≡ Err fault) × Refuses fault × IsUnwritten out out')
+-- it was refused, and nothing was written
+abbrev pub Refuses : (Fault → Type 0) → (out out' : SinkState) → Result ℕ Fault → Type 0
+Refuses IsRefusal out out' result = (fault : Fault) × (result ≡ Err fault) × IsRefusal fault × IsUnwritten out out'
 
 -- the one was done, and this is what came of the other; or the one was refused
 abbrev pub Follow : (first second : (out out' : SinkState) → Result ℕ Fault → Type 0) → (out out' : SinkState) → Result ℕ Fault → Type 0

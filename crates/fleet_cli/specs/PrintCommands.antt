@@ -3,7 +3,7 @@ use Rattle.std.specs.Prelude.{◌≡◌, ℕ, List, [], ◌∷◌, ◌++◌, len
 use Rattle.fleet_model.specs.declared.{geometry.Cell.Cell, task.Task.Task, program.Visit.Visit}
 use Rattle.fleet_model.specs.Program.{origin, Program, total_moves, total_awaits}
 use Rattle.fleet_grid.specs.Ground.{Ground, passable_cells, is_passable}
-use Rattle.fleet_cli.specs.Steps.{AreTextsOf, ReadsProblem, ReadsProgram, IsProblemRefusal, IsPlannedFor, AcceptsTexts, IsLoadRefusal}
+use Rattle.fleet_cli.specs.Steps.{AreTextsOf, ReadsTexts, IsProblemRefusal, IsPlannedFor, AcceptsTexts, IsLoadRefusal}
 use Rattle.fleet_text.specs.Sink.{FailsAfter, SinkState, IsUnwritten, IsDelivered}
 use Rattle.fleet_args.specs.declared.{commands.Tasks.Tasks, commands.CheckRequest.CheckRequest, commands.Tries.Tries, commands.PlanRequest.PlanRequest, commands.ProgramFor.ProgramFor}
 use Rattle.fleet_text.specs.Words.{pair_text, line_text, count_line}
@@ -16,7 +16,7 @@ use Rattle.fleet_plan.specs.PlanText.{IsPlanText, IsFirstTextFault, plan_text}
 use Rattle.fleet_plan.specs.FirstFault.{IsFirstPlanFault}
 use Rattle.fleet_plan.specs.declared.text_fault.TextFault.TheVariants as t
 use Rattle.fleet_plan.specs.declared.plan_fault.PlanFault.TheVariants as p
-use Rattle.fleet_cli.specs.Output.{report, Does, Prints}
+use Rattle.fleet_cli.specs.Output.{report, Prints, Refuses}
 use Rattle.fleet_search.specs.Orders.{IsStuckInTries}
 use Rattle.fleet_search.specs.declared.fault.PlanStop.TheVariants as s
 use Rattle.fleet_model.specs.Machine.{Holds}
@@ -53,7 +53,7 @@ instance_text g tasks =
 -- what `instance` answers for the texts of its files
 abbrev pub AnswersInstance : Tasks → FileTexts → (out out' : SinkState) → Result ℕ Fault → Type 0
 AnswersInstance r texts out out' result =
-    Does (ReadsProblem texts.map.items texts.scen.items r.agents) (IsProblemRefusal texts.map.items texts.scen.items r.agents) (λ x. Prints (instance_text x.ground x.tasks)) out out' result
+    ReadsTexts texts r.agents (λ g tasks. Prints (instance_text g tasks) out out' result) ⊎ Refuses (IsProblemRefusal texts r.agents) out out' result
 
 -- `conflict-free`, then the agents and the steps, each with its number; if the bound is given, then also the sum of
 -- costs, the bound, the moves and the waits
@@ -69,54 +69,36 @@ IsAskedBound g tasks numbers None = numbers ≡ false
 IsAskedBound g tasks numbers (Some bound) = (numbers ≡ true) × IsBound (is_passable g) tasks bound
 
 -- the texts stand for this ground, these tasks and this plan
-pub record ArePlanTexts (map scen plan : List ℕ) (asked : Option ℕ) (g : Ground) (tasks : List Task) (paths : Plan) : Type 0 where
-  pub instance : AreTextsOf map scen asked g tasks
-  pub plan_read : IsPlanText plan paths
+pub record ArePlanTexts (texts : FileTexts) (asked : Option ℕ) (g : Ground) (tasks : List Task) (paths : Plan) : Type 0 where
+  pub instance : AreTextsOf texts.map.items texts.scen.items asked g tasks
+  pub plan_read : IsPlanText texts.subject.items paths
 
 -- the first fault of the texts, judged in this order: map, scenario, plan text, plan
-abbrev pub IsPlanRefusal : (map scen plan : List ℕ) → Option ℕ → Fault → Type 0
-IsPlanRefusal map scen plan asked (f.Text fault) =
-    (g : Ground) × (tasks : List Task) × AreTextsOf map scen asked g tasks × (fault ≢ t.OutOfMemory → IsFirstTextFault plan fault)
-IsPlanRefusal map scen plan asked (f.Check fault) =
-    (g : Ground) × (tasks : List Task) × (paths : Plan) × ArePlanTexts map scen plan asked g tasks paths
-    × (fault ≢ p.OutOfMemory → IsFirstPlanFault (is_passable g) tasks paths fault)
-IsPlanRefusal map scen plan asked fault = IsProblemRefusal map scen asked fault
+abbrev pub IsPlanRefusal : FileTexts → Option ℕ → Fault → Type 0
+IsPlanRefusal texts asked (f.Text fault) = ReadsTexts texts asked (λ g tasks. fault ≢ t.OutOfMemory → IsFirstTextFault texts.subject.items fault)
+IsPlanRefusal texts asked (f.Check fault) =
+    (g : Ground) × (tasks : List Task) × (paths : Plan) × ArePlanTexts texts asked g tasks paths × (fault ≢ p.OutOfMemory → IsFirstPlanFault (is_passable g) tasks paths fault)
+IsPlanRefusal texts asked fault = IsProblemRefusal texts asked fault
 
--- the plan for which the texts stand is free of conflict, and this is its bound, if that is asked for
-pub record ChecksTexts (map scen plan : List ℕ) (asked : Option ℕ) (numbers : Bool) : Type 0 where
-  pub ground : Ground
-  pub tasks : List Task
-  pub paths : Plan
-  pub texts : ArePlanTexts map scen plan asked ground tasks paths
-  pub free : IsConflictFree (is_passable ground) tasks paths
-  pub bound : Option ℕ
-  pub asked_bound : IsAskedBound ground tasks numbers bound
-
--- what `check` answers for the texts of its files
+-- What `check` answers for the texts of its files. The plan for which they stand is free of conflict, and it is printed
+-- with its bound, if that is asked for
 abbrev pub AnswersCheck : CheckRequest → FileTexts → (out out' : SinkState) → Result ℕ Fault → Type 0
 AnswersCheck r texts out out' result =
-    Does (ChecksTexts texts.map.items texts.scen.items texts.subject.items r.tasks.agents r.numbers) (IsPlanRefusal texts.map.items texts.scen.items texts.subject.items r.tasks.agents)
-    (λ x. Prints (check_text x.paths x.bound)) out out' result
-
--- the texts stand for a map and for tasks, for which the plan is made agent by agent and is free of conflict
-pub record PlansTexts (map scen : List ℕ) (asked : Option ℕ) (horizon : ℕ) (tries : Tries) : Type 0 where
-  pub ground : Ground
-  pub tasks : List Task
-  pub texts : AreTextsOf map scen asked ground tasks
-  pub plan : Plan
-  pub tried : ℕ
-  pub planned : IsPlannedFor ground tasks horizon tries tried plan
+    ((g : Ground) × (tasks : List Task) × (paths : Plan) × (bound : Option ℕ) × ArePlanTexts texts r.tasks.agents g tasks paths × IsConflictFree (is_passable g) tasks paths
+    × IsAskedBound g tasks r.numbers bound × Prints (check_text paths bound) out out' result)
+    ⊎ Refuses (IsPlanRefusal texts r.tasks.agents) out out' result
 
 -- the first fault of the map's text or of the scenario's; or an agent that is left without a path by those before it
-abbrev pub IsSearchRefusal : (map scen : List ℕ) → Option ℕ → ℕ → Tries → Fault → Type 0
-IsSearchRefusal map scen asked horizon tries (f.Search stop) =
-    (g : Ground) × (tasks : List Task) × AreTextsOf map scen asked g tasks × ((agent : ℕ) → stop ≡ s.NoPath agent → IsStuckInTries (is_passable g) tasks horizon tries.count agent)
-IsSearchRefusal map scen asked horizon tries fault = IsProblemRefusal map scen asked fault
+abbrev pub IsSearchRefusal : FileTexts → Option ℕ → ℕ → Tries → Fault → Type 0
+IsSearchRefusal texts asked horizon tries (f.Search stop) =
+    ReadsTexts texts asked (λ g tasks. (agent : ℕ) → stop ≡ s.NoPath agent → IsStuckInTries (is_passable g) tasks horizon tries.count agent)
+IsSearchRefusal texts asked horizon tries fault = IsProblemRefusal texts asked fault
 
--- what `plan` answers for the texts of its files
+-- what `plan` answers for the texts of its files: a plan that is made agent by agent and is free of conflict
 abbrev pub AnswersPlan : PlanRequest → FileTexts → (out out' : SinkState) → Result ℕ Fault → Type 0
 AnswersPlan r texts out out' result =
-    Does (PlansTexts texts.map.items texts.scen.items r.tasks.agents r.horizon r.tries) (IsSearchRefusal texts.map.items texts.scen.items r.tasks.agents r.horizon r.tries) (λ x. Prints (plan_text x.plan)) out out' result
+    ReadsTexts texts r.tasks.agents (λ g tasks. (plan : Plan) × (tried : ℕ) × IsPlannedFor g tasks r.horizon r.tries tried plan × Prints (plan_text plan) out out' result)
+    ⊎ Refuses (IsSearchRefusal texts r.tasks.agents r.horizon r.tries) out out' result
 
 -- `accepted`, then the agents, the moves, the awaits and the longest chain, each with its number
 abbrev pub accepted_text : Program → ℕ → List ℕ
@@ -143,27 +125,27 @@ ReportsRefused p fault out out' _ = ⊥
 
 -- the texts stand for a map and for tasks, and the program that the bytes spell is refused, which is reported by this
 -- refusal
-pub record RefusesProgram (map scen : List ℕ) (asked : Option ℕ) (bytes : List ℕ) (out out' : SinkState) (reported : Fault) : Type 0 where
+pub record RefusesProgram (texts : FileTexts) (asked : Option ℕ) (out out' : SinkState) (reported : Fault) : Type 0 where
   pub ground : Ground
   pub tasks : List Task
-  pub texts : AreTextsOf map scen asked ground tasks
+  pub read : AreTextsOf texts.map.items texts.scen.items asked ground tasks
   pub program : Program
-  pub spelled : Spells bytes program
+  pub spelled : Spells texts.subject.items program
   pub fault : VerifyFault
   pub refused : IsFault (is_passable ground) tasks program fault
   pub broken : IsBrokenBy program fault
   pub reports : ReportsRefused program fault out out' reported
 
 -- the first fault of the texts, or of the bytes of the program
-abbrev pub IsViewRefusal : (map scen : List ℕ) → Option ℕ → List ℕ → Fault → Type 0
-IsViewRefusal map scen asked bytes fault = IsProblemRefusal map scen asked fault ⊎ ((g : Ground) × (tasks : List Task) × AreTextsOf map scen asked g tasks × IsLoadRefusal bytes fault)
+abbrev pub IsViewRefusal : FileTexts → Option ℕ → Fault → Type 0
+IsViewRefusal texts asked fault = IsProblemRefusal texts asked fault ⊎ ReadsTexts texts asked (λ g tasks. IsLoadRefusal texts.subject.items fault)
 
 -- what `verify` answers for the texts of its files
 abbrev pub AnswersVerify : ProgramFor → FileTexts → (out out' : SinkState) → Result ℕ Fault → Type 0
 AnswersVerify r texts out out' result =
-    Does (AcceptsTexts texts.map.items texts.scen.items r.tasks.agents texts.subject.items) (IsViewRefusal texts.map.items texts.scen.items r.tasks.agents texts.subject.items) (λ x. Prints (accepted_text x.program x.chain)) out out' result
-    ⊎ ((fault : Fault) × (result ≡ Err fault) × RefusesProgram texts.map.items texts.scen.items r.tasks.agents texts.subject.items out out' fault)
+    AcceptsTexts texts r.tasks.agents (λ g tasks p chain. Prints (accepted_text p chain) out out' result) ⊎ Refuses (IsViewRefusal texts r.tasks.agents) out out' result
+    ⊎ ((fault : Fault) × (result ≡ Err fault) × RefusesProgram texts r.tasks.agents out out' fault)
 
 -- what `list` answers for the texts of its files
 abbrev pub AnswersList : FileTexts → (out out' : SinkState) → Result ℕ Fault → Type 0
-AnswersList texts out out' result = Does (ReadsProgram texts.subject.items) (IsLoadRefusal texts.subject.items) (λ x. Prints (program_text x.program)) out out' result
+AnswersList texts out out' result = ((p : Program) × Spells texts.subject.items p × Prints (program_text p) out out' result) ⊎ Refuses (IsLoadRefusal texts.subject.items) out out' result

@@ -67,31 +67,32 @@ IsMapAround g dead name text = IfSome name (λ _. text ≡ map_text (ground_with
 abbrev pub AreOthers : Ground → List Task → Option DeadRobot → Option (Bor (List ℕ)) → List ℕ → Type 0
 AreOthers g tasks dead name text = IfSome name (λ _. text ≡ scen_text g.width g.height (tasks_without dead tasks))
 
--- The program of the bytes is accepted for the texts, and what is left of it is its rest after the log, from where the
--- agents stand to the same goals, which is accepted for that; the one text stands for its tasks, and the bytes spell
--- it, in version 1 if that has bytes for it. Around a dead robot there are the map in which its cells are blocked and
--- the tasks of the others
-pub record RestsTexts (texts : FileTexts) (r : RestRequest) (made : Rest) : Type 0 where
-  pub accepts : AcceptsTexts texts.map.items texts.scen.items r.subject.tasks.agents texts.subject.items
-  pub left : IsRestOf accepts.program texts.log.items made.program
-  pub tasks : tasks_of made.program ≡ rest_tasks (cell_at left.standings) accepts.program
-  pub accepted : IsAccepted (is_passable accepts.ground) (tasks_of made.program) made.program
-  pub written : made.scen.items ≡ scen_text accepts.ground.width accepts.ground.height (tasks_of made.program)
-  pub stands : IsScenText made.scen.items accepts.ground None (tasks_of made.program)
+-- What is left of the program is its rest after the log, from where the agents stand to the same goals, which is
+-- accepted for that; the one text stands for its tasks, and the bytes spell it, in version 1 if that has bytes for it.
+-- Around a dead robot there are the map in which its cells are blocked and the tasks of the others
+pub record LeavesRest (g : Ground) (p : Program) (log : List ℕ) (r : RestRequest) (made : Rest) : Type 0 where
+  pub left : IsRestOf p log made.program
+  pub tasks : tasks_of made.program ≡ rest_tasks (cell_at left.standings) p
+  pub accepted : IsAccepted (is_passable g) (tasks_of made.program) made.program
+  pub written : made.scen.items ≡ scen_text g.width g.height (tasks_of made.program)
+  pub stands : IsScenText made.scen.items g None (tasks_of made.program)
   pub spelled : SpellsShortest made.bytes.items made.program
   pub robot : Option DeadRobot
-  pub dead : IsDead accepts.ground (length made.program) r.without robot
-  pub around : IsMapAround accepts.ground robot r.map_out made.map.items
-  pub rest_of_them : AreOthers accepts.ground (tasks_of made.program) robot r.others_out made.others.items
+  pub dead : IsDead g (length made.program) r.without robot
+  pub around : IsMapAround g robot r.map_out made.map.items
+  pub rest_of_them : AreOthers g (tasks_of made.program) robot r.others_out made.others.items
+
+-- so of the program that is accepted for the texts
+abbrev pub RestsTexts : FileTexts → RestRequest → Rest → Type 0
+RestsTexts texts r made = AcceptsTexts texts r.subject.tasks.agents (λ g tasks p chain. LeavesRest g p texts.log.items r made)
 
 -- the texts and the bytes are refused; or the log is, for the program that is accepted, or what is named as dead, for
 -- its rest; or memory ran out
 abbrev pub IsRestRefusal : FileTexts → RestRequest → Fault → Type 0
 IsRestRefusal texts r fault =
-    IsTextsRefusal texts.map.items texts.scen.items r.subject.tasks.agents texts.subject.items fault
-    ⊎ ((a : AcceptsTexts texts.map.items texts.scen.items r.subject.tasks.agents texts.subject.items)
-    × (IsRestFault a.program texts.log.items fault
-    ⊎ ((q : Program) × IsRestOf a.program texts.log.items q × IsDeadRefusal a.ground (length q) r.without fault)))
+    IsTextsRefusal texts r.subject.tasks.agents fault
+    ⊎ AcceptsTexts texts r.subject.tasks.agents
+    (λ g tasks p chain. IsRestFault p texts.log.items fault ⊎ ((q : Program) × IsRestOf p texts.log.items q × IsDeadRefusal g (length q) r.without fault))
 
 -- the files that are written, in turn
 abbrev pub rest_files : RestRequest → Rest → List (Option (Bor (List ℕ)) × List ℕ)

@@ -9,17 +9,17 @@ use Rattle.fleet_run.specs.declared.{run.RunFault.RunFault, run.RunFault.TheVari
 use Rattle.fleet_run.specs.Trace.{WritesTrace, Traces, StopsTrace, hold_source}
 use Rattle.fleet_args.specs.declared.{commands.RunRequest.RunRequest, commands.Tries.Tries, commands.AutoRequest.AutoRequest}
 use Rattle.fleet_cli.specs.declared.{files.FileTexts.FileTexts, fault.Fault.Fault, steps.PlanNumbers.PlanNumbers, fault.AutoFault.AutoFault, input.TheConstants.MAX_BYTES}
-use Rattle.fleet_cli.specs.Steps.{AcceptsTexts, AreTextsOf, ReadsProgram, IsTextsRefusal, IsProblemRefusal, IsMadeFor, IsMakingFault, IsLoadRefusal}
+use Rattle.fleet_cli.specs.Steps.{AcceptsTexts, AreTextsOf, ReadsTexts, IsTextsRefusal, IsProblemRefusal, IsMadeFor, IsMakingFault, IsLoadRefusal}
 use Rattle.fleet_cli.specs.declared.fault.Fault.TheVariants as f
 use Rattle.fleet_model.specs.declared.{task.Task.Task, deps.Deps.Deps}
 use Rattle.fleet_grid.specs.Ground.{Ground}
 use Rattle.fleet_verify.specs.Parts.{IsAcceptedFor}
 use Rattle.fleet_cli.specs.declared.fault.AutoFault.TheVariants as a
-use Rattle.fleet_cli.specs.Output.{count_lines, Does, Follow, Prints, end_status, Finishes}
+use Rattle.fleet_cli.specs.Output.{count_lines, Refuses, Follow, Prints, end_status, Finishes}
 use Rattle.fleet_grid.specs.MapText.{IsMapText, IsFirstMapFault}
 use Rattle.fleet_scen.specs.ScenText.{IsFirstScenFault}
 use Rattle.fleet_cli.specs.Faults.{step_fault}
-use Rattle.fleet_code.specs.Hex.{bytes_of}
+use Rattle.fleet_code.specs.{Hex.bytes_of, Spelling.Spells}
 use Rattle.fleet_code.specs.declared.fault.HexFault.TheVariants as h
 
 -- The answer of a run after the flush. It is the run's own, and the sink has handed on all, unless it had failed; or
@@ -43,8 +43,7 @@ Runs p chain held out = Ends (Traces p chain held out) (λ report. 0)
 -- what `run` answers for the texts of its files
 abbrev pub AnswersRun : RunRequest → FileTexts → (out out' : SinkState) → Result ℕ Fault → Type 0
 AnswersRun r texts out out' result =
-    Does (AcceptsTexts texts.map.items texts.scen.items r.subject.tasks.agents texts.subject.items) (IsTextsRefusal texts.map.items texts.scen.items r.subject.tasks.agents texts.subject.items)
-    (λ x. Runs x.program x.chain texts.holds.items) out out' result
+    AcceptsTexts texts r.subject.tasks.agents (λ g tasks p chain. Runs p chain texts.holds.items out out' result) ⊎ Refuses (IsTextsRefusal texts r.subject.tasks.agents) out out' result
 
 -- The texts stand for a map and for tasks. This is the program of the plan that is made for them, which has these
 -- numbers; and the program is accepted for them, with a longest chain of so many actions
@@ -81,10 +80,10 @@ AutoRuns map scen asked horizon deps held out out' (Ok r) = (m : MakesProgram ma
 AutoRuns map scen asked horizon deps held out out' (Err fault) = IsAutoFault map scen asked horizon one_try deps held out out' fault
 
 -- the first fault of the map's text or of the scenario's; or no plan is made, or its agents make too many moves
-abbrev pub IsMakingRefusal : (map scen : List ℕ) → Option ℕ → ℕ → Tries → Deps → Fault → Type 0
-IsMakingRefusal map scen asked horizon tries deps fault =
-    IsProblemRefusal map scen asked fault
-    ⊎ ((g : Ground) × (tasks : List Task) × (e : AutoFault) × (fault ≡ step_fault e) × AreTextsOf map scen asked g tasks × IsMakingFault g tasks horizon tries deps e)
+abbrev pub IsMakingRefusal : FileTexts → AutoRequest → Fault → Type 0
+IsMakingRefusal texts r fault =
+    IsProblemRefusal texts r.tasks.agents fault
+    ⊎ ReadsTexts texts r.tasks.agents (λ g tasks. (e : AutoFault) × (fault ≡ step_fault e) × IsMakingFault g tasks r.horizon r.tries r.deps e)
 
 -- how many orders were tried for the plan, its steps and its sum of costs, each with its number
 abbrev pub plan_numbers_text : PlanNumbers → List ℕ
@@ -98,8 +97,8 @@ TellsNumbers true numbers out out' result = Prints (plan_numbers_text numbers) o
 -- what `auto` answers for the texts of its files
 abbrev pub AnswersAuto : AutoRequest → FileTexts → (out out' : SinkState) → Result ℕ Fault → Type 0
 AnswersAuto r texts out out' result =
-    Does (MakesProgram texts.map.items texts.scen.items r.tasks.agents r.horizon r.tries r.deps) (IsMakingRefusal texts.map.items texts.scen.items r.tasks.agents r.horizon r.tries r.deps)
-    (λ x. Follow (Runs x.program x.chain texts.holds.items) (TellsNumbers r.numbers x.numbers)) out out' result
+    ((m : MakesProgram texts.map.items texts.scen.items r.tasks.agents r.horizon r.tries r.deps) × Follow (Runs m.program m.chain texts.holds.items) (TellsNumbers r.numbers m.numbers) out out' result)
+    ⊎ Refuses (IsMakingRefusal texts r) out out' result
 
 -- the program was rehearsed under the holds for which the bytes stand; the status says how it ended
 abbrev pub RehearsesProgram : Program → (held : List ℕ) → (out out' : SinkState) → Result ℕ Fault → Type 0
@@ -108,7 +107,7 @@ RehearsesProgram p held out out' result = (source : SourceState) × Ends (Rehear
 -- what `rehearse` answers for the texts of its files
 abbrev pub AnswersRehearse : FileTexts → (out out' : SinkState) → Result ℕ Fault → Type 0
 AnswersRehearse texts out out' result =
-    Does (ReadsProgram texts.subject.items) (IsLoadRefusal texts.subject.items) (λ x. RehearsesProgram x.program texts.holds.items) out out' result
+    ((p : Program) × Spells texts.subject.items p × RehearsesProgram p texts.holds.items out out' result) ⊎ Refuses (IsLoadRefusal texts.subject.items) out out' result
 
 -- the text is all that the input had, if the input says it, and is no longer than a text that is read
 pub record IsTextOf (input : Option (List ℕ)) (text : List ℕ) : Type 0 where
@@ -131,8 +130,8 @@ IsInputRefusal input _ = ⊥
 -- what the run without words answers: the program of the input is rehearsed, with nobody held
 abbrev pub AnswersHex : Option (List ℕ) → (out out' : SinkState) → Result ℕ Fault → Type 0
 AnswersHex input out out' result =
-    Does ((bytes : List ℕ) × ReadsInput input bytes × ReadsProgram bytes) (λ fault. IsInputRefusal input fault ⊎ ((bytes : List ℕ) × ReadsInput input bytes × IsLoadRefusal bytes fault))
-    (λ x. RehearsesProgram x.2.program []) out out' result
+    ((bytes : List ℕ) × (p : Program) × ReadsInput input bytes × Spells bytes p × RehearsesProgram p [] out out' result)
+    ⊎ Refuses (λ fault. IsInputRefusal input fault ⊎ ((bytes : List ℕ) × ReadsInput input bytes × IsLoadRefusal bytes fault)) out out' result
 
 -- 0 if the rehearsal was written and ends finished, 1 if it was written and ends stuck, and else the status of a
 -- refusal that was reported: the other output took that one line, or failed within it

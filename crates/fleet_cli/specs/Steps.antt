@@ -6,7 +6,7 @@ use Rattle.fleet_grid.specs.MapText.{IsMapText, IsFirstMapFault}
 use Rattle.fleet_grid.specs.declared.fault.MapFault.TheVariants as m
 use Rattle.fleet_scen.specs.ScenText.{IsScenText, IsFirstScenFault}
 use Rattle.fleet_scen.specs.declared.fault.ScenFault.TheVariants as s
-use Rattle.fleet_cli.specs.declared.{fault.AutoFault.AutoFault, steps.TheConstants.NO_CHAIN, steps.PlanNumbers.PlanNumbers, fault.Fault.Fault}
+use Rattle.fleet_cli.specs.declared.{files.FileTexts.FileTexts, fault.AutoFault.AutoFault, steps.TheConstants.NO_CHAIN, steps.PlanNumbers.PlanNumbers, fault.Fault.Fault}
 use Rattle.fleet_cli.specs.declared.fault.AutoFault.TheVariants as a
 use Rattle.fleet_args.specs.declared.{commands.Tries.Tries, commands.Best.Best}
 use Rattle.fleet_model.specs.Program.{Program}
@@ -93,24 +93,21 @@ pub record Accepts (bytes : List ℕ) (g : Ground) (tasks : List Task) (p : Prog
   pub spelled : Spells bytes p
   pub accepted_for : IsAcceptedFor g tasks p chain
 
--- a map and tasks, for which the texts stand
-pub record ReadsProblem (map scen : List ℕ) (asked : Option ℕ) : Type 0 where
-  pub ground : Ground
-  pub tasks : List Task
-  pub texts : AreTextsOf map scen asked ground tasks
+-- the texts stand for a map and for tasks, of which this holds
+abbrev pub ReadsTexts : FileTexts → Option ℕ → (Ground → List Task → Type 0) → Type 0
+ReadsTexts texts asked Holds = (g : Ground) × (tasks : List Task) × AreTextsOf texts.map.items texts.scen.items asked g tasks × Holds g tasks
 
--- a program that the bytes spell
-pub record ReadsProgram (bytes : List ℕ) : Type 0 where
-  pub program : Program
-  pub spelled : Spells bytes program
+-- .. and the bytes spell a program that is accepted for them, and this holds of it and of its longest chain
+abbrev pub AcceptsTexts : FileTexts → Option ℕ → (Ground → List Task → Program → ℕ → Type 0) → Type 0
+AcceptsTexts texts asked Holds = ReadsTexts texts asked (λ g tasks. (p : Program) × (chain : ℕ) × Accepts texts.subject.items g tasks p chain × Holds g tasks p chain)
 
 -- the texts of a map and a scenario are refused: the first fault of the map's text, or of the scenario's on that map.
 -- Memory may run out in any step, and stands in place of any fault
-abbrev pub IsProblemRefusal : (map scen : List ℕ) → Option ℕ → Fault → Type 0
-IsProblemRefusal map scen asked (f.Map fault) = fault ≢ m.OutOfMemory → IsFirstMapFault map fault
-IsProblemRefusal map scen asked (f.Scen fault) = (g : Ground) × IsMapText map g × (fault ≢ s.OutOfMemory → IsFirstScenFault scen g asked fault)
-IsProblemRefusal map scen asked f.Memory = Unit {0}
-IsProblemRefusal map scen asked _ = ⊥
+abbrev pub IsProblemRefusal : FileTexts → Option ℕ → Fault → Type 0
+IsProblemRefusal texts asked (f.Map fault) = fault ≢ m.OutOfMemory → IsFirstMapFault texts.map.items fault
+IsProblemRefusal texts asked (f.Scen fault) = (g : Ground) × IsMapText texts.map.items g × (fault ≢ s.OutOfMemory → IsFirstScenFault texts.scen.items g asked fault)
+IsProblemRefusal texts asked f.Memory = Unit {0}
+IsProblemRefusal texts asked _ = ⊥
 
 -- the bytes spell no program: this is their first fault
 abbrev pub IsLoadRefusal : List ℕ → Fault → Type 0
@@ -123,16 +120,6 @@ abbrev pub IsAcceptRefusal : List ℕ → Ground → List Task → Fault → Typ
 IsAcceptRefusal bytes g tasks (f.Verify fault) = (p : Program) × Spells bytes p × IsFault (is_passable g) tasks p fault
 IsAcceptRefusal bytes g tasks fault = IsLoadRefusal bytes fault
 
--- the texts stand for a map and for tasks, and the bytes spell a program that is accepted for them
-pub record AcceptsTexts (map scen : List ℕ) (asked : Option ℕ) (bytes : List ℕ) : Type 0 where
-  pub ground : Ground
-  pub tasks : List Task
-  pub texts : AreTextsOf map scen asked ground tasks
-  pub program : Program
-  pub chain : ℕ
-  pub accepts : Accepts bytes ground tasks program chain
-
 -- the texts and the bytes are refused, judged in this order: map, scenario, program
-abbrev pub IsTextsRefusal : (map scen : List ℕ) → Option ℕ → List ℕ → Fault → Type 0
-IsTextsRefusal map scen asked bytes fault =
-    IsProblemRefusal map scen asked fault ⊎ ((g : Ground) × (tasks : List Task) × AreTextsOf map scen asked g tasks × IsAcceptRefusal bytes g tasks fault)
+abbrev pub IsTextsRefusal : FileTexts → Option ℕ → Fault → Type 0
+IsTextsRefusal texts asked fault = IsProblemRefusal texts asked fault ⊎ ReadsTexts texts asked (λ g tasks. IsAcceptRefusal texts.subject.items g tasks fault)

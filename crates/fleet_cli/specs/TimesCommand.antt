@@ -1,6 +1,6 @@
 -- What the command `times` prints: when each agent of an accepted program arrives, or how far each one comes if some
 -- break down.
-use Rattle.std.specs.Prelude.{◌≡◌, ℕ, List, Option, None, Some, Result, ⊤}
+use Rattle.std.specs.Prelude.{◌≡◌, ◌⊎◌, ℕ, List, Option, None, Some, Result, ⊤}
 use Rattle.std.specs.Borrow.{Bor}
 use Rattle.fleet_model.specs.declared.program.ActionId.{ActionId}
 use Rattle.fleet_model.specs.Program.{Program, total_moves}
@@ -12,7 +12,7 @@ use Rattle.fleet_dispatch.specs.Costs.{AreCostsOf, IsCostsFault}
 use Rattle.fleet_args.specs.declared.commands.TimesRequest.{TimesRequest}
 use Rattle.fleet_cli.specs.declared.{files.FileTexts.FileTexts, fault.Fault.Fault}
 use Rattle.fleet_cli.specs.Steps.{AcceptsTexts, IsTextsRefusal}
-use Rattle.fleet_cli.specs.Output.{Does, Prints}
+use Rattle.fleet_cli.specs.Output.{Refuses, Prints}
 use Rattle.fleet_cli.specs.declared.fault.Fault.TheVariants as f
 
 -- when each agent arrives at the soonest, when all have arrived, and a chain that takes so long
@@ -52,25 +52,16 @@ IsBreaksRefusal p line f.Memory = ⊤
 IsBreaksRefusal p line (f.Times fault) = IsBreaksFault p line fault
 IsBreaksRefusal p line _ = ⊥
 
--- the times of the program
-pub record Timetable (p : Program) (costs : Option (Bor (List ℕ))) (text : List ℕ) : Type 0 where
-  pub arrivals : List ℕ
-  pub last : ℕ
-  pub path : List ActionId
-  pub has : HasTimetable p costs text arrivals last path
-
--- .. are printed
+-- the times of the program are printed
 abbrev pub TellsTimes : Program → Option (Bor (List ℕ)) → (text : List ℕ) → (out out' : SinkState) → Result ℕ Fault → Type 0
-TellsTimes p costs text = Does (Timetable p costs text) (IsCostsRefusal p costs text) (λ t. Prints (times_text t.arrivals (total_moves p) t.last t.path))
+TellsTimes p costs text out out' result =
+    ((arrivals : List ℕ) × (last : ℕ) × (path : List ActionId) × HasTimetable p costs text arrivals last path × Prints (times_text arrivals (total_moves p) last path) out out' result)
+    ⊎ Refuses (IsCostsRefusal p costs text) out out' result
 
--- how far each agent comes
-pub record Reached (p : Program) (line : List ℕ) : Type 0 where
-  pub counts : List ℕ
-  pub has : HasReached p line counts
-
--- .. is printed
+-- how far each agent comes is printed
 abbrev pub TellsReached : Program → (line : List ℕ) → (out out' : SinkState) → Result ℕ Fault → Type 0
-TellsReached p line = Does (Reached p line) (IsBreaksRefusal p line) (λ t. Prints (reached_text t.counts (total_moves p) (stopped_agents p t.counts)))
+TellsReached p line out out' result =
+    ((counts : List ℕ) × HasReached p line counts × Prints (reached_text counts (total_moves p) (stopped_agents p counts)) out out' result) ⊎ Refuses (IsBreaksRefusal p line) out out' result
 
 -- the one or the other
 abbrev pub Tells : TimesRequest → Program → (text : List ℕ) → Option (Bor (List ℕ)) → (out out' : SinkState) → Result ℕ Fault → Type 0
@@ -80,5 +71,4 @@ Tells r p text (Some line) = TellsReached p line.now
 -- what `times` answers for the texts of its files
 abbrev pub AnswersTimes : TimesRequest → FileTexts → (out out' : SinkState) → Result ℕ Fault → Type 0
 AnswersTimes r texts out out' result =
-    Does (AcceptsTexts texts.map.items texts.scen.items r.subject.tasks.agents texts.subject.items) (IsTextsRefusal texts.map.items texts.scen.items r.subject.tasks.agents texts.subject.items)
-    (λ a. Tells r a.program texts.holds.items r.broken) out out' result
+    AcceptsTexts texts r.subject.tasks.agents (λ g tasks p chain. Tells r p texts.holds.items r.broken out out' result) ⊎ Refuses (IsTextsRefusal texts r.subject.tasks.agents) out out' result

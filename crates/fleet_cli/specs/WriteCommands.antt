@@ -1,6 +1,6 @@
 -- What the commands `compile`, `thin` and `migrate` write and print.
 use Rattle.std.specs.Prelude.{◌≡◌, ◌≢◌, ℕ, List, [], ◌∷◌, length, Option, Some, Ok, Err, codes, Result}
-use Rattle.fleet_model.specs.declared.{task.Task.Task, deps.Deps.Deps}
+use Rattle.fleet_model.specs.declared.task.Task.{Task}
 use Rattle.fleet_model.specs.Program.{Program, total_moves, total_awaits}
 use Rattle.fleet_model.specs.Accepted.{IsAccepted}
 use Rattle.fleet_grid.specs.Ground.{Ground, is_passable}
@@ -25,28 +25,28 @@ use Rattle.fleet_code.specs.declared.format.Version.TheVariants.{Two}
 -- the texts stand for a map, for tasks and for a plan that is free of conflict; the program is that of the plan with so
 -- many stays after the moves of each agent, and is accepted; and the bytes spell it, in version 1 if that has bytes for
 -- it
-pub record CompilesTexts (map scen plan : List ℕ) (asked : Option ℕ) (deps : Deps) (dwell : ℕ) (program : Program) (bytes : List ℕ) : Type 0 where
+pub record CompilesTexts (texts : FileTexts) (r : CompileRequest) (program : Program) (bytes : List ℕ) : Type 0 where
   pub ground : Ground
   pub tasks : List Task
   pub paths : Plan
-  pub texts : ArePlanTexts map scen plan asked ground tasks paths
+  pub read : ArePlanTexts texts r.tasks.agents ground tasks paths
   pub free : IsConflictFree (is_passable ground) tasks paths
-  pub compiled : compiled_staying_if_few paths deps dwell ≡ Ok program
+  pub compiled : compiled_staying_if_few paths r.deps r.dwell ≡ Ok program
   pub accepted : IsAccepted (is_passable ground) tasks program
   pub spelled : SpellsShortest bytes program
 
 -- .. as these bytes, whose numbers are those of that program
-pub record CompilesBytes (map scen plan : List ℕ) (asked : Option ℕ) (deps : Deps) (dwell : ℕ) (c : ProgramBytes) : Type 0 where
+pub record CompilesBytes (texts : FileTexts) (r : CompileRequest) (c : ProgramBytes) : Type 0 where
   pub program : Program
-  pub made : CompilesTexts map scen plan asked deps dwell program c.bytes.items
+  pub made : CompilesTexts texts r program c.bytes.items
   pub numbers : AreBytesOf program c
 
 -- the first fault of the texts, judged in this order: map, scenario, plan text, plan, program; or memory ran out
-abbrev pub IsCompileFault : (map scen plan : List ℕ) → Option ℕ → Deps → ℕ → Fault → Type 0
-IsCompileFault map scen plan asked deps dwell (f.Compile fault) =
-    (g : Ground) × (tasks : List Task) × (paths : Plan) × ArePlanTexts map scen plan asked g tasks paths × IsConflictFree (is_passable g) tasks paths
-    × (fault ≢ c.OutOfMemory → compiled_staying_if_few paths deps dwell ≡ Err fault)
-IsCompileFault map scen plan asked deps dwell fault = IsPlanRefusal map scen plan asked fault
+abbrev pub IsCompileFault : FileTexts → CompileRequest → Fault → Type 0
+IsCompileFault texts r (f.Compile fault) =
+    (g : Ground) × (tasks : List Task) × (paths : Plan) × ArePlanTexts texts r.tasks.agents g tasks paths × IsConflictFree (is_passable g) tasks paths
+    × (fault ≢ c.OutOfMemory → compiled_staying_if_few paths r.deps r.dwell ≡ Err fault)
+IsCompileFault texts r fault = IsPlanRefusal texts r.tasks.agents fault
 
 -- the agents, the moves and the awaits of the program, and its bytes, each with its number
 abbrev pub numbers_text : Program → List ℕ → List ℕ
@@ -58,22 +58,23 @@ numbers_text p bytes =
 -- or the output failed
 abbrev pub AnswersCompile : (files after : Option Store) → CompileRequest → FileTexts → (out out' : SinkState) → Result ℕ Fault → Type 0
 AnswersCompile files after r texts out out' result =
-    AnswersOut {A = Program × List ℕ} files after (λ made. CompilesTexts texts.map.items texts.scen.items texts.subject.items r.tasks.agents r.deps r.dwell made.0 made.1)
-    (IsCompileFault texts.map.items texts.scen.items texts.subject.items r.tasks.agents r.deps r.dwell) (λ made. (Some r.out, made.1) ∷ []) (λ made. numbers_text made.0 made.1) out out' result
+    AnswersOut {A = Program × List ℕ} files after (λ made. CompilesTexts texts r made.0 made.1) (IsCompileFault texts r) (λ made. (Some r.out, made.1) ∷ []) (λ made. numbers_text made.0 made.1) out out' result
 
--- the program of the bytes is accepted for the texts; the bytes that are written spell that program without its implied
--- awaits, in version 1 if that has bytes for it; it is accepted for the same map and tasks, has the same longest chain
--- and runs equally; and the two have so many awaits
-pub record ThinsTexts (map scen : List ℕ) (asked : Option ℕ) (program : List ℕ) (before after : ℕ) (bytes : List ℕ) : Type 0 where
-  pub accepts : AcceptsTexts map scen asked program
+-- the bytes spell the program without its implied awaits, in version 1 if that has bytes for it; it is accepted for the
+-- same map and tasks, has the same longest chain and runs equally; and the two have so many awaits
+pub record ThinsProgram (g : Ground) (tasks : List Task) (p : Program) (chain : ℕ) (before after : ℕ) (bytes : List ℕ) : Type 0 where
   pub thinned : Program
-  pub is : IsThinned accepts.program thinned
-  pub accepted : IsAccepted (is_passable accepts.ground) accepts.tasks thinned
-  pub longest : IsLongestChain thinned accepts.chain
-  pub equally : RunEqually accepts.program thinned
+  pub is : IsThinned p thinned
+  pub accepted : IsAccepted (is_passable g) tasks thinned
+  pub longest : IsLongestChain thinned chain
+  pub equally : RunEqually p thinned
   pub spelled : SpellsShortest bytes thinned
-  pub had : before ≡ total_awaits accepts.program
+  pub had : before ≡ total_awaits p
   pub has : after ≡ total_awaits thinned
+
+-- so of the program that is accepted for the texts
+abbrev pub ThinsTexts : FileTexts → ThinRequest → (before after : ℕ) → List ℕ → Type 0
+ThinsTexts texts r before after bytes = AcceptsTexts texts r.subject.tasks.agents (λ g tasks p chain. ThinsProgram g tasks p chain before after bytes)
 
 -- the awaits before and after
 abbrev pub thinned_text : ℕ → ℕ → List ℕ
@@ -84,8 +85,7 @@ thinned_text before after = count_lines ((codes "awaits", before) ∷ (codes "aw
 -- output failed
 abbrev pub AnswersThin : (files after : Option Store) → ThinRequest → FileTexts → (out out' : SinkState) → Result ℕ Fault → Type 0
 AnswersThin files after r texts out out' result =
-    AnswersOut {A = ℕ × ℕ × List ℕ} files after (λ made. ThinsTexts texts.map.items texts.scen.items r.subject.tasks.agents texts.subject.items made.0 made.1 made.2)
-    (IsTextsRefusal texts.map.items texts.scen.items r.subject.tasks.agents texts.subject.items) (λ made. (Some r.out, made.2) ∷ []) (λ made. thinned_text made.0 made.1) out out' result
+    AnswersOut {A = ℕ × ℕ × List ℕ} files after (λ made. ThinsTexts texts r made.0 made.1 made.2) (IsTextsRefusal texts r.subject.tasks.agents) (λ made. (Some r.out, made.2) ∷ []) (λ made. thinned_text made.0 made.1) out out' result
 
 -- the bytes spell a program, in either version, and the others spell it in version 2
 pub record MigratesBytes (bytes migrated : List ℕ) : Type 0 where

@@ -3,7 +3,7 @@
 ghost use Rattle.std.specs.Prelude.{◌≡◌, map, string_bytes};
 ghost use Rattle.fleet_text.specs.Sink.{IsWorking};
 ghost use Rattle.fleet_dispatch.specs.Talk.{IsLogged};
-ghost use Rattle.fleet_cli.specs.Command.{names_alone, names_for, names_of, names_of_program, around, AnswersRequest, RunsRequest, StopsAtWords, RunsCommand};
+ghost use Rattle.fleet_cli.specs.Command.{names_for, names_of, names_of_program, around, AnswersRequest, RunsRequest, StopsAtWords, RunsCommand};
 
 use crate::dispatch_command::do_dispatch;
 use crate::fault::{Fault, finish, refuse};
@@ -19,25 +19,29 @@ use fleet_run::{Flush, OutFault, TraceOut, put_all};
 use fleet_text::deliver;
 use std::alloc::Global;
 
-/// The files of a map and a scenario, and these.
+/// The files of a request: those of its tasks, if it has some, what it is about, the holds and the log.
 fn names_for<'a>(
-    tasks: &Tasks<'a>,
+    tasks: Option<Tasks<'a>>,
     subject: Option<&'a str>,
     holds: Option<&'a str>,
     log: Option<&'a str>,
 ) -> FileNames<'a>
-    ensures { result ≡ names_for tasks.now subject.entry holds.entry log.entry }
+    ensures { result ≡ names_for tasks.entry subject.entry holds.entry log.entry }
 {
+    let (map, scen) = match tasks {
+        Some(tasks) => (Some(tasks.map), Some(tasks.scen)),
+        None => (None, None),
+    };
     FileNames {
-        map: Some(tasks.map),
-        scen: Some(tasks.scen),
+        map,
+        scen,
         subject,
         holds,
         log,
     }
 }
 
-/// The files of a program for tasks, and these.
+/// The files of a request about a program for tasks.
 fn names_of_program<'a>(
     program: &ProgramFor<'a>,
     holds: Option<&'a str>,
@@ -45,20 +49,7 @@ fn names_of_program<'a>(
 ) -> FileNames<'a>
     ensures { result ≡ names_of_program program.now holds.entry log.entry }
 {
-    names_for(&program.tasks, Some(program.program), holds, log)
-}
-
-/// The file of a program, and that of the holds.
-fn names_alone<'a>(program: &'a str, holds: Option<&'a str>) -> FileNames<'a>
-    ensures { result ≡ names_alone program.entry holds.entry }
-{
-    FileNames {
-        map: None,
-        scen: None,
-        subject: Some(program),
-        holds,
-        log: None,
-    }
+    names_for(Some(program.tasks), Some(program.program), holds, log)
 }
 
 /// The files that the request's command reads.
@@ -66,17 +57,17 @@ fn names_of<'a>(request: &Request<'a>) -> FileNames<'a>
     ensures { result ≡ names_of request.now }
 {
     match request {
-        Request::Instance(q) => names_for(q, None, None, None),
-        Request::Check(q) => names_for(&q.tasks, Some(q.plan), None, None),
-        Request::Plan(q) => names_for(&q.tasks, None, None, None),
-        Request::Compile(q) => names_for(&q.tasks, Some(q.plan), None, None),
+        Request::Instance(q) => names_for(Some(*q), None, None, None),
+        Request::Check(q) => names_for(Some(q.tasks), Some(q.plan), None, None),
+        Request::Plan(q) => names_for(Some(q.tasks), None, None, None),
+        Request::Compile(q) => names_for(Some(q.tasks), Some(q.plan), None, None),
         Request::Verify(q) => names_of_program(q, None, None),
         Request::Run(q) => names_of_program(&q.subject, q.holds, None),
-        Request::Rehearse(q) => names_alone(q.program, q.holds),
-        Request::Auto(q) => names_for(&q.tasks, None, q.holds, None),
+        Request::Rehearse(q) => names_for(None, Some(q.program), q.holds, None),
+        Request::Auto(q) => names_for(Some(q.tasks), None, q.holds, None),
         Request::Thin(q) => names_of_program(&q.subject, None, None),
-        Request::Migrate(q) => names_alone(q.program, None),
-        Request::List(q) => names_alone(q.program, None),
+        Request::Migrate(q) => names_for(None, Some(q.program), None, None),
+        Request::List(q) => names_for(None, Some(q.program), None, None),
         Request::Dispatch(q) => names_of_program(&q.subject, None, q.resume),
         Request::Times(q) => names_of_program(&q.subject, q.costs, None),
         Request::Rest(q) => names_of_program(&q.subject, None, Some(q.reports)),

@@ -87,13 +87,13 @@ fn write_given<'a, F: Files>(
 /// Writes the bytes to the files that are named, one after another, and then prints the counts. Answers 0.
 pub(crate) fn write_out<'a, F: Files, O: Flush>(
     files: &mut F,
-    written: &[(Option<&'a str>, &[u8])],
+    written: &[(Option<&'a str>, &Vec<u8>)],
     out: &mut O,
     counts: &[(&'static str, u64)],
 ) -> Result<u8, Fault<'a>>
     requires { IsWorking (O.state out.old) }
     ensures { WritesFiles (F.contents files.old) (F.contents files.new)
-        (map (λ w. (w.0, w.1.now)) written.now) (count_lines (with_labels counts.now))
+        (map (λ w. (w.0, w.1.now.items)) written.now) (count_lines (with_labels counts.now))
         (O.state out.old) (O.state out.new) result }
 {
     match written {

@@ -14,7 +14,7 @@ use fleet_args::RestRequest;
 use fleet_code::encode_shortest;
 use fleet_dispatch::{DeadRobot, TimesFault, dead_robot_of, standings_after};
 use fleet_grid::{Grid, write_map};
-use fleet_model::{OutOfMemory, Program, ProgramView, Task, total_awaits, total_moves};
+use fleet_model::{Program, ProgramView, Task, total_awaits, total_moves};
 use fleet_run::Flush;
 use fleet_scen::{a_written_scenario_is_read, write_scen};
 use fleet_verify::{Accepted, rests_are_accepted};
@@ -175,10 +175,10 @@ pub(crate) fn do_rest<'a, F: Files, O: Flush>(
     write_out(
         files,
         &[
-            (Some(request.scen_out), rest.scen.as_slice()),
-            (request.map_out, rest.map.as_slice()),
-            (request.others_out, rest.others.as_slice()),
-            (Some(request.program_out), rest.bytes.as_slice()),
+            (Some(request.scen_out), &rest.scen),
+            (request.map_out, &rest.map),
+            (request.others_out, &rest.others),
+            (Some(request.program_out), &rest.bytes),
         ],
         out,
         &[

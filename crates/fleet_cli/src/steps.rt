@@ -42,8 +42,7 @@ pub(crate) fn read_problem<'a>(
 ) -> Result<Problem, Fault<'a>>
     ensures read { IfOk result (λ p. AreTextsOf texts.now.map.items texts.now.scen.items asked
         p.grid p.instance) }
-    ensures fault { IfErr result
-        (IsProblemRefusal texts.now.map.items texts.now.scen.items asked) }
+    ensures fault { IfErr result (IsProblemRefusal texts.now asked) }
 {
     let grid = or_refuse!(read_map(alloc, &texts.map), Fault::Map);
     let instance = or_refuse!(read_scen(alloc, &texts.scen, &grid, asked), Fault::Scen);

@@ -24,10 +24,8 @@ fn compile_texts<'a>(
     request: &CompileRequest<'_>,
     texts: FileTexts,
 ) -> Result<ProgramBytes, Fault<'a>>
-    ensures compiled { IfOk result (CompilesBytes texts.map.items texts.scen.items texts.subject.items
-        request.now.tasks.agents request.now.deps request.now.dwell) }
-    ensures fault { IfErr result (IsCompileFault texts.map.items texts.scen.items texts.subject.items
-        request.now.tasks.agents request.now.deps request.now.dwell) }
+    ensures compiled { IfOk result (CompilesBytes texts request.now) }
+    ensures fault { IfErr result (IsCompileFault texts request.now) }
 {
     let problem = read_problem(alloc, &texts, request.tasks.agents)?;
     let read = or_refuse!(read_plan(alloc, &texts.subject), Fault::Text);
@@ -59,7 +57,7 @@ pub(crate) fn do_compile<'a, F: Files, O: Flush>(
     let compiled = compile_texts(alloc, request, texts)?;
     write_out(
         files,
-        &[(Some(request.out), compiled.bytes.as_slice())],
+        &[(Some(request.out), &compiled.bytes)],
         out,
         &[
             ("agents", compiled.agents as u64),
@@ -84,11 +82,9 @@ fn thin_texts<'a>(
     request: &ThinRequest<'_>,
     texts: &FileTexts,
 ) -> Result<Thinned, Fault<'a>>
-    ensures thinned { IfOk result (λ t. ThinsTexts texts.now.map.items texts.now.scen.items
-        request.now.subject.tasks.agents texts.now.subject.items
+    ensures thinned { IfOk result (λ t. ThinsTexts texts.now request.now
         t.before t.made.awaits t.made.bytes.items) }
-    ensures fault { IfErr result (IsTextsRefusal texts.now.map.items texts.now.scen.items
-        request.now.subject.tasks.agents texts.now.subject.items) }
+    ensures fault { IfErr result (IsTextsRefusal texts.now request.now.subject.tasks.agents) }
 {
     let problem = read_problem(alloc, texts, request.subject.tasks.agents)?;
     let accepted = accept(alloc, texts, &problem)?;
@@ -116,7 +112,7 @@ pub(crate) fn do_thin<'a, F: Files, O: Flush>(
     let thinned = thin_texts(alloc, request, texts)?;
     write_out(
         files,
-        &[(Some(request.out), thinned.made.bytes.as_slice())],
+        &[(Some(request.out), &thinned.made.bytes)],
         out,
         &[
             ("awaits", thinned.before as u64),
@@ -149,6 +145,6 @@ pub(crate) fn do_migrate<'a, F: Files, O: Flush>(
         (O.state out.old) (O.state out.new) result }
 {
     let migrated = migrate_bytes(alloc, &texts.subject)?;
-    let written = [(Some(request.out), migrated.as_slice())];
+    let written = [(Some(request.out), &migrated)];
     write_out(files, &written, out, &[("bytes", migrated.len() as u64)])
 }

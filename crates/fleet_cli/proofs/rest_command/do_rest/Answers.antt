@@ -4,5 +4,4 @@ use Rattle.fleet_cli.proofs.rest_command.do_rest.Goals as goal
 pub returns : goal.returns
 returns g c =
     let rest = c.in_ok-rest.rest in
-    let written = rw (c.as_slice.ensures.value, c.as_slice-2.ensures.value, c.as_slice-3.ensures.value, c.as_slice-4.ensures.value, c.agents.ensures.count, c.total_moves.ensures, c.total_awaits.ensures, c.len.ensures ∙ rest.bytes.ok.0) at c.write_out.ensures in
-    inl (rest, c.in_ok-rest.ensures.made, written)
+    inl (rest, c.in_ok-rest.ensures.made, rw (c.agents.ensures.count, c.total_moves.ensures, c.total_awaits.ensures, c.len.ensures ∙ rest.bytes.ok.0) at c.write_out.ensures)

@@ -1,16 +1,15 @@
-use Rattle.std.proofs.Common.{◌≡◌, ◌<◌, List, ℕ, length, sym, ap, subst, ◌∙◌, None, inl, inr}
+use Rattle.std.proofs.Common.{◌≡◌, ◌<◌, List, ℕ, length, sym, ap, subst, ◌∙◌, inl, inr}
 use Rattle.std.proofs.lemmas.{Result.err_from_is_err_and, List.length-map, List.FromFn.length-range_with_len}
 use Rattle.std.specs.Prelude.{IfSome}
 use Rattle.fleet_model.specs.declared.task.Task.{Task}
 use Rattle.fleet_model.specs.Machine.{indices}
 use Rattle.fleet_model.specs.Accepted.{IsAccepted}
 use Rattle.fleet_grid.specs.Ground.{is_passable}
-use Rattle.fleet_scen.specs.ScenText.{IsScenText}
 use Rattle.fleet_scen.specs.ScenWriting.{scen_text}
 use Rattle.fleet_verify.specs.Rest.{cell_at, rest, rest_tasks}
 use Rattle.fleet_adg.specs.Remaining.{task_of, tasks_of}
 use Rattle.fleet_dispatch.specs.declared.dead_robot.DeadRobot.{DeadRobot}
-use Rattle.fleet_cli.specs.RestCommand.{IsRestOf, AreOthers}
+use Rattle.fleet_cli.specs.RestCommand.{IsRestOf}
 use Rattle.fleet_cli.proofs.rest_command.rest_texts.Goals as goal
 
 pub others_around-requires : goal.others_around-requires
@@ -25,7 +24,7 @@ returns-clause-made c =
     let passable = is_passable g in
     let p = c.in_ok-accepted.accepted.program.program in
     let q = c.in_ok-program.program in
-    let left = subst (λ (log : List ℕ). IsRestOf p log q) c.deref.ensures.value c.in_ok-program.ensures.rest in
+    let left : IsRestOf p c.args.texts.now.log.items q = rw c.deref.ensures.value at c.in_ok-program.ensures.rest in
     let ok = c.in_ok-accepted.ensures.accepted.accepted_for.accepted in
     let cells = cell_at left.standings in
     let made : IsAccepted passable (rest_tasks cells p) (rest cells p left.standings) = c.rests_are_accepted.ensures passable c.in_ok-problem.problem.instance p ok left.standings left.after.reached cells left.cells in
@@ -34,32 +33,36 @@ returns-clause-made c =
     let accepted : IsAccepted passable (tasks_of q) q = subst (λ (tasks : List Task). IsAccepted passable tasks q) same here in
     let instance = c.accepted_tasks_are_an_instance.ensures.instance g (tasks_of q) q c.agents-agents.ensures.well_formed accepted in
     let ends = c.accepted_tasks_are_an_instance.ensures.ends g (tasks_of q) q accepted in
-    let written : c.in_ok-scen.scen.items ≡ scen_text g.width g.height (tasks_of q) = c.in_ok-scen.ensures.scen ∙ ap (scen_text g.width g.height) (c.deref-2.ensures.value ∙ c.in_ok-tasks.ensures) in
-    record {
-      accepts = record { ground = g; tasks = c.in_ok-problem.problem.instance; texts = c.in_ok-problem.ensures.read; program = p; chain = c.in_ok-accepted.accepted.chain; accepts = c.in_ok-accepted.ensures.accepted };
-      left = left;
-      tasks = sym same;
-      accepted = accepted;
-      written = written;
-      stands = subst (λ (text : List ℕ). IsScenText text g None (tasks_of q)) (sym written) (c.a_written_scenario_is_read.ensures g (tasks_of q) c.width-width.ensures.sizes instance ends);
-      spelled = c.in_ok-bytes.ensures.shortest;
-      robot = c.in_ok-dead.dead;
-      dead = c.in_ok-dead.ensures.dead;
-      around = c.in_ok-map.ensures.map;
-      rest_of_them = subst (λ (tasks : List Task). AreOthers g tasks c.in_ok-dead.dead c.args.request.now.others_out c.in_ok-others.others.items) c.in_ok-tasks.ensures c.in_ok-others.ensures.scen;
-    }
+    let written : c.in_ok-scen.scen.items ≡ scen_text g.width g.height (tasks_of q) = c.in_ok-scen.ensures.scen ∙ ap (scen_text g.width g.height) (c.deref-2.ensures.value ∙ c.in_ok-tasks.ensures) in (
+      _,
+      _,
+      c.in_ok-problem.ensures.read,
+      (
+        _,
+        _,
+        c.in_ok-accepted.ensures.accepted,
+        record {
+          left = left;
+          tasks = sym same;
+          accepted = accepted;
+          written = written;
+          stands = rw written (c.a_written_scenario_is_read.ensures g (tasks_of q) c.width-width.ensures.sizes instance ends);
+          spelled = c.in_ok-bytes.ensures.shortest;
+          robot = c.in_ok-dead.dead;
+          dead = c.in_ok-dead.ensures.dead;
+          around = c.in_ok-map.ensures.map;
+          rest_of_them = rw c.in_ok-tasks.ensures at c.in_ok-others.ensures.scen;
+        },
+      ),
+    )
 
 pub returns-in_err-program-clause-fault : goal.returns-in_err-program-clause-fault
 returns-in_err-program-clause-fault c =
     let e = err_from_is_err_and c.from_residual-in_err-program.result c.from_residual-in_err-program.ensures.1 in
-    let p = c.in_ok-accepted.accepted.program.program in
-    let refused = rw c.deref.ensures.value at c.in_err-program.ensures.fault in
-    rw (e.1, e.2) (inr (record { ground = c.in_ok-problem.problem.grid; tasks = c.in_ok-problem.problem.instance; texts = c.in_ok-problem.ensures.read; program = p; chain = c.in_ok-accepted.accepted.chain; accepts = c.in_ok-accepted.ensures.accepted }, inl refused))
+    rw (e.1, e.2) (inr (_, _, c.in_ok-problem.ensures.read, (_, _, c.in_ok-accepted.ensures.accepted, inl (rw c.deref.ensures.value at c.in_err-program.ensures.fault))))
 
 pub returns-in_err-dead-clause-fault : goal.returns-in_err-dead-clause-fault
 returns-in_err-dead-clause-fault c =
     let e = err_from_is_err_and c.from_residual-in_err-dead.result c.from_residual-in_err-dead.ensures.1 in
-    let p = c.in_ok-accepted.accepted.program.program in
-    let q = c.in_ok-program.program in
-    let left = subst (λ (log : List ℕ). IsRestOf p log q) c.deref.ensures.value c.in_ok-program.ensures.rest in
-    rw (e.1, e.2) (inr (record { ground = c.in_ok-problem.problem.grid; tasks = c.in_ok-problem.problem.instance; texts = c.in_ok-problem.ensures.read; program = p; chain = c.in_ok-accepted.accepted.chain; accepts = c.in_ok-accepted.ensures.accepted }, inr (q, left, c.in_err-dead.ensures.fault)))
+    let left = rw c.deref.ensures.value at c.in_ok-program.ensures.rest in
+    rw (e.1, e.2) (inr (_, _, c.in_ok-problem.ensures.read, (_, _, c.in_ok-accepted.ensures.accepted, inr (_, left, c.in_err-dead.ensures.fault))))

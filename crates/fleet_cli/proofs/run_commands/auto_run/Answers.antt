@@ -8,8 +8,7 @@ use Rattle.fleet_scen.specs.declared.fault.ScenFault.{ScenFault}
 use Rattle.fleet_scen.specs.declared.fault.ScenFault.TheVariants as s
 use Rattle.fleet_cli.specs.Faults.{in_step}
 use Rattle.fleet_cli.specs.declared.fault.AutoFault.TheVariants as a
-use Rattle.fleet_cli.specs.Steps.{AreTextsOf, SpellsMade}
-use Rattle.fleet_cli.specs.RunCommands.{AutoRuns, one_try}
+use Rattle.fleet_cli.specs.RunCommands.{AutoRuns}
 use Rattle.fleet_cli.proofs.RunLemmas.{auto_stops, made, nothing_written}
 use Rattle.fleet_cli.proofs.run_commands.auto_run.Goals as goal
 
@@ -25,12 +24,9 @@ returns-in-Err-read_scen g c =
 
 pub returns : goal.returns
 returns g c =
-    let texts : AreTextsOf c.args.map.now c.args.scen.now c.args.asked c.in-Ok.grid c.in-Ok-read_scen.instance = record { ground = c.in-Ok.ensures.found; tasks_read = c.in-Ok-read_scen.ensures.found } in
-    let spelled : SpellsMade c.in-Ok.grid c.in-Ok-read_scen.instance c.args.horizon one_try c.args.deps c.in_ok-made.made.numbers c.deref.result.now = rw c.deref.ensures.value c.in_ok-made.ensures.made in
-    rw c.in_step-in-Err-run_accepted.ensures (auto_stops c.args.holds.now _ _ (made c.each_spelling_has_one_program.ensures.program texts spelled c.in-Ok-accept_made.ensures) c.in-Err-run_accepted.fault c.in-Err-run_accepted.ensures)
+    let m = made c.each_spelling_has_one_program.ensures.program (record { ground = c.in-Ok.ensures.found; tasks_read = c.in-Ok-read_scen.ensures.found }) c.in_ok-made.ensures.made (rw c.deref.ensures.value at c.in-Ok-accept_made.ensures) in
+    rw c.in_step-in-Err-run_accepted.ensures (auto_stops c.args.holds.now _ _ m c.in-Err-run_accepted.fault c.in-Err-run_accepted.ensures)
 
 pub returns-in-Ok-run_accepted : goal.returns-in-Ok-run_accepted
 returns-in-Ok-run_accepted g c =
-    let texts : AreTextsOf c.args.map.now c.args.scen.now c.args.asked c.in-Ok.grid c.in-Ok-read_scen.instance = record { ground = c.in-Ok.ensures.found; tasks_read = c.in-Ok-read_scen.ensures.found } in
-    let spelled : SpellsMade c.in-Ok.grid c.in-Ok-read_scen.instance c.args.horizon one_try c.args.deps c.in_ok-made.made.numbers c.deref.result.now = rw c.deref.ensures.value c.in_ok-made.ensures.made in
-    (made c.each_spelling_has_one_program.ensures.program texts spelled c.in-Ok-accept_made.ensures, c.in-Ok-run_accepted.ensures)
+    (made c.each_spelling_has_one_program.ensures.program (record { ground = c.in-Ok.ensures.found; tasks_read = c.in-Ok-read_scen.ensures.found }) c.in_ok-made.ensures.made (rw c.deref.ensures.value at c.in-Ok-accept_made.ensures), c.in-Ok-run_accepted.ensures)

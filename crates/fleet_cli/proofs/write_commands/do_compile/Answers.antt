@@ -5,5 +5,4 @@ pub returns : goal.returns
 returns g c =
     let compiled = c.in_ok-compiled.compiled in
     let made = c.in_ok-compiled.ensures.compiled in
-    let told = rw (c.as_slice.ensures.value, c.len.ensures ∙ compiled.bytes.ok.0, made.numbers.agents, made.numbers.moves, made.numbers.awaits) at c.write_out.ensures in
-    inl ((made.program, compiled.bytes.items), made.made, told)
+    inl ((made.program, compiled.bytes.items), made.made, rw (c.len.ensures ∙ compiled.bytes.ok.0, made.numbers.agents, made.numbers.moves, made.numbers.awaits) at c.write_out.ensures)

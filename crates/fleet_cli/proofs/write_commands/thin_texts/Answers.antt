@@ -9,15 +9,23 @@ returns-in-Ok-clause-thinned c =
     let made = c.in-Ok.ensures in
     let q = made.0 in
     let is = made.2.is in
-    let less = reduced_chains p q (thinned_reduced p q known.numbering.0 known.numbering.1 is) in
-    record {
-      accepts = record { ground = c.in_ok-problem.problem.grid; tasks = c.in_ok-problem.problem.instance; texts = c.in_ok-problem.ensures.read; program = p; chain = c.in_ok-accepted.accepted.chain; accepts = c.in_ok-accepted.ensures.accepted };
-      thinned = q;
-      is = is;
-      accepted = accepted_over p q (thinned_range p q is known.right.in_range) less (is_passable c.in_ok-problem.problem.grid) c.in_ok-problem.problem.instance known;
-      longest = made.2.longest;
-      equally = made.2.equally;
-      spelled = made.1.spelled;
-      had = rw (← c.program.ensures.program) c.total_awaits-before.ensures;
-      has = made.1.awaits;
-    }
+    let less = reduced_chains p q (thinned_reduced p q known.numbering.0 known.numbering.1 is) in (
+      _,
+      _,
+      c.in_ok-problem.ensures.read,
+      (
+        _,
+        _,
+        c.in_ok-accepted.ensures.accepted,
+        record {
+          thinned = q;
+          is = is;
+          accepted = accepted_over p q (thinned_range p q is known.right.in_range) less (is_passable c.in_ok-problem.problem.grid) c.in_ok-problem.problem.instance known;
+          longest = made.2.longest;
+          equally = made.2.equally;
+          spelled = made.1.spelled;
+          had = rw (← c.program.ensures.program) c.total_awaits-before.ensures;
+          has = made.1.awaits;
+        },
+      ),
+    )

@@ -4,7 +4,6 @@ ghost use Rattle.std.specs.Prelude.{◌≡◌, ◌≢◌, ◌<◌, ◌≤◌, �
 ghost use Rattle.fleet_model.specs.declared.geometry.Cell.{Cell};
 ghost use Rattle.fleet_model.specs.declared.program.Visit.{Visit};
 ghost use Rattle.fleet_model.specs.Geometry.{place_of};
-ghost use Rattle.fleet_model.specs.declared.limits.TheConstants.{MAX_AGENTS};
 ghost use Rattle.fleet_verify.specs.Order.{AreAddedBy, IsOpenNext, numbered_cell};
 ghost use Rattle.fleet_model.specs.Program.{Program, start_of, moves, path, IsCell};
 ghost use Rattle.fleet_model.specs.Visit.{IsVisit, ComesAfterByAwait, leaving};
@@ -28,8 +27,8 @@ use crate::queue::Queue;
 use crate::unheld_run::Stop;
 use fleet_grid::Grid;
 use fleet_model::{
-    Await, Cell, Instruction, MAX_AGENTS, MAX_MOVES_IN_ALL, OutOfMemory, Place, ProgramView, Step,
-    Visit, total_moves,
+    Await, Cell, Instruction, MAX_MOVES_IN_ALL, OutOfMemory, Place, ProgramView, Step, Visit,
+    total_moves,
 };
 use fleet_scen::Instance;
 use std::alloc::Global;
@@ -322,20 +321,14 @@ fn enter<P: ProgramView>(
     }
 }
 
-/// Whether the visit is by the agent of the one before, or the await is met only if that is left. Mostly it is the
-/// first action after that visit that is awaited.
+/// Whether the visit is by the agent of the one before, or the await is met only if that is left.
 #[inline(always)]
 fn follows<P: ProgramView>(program: &P, first: Visit, second: Visit, latest: Await) -> bool
-    requires few { first.agent < MAX_AGENTS }
-    requires agent { second.agent < length (P.program program.now) }
     requires latest { IsAwaitOrOwn (P.program program.now) second.agent second.position latest }
     requires earlier { first.agent ≡ second.agent → first.position < second.position }
     ensures { IsTrue result → ComesAfterByAwait (P.program program.now) first second }
 {
     let _agents = program.agents();
-    if is_first_after(first, latest) && program.never_stays() {
-        return true;
-    }
     if first.agent == second.agent {
         return true;
     }
@@ -343,19 +336,6 @@ fn follows<P: ProgramView>(program: &P, first: Visit, second: Visit, latest: Awa
         return false;
     }
     is_left_if_met(program, first, latest)
-}
-
-/// Whether the first action after the visit's position is awaited. Its agent and its number are compared at once.
-#[inline(always)]
-fn is_first_after(visit: Visit, awaited: Await) -> bool
-    requires visit { visit.agent < MAX_AGENTS }
-    requires awaited { awaited.agent < MAX_AGENTS }
-    ensures { IsTrue result
-        ↔ (awaited.agent ≡ visit.agent) × (awaited.count ≡ visit.position + 1) }
-{
-    let agents = MAX_AGENTS as u64;
-    let visited = u64::from(visit.position) * agents + u64::from(visit.agent);
-    visited + agents == u64::from(awaited.count) * agents + u64::from(awaited.agent)
 }
 
 /// Whether the await is met only if the visit is left.
@@ -378,7 +358,6 @@ fn open_unless_follows<P: ProgramView>(
     latest: Await,
     pairs: &mut Vec<OpenPair>,
 ) -> Result<(), OutOfMemory>
-    requires few { first.agent < MAX_AGENTS }
     requires visit { IsVisit (P.program program.now) placed.visit }
     requires latest { IsAwaitOrOwn (P.program program.now) placed.visit.agent placed.visit.position
         latest }

@@ -1,6 +1,6 @@
 //! The last visit of each cell so far, in squares of cells: most moves stay in the square that was looked at last.
 
-ghost use Rattle.std.specs.Prelude.{◌≡◌, ◌≢◌, ◌≤◌, ◌<◌, ◌^◌, ◌↔◌, ℕ, get_or, Some, None, IfOk, IfSome, IsOk, IsTrue, OnOk};
+ghost use Rattle.std.specs.Prelude.{◌≡◌, ◌≢◌, ◌≤◌, ◌<◌, ◌^◌, ◌↔◌, ℕ, get_or, Some, None, IfOk, IsOk, IsTrue, OnOk};
 ghost use Rattle.fleet_model.specs.declared.geometry.Cell.{Cell};
 ghost use Rattle.fleet_model.specs.declared.limits.TheConstants.{MAX_AGENTS, MAX_MOVES};
 ghost use Rattle.fleet_model.specs.Program.{IsCell};
@@ -86,7 +86,6 @@ impl LastVisits {
         requires agent { visit.agent < MAX_AGENTS }
         requires position { visit.position ≤ MAX_MOVES }
         ensures before { IfOk result (λ before. before ≡ kept_at self.old cell) }
-        ensures few { IfOk result (λ before. IfSome before (λ v. v.agent < MAX_AGENTS)) }
         ensures here { OnOk result (kept_at self.new cell ≡ Some visit) }
         ensures others { OnOk result ((c : Cell) → IsCell c → c ≢ cell
             → kept_at self.new c ≡ kept_at self.old c) }
@@ -146,8 +145,7 @@ fn number_of_visit(visit: Visit) -> u32
 /// The visit that is kept as this number.
 #[inline(always)]
 fn visit_of_number(number: u32) -> Option<Visit>
-    ensures visit { result ≡ visit_kept number }
-    ensures few { IfSome result (λ v. v.agent < MAX_AGENTS) }
+    ensures { result ≡ visit_kept number }
 {
     if number == NO_VISIT {
         return None;
@@ -170,7 +168,6 @@ fn replace_in(
     requires agent { visit.agent < MAX_AGENTS }
     requires position { visit.position ≤ MAX_MOVES }
     ensures before { result ≡ last_in squares.old cell }
-    ensures few { IfSome result (λ v. v.agent < MAX_AGENTS) }
     ensures here { last_in squares.new cell ≡ Some visit }
     ensures others { (c : Cell) → IsCell c → c ≢ cell
         → last_in squares.new c ≡ last_in squares.old c }

@@ -9,7 +9,7 @@ pub returns-clause-before : goal.returns-clause-before
 returns-clause-before c =
     let m = c.args.squares.now in
     let square = c.pair_mut-square.result.1.now in
-    c.visit_of_number.ensures.visit
+    c.visit_of_number.ensures
     ∙ kept_read m c.args.cell (square_of c.args.cell) c.place_of_cell.result c.exchange-before.result square
     (found_square m c.args.slot (square_of c.args.cell) c.pair_mut-square.result.0.now square c.pair_mut-square.ensures.unique c.pair_mut-square.ensures.value c.requires.at)
     refl c.place_of_cell.ensures.place c.exchange-before.ensures.before

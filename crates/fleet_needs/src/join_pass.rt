@@ -115,7 +115,12 @@ pub(crate) fn use_joins<P: ProgramView, U: JoinUse>(
     ensures keeps { OnOk result (U.keeps (P.program program.now) columns uses.old uses.new) }
 {
     let mut row = Counts::zeros(alloc, usize::from(columns.width), schedule.is_narrow)?;
-    let mut rows = SlotRows::new(alloc, schedule, columns)?;
+    let room = schedule.slots as usize * usize::from(columns.width);
+    let mut rows = SlotRows {
+        schedule,
+        columns,
+        counts: Counts::zeros(alloc, room, schedule.is_narrow)?,
+    };
     for n in 0..schedule.joins.len() {
         make_row(program, &rows, n, &mut row, uses)?;
         rows.keep_row(program, n, &row);
@@ -243,26 +248,6 @@ pub struct SlotRows<'a> {
 }
 
 impl<'a> SlotRows<'a> {
-    /// No rows yet.
-    pub(crate) fn new(
-        alloc: Global,
-        schedule: &'a Schedule,
-        columns: Columns,
-    ) -> Result<SlotRows<'a>, OutOfMemory>
-        ensures schedule { IfOk result (λ m. m.schedule ≡ schedule.entry) }
-        ensures columns { IfOk result (λ m. m.columns ≡ columns) }
-        ensures room { IfOk result (λ m. length (counts_of m.counts)
-            ≡ schedule.now.slots * columns.width) }
-        ensures narrow { IfOk result (λ m. are_narrow m.counts ≡ schedule.now.is_narrow) }
-    {
-        let room = schedule.slots as usize * usize::from(columns.width);
-        Ok(SlotRows {
-            schedule,
-            columns,
-            counts: Counts::zeros(alloc, room, schedule.is_narrow)?,
-        })
-    }
-
     /// Where the counts of a row that is still in its slot begin.
     fn begin(&self, r: u32) -> usize
         requires some { 1 ≤ r }

@@ -1,22 +1,20 @@
 -- Words that begin with the name of a command are read as that command by itself reads the words after it.
-use Rattle.std.proofs.Common.{◌≡◌, ◌≢◌, ◌⊎◌, inl, inr, ◌<◌, ◌∙◌, ◌++◌, ℕ, Bool, List, [], ◌∷◌, Option, Some, None, cond, get_or, map, true, false, refl, sym, ap, subst, arith, ltb-false, append_assoc, append-nil, ◌≤◌, length, drop, take, ◌-◌}
+use Rattle.std.proofs.Common.{◌≡◌, ◌≢◌, ◌⊎◌, inl, inr, ◌<◌, ◌∙◌, ℕ, Bool, List, [], ◌∷◌, Option, Some, None, cond, get_or, map, true, false, refl, sym, ap, subst, arith, ltb-false, ◌≤◌, length, drop, take, ◌-◌}
+use Rattle.std.proofs.lemmas.{List.get_or-map, List.length-map, List.take_all, List.Quantifiers.position-Some, List.Folds.list_any_none, List.Sums.fails_before_first, Slice.Eq.bytes_eq-Decides}
 use Rattle.std.specs.List.{fold, find, list_any, position, position_or_len}
 use Rattle.std.specs.{Str.bytes_eq, Option.option_map, Option.option_map_or}
-use Rattle.std.proofs.lemmas.{List.get_or-map, List.length-map, List.take_all, List.Quantifiers.position-Some, List.Folds.list_any_none, List.Sums.fails_before_first, Slice.Eq.bytes_eq-Decides}
 use Rattle.clap.specs.Kinds.{Kinds, or_else}
-use Rattle.clap.specs.Words.{App, Shape, Rule, Text, HasMatchesOf, IsAmong, found_of, is_simple_and_free, fault_of, matches_of, rows_of, subcommand_of}
+use Rattle.clap.specs.Words.{App, Shape, Text, HasMatchesOf, IsAmong, found_of, is_simple_and_free, fault_of, matches_of, rows_of, subcommand_of}
 use Rattle.clap.specs.Simple.{built, entered, label_of, names_of, rows_at}
-use Rattle.clap.specs.Walk.{Names, Walk, answers_to, finished, idle, nothing_held, settled, stop_after, subcommand_met, walk, walk_from, walked}
+use Rattle.clap.specs.Walk.{Walk, answers_to, finished, idle, nothing_held, settled, stop_after, subcommand_met, walk, walk_from, walked}
 use Rattle.clap.specs.Faults.{built_fault, check_fault, defaults_fault, entered_fault, level_fault, other_fault, settle_fault, walk_fault}
 use Rattle.clap.specs.declared.{parser.ArgMatches.ArgMatches, error.kind.ErrorKind.ErrorKind}
 use Rattle.clap.specs.declared.error.kind.ErrorKind.TheVariants as kind
 use Rattle.clap.proofs.FaultLemmas.{leaf_fault, stopped_fault}
-use Rattle.clap.proofs.WalkLemmas.{both, list_any-map}
+use Rattle.clap.proofs.WalkLemmas.{both, list_any-map, walk_stopped}
 use Rattle.fleet_args.specs.declared.{arguments.Argument.Argument, arguments.CommandText.CommandText, arguments.OptionNames.OptionNames}
-use Rattle.fleet_args.specs.Arguments.{own, said, shape_in}
-use Rattle.fleet_args.specs.Commands.{commands, fleet}
-use Rattle.fleet_args.proofs.NoCommand.{unnamed}
-use Rattle.fleet_args.proofs.RequestLemmas.{faultless}
+use Rattle.fleet_args.specs.{Arguments.own, Arguments.said, Arguments.shape_in, Commands.commands, Commands.fleet}
+use Rattle.fleet_args.proofs.{NoCommand.unnamed, RequestLemmas.faultless}
 
 -- the command at this place
 abbrev pub command_at : ℕ → Text × List Argument
@@ -27,15 +25,6 @@ pub same_at : {Y : Type 0} (f g : Text × List Argument → Y) → map f command
 same_at {Y} f g same j lt =
     let none : Y = f ([], []) in
     sym (get_or-map f commands j ([], []) none lt) ∙ ap (λ l. get_or l j none) same ∙ get_or-map g commands j ([], []) none lt
-
--- a walk that has stopped only gathers the words that are left
-stopped_walk : (c : List Rule) (names : Names) (w : Walk) (p : Text × List Text) → w.stopped ≡ Some p → (rest : List Text)
-    → fold (walked c names) w rest ≡ record w { stopped = Some (p.0, p.1 ++ rest) }
-unfolding walked
-stopped_walk c names w p is [] = rw (append-nil p.1) (ap (λ (o : Option (Text × List Text)). record w { stopped = o }) is)
-stopped_walk c names w p is (word ∷ rest) =
-    let next : Walk = record w { stopped = Some (p.0, p.1 ++ word ∷ []) } in
-    rw is (stopped_walk c names next (p.0, p.1 ++ word ∷ []) refl rest ∙ ap (λ (l : List Text). record w { stopped = Some (p.0, l) }) (append_assoc p.1 (word ∷ []) rest))
 
 or_none : (ks : Kinds) → or_else ks [] ≡ ks
 or_none [] = refl
@@ -66,7 +55,7 @@ module _ (b : App) (word : Text) (c : Shape) (meets : Meets b word c) (rest : Li
   walk_is : walk b.top.rules (names_of b) nothing_held (word ∷ rest) ≡ record (walk_from nothing_held) { stopped = Some (word, rest) }
   walk_is =
       ap (λ (w : Walk). fold (walked b.top.rules (names_of b)) w rest) first_step
-      ∙ stopped_walk b.top.rules (names_of b) at (word, []) refl rest
+      ∙ sym (walk_stopped b.top.rules (names_of b) (walk_from nothing_held) word [] rest)
 
   entered_is : entered b (stop_after b.top.rules (names_of b) (word ∷ rest)) ≡ Some (rows_at c rest)
   entered_is = ap (λ (w : Walk). entered b w.stopped) walk_is ∙ ap (option_map (λ x. rows_at x rest)) meets.found

@@ -1,10 +1,10 @@
 -- What a command by itself has for its arguments, if a parse of it succeeds.
 use Rattle.std.proofs.Common.{◌≡◌, ◌∙◌, ◌⊎◌, inl, inr, ◌&&◌, ◌||◌, ◌<◌, ◌≤◌, ◌^◌, ℕ, zero, suc, Bool, cond, true, false, not, List, [], ◌∷◌, map, length, Option, Some, None, codes, is_some, nat_lt, refl, sym, ap, subst, arith, true≢false, ltb-true, lt-ltb, get_or}
+use Rattle.std.proofs.lemmas.{Bool.or_right, List.get_or-map, List.length-map, List.Elements.All-from_get_or, List.Elements.All-get_or, List.Elements.recursion_from_All, List.Folds.list_any_at, List.Sums.AllPass-from_list_all, Slice.Eq.bytes_eq-Decides}
 use Rattle.std.specs.Prelude.{pos, if◌then◌else◌, MatchBool, ⊤}
 use Rattle.std.specs.{Borrow.Bor, Char.digit_value, Str.bytes_eq}
 use Rattle.std.specs.List.{All, Any, find, list_all, list_any, position, slice_index_or}
 use Rattle.std.specs.Str.Parse.{AllDigits, ParsesUnsigned, digits_value, without_leading_plus}
-use Rattle.std.proofs.lemmas.{Bool.or_right, List.get_or-map, List.length-map, List.Elements.All-from_get_or, List.Elements.All-get_or, List.Elements.recursion_from_All, List.Folds.list_any_at, List.Sums.AllPass-from_list_all, Slice.Eq.bytes_eq-Decides}
 use Rattle.clap.specs.{Lexer.without_minus, ValueTests.is_numeral, Values.Accepts, Values.read_as, Values.reading_of, Faults.has_free_rules}
 use Rattle.clap.specs.Facts.{AllowsNone, EntryPasses, Entry, HasReading, IsCountArg, PassesArg, args_of, least_values, parser_of, parser_of_value, unwrap_or_range}
 use Rattle.clap.specs.Built.{IsAuto, IsParsedFrom, IsPlain, SameRules}
@@ -14,18 +14,16 @@ use Rattle.clap.specs.Walk.{Rule, Text, is_empty, rule_of}
 use Rattle.clap.specs.declared.{builder.action.ArgAction.TheVariants.Count, builder.action.ArgAction.TheVariants.Set, builder.arg.Arg.Arg, builder.command.Command.Command, builder.command.Command.TheViews.out-Command, builder.range.ValueRange.ValueRange, builder.value_parser.Reading.Reading, builder.value_parser.ValueParser.ValueParser, parser.matches.ArgMatches.ArgMatches, parser.matches.Found.Found, parser.matches.MatchedArg.MatchedArg}
 use Rattle.clap.specs.declared.builder.value_parser.ValueParser.TheVariants as parser
 use Rattle.clap.proofs.CallerLemmas.{entry_by_id, required_has_value, same_rules_by_id}
-use Rattle.clap.proofs.CallerReads.{signed_reads}
-use Rattle.clap.proofs.SimpleLemmas.{ready_simple, simple_groups}
-use Rattle.clap.proofs.TakesLemmas.{each_rule, free_arg}
-use Rattle.clap.proofs.WalkLemmas.{both, list_any-map}
+use Rattle.clap.proofs.{CallerReads.signed_reads, SimpleLemmas.ready_simple, SimpleLemmas.simple_groups}
+use Rattle.clap.proofs.{TakesLemmas.each_rule, TakesLemmas.free_arg, WalkLemmas.both, WalkLemmas.list_any-map}
 use Rattle.fleet_model.specs.declared.deps.Deps.TheVariants as deps
 use Rattle.fleet_args.specs.declared.{arguments.Argument.Argument, arguments.CommandText.CommandText, arguments.Form.Form, arguments.OptionNames.OptionNames}
-use Rattle.fleet_args.specs.declared.arguments.Argument.TheVariants as argument_is
-use Rattle.fleet_args.specs.declared.arguments.Form.TheVariants as form
-use Rattle.fleet_args.specs.declared.commands.Best.TheVariants as best_is
 use Rattle.fleet_args.specs.Arguments.{AreNames, described, own, rule_by, rule_for, said, shape_in}
 use Rattle.fleet_args.specs.Commands.{HasAll, HasValues, commands}
 use Rattle.fleet_args.specs.Values.{HasNumber, HasValue, HasValueBy, InBits, IsUsed, values_found, values_in}
+use Rattle.fleet_args.specs.declared.arguments.Argument.TheVariants as argument_is
+use Rattle.fleet_args.specs.declared.arguments.Form.TheVariants as form
+use Rattle.fleet_args.specs.declared.commands.Best.TheVariants as best_is
 use Rattle.fleet_args.proofs.OwnCommand.{command_at, same_at, text_is}
 
 -- ---- numbers

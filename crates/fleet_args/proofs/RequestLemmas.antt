@@ -1,15 +1,13 @@
 -- From the getters of the matches to what the words ask.
 use Rattle.std.proofs.Common.{◌≡◌, ◌≢◌, ◌∙◌, ◌⊎◌, inl, inr, not, ℕ, Bool, true, false, List, [], ◌∷◌, Option, Some, None, Result, Ok, Err, refl, sym, ap, subst, true≢false}
-use Rattle.std.specs.{List.list_any, Str.Parse.ParsesUnsigned}
 use Rattle.std.proofs.lemmas.Bool.{or_right}
+use Rattle.std.specs.{List.list_any, Str.Parse.ParsesUnsigned}
 use Rattle.clap.specs.Words.{App, Text, rows_of, first_of, one_of, first_value, one_text, fault_of, subcommand_of, takes, is_simple_and_free, IsAmong}
-use Rattle.clap.specs.Matches.{ReadsOne}
-use Rattle.clap.specs.declared.{error.ErrorKind.ErrorKind, parser.matches.Found.Found}
+use Rattle.clap.specs.{Matches.ReadsOne, declared.error.ErrorKind.ErrorKind, declared.parser.matches.Found.Found}
 use Rattle.clap.specs.declared.error.ErrorKind.TheVariants as kind
 use Rattle.clap.proofs.WalkLemmas.{first_value-rows, one_text-rows}
 use Rattle.fleet_args.specs.Values.{HasNumber, IsNumberIfUsed, values_found, values_of}
-use Rattle.fleet_args.specs.Commands.{AsksCommand}
-use Rattle.fleet_args.specs.Request.{Asks, is_help, IsStopOf, StopsFor}
+use Rattle.fleet_args.specs.{Commands.AsksCommand, Request.Asks, Request.is_help, Request.IsStopOf, Request.StopsFor}
 use Rattle.fleet_args.specs.declared.{commands.Request.Request, request.WordStop.WordStop}
 use Rattle.fleet_args.specs.declared.request.WordStop.TheVariants as stop
 

@@ -2,12 +2,11 @@
 use Rattle.std.specs.Prelude.{◌≡◌, true, List, [], ◌∷◌, Option, None, Some, codes, fold, map}
 use Rattle.std.specs.{List.AllByRecursion, List.find, Str.bytes_eq}
 use Rattle.clap.specs.Words.{App, Shape, Text, new_app, with_subcommand}
-pub use Rattle.fleet_args.specs.Arguments.{AreNames}
-pub use Rattle.fleet_args.specs.declared.arguments.OptionNames.{OptionNames}
+pub use Rattle.fleet_args.specs.{Arguments.AreNames, declared.arguments.OptionNames.OptionNames}
 use Rattle.fleet_args.specs.Arguments.{shape_in}
-use Rattle.fleet_model.specs.declared.deps.Deps.TheVariants.{Last}
 use Rattle.fleet_args.specs.Values.{Values, IsText, IsTextIfUsed, IsNumberIfUsed, IsNumberOr, AreDepsOr, IsBestIfUsed, IsFlag, HasValue}
 use Rattle.fleet_args.specs.declared.{arguments.Argument.Argument, commands.ProgramFor.ProgramFor, commands.Tasks.Tasks, commands.Tries.Tries, commands.Request.Request}
+use Rattle.fleet_model.specs.declared.deps.Deps.TheVariants.{Last}
 use Rattle.fleet_args.specs.declared.arguments.Argument.TheVariants as a
 use Rattle.fleet_args.specs.declared.commands.Request.TheVariants as r
 

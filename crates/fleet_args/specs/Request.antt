@@ -5,8 +5,7 @@ use Rattle.clap.specs.Words.{App, Row, Text, subcommand_of, takes, fault_of}
 use Rattle.clap.specs.declared.error.ErrorKind.{ErrorKind}
 use Rattle.clap.specs.declared.error.ErrorKind.TheVariants as kind
 use Rattle.fleet_args.specs.Commands.{OptionNames, AreNames, AsksCommand, fleet}
-use Rattle.fleet_args.specs.Values.{values_of}
-use Rattle.fleet_args.specs.declared.{commands.Request.Request, request.WordStop.WordStop}
+use Rattle.fleet_args.specs.{Values.values_of, declared.commands.Request.Request, declared.request.WordStop.WordStop}
 use Rattle.fleet_args.specs.declared.request.WordStop.TheVariants as stop
 
 -- the words ask for help or for the version

@@ -1,6 +1,5 @@
 use Rattle.std.proofs.Common.{◌≡◌, ◌∙◌, ap}
-use Rattle.clap.specs.Words.{Rule, rule_of}
-use Rattle.clap.specs.declared.builder.Arg.{Arg}
+use Rattle.clap.specs.{Words.Rule, Words.rule_of, declared.builder.Arg.Arg}
 use Rattle.fleet_args.specs.Arguments.{plain_rule, rule_by}
 use Rattle.fleet_args.proofs.arguments.arg_of.Goals as goal
 

@@ -1,11 +1,9 @@
 use Rattle.std.proofs.Common.{◌≢◌, ap, map, rules, string_bytes, sym}
 use Rattle.clap.specs.Words.{app_of, found_of, kind_of}
 use Rattle.clap.specs.declared.error.kind.ErrorKind.TheVariants as kind
-use Rattle.fleet_args.specs.Arguments.{said}
-use Rattle.fleet_args.specs.Commands.{fleet}
+use Rattle.fleet_args.specs.{Arguments.said, Commands.fleet}
 use Rattle.fleet_args.proofs.OwnCommand.{found_by_name, none_named, refused_by_name}
-use Rattle.fleet_args.proofs.OwnValues.{values_there}
-use Rattle.fleet_args.proofs.RequestLemmas.{request_found}
+use Rattle.fleet_args.proofs.{OwnValues.values_there, RequestLemmas.request_found}
 use Rattle.fleet_args.proofs.request.read_alone.Goals as goal
 
 pub returns-in_default-place_of_command : goal.returns-in_default-place_of_command

@@ -400,7 +400,7 @@ really_over false text at end row row' h e = absurd cc
 
 pub not_over : (b : Bool) (text : List ℕ) (at end : ℕ) (row row' : List ℕ) → WritesOver b text at end row row' → b ≡ false → row' ≡ row
 not_over true text at end row row' h e = absurd cc
-not_over false text at end row row' h e = h
+not_over false text at end row row' h e = h.same
 
 -- where a numeral of a line ends, and its text
 pub numeral_there : (ns : List Numeral) (k : ℕ) (n : Numeral) (row begins : List ℕ) → HasNumerals ns row begins → IsNumeralAt ns k n

@@ -1,5 +1,5 @@
 -- A line that is kept from tick to tick.
-use Rattle.std.specs.Prelude.{◌≡◌, ◌≤◌, ◌<◌, ◌+◌, ◌-◌, ◌*◌, ◌++◌, ◌∷◌, ◌⊎◌, ℤ, pos, ◌+ℤ◌, ◌≤ℤ◌, ◌/◌, ◌%◌, ◌^◌, ℕ, Bool, true, false, List, [], length, map, set, take, drop, get_or, codes}
+use Rattle.std.specs.Prelude.{◌≡◌, ◌≢◌, ◌≤◌, ◌<◌, ◌+◌, ◌-◌, ◌*◌, ◌++◌, ◌∷◌, ◌⊎◌, ℤ, pos, ◌+ℤ◌, ◌≤ℤ◌, ◌/◌, ◌%◌, ◌^◌, ℕ, Bool, true, false, List, [], length, map, set, take, drop, get_or, codes}
 use Rattle.std.specs.List.{flat_map, copy_within}
 use Rattle.std.specs.Fmt.{signed_decimal}
 use Rattle.fleet_model.specs.declared.geometry.Place.{Place}
@@ -68,10 +68,15 @@ pub record IsWrittenOver (text : List ℕ) (at end : ℕ) (row row' : List ℕ) 
   pub fits : at + length text ≡ end
   pub written : row' ≡ take at row ++ (text ++ drop end row)
 
--- the text was written over those bytes, or all bytes are as they were
+-- the text has more bytes or fewer, and all bytes are as they were
+pub record HasOtherLength (text : List ℕ) (at end : ℕ) (row row' : List ℕ) : Type 0 where
+  pub other : at + length text ≢ end
+  pub same : row' ≡ row
+
+-- the text was written over those bytes, or has more or fewer
 abbrev pub WritesOver : Bool → (text : List ℕ) (at end : ℕ) (row row' : List ℕ) → Type 0
 WritesOver true text at end row row' = IsWrittenOver text at end row row'
-WritesOver false text at end row row' = row' ≡ row
+WritesOver false text at end row row' = HasOtherLength text at end row row'
 
 -- the bytes before a numeral, from the first one on, are moved so far that a text which begins at `to` ends where the
 -- numeral does
@@ -97,6 +102,10 @@ pub record AreClose (a b : ℤ) : Type 0 where
 pub record IsDigit (code : ℕ) : Type 0 where
   pub first : 48 ≤ code
   pub last : code ≤ 57
+
+-- one of the numbers is negative, or they do not have as many tens
+abbrev pub HaveOtherTens : ℤ → ℤ → Type 0
+HaveOtherTens old new = (m n : ℕ) → old ≡ pos m → new ≡ pos n → m / 10 ≢ n / 10
 
 -- neither number is negative, both have as many tens, and the last digit of the new one was written there
 pub record IsDigitOver (old new : ℤ) (at : ℕ) (row row' : List ℕ) : Type 0 where

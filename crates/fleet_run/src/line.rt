@@ -6,7 +6,7 @@ ghost use Rattle.std.specs.List.{copy_within};
 ghost use Rattle.std.specs.Fmt.{decimal};
 ghost use Rattle.fleet_model.specs.declared.standing.Standing.{Standing};
 ghost use Rattle.fleet_model.specs.Machine.{Configuration, standing_at};
-ghost use Rattle.fleet_run.specs.Line.{AreClose, EndsWith, HasNumerals, IsBeside, IsDigit, IsDigitOver, IsLineKept, IsKeptBefore, IsNumeralAt, IsResized, Numeral, WritesOver, numeral, numeral_text, places_of};
+ghost use Rattle.fleet_run.specs.Line.{AreClose, EndsWith, HasNumerals, HaveOtherTens, IsBeside, IsDigit, IsDigitOver, IsLineKept, IsKeptBefore, IsNumeralAt, IsResized, Numeral, WritesOver, numeral, numeral_text, places_of};
 
 use crate::trace::{LINE, NUMBER, write_count, write_separated};
 use fleet_machine::Machine;
@@ -172,7 +172,11 @@ fn resize_to(at: usize, text: &[u8], row: &mut [u8], begins: &mut [u16]) -> bool
     requires before { (k : ℕ) → k < at + 1
         → (get_or begins.old 0 0 ≤ get_or begins.old k 0) × (get_or begins.old k 0 ≤ LINE) }
     requires short { length text.now ≤ NUMBER }
-    ensures { result ≡ true → IsResized at text.now row.old row.new begins.old begins.new }
+    ensures resized { result ≡ true
+        → IsResized at text.now row.old row.new begins.old begins.new }
+    ensures full { result ≡ false
+        → get_or begins.old 0 0 + get_or begins.old (at + 1) 0
+        < get_or begins.old at 0 + TIME + length text.now }
 {
     let front = usize::from(begins[0]);
     let begin = usize::from(begins[at]);
@@ -260,6 +264,7 @@ fn patch_digit(old: i32, new: i32, row: &mut [u8], at: usize) -> bool
         → slice_index row.old at ≡ 48 + m % 10 }
     ensures same { result ≡ false → row.new ≡ row.old }
     ensures patched { result ≡ true → IsDigitOver old new at row.old row.new }
+    ensures other { result ≡ false → HaveOtherTens old new }
 {
     let (Some(m), Some(n)) = (natural(old), natural(new)) else {
         return false;
@@ -282,6 +287,7 @@ fn patch(at: usize, old: i32, new: i32, row: &mut [u8], begins: &[u16]) -> bool
         → HasNumerals ns row.old begins.now → IsNumeralAt ns at (numeral separator old)
         → HasNumerals (set ns at (numeral separator new)) row.new begins.now }
     ensures same { result ≡ false → row.new ≡ row.old }
+    ensures other { result ≡ false → HaveOtherTens old new }
 {
     let end = usize::from(begins[at + 1]);
     patch_digit(old, new, row, end - 1)

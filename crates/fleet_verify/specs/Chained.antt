@@ -1,5 +1,6 @@
--- Open pairs as questions for chains, with the levels of the actions that enter their second visits.
-use Rattle.std.specs.Prelude.{◌≡◌, ℕ, ◌<◌, ◌≤◌, Bool, false, List, length, get_or, slice_get, Some}
+-- Open pairs as questions for chains, and what was answered to questions.
+use Rattle.std.specs.Prelude.{◌≡◌, ℕ, ◌+◌, ◌*◌, ◌<◌, ◌≤◌, Bool, false, List, length, get_or, slice_get, Some, All}
+use Rattle.fleet_model.specs.declared.program.ActionId.{ActionId}
 use Rattle.fleet_model.specs.declared.program.Visit.{Visit}
 use Rattle.fleet_model.specs.Program.{Program}
 use Rattle.fleet_model.specs.Chain.{Reaches}
@@ -9,6 +10,7 @@ use Rattle.fleet_needs.specs.declared.questions.Question.{Question}
 use Rattle.fleet_verify.specs.Ahead.{level_in, count_in}
 use Rattle.fleet_verify.specs.OpenPairs.{question_of}
 use Rattle.fleet_verify.specs.declared.chained.Answers.{Answers}
+use Rattle.fleet_verify.specs.declared.chained.TheConstants.{NUMBERS}
 use Rattle.fleet_verify.specs.declared.order.OpenPair.{OpenPair}
 
 -- a chain begins with the action that leaves the first visit and ends with the one that enters the second
@@ -32,6 +34,19 @@ pub record IsAskedOf (p : Program) (o : OpenPair) (q : Question) : Type 0 where
 pub record AreAsked (p : Program) (pairs : List OpenPair) (asked : List Question) : Type 0 where
   pub all : length asked ≡ length pairs
   pub each : (k : ℕ) (o : OpenPair) (q : Question) → k < length pairs → IsAskedOf p (get_or pairs k o) (get_or asked k q)
+
+-- one number for an action
+abbrev pub key_of : ActionId → ℕ
+key_of a = a.agent * NUMBERS + a.number
+
+-- no two of the questions end with the same action
+abbrev pub EndApart : List Question → Type 0
+EndApart questions =
+    (j k : ℕ) (q r : Question) → slice_get questions j ≡ Some q → slice_get questions k ≡ Some r → q.last ≡ r.last → j ≡ k
+
+-- each of the questions is one of those that were asked
+abbrev pub AreAmong : List Question → List Question → Type 0
+AreAmong asked questions = All (λ q. (k : ℕ) × (slice_get asked k ≡ Some q)) questions
 
 -- the flag is that of the question, which was asked
 pub record IsFlagOf (known : Answers) (q : Question) (answer : Bool) : Type 0 where

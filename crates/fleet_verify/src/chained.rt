@@ -5,7 +5,7 @@ ghost use Rattle.std.specs.Prelude.{◌≡◌, ◌<◌, ◌↔◌, ℕ, true, fa
 ghost use Rattle.fleet_model.specs.Program.{AreInRange};
 ghost use Rattle.fleet_verify.specs.LevelOrder.{AreAllLevels};
 ghost use Rattle.fleet_verify.specs.OpenPairs.{AreVisits};
-ghost use Rattle.fleet_verify.specs.Chained.{AreKnown, IsChained, IsAskedOf, AreAsked, BeginsLate};
+ghost use Rattle.fleet_verify.specs.Chained.{key_of, AreKnown, IsChained, IsAskedOf, AreAsked, BeginsLate};
 
 use crate::level_order::AllLevels;
 use crate::level_row::{LevelRow, row_of};
@@ -19,7 +19,10 @@ use std::alloc::Global;
 const NUMBERS: u64 = 4_294_967_296;
 
 /// One number for an action.
-fn key(action: ActionId) -> u64 {
+fn key(action: ActionId) -> u64
+    ensures key { result ≡ key_of action }
+    ensures number { action.number < NUMBERS }
+{
     u64::from(action.agent) * NUMBERS + u64::from(action.number)
 }
 
@@ -32,10 +35,12 @@ pub struct Answers {
 }
 
 impl Answers {
-    ghost use Rattle.std.specs.Prelude.{◌≡◌, [], All, IfOk, IfSome};
+    ghost use Rattle.std.specs.Prelude.{◌≡◌, ◌<◌, ℕ, [], length, slice_get, nat_eq, All, Some, IfOk, IfSome, IfNone};
+    ghost use Rattle.indexmap.specs.IndexMap.{get};
     ghost use Rattle.fleet_model.specs.Program.{Program, AreInRange};
     ghost use Rattle.fleet_needs.specs.Asked.{AreAnswers, IsQuestion};
-    ghost use Rattle.fleet_verify.specs.Chained.{AreKnown, IsFlagOf};
+    ghost use Rattle.fleet_needs.specs.declared.questions.Question.{Question};
+    ghost use Rattle.fleet_verify.specs.Chained.{AreKnown, IsFlagOf, EndApart, AreAmong, key_of};
 
     /// Nothing was asked. Takes no memory.
     pub fn none(alloc: Global) -> Answers
@@ -65,14 +70,17 @@ impl Answers {
         Ok(Answers { questions, flags })
     }
 
-    /// The flags of these questions, if each of them was asked.
+    /// The flags of these questions, if each of them was asked, and no two that were asked end with one action.
     pub fn flags_of(
         &self,
         alloc: Global,
         questions: &[Question],
     ) -> Result<Option<Vec<bool>>, OutOfMemory>
-        ensures { IfOk result (λ found. IfSome found (λ flags. (p : Program)
+        ensures some { IfOk result (λ found. IfSome found (λ flags. (p : Program)
             → AreKnown p self.now → AreAnswers p questions.now flags.items)) }
+        ensures none { IfOk result (λ found. IfNone found ((p : Program) → AreKnown p self.now
+            → EndApart self.now.questions.items
+            → AreAmong self.now.questions.items questions.now → ⊥)) }
     {
         let places = self.places(alloc)?;
         let mut flags = Vec::with_capacity(alloc, questions.len())?;
@@ -85,8 +93,13 @@ impl Answers {
         Ok(Some(flags))
     }
 
-    /// The places of the questions, by their last actions.
-    fn places(&self, alloc: Global) -> Result<IndexMap<u64, usize>, OutOfMemory> {
+    /// The places of the questions, by their last actions. Of questions with one last action it is that of the last
+    /// one.
+    fn places(&self, alloc: Global) -> Result<IndexMap<u64, usize>, OutOfMemory>
+        ensures { IfOk result (λ places. EndApart self.now.questions.items
+            → (k : ℕ) (q : Question) → slice_get self.now.questions.items k ≡ Some q
+            → get nat_eq places (key_of q.last) ≡ Some k) }
+    {
         let mut places = IndexMap::new(alloc);
         for k in 0..self.questions.len() {
             places.insert(key(self.questions[k].last), k)?;
@@ -94,9 +107,12 @@ impl Answers {
         Ok(places)
     }
 
-    /// The flag of a question, if it was asked and stands at its place.
+    /// The flag of a question, if it stands at the place of its last action.
     fn flag_of(&self, places: &IndexMap<u64, usize>, question: Question) -> Option<bool>
-        ensures { IfSome result (IsFlagOf self.now question) }
+        ensures some { IfSome result (IsFlagOf self.now question) }
+        ensures none { IfNone result ((k : ℕ) → k < length self.now.flags.items
+            → get nat_eq places.now (key_of question.last) ≡ Some k
+            → slice_get self.now.questions.items k ≡ Some question → ⊥) }
     {
         let k = *places.get(&key(question.last))?;
         if k >= self.questions.len() || k >= self.flags.len() {

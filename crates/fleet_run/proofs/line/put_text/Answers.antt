@@ -44,7 +44,7 @@ pub returns-then-resize_to-clause-kept : goal.returns-then-resize_to-clause-kept
 returns-then-resize_to-clause-kept c =
     λ few ns n kept inside same.
     let unmoved : c.overwrite.new.row ≡ c.args.row.now = not_over c.overwrite.result _ _ _ _ _ c.overwrite.ensures c.if-overwrite.false in
-    let made = c.resize_to.ensures c.if-resize_to.true in
+    let made = c.resize_to.ensures.resized c.if-resize_to.true in
     let from_row = subst (λ (r : List ℕ). IsResized c.args.at c.args.text.now r c.resize_to.new.row c.args.begins.now c.resize_to.new.begins) unmoved made in
     let by_text = subst (λ (text : List ℕ). IsResized c.args.at text c.args.row.now c.resize_to.new.row c.args.begins.now c.resize_to.new.begins) same from_row in
     resized_by ns c.args.row.now c.resize_to.new.row c.args.begins.now c.resize_to.new.begins c.args.at n kept inside by_text

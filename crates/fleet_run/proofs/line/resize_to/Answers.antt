@@ -7,8 +7,8 @@ shift_begins-requires-clause-room c = λ k l. omega (arith, (c.requires.before k
 pub shift_begins-requires-clause-fit : goal.shift_begins-requires-clause-fit
 shift_begins-requires-clause-fit c = λ k l. omega (arith, (c.requires.before k l).1, c.in-Some.ensures.fits, c.requires.within)
 
-pub returns-in-Some : goal.returns-in-Some
-returns-in-Some c = λ is. record {
+pub returns-in-Some-clause-resized : goal.returns-in-Some-clause-resized
+returns-in-Some-clause-resized c = λ is. record {
   to = c.in-Some.to;
   fits = c.in-Some.ensures.fits ∙ c.from-end.ensures;
   room = rw (← c.from-front.ensures, ← c.from-begin.ensures) c.in-Some.ensures.room;

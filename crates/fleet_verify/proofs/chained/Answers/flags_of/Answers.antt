@@ -1,13 +1,16 @@
-use Rattle.std.proofs.Common.{◌≡◌, Bool, true, false, get_or, sym, subst, arith}
-use Rattle.std.specs.Prelude.{◌↔◌}
-use Rattle.std.proofs.lemmas.Option.{slice_get_within, get_or_from_slice_get}
+use Rattle.std.proofs.Common.{◌≡◌, Bool, true, false, [], ◌∷◌, length, get_or, ap, sym, subst, arith}
+use Rattle.std.specs.Prelude.{◌↔◌, nat_eq}
+use Rattle.std.proofs.lemmas.List.{length-append}
+use Rattle.indexmap.specs.IndexMap.{get}
+use Rattle.std.proofs.lemmas.Option.{slice_get_within, get_or_from_slice_get, slice_get-get_or}
 use Rattle.fleet_model.specs.Chain.{Reaches}
 use Rattle.fleet_needs.specs.declared.questions.Question.{Question}
 use Rattle.fleet_verify.specs.Chained.{IsFlagOf}
+use Rattle.fleet_verify.proofs.Asked.{flag_more, flag_there}
 use Rattle.fleet_verify.proofs.chained.Answers.flags_of.Goals as goal
 
-pub returns : goal.returns
-returns c = λ p known. record {
+pub returns-clause-some : goal.returns-clause-some
+returns-clause-some c = λ p known. record {
   all = omega (arith, c.loop-k.invariant.all, c.loop-k-test.false);
   each = λ k q at.
       let questions = c.args.questions.now in
@@ -15,3 +18,20 @@ returns c = λ p known. record {
       let of = subst (λ (x : Question). IsFlagOf c.args.self.now x (get_or c.loop-k.flags.items k false)) (get_or_from_slice_get questions k q q at) is in
       subst (λ (b : Bool). (b ≡ true) ↔ (Reaches p q.first q.last → ⊥)) (sym of.flag) (known.each of.place q of.asked);
 }
+
+pub loop-k-preserved : goal.loop-k-preserved
+loop-k-preserved c =
+    let questions = c.args.questions.now in
+    let k = c.loop-k.k in
+    let at = slice_get-get_or questions k _ (omega (arith, c.loop-k-test.true)) in
+    record {
+      all = omega (arith, ap length c.in_ok-push.ensures.items, length-append c.loop-k.flags.items (c.in-Some.flag ∷ []), c.loop-k.invariant.all);
+      each = rw c.in_ok-push.ensures.items (flag_more c.args.self.now questions c.loop-k.flags.items k _ c.in-Some.flag c.loop-k.invariant.all at c.in-Some.ensures.some c.loop-k.invariant.each);
+    }
+
+pub returns-in_default-clause-none : goal.returns-in_default-clause-none
+returns-in_default-clause-none c =
+    λ p.
+    let questions = c.args.questions.now in
+    let at = slice_get-get_or questions c.loop-k.k _ (omega (arith, c.loop-k-test.true)) in
+    flag_there p c.args.self.now questions c.loop-k.k _ (get nat_eq c.in_ok-places.places) at c.in_ok-places.ensures c.in_default.ensures.none

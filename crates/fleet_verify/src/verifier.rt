@@ -6,7 +6,7 @@ ghost use Rattle.fleet_model.specs.Program.{IsWellFormed};
 ghost use Rattle.fleet_grid.specs.Ground.{is_passable};
 ghost use Rattle.fleet_verify.specs.Chained.{AreKnown};
 ghost use Rattle.fleet_verify.specs.Faults.{HasStarts, IsFault};
-ghost use Rattle.fleet_verify.specs.Walk.{LeavesGround, IsAtStart, IsRunOnGround, HasArrived};
+ghost use Rattle.fleet_verify.specs.Walk.{LeavesGround, IsRunOnGround, HasArrived};
 ghost use Rattle.fleet_verify.specs.LevelRows.{HasLevels};
 ghost use Rattle.fleet_verify.specs.Parts.{IsAcceptedFor};
 ghost use Rattle.fleet_verify.specs.Promises.{Promises, IsRefusedRightly};
@@ -92,8 +92,7 @@ fn judge<P: ProgramView>(
     match look_ahead(alloc, program, grid, instance)? {
         Outlook::Accepted(chain, levels) => Ok(Judged { chain, levels }),
         Outlook::Unknown(known) => {
-            let mut run = UnheldRun::start(alloc, program)?;
-            let chain = judge_started(alloc, program, grid, instance, &mut run, &known)?;
+            let chain = judge_unheld(alloc, program, grid, instance, &known)?;
             Ok(Judged {
                 chain,
                 levels: None,
@@ -102,25 +101,24 @@ fn judge<P: ProgramView>(
     }
 }
 
-/// The number of actions of the longest chain, judged from the start of the run in which nobody is held.
-fn judge_started<P: ProgramView>(
+/// The number of actions of the longest chain, by the run in which nobody is held.
+fn judge_unheld<P: ProgramView>(
     alloc: Global,
     program: &P,
     grid: &Grid,
     instance: &Instance,
-    run: &mut UnheldRun,
     known: &Answers,
 ) -> Result<u32, VerifyFault>
     requires starts { HasStarts instance.now (P.program program.now) }
-    requires run { IsAtStart (P.program program.now) run.old }
     requires known { AreKnown (P.program program.now) known.now }
     ensures ok { IfOk result (λ chain. IsAcceptedFor grid.now instance.now
         (P.program program.now) chain) }
     ensures err { IfErr result (λ f. IsFault (is_passable grid.now) instance.now
         (P.program program.now) f) }
 {
-    match run_unheld(program, grid, run) {
-        Ok(()) => judge_run(alloc, program, grid, instance, run, known),
+    let mut run = UnheldRun::start(alloc, program)?;
+    match run_unheld(program, grid, &mut run) {
+        Ok(()) => judge_run(alloc, program, grid, instance, &run, known),
         Err(Stop::OffGround) => Err(path_fault(program, grid, instance)),
         Err(Stop::OutOfMemory) => Err(VerifyFault::OutOfMemory),
     }

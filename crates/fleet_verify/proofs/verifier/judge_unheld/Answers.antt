@@ -1,4 +1,4 @@
-use Rattle.fleet_verify.proofs.verifier.judge_started.Goals as goal
+use Rattle.fleet_verify.proofs.verifier.judge_unheld.Goals as goal
 
 pub judge_run-requires : goal.judge_run-requires
 judge_run-requires g c =

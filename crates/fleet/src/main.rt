@@ -77,7 +77,7 @@ fn main(rt: HostRuntime) -> ExitCode {
     run_program(
         rt.alloc(),
         env::args(&rt),
-        &mut rt.reader(),
+        &mut rt.stdin(),
         &mut Disk::new(&rt),
         &mut WriteOut::new(writer),
         &mut err,

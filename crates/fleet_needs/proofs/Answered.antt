@@ -16,10 +16,10 @@ use Rattle.fleet_needs.specs.Counts.{counts_of}
 use Rattle.fleet_needs.specs.JoinPass.{IsJoinRow, HasWhole}
 use Rattle.fleet_needs.specs.Joins.{AreOwn, StandsFor, row_of}
 use Rattle.fleet_needs.specs.Schedule.{AreCounts, AreRowCounts, next_action}
-use Rattle.fleet_needs.specs.Answering.{IsLastOf, IsAnswering, IsAnsweringRow, AreOthersLeft}
+use Rattle.fleet_needs.specs.Order.{IsLastOf}
+use Rattle.fleet_needs.specs.Answering.{IsAnswering, IsAnsweringRow, AreOthersLeft}
 use Rattle.fleet_needs.specs.declared.schedule.Columns.{Columns}
 use Rattle.fleet_needs.specs.declared.schedule.Schedule.{Schedule}
-use Rattle.fleet_needs.specs.declared.await_places.ActionPlaces.{ActionPlaces}
 use Rattle.fleet_needs.specs.declared.join_pass.JoinRow.{JoinRow}
 use Rattle.fleet_needs.specs.declared.joins.Joins.{Joins}
 use Rattle.fleet_needs.specs.declared.questions.Answering.{Answering}
@@ -206,8 +206,8 @@ abbrev pub no_question : Question
 no_question = record { first = record { agent = 0; number = 0 }; last = record { agent = 0; number = 0 } }
 
 -- the row that is noted for the last action of question k
-abbrev pub listed_row : ActionPlaces → Joins → List Question → ℕ → ℕ
-listed_row places m questions k = row_of places m (get_or questions k no_question).last
+abbrev pub listed_row : Program → Joins → List Question → ℕ → ℕ
+listed_row p m questions k = row_of p m (get_or questions k no_question).last
 
 module _ (row : ℕ → ℕ) (r n x : ℕ) (h : IsLastOf row r n x) where
   -- a further question of another row

@@ -1,5 +1,5 @@
 -- The flags of awaits, one action and one block more.
-use Rattle.fleet_needs.proofs.Words.{◌≡◌, ℕ, ◌+◌, ◌<◌, ◌≤◌, Bool, true, false, List, [], ◌∷◌, length, get_or, refl, sym, ap, subst, ◌∙◌, arith, inl, inr, not, Contains, slice_get, slice_index, Some, Option, nat_le, cases_lt, false≢true, slice_get_within, same_Some, ActionId, Await, Program, awaits_of, AreInRange, IsWellFormed, IsAction, HasColumn, AreColumns, BlocksLeft, IsNextBlock, AreOthers, IsMade, Columns, Schedule, IsImplied, IsImpliedFlag, EachFlag, first_await, AreSettled, IsSettled, AreSure, AreSureIf, IsFirstSet, IsPassed, AreSet, AreFlags, IsFlagged, IsFlaggedAt, AreFlagged, AreFlaggedFor, IsLeft, AreLeft, AreAllFlagged, AreAwaitFlags, AreFlaggedTo, AreImplied, flags_of, ImpliedAwaits}
+use Rattle.fleet_needs.proofs.Words.{rules, None, ◌≡◌, ℕ, ◌+◌, ◌<◌, ◌≤◌, Bool, true, false, List, [], ◌∷◌, length, get_or, refl, sym, ap, subst, ◌∙◌, arith, inl, inr, not, Contains, slice_get, slice_index, Some, Option, nat_le, cases_lt, false≢true, slice_get_within, same_Some, ActionId, Await, Program, awaits_of, AreInRange, IsWellFormed, IsAction, HasColumn, AreColumns, BlocksLeft, IsNextBlock, AreOthers, IsMade, Columns, Schedule, IsImplied, IsImpliedFlag, EachFlag, first_await, AreSettled, IsSettled, AreSure, AreSureIf, IsFirstSet, IsPassed, AreSet, AreFlags, IsFlagged, IsFlaggedAt, AreFlagged, AreFlaggedFor, IsLeft, AreLeft, AreAllFlagged, AreAwaitFlags, AreFlaggedTo, AreImplied, flags_of, ImpliedAwaits}
 use Rattle.std.specs.Borrow.{Bor}
 use Rattle.fleet_needs.specs.Joins.{AddsNone, HasRowOr}
 use Rattle.fleet_needs.proofs.NextBlock.{column_cases}
@@ -127,3 +127,8 @@ passed_if_set p implied a one first = subst (λ (o : Option (Bor ImpliedAwaits))
 pub is_set : (flag : Bool) → not flag ≡ false → flag ≡ true
 is_set true e = refl
 is_set false e = absurd (false≢true (sym e))
+
+-- an action that awaits nothing
+pub passed_if_none : (p : Program) (implied : Option (Bor ImpliedAwaits)) (a : ActionId) → length (awaits_of p a.agent a.number) ≡ 0 → IsPassed p implied a
+passed_if_none p None a none = search rules
+passed_if_none p (Some m) a none = λ k w at. absurd (let l : k < length (awaits_of p a.agent a.number) = slice_get_within (awaits_of p a.agent a.number) k w at in omega (arith, l, none))

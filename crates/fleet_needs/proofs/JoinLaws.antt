@@ -1,22 +1,21 @@
 -- Rows that are made: one row more, one action more.
 use Rattle.std.proofs.Common.{◌≡◌, ◌≢◌, ℕ, ◌+◌, ◌-◌, ◌<◌, ◌≤◌, Bool, true, false, List, [], ◌∷◌, ◌++◌, length, get_or, set, slice_index, refl, sym, ap, subst, ◌∙◌, arith, inl, inr, ◌⊎◌}
 use Rattle.std.specs.Prelude.{slice_get, Some}
-use Rattle.std.proofs.lemmas.Bool.{cases_lt, false≢true}
+use Rattle.std.proofs.lemmas.Bool.{cases_lt, cases_eq, false≢true}
 use Rattle.std.proofs.lemmas.Option.{slice_get-get_or, slice_get_within, same_Some}
 use Rattle.std.proofs.lemmas.List.{get_or-set_same, get_or-set_other, length-set, length_push, get_or_append_left, get_or_push, get_or_past}
 use Rattle.fleet_model.specs.declared.program.ActionId.{ActionId}
 use Rattle.fleet_model.specs.declared.program.Await.{Await}
 use Rattle.fleet_model.specs.Program.{Program, awaits_of}
 use Rattle.fleet_model.specs.Chain.{IsAction, awaited}
-use Rattle.fleet_needs.specs.Order.{IsCounted, IsNextAction}
-use Rattle.fleet_needs.specs.Places.{place_of_action}
-use Rattle.fleet_needs.specs.Joins.{AddsNone, HasRowOr, join_at, IsRow, StandsFor, need_at, need_of, IsNeed, IsJoin, AreJoins, Takes, AreLasts, row_of, IsStanding, AreSound, AreJoinsOf, CanJoin, AreTaken, AreRaised, HaveGrown, HasJoined, IsAdded}
-use Rattle.fleet_needs.specs.declared.await_places.ActionPlaces.{ActionPlaces}
+use Rattle.fleet_needs.specs.Order.{IsAwaiting}
+use Rattle.fleet_needs.specs.Places.{row_place}
+use Rattle.fleet_needs.specs.Joins.{AddsNone, HasRowOr, join_at, IsRow, StandsFor, need_at, need_of, IsNeed, IsJoin, AreJoins, Takes, AreLasts, row_of, IsStanding, IsUpToLast, AreUpTo, AreSound, AreJoinsOf, CanJoin, AreTaken, AreRaised, HaveGrown, HasJoined, IsAdded}
 use Rattle.fleet_needs.specs.declared.joins.Join.{Join}
 use Rattle.fleet_needs.specs.declared.joins.Need.{Need}
 use Rattle.fleet_needs.specs.declared.joins.Joins.{Joins}
-use Rattle.fleet_needs.proofs.Counting.{counted_back, counted_apart, counted_still, counted_here}
-use Rattle.fleet_needs.proofs.Placed.{place_apart, place_within}
+use Rattle.fleet_needs.proofs.Joining.{adds_none_if_quiet}
+use Rattle.fleet_needs.proofs.RowPlaces.{row_within, row_other, row_sooner, row_same, no_awaits}
 
 -- ---- what more rows keep
 
@@ -47,19 +46,40 @@ stands_on p joins r a some none s = record {
   row = s.row;
 }
 
+-- .. and so have all after it that await nothing
+stands_far : (p : Program) (joins : List Join) (r i m n : ℕ) → m ≤ n → ((k : ℕ) → m < k → k ≤ n → length (awaits_of p i k) ≡ 0) → StandsFor p joins r i m → StandsFor p joins r i n
+stands_far p joins r i m n le none s = record {
+  number = s.number;
+  upto = (let l : s.number ≤ m = s.upto in omega arith);
+  quiet = λ k from upto. elim (cases_lt m k) [
+    | inl l ↦ adds_none_if_quiet p i k (none k l upto)
+    | inr l ↦ s.quiet k from l
+  ];
+  row = s.row;
+}
+
+stands_later : (p : Program) (m : Joins) (a x : ActionId) → x.agent ≡ a.agent → a.number ≤ x.number → ((k : ℕ) → a.number < k → k ≤ x.number → length (awaits_of p a.agent k) ≡ 0) → IsStanding p m a → IsStanding p m x
+stands_later p m a x same le none s =
+    let e : row_of p m x ≡ row_of p m a = ap (slice_index m.standing.items) (row_same p x a same le none) in
+    record {
+      within = omega (arith, e, s.within);
+      stands = subst (λ (r : ℕ). StandsFor p m.joins.items r x.agent x.number) (sym e)
+          (subst (λ (i : ℕ). StandsFor p m.joins.items (row_of p m a) i x.number) (sym same) (stands_far p m.joins.items (row_of p m a) a.agent a.number x.number le none s.stands));
+    }
+
 -- ---- one row more
 
-module _ (p : Program) (places : ActionPlaces) (a : ActionId) (old new : Joins) (base count : ℕ) (can : CanJoin p places old a) (within : base ≤ length old.joins.items)
+module _ (p : Program) (a : ActionId) (old new : Joins) (base count : ℕ) (can : CanJoin p old a) (within : base ≤ length old.joins.items)
     (stands : StandsFor p old.joins.items base a.agent (a.number - 1))
     (many : count ≡ length (awaits_of p a.agent a.number))
     (put : new.joins.items ≡ old.joins.items ++ record { action = a; base = base; first = length old.needs.items; count = count } ∷ [])
     (standing : new.standing ≡ old.standing)
     (all : length new.needs.items ≡ length old.needs.items + length (awaits_of p a.agent a.number))
     (kept : (n : ℕ) → n < length old.needs.items → need_at new.needs.items n ≡ need_at old.needs.items n)
-    (each : (k : ℕ) (w : Await) → slice_get (awaits_of p a.agent a.number) k ≡ Some w → need_at new.needs.items (length old.needs.items + k) ≡ record { row = row_of places old (awaited w); wait = w })
+    (each : (k : ℕ) (w : Await) → slice_get (awaits_of p a.agent a.number) k ≡ Some w → need_at new.needs.items (length old.needs.items + k) ≡ record { row = row_of p old (awaited w); wait = w })
     (room : length new.lasts.items ≡ length old.lasts.items + 1)
     (raised : (r : ℕ) → slice_index old.lasts.items r ≤ slice_index new.lasts.items r)
-    (noted : (k : ℕ) (w : Await) → slice_get (awaits_of p a.agent a.number) k ≡ Some w → length old.joins.items + 1 ≤ slice_index new.lasts.items (row_of places old (awaited w)))
+    (noted : (k : ℕ) (w : Await) → slice_get (awaits_of p a.agent a.number) k ≡ Some w → length old.joins.items + 1 ≤ slice_index new.lasts.items (row_of p old (awaited w)))
     (based : length old.joins.items + 1 ≤ slice_index new.lasts.items base) where
   abbrev one : Join
   one = record { action = a; base = base; first = length old.needs.items; count = count }
@@ -126,7 +146,7 @@ module _ (p : Program) (places : ActionPlaces) (a : ActionId) (old new : Joins) 
   last_one r (inl is) = subst (λ (x : ℕ). length old.joins.items + 1 ≤ slice_index new.lasts.items x) (sym is) based
   last_one r (inr (k, l, is)) =
       let there = await_there k l in
-      let at : r ≡ row_of places old (awaited there.0) = is ∙ ap (λ (x : Need). x.row) (each k there.0 there.1) in
+      let at : r ≡ row_of p old (awaited there.0) = is ∙ ap (λ (x : Need). x.row) (each k there.0 there.1) in
       subst (λ (x : ℕ). length old.joins.items + 1 ≤ slice_index new.lasts.items x) (sym at) (noted k there.0 there.1)
 
   last_on : (n r : ℕ) → n < length new.joins.items → Takes p new.needs.items (join_at new.joins.items n) r → n + 1 ≤ slice_index new.lasts.items r
@@ -138,10 +158,9 @@ module _ (p : Program) (places : ActionPlaces) (a : ActionId) (old new : Joins) 
   newest_row : IsRow new.joins.items (length old.joins.items + 1) a
   newest_row = record { some = omega arith; upto = omega (arith, long); of = (let e : length old.joins.items + 1 - 1 ≡ length old.joins.items = omega arith in ap (λ (n : ℕ). (join_at new.joins.items n).action) e ∙ ap (λ (x : Join). x.action) newest) }
 
-  pub joined_on : (made : Bool) → HasJoined p places a made (length old.joins.items + 1) old new
+  pub joined_on : (made : Bool) → HasJoined p a made (length old.joins.items + 1) old new
   joined_on made = record {
     sound = record {
-      right = can.sound.right;
       joins = join_on;
       lasts = record { all = omega (arith, room, can.sound.lasts.all, long); each = last_on };
       room = ap (λ xs. length xs.items) standing ∙ can.sound.room;
@@ -158,8 +177,8 @@ abbrev pub need_by : Await → ℕ → Need
 need_by w r = record { row = r; wait = w }
 
 -- what is taken by the first awaits, and by one more
-module _ (p : Program) (places : ActionPlaces) (a : ActionId) (old : Joins) where
-  pub taken_first : AreTaken p places a 0 old old
+module _ (p : Program) (a : ActionId) (old : Joins) where
+  pub taken_first : AreTaken p a 0 old old
   taken_first = record {
     joins = refl;
     standing = refl;
@@ -170,8 +189,8 @@ module _ (p : Program) (places : ActionPlaces) (a : ActionId) (old : Joins) wher
     noted = λ m w l at. absurd (omega arith);
   }
 
-  pub taken_on : (k : ℕ) (w : Await) → slice_get (awaits_of p a.agent a.number) k ≡ Some w → (taken : ℕ) → taken ≡ row_of places old (awaited w) → (mid new : Joins) → new.joins ≡ mid.joins → new.standing ≡ mid.standing
-      → new.needs.items ≡ mid.needs.items ++ record { row = taken; wait = w } ∷ [] → AreRaised mid.lasts.items new.lasts.items → length old.joins.items + 1 ≤ slice_index new.lasts.items taken → AreTaken p places a k old mid → AreTaken p places a (k + 1) old new
+  pub taken_on : (k : ℕ) (w : Await) → slice_get (awaits_of p a.agent a.number) k ≡ Some w → (taken : ℕ) → taken ≡ row_of p old (awaited w) → (mid new : Joins) → new.joins ≡ mid.joins → new.standing ≡ mid.standing
+      → new.needs.items ≡ mid.needs.items ++ record { row = taken; wait = w } ∷ [] → AreRaised mid.lasts.items new.lasts.items → length old.joins.items + 1 ≤ slice_index new.lasts.items taken → AreTaken p a k old mid → AreTaken p a (k + 1) old new
   taken_on k w at taken is mid new joins standing put raised noted h = record {
     joins = joins ∙ h.joins;
     standing = standing ∙ h.standing;
@@ -182,14 +201,14 @@ module _ (p : Program) (places : ActionPlaces) (a : ActionId) (old : Joins) wher
       | inr more ↦
           let e : m ≡ k = omega arith in
           let place : length old.needs.items + m ≡ length mid.needs.items = omega (arith, h.all) in
-          ap (need_at new.needs.items) place ∙ newest ∙ ap (need_by w) is ∙ ap (λ (x : Await). need_by x (row_of places old (awaited x))) (same m v e there)
+          ap (need_at new.needs.items) place ∙ newest ∙ ap (need_by w) is ∙ ap (λ (x : Await). need_by x (row_of p old (awaited x))) (same m v e there)
     ];
     lasts = (raised.0 ∙ h.lasts.0, λ r. (let x = h.lasts.1 r in let y = raised.1 r in omega arith));
     noted = λ m v l there. elim (cases_lt m k) [
-      | inl less ↦ (let x = h.noted m v less there in let y = raised.1 (row_of places old (awaited v)) in omega arith)
+      | inl less ↦ (let x = h.noted m v less there in let y = raised.1 (row_of p old (awaited v)) in omega arith)
       | inr more ↦
           let e : m ≡ k = omega arith in
-          subst (λ (r : ℕ). length old.joins.items + 1 ≤ slice_index new.lasts.items r) (is ∙ ap (λ (x : Await). row_of places old (awaited x)) (same m v e there)) noted
+          subst (λ (r : ℕ). length old.joins.items + 1 ≤ slice_index new.lasts.items r) (is ∙ ap (λ (x : Await). row_of p old (awaited x)) (same m v e there)) noted
     ];
   }
     where
@@ -206,12 +225,12 @@ module _ (p : Program) (places : ActionPlaces) (a : ActionId) (old : Joins) wher
       same m v e there = same_Some w v (sym at ∙ ap (slice_get (awaits_of p a.agent a.number)) (sym e) ∙ there)
 
 -- all of them, then the base, and at last the join itself
-pub joined_by : (p : Program) (places : ActionPlaces) (a : ActionId) (old mid low new : Joins) (base first count : ℕ) → CanJoin p places old a → base ≤ length old.joins.items → StandsFor p old.joins.items base a.agent (a.number - 1)
-    → AreTaken p places a (length (awaits_of p a.agent a.number)) old mid → low.joins ≡ mid.joins → low.needs ≡ mid.needs → low.standing ≡ mid.standing → AreRaised mid.lasts.items low.lasts.items → length old.joins.items + 1 ≤ slice_index low.lasts.items base
+pub joined_by : (p : Program) (a : ActionId) (old mid low new : Joins) (base first count : ℕ) → CanJoin p old a → base ≤ length old.joins.items → StandsFor p old.joins.items base a.agent (a.number - 1)
+    → AreTaken p a (length (awaits_of p a.agent a.number)) old mid → low.joins ≡ mid.joins → low.needs ≡ mid.needs → low.standing ≡ mid.standing → AreRaised mid.lasts.items low.lasts.items → length old.joins.items + 1 ≤ slice_index low.lasts.items base
     → new.lasts.items ≡ low.lasts.items ++ 0 ∷ [] → first ≡ length old.needs.items → count ≡ length (awaits_of p a.agent a.number) → new.joins.items ≡ low.joins.items ++ record { action = a; base = base; first = first; count = count } ∷ [] → new.needs ≡ low.needs → new.standing ≡ low.standing
-    → (made : Bool) → HasJoined p places a made (length old.joins.items + 1) old new
-joined_by p places a old mid low new base first count can within stands taken joins needs standing raised based putl at many putj same_needs same_standing =
-    joined_on p places a old new base count can within stands many
+    → (made : Bool) → HasJoined p a made (length old.joins.items + 1) old new
+joined_by p a old mid low new base first count can within stands taken joins needs standing raised based putl at many putj same_needs same_standing =
+    joined_on p a old new base count can within stands many
     (putj ∙ ap (λ (n : ℕ). low.joins.items ++ record { action = a; base = base; first = n; count = count } ∷ []) at ∙ ap (λ xs. xs.items ++ record { action = a; base = base; first = length old.needs.items; count = count } ∷ []) (joins ∙ taken.joins))
     (same_standing ∙ standing ∙ taken.standing)
     (ap (λ xs. length xs) list ∙ taken.all)
@@ -219,7 +238,7 @@ joined_by p places a old mid low new base first count can within stands taken jo
     (λ k w there. ap (λ (xs : List Need). need_at xs (length old.needs.items + k)) list ∙ taken.each k w (slice_get_within (awaits_of p a.agent a.number) k w there) there)
     (ap (λ (xs : List ℕ). length xs) putl ∙ length_push low.lasts.items 0 ∙ ap (λ (n : ℕ). n + 1) (raised.0 ∙ taken.lasts.0))
     (λ r. (let x = taken.lasts.1 r in let y = raised.1 r in let z = up r in omega arith))
-    (λ k w there. (let x = taken.noted k w (slice_get_within (awaits_of p a.agent a.number) k w there) there in let y = raised.1 (row_of places old (awaited w)) in let z = up (row_of places old (awaited w)) in omega arith))
+    (λ k w there. (let x = taken.noted k w (slice_get_within (awaits_of p a.agent a.number) k w there) there in let y = raised.1 (row_of p old (awaited w)) in let z = up (row_of p old (awaited w)) in omega arith))
     (let z = up base in omega (arith, z, based))
   where
     list : new.needs.items ≡ mid.needs.items
@@ -232,9 +251,9 @@ joined_by p places a old mid low new base first count can within stands taken jo
     ]
 
 -- an action that adds no chain has no row of its own
-pub joined_none : (p : Program) (places : ActionPlaces) (a : ActionId) (made : Bool) (m : Joins) (base : ℕ) → made ≡ false → CanJoin p places m a → base ≤ length m.joins.items → StandsFor p m.joins.items base a.agent (a.number - 1)
-    → AddsNone p a.agent a.number → HasJoined p places a made base m m
-joined_none p places a made m base left can within stands none = record {
+pub joined_none : (p : Program) (a : ActionId) (made : Bool) (m : Joins) (base : ℕ) → made ≡ false → CanJoin p m a → base ≤ length m.joins.items → StandsFor p m.joins.items base a.agent (a.number - 1)
+    → AddsNone p a.agent a.number → HasJoined p a made base m m
+joined_none p a made m base left can within stands none = record {
   sound = can.sound;
   standing = refl;
   grown = record { more = omega arith; same = λ n l. refl; last = λ n l. inl l };
@@ -245,47 +264,43 @@ joined_none p places a made m base left can within stands none = record {
 
 -- ---- the row of the action is noted
 
-module _ (p : Program) (places : ActionPlaces) (a : ActionId) (made : Bool) (r : ℕ) (old mid new : Joins) (is : IsAction p a) (h : HasJoined p places a made r old mid)
-    (joins : new.joins ≡ mid.joins) (needs : new.needs ≡ mid.needs) (lasts : new.lasts ≡ mid.lasts) (put : new.standing.items ≡ set mid.standing.items (place_of_action places a) r) where
-  place_in : place_of_action places a < length mid.standing.items
-  place_in = omega (arith, place_within p places h.sound.right a is, h.sound.room)
+module _ (p : Program) (a : ActionId) (made : Bool) (r : ℕ) (old mid new : Joins) (up : IsUpToLast p a) (h : HasJoined p a made r old mid)
+    (joins : new.joins ≡ mid.joins) (needs : new.needs ≡ mid.needs) (lasts : new.lasts ≡ mid.lasts) (put : new.standing.items ≡ set mid.standing.items (row_place p a) r) where
+  at_own : row_of p new a ≡ r
+  at_own = ap (λ (xs : List ℕ). slice_index xs (row_place p a)) put ∙ get_or-set_same mid.standing.items (row_place p a) r 0 (omega (arith, row_within p a up, h.sound.room))
 
-  at_own : row_of places new a ≡ r
-  at_own = ap (λ (xs : List ℕ). slice_index xs (place_of_action places a)) put ∙ get_or-set_same mid.standing.items (place_of_action places a) r 0 place_in
-
-  at_other : (x : ActionId) → IsAction p x → x ≢ a → row_of places new x ≡ row_of places old x
-  at_other x k ne =
-      ap (λ (xs : List ℕ). slice_index xs (place_of_action places x)) put
-      ∙ get_or-set_other mid.standing.items (place_of_action places a) (place_of_action places x) r 0 (place_apart p places h.sound.right x a k is ne)
-      ∙ ap (λ xs. slice_index xs.items (place_of_action places x)) h.standing
+  at_other : (x : ActionId) → row_place p x ≢ row_place p a → row_of p new x ≡ row_of p old x
+  at_other x ne =
+      ap (λ (xs : List ℕ). slice_index xs (row_place p x)) put
+      ∙ get_or-set_other mid.standing.items (row_place p a) (row_place p x) r 0 ne
+      ∙ ap (λ xs. slice_index xs.items (row_place p x)) h.standing
 
   same_joins : new.joins.items ≡ mid.joins.items
   same_joins = ap (λ xs. xs.items) joins
 
-  sound_on : AreSound p places new
+  sound_on : AreSound p new
   sound_on = record {
-    right = h.sound.right;
     joins = subst (λ (xs : List Join). AreJoins p xs new.needs.items) (sym same_joins) (subst (AreJoins p mid.joins.items) (sym (ap (λ xs. xs.items) needs)) h.sound.joins);
     lasts = subst (λ (xs : List Join). AreLasts p xs new.needs.items new.lasts.items) (sym same_joins)
         (subst (λ (xs : List Need). AreLasts p mid.joins.items xs new.lasts.items) (sym (ap (λ xs. xs.items) needs)) (subst (AreLasts p mid.joins.items mid.needs.items) (sym (ap (λ xs. xs.items) lasts)) h.sound.lasts));
-    room = ap (λ (xs : List ℕ). length xs) put ∙ length-set mid.standing.items (place_of_action places a) r ∙ h.sound.room;
+    room = ap (λ (xs : List ℕ). length xs) put ∙ length-set mid.standing.items (row_place p a) r ∙ h.sound.room;
   }
 
-  pub added : IsAdded p places a made old new
+  pub added : IsAdded p a made old new
   added = record {
     sound = sound_on;
     grown = subst (HaveGrown a old.joins.items) (sym same_joins) h.grown;
-    kept = λ x k ne s.
-        let e : row_of places new x ≡ row_of places old x = at_other x k ne in
-        let l : row_of places old x ≤ length old.joins.items = s.within in
+    kept = λ x ne s.
+        let e : row_of p new x ≡ row_of p old x = at_other x ne in
+        let l : row_of p old x ≤ length old.joins.items = s.within in
         record {
           within = omega (arith, e, l, h.grown.more, ap (λ (xs : List Join). length xs) same_joins);
-          stands = subst (λ (xs : List Join). StandsFor p xs (row_of places new x) x.agent x.number) (sym same_joins)
-              (subst (λ (s : ℕ). StandsFor p mid.joins.items s x.agent x.number) (sym e) (stands_kept p a old.joins.items mid.joins.items h.grown (row_of places old x) x.agent x.number s.stands));
+          stands = subst (λ (xs : List Join). StandsFor p xs (row_of p new x) x.agent x.number) (sym same_joins)
+              (subst (λ (s : ℕ). StandsFor p mid.joins.items s x.agent x.number) (sym e) (stands_kept p a old.joins.items mid.joins.items h.grown (row_of p old x) x.agent x.number s.stands));
         };
     here = record {
       within = omega (arith, at_own, h.within, ap (λ (xs : List Join). length xs) same_joins);
-      stands = subst (λ (xs : List Join). StandsFor p xs (row_of places new a) a.agent a.number) (sym same_joins) (subst (λ (s : ℕ). StandsFor p mid.joins.items s a.agent a.number) (sym at_own) h.stands);
+      stands = subst (λ (xs : List Join). StandsFor p xs (row_of p new a) a.agent a.number) (sym same_joins) (subst (λ (s : ℕ). StandsFor p mid.joins.items s a.agent a.number) (sym at_own) h.stands);
     };
     row = λ set. (r, subst (λ (xs : List Join). IsRow xs r a) (sym same_joins) (h.here set));
   }
@@ -297,17 +312,10 @@ by_flag : (R S : Type 0) (flag : Bool) → (flag ≡ true → R) → (flag ≡ f
 by_flag R S true f g = inl (f refl)
 by_flag R S false f g = inr (g refl)
 
-module _ (p : Program) (places : ActionPlaces) (Passed : ActionId → Type 0) (counts : List ℕ) (a : ActionId) (is : IsAction p a) (next : IsNextAction counts a) (old new : Joins) (made : Bool)
-    (none : made ≡ false → AddsNone p a.agent a.number) (passed : made ≡ false → Passed a) (h : AreJoinsOf p places Passed (IsCounted counts) old) (added : IsAdded p places a made old new) where
-  back : (x : ActionId) → IsCounted (set counts a.agent a.number) x → IsCounted counts x ⊎ (x ≡ a)
-  back = counted_back counts a next.agent next.number
-
-  stays : (x : ActionId) → IsCounted counts x → IsCounted (set counts a.agent a.number) x
-  stays = counted_still counts a next.agent next.number
-
-  here : IsCounted (set counts a.agent a.number) a
-  here = counted_here counts a next.agent next.number
-
+-- what has come, one more action, before which all of its agent have come that await something
+module _ (p : Program) (Passed Old New : ActionId → Type 0) (a : ActionId) (is : IsAwaiting p a) (back : (x : ActionId) → New x → Old x ⊎ (x ≡ a)) (on : (x : ActionId) → Old x → New x) (here : New a)
+    (sooner : (x : ActionId) → IsAction p x → Old x → x.agent ≡ a.agent → x.number < a.number) (old new : Joins) (made : Bool)
+    (none : made ≡ false → AddsNone p a.agent a.number) (passed : made ≡ false → Passed a) (h : AreJoinsOf p Passed Old old) (added : IsAdded p a made old new) where
   kept : (x : ActionId) (r : ℕ) → IsRow old.joins.items r x → IsRow new.joins.items r x
   kept x r = row_kept a old.joins.items new.joins.items added.grown r x
 
@@ -321,31 +329,54 @@ module _ (p : Program) (places : ActionPlaces) (Passed : ActionId → Type 0) (c
     | inr (e, same) ↦
         let less : m < length old.joins.items = omega (arith, l, e) in
         let x : ActionId = (join_at new.joins.items m).action in
-        let done : IsCounted counts x = subst (λ (j : Join). IsCounted counts j.action) (sym (added.grown.same m less)) (h.made m less) in
-        let agent : slice_index counts x.agent ≡ slice_index counts a.agent = ap (slice_index counts) (agents ∙ ap (λ (z : ActionId). z.agent) same) in
-        omega (arith, done, agent, ap (λ (z : ActionId). z.number) same, next.number)
+        let was : Old x = subst (λ (j : Join). Old j.action) (sym (added.grown.same m less)) (h.made m less) in
+        let act : IsAction p x = subst (λ (j : Join). IsAction p j.action) (sym (added.grown.same m less)) (h.sound.joins m less).action in
+        let up : x.number < a.number = sooner x act was (agents ∙ ap (λ (z : ActionId). z.agent) same) in
+        omega (arith, up, ap (λ (z : ActionId). z.number) same)
   ]
 
   -- an action has a row, or it is so of it
-  rows_on : (Else : ActionId → Type 0) → (made ≡ false → Else a) → HasRowOr Else p old.joins.items (IsCounted counts) → HasRowOr Else p new.joins.items (IsCounted (set counts a.agent a.number))
+  rows_on : (Else : ActionId → Type 0) → (made ≡ false → Else a) → HasRowOr Else p old.joins.items Old → HasRowOr Else p new.joins.items New
   rows_on Else or before x k done = elim (back x done) [
     | inl was ↦ elim (before x k was) [ inl row ↦ inl (row.0, kept x row.0 row.1) | inr other ↦ inr other ]
     | inr e ↦ subst (λ (y : ActionId). ((r : ℕ) × IsRow new.joins.items r y) ⊎ Else y) (sym e) (by_flag ((r : ℕ) × IsRow new.joins.items r a) (Else a) made added.row or)
   ]
 
-  pub joins_more : AreJoinsOf p places Passed (IsCounted (set counts a.agent a.number)) new
+  -- up to an action of another agent, or up to one before
+  was_upto : (x : ActionId) → (x.agent ≡ a.agent → x.number < a.number) → AreUpTo p New x → AreUpTo p Old x
+  was_upto x apart all m le there = elim (back _ (all m le there)) [
+    | inl was ↦ was
+    | inr e ↦ absurd (let up = apart (ap (λ (z : ActionId). z.agent) e) in omega (arith, up, le, ap (λ (z : ActionId). z.number) e))
+  ]
+
+  -- after it none of its agent has come
+  none_later : (x : ActionId) → x.agent ≡ a.agent → AreUpTo p New x → (m : ℕ) → a.number < m → m ≤ x.number → IsAwaiting p (record { agent = x.agent; number = m }) → ⊥
+  none_later x same all m later le there = elim (back _ (all m le there)) [
+    | inl was ↦ (let up = sooner _ there.action was same in omega (arith, up, later))
+    | inr e ↦ omega (arith, later, ap (λ (z : ActionId). z.number) e)
+  ]
+
+  standing_on : (x : ActionId) → IsUpToLast p x → AreUpTo p New x → IsStanding p new x
+  standing_on x up all = elim (cases_eq x.agent a.agent) [
+    | inr ne ↦ added.kept x (row_other p x a up (record { agent = is.action.agent; last = is.action.last }) ne) (h.standing x up (was_upto x (λ e. absurd (ne e)) all))
+    | inl e ↦ elim (cases_lt x.number a.number) [
+      | inl less ↦ added.kept x (row_sooner p x a e is less) (h.standing x up (was_upto x (λ f. less) all))
+      | inr more ↦
+          let quiet : (m : ℕ) → a.number < m → m ≤ x.number → length (awaits_of p a.agent m) ≡ 0 = λ m later le. subst (λ (i : ℕ). length (awaits_of p i m) ≡ 0) e (no_awaits p x.agent m up.agent (omega (arith, later)) (omega (arith, le, up.last)) (none_later x e all m later le)) in
+          stands_later p new a x e more quiet added.here
+    ]
+  ]
+
+  pub joins_more : AreJoinsOf p Passed New new
   joins_more = record {
     sound = added.sound;
-    standing = λ x k done. elim (back x done) [
-      | inl before ↦ added.kept x k (counted_apart counts a next.agent next.number x before) (h.standing x k before)
-      | inr e ↦ subst (IsStanding p places new) (sym e) added.here
-    ];
+    standing = standing_on;
     rows = rows_on (λ x. AddsNone p x.agent x.number) none h.rows;
     passed = rows_on Passed passed h.passed;
     rising = rising_on;
     made = λ n l. elim (added.grown.last n l) [
-      | inl low ↦ subst (λ (j : Join). IsCounted (set counts a.agent a.number) j.action) (sym (added.grown.same n low)) (stays (join_at old.joins.items n).action (h.made n low))
-      | inr e ↦ subst (IsCounted (set counts a.agent a.number)) (sym e.1) here
+      | inl low ↦ subst (λ (j : Join). New j.action) (sym (added.grown.same n low)) (on (join_at old.joins.items n).action (h.made n low))
+      | inr e ↦ subst New (sym e.1) here
     ];
   }
 

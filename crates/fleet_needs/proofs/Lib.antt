@@ -5,7 +5,6 @@ pub mod Joining
 pub mod Placed
 mod Firsts
 pub mod Counting
-pub mod Ordering
 pub mod NextBlock
 pub mod Answered
 pub mod Passing
@@ -18,12 +17,13 @@ pub mod LatestPiece
 pub mod AwaitOrder
 mod Settling
 mod Ticking
-mod Finishing
+pub mod ByLevel
 pub mod RowFlags
 pub mod Flagged
+mod RowPlaces
 pub mod JoinLaws
 mod Slotting
 pub mod RowsMade
-mod JoinTick
+mod JoinLevels
 pub mod Costing
 mod Walking

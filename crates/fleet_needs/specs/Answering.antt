@@ -1,23 +1,18 @@
 -- Answers of questions by the rows of a block: the questions that are answered so far.
-use Rattle.std.specs.Prelude.{◌≡◌, ◌≢◌, ℕ, ◌+◌, ◌-◌, ◌<◌, ◌≤◌, false, All, List, length, get_or, slice_get, slice_index, Some, None}
+use Rattle.std.specs.Prelude.{◌≡◌, ℕ, ◌+◌, ◌-◌, ◌<◌, ◌≤◌, false, All, List, length, get_or, slice_get, slice_index, Some, None}
 use Rattle.std.proofs.Common.{refl, ◌∙◌, ap}
 use Rattle.fleet_model.specs.Program.{Program}
 use Rattle.fleet_needs.specs.Asked.{IsQuestion}
 use Rattle.fleet_needs.specs.Block.{HasColumn, IsAnswer}
 use Rattle.fleet_needs.specs.Columns.{column_of}
 use Rattle.fleet_needs.specs.Joins.{StandsFor}
+use Rattle.fleet_needs.specs.Order.{IsLastOf}
 use Rattle.fleet_needs.specs.declared.joins.Join.{Join}
 use Rattle.fleet_needs.specs.declared.questions.Answering.{Answering}
 use Rattle.fleet_needs.specs.declared.questions.ListedQuestions.{ListedQuestions}
 use Rattle.fleet_needs.specs.declared.questions.Question.{Question}
 use Rattle.fleet_needs.specs.declared.schedule.Columns.{Columns}
 use Rattle.fleet_needs.specs.declared.schedule.Schedule.{Schedule}
-
--- x is the last of the first n questions that has row r, counted from 1, or 0 if none has
-pub record IsLastOf (row : ℕ → ℕ) (r n x : ℕ) : Type 0 where
-  pub upto : x ≤ n
-  pub here : 1 ≤ x → row (x - 1) ≡ r
-  pub none : (k : ℕ) → x ≤ k → k < n → row k ≢ r
 
 -- the questions are listed by these rows, which stand for their last actions
 pub record AreLinked (p : Program) (joins : List Join) (row : ℕ → ℕ) (l : ListedQuestions) : Type 0 where

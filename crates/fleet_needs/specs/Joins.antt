@@ -2,14 +2,15 @@
 use Rattle.std.specs.Prelude.{◌≡◌, ◌≢◌, ℕ, ◌+◌, ◌-◌, ◌<◌, ◌≤◌, ◌⊎◌, Bool, true, List, length, get_or, slice_index, slice_get, Some}
 use Rattle.fleet_model.specs.declared.program.Await.{Await}
 use Rattle.fleet_model.specs.declared.program.ActionId.{ActionId}
-use Rattle.fleet_model.specs.Program.{Program, awaits_of, total_moves}
+use Rattle.fleet_model.specs.Program.{Program, awaits_of, moves, total_awaits}
 use Rattle.fleet_model.specs.Chain.{IsAction, Reaches, awaited}
-use Rattle.fleet_needs.specs.Places.{ArePlacesOf, place_of_action}
+use Rattle.fleet_needs.specs.Order.{IsAwaiting, IsLevelOrder, listed}
+use Rattle.fleet_needs.specs.Places.{row_place}
 use Rattle.fleet_needs.specs.Rows.{action_before}
-use Rattle.fleet_needs.specs.declared.await_places.ActionPlaces.{ActionPlaces}
 use Rattle.fleet_needs.specs.declared.joins.Join.{Join}
 use Rattle.fleet_needs.specs.declared.joins.Need.{Need}
 use Rattle.fleet_needs.specs.declared.joins.Joins.{Joins}
+use Rattle.fleet_needs.specs.declared.level_order.LevelOrder.{LevelOrder}
 
 -- whatever reaches action n of agent i from another agent reaches the action before: no chain is added there
 abbrev pub AddsNone : Program → ℕ → ℕ → Type 0
@@ -116,7 +117,7 @@ last_of m r = slice_index m.lasts.items r
 abbrev pub lasts_in : Joins → List ℕ
 lasts_in m = m.lasts.items
 
--- for each action, by its place, the row that stands for it
+-- for each action, by its place among rows, the row that stands for it
 abbrev pub standing_in : Joins → List ℕ
 standing_in m = m.standing.items
 
@@ -124,9 +125,9 @@ standing_in m = m.standing.items
 abbrev pub needs_listed : Joins → ℕ
 needs_listed m = length m.needs.items
 
--- for how many actions there is room
-abbrev pub room_for : Joins → ℕ
-room_for m = length m.standing.items
+-- there is room to note the row that stands for each action
+abbrev pub HasRoom : Program → Joins → Type 0
+HasRoom p m = length m.standing.items ≡ total_awaits p + length p
 
 -- row r of these stands for action n of agent i
 abbrev pub StandsIn : Program → Joins → ℕ → ℕ → ℕ → Type 0
@@ -136,49 +137,82 @@ StandsIn p m r i n = StandsFor p m.joins.items r i n
 abbrev pub AreRaised : List ℕ → List ℕ → Type 0
 AreRaised old new = (length new ≡ length old) × ((k : ℕ) → slice_index old k ≤ slice_index new k)
 
--- the row noted for the action
-abbrev pub row_of : ActionPlaces → Joins → ActionId → ℕ
-row_of places m a = slice_index m.standing.items (place_of_action places a)
+-- the row noted for the action, or, with the number 0, for none of its agent
+abbrev pub row_of : Program → Joins → ActionId → ℕ
+row_of p m a = slice_index m.standing.items (row_place p a)
 
 -- .. stands for it
-pub record IsStanding (p : Program) (places : ActionPlaces) (m : Joins) (a : ActionId) : Type 0 where
-  pub within : row_of places m a ≤ length m.joins.items
-  pub stands : StandsFor p m.joins.items (row_of places m a) a.agent a.number
+pub record IsStanding (p : Program) (m : Joins) (a : ActionId) : Type 0 where
+  pub within : row_of p m a ≤ length m.joins.items
+  pub stands : StandsFor p m.joins.items (row_of p m a) a.agent a.number
 
 -- the joins so far are right, and there is room to note a row for each action
-pub record AreSound (p : Program) (places : ActionPlaces) (m : Joins) : Type 0 where
-  pub right : ArePlacesOf p places
+pub record AreSound (p : Program) (m : Joins) : Type 0 where
   pub joins : AreJoins p m.joins.items m.needs.items
   pub lasts : AreLasts p m.joins.items m.needs.items m.lasts.items
-  pub room : length m.standing.items ≡ total_moves p
+  pub room : HasRoom p m
 
--- the joins of these actions, which are the first ones of a run without holds
-pub record AreJoinsOf (p : Program) (places : ActionPlaces) (Passed These : ActionId → Type 0) (m : Joins) : Type 0 where
-  pub sound : AreSound p places m
-  pub standing : (a : ActionId) → IsAction p a → These a → IsStanding p places m a
+-- no row is made yet, and none is noted
+pub record AreNone (p : Program) (m : Joins) : Type 0 where
+  pub joins : length m.joins.items ≡ 0
+  pub lasts : length m.lasts.items ≡ 1
+  pub room : HasRoom p m
+  pub standing : (k : ℕ) → slice_index m.standing.items k ≡ 0
+
+-- agent i has such an action, or, with the number 0, none
+pub record IsUpToLast (p : Program) (a : ActionId) : Type 0 where
+  pub agent : a.agent < length p
+  pub last : a.number ≤ moves p a.agent
+
+-- all actions of the agent up to this one that await something are among these
+abbrev pub AreUpTo : Program → (ActionId → Type 0) → ActionId → Type 0
+AreUpTo p These a = (m : ℕ) → m ≤ a.number → IsAwaiting p (record { agent = a.agent; number = m }) → These (record { agent = a.agent; number = m })
+
+-- the joins of these actions, which have those of all that they need; a row is noted for each action up to which they
+-- are all
+pub record AreJoinsOf (p : Program) (Passed These : ActionId → Type 0) (m : Joins) : Type 0 where
+  pub sound : AreSound p m
+  pub standing : (a : ActionId) → IsUpToLast p a → AreUpTo p These a → IsStanding p m a
   pub rows : HasAllRows p m.joins.items These
   pub passed : HasRowOr Passed p m.joins.items These
   pub rising : AreRising m.joins.items
   pub made : (n : ℕ) → n < length m.joins.items → These (join_at m.joins.items n).action
 
+-- they are those of the actions of levels below l that await something
+pub record AreJoinsBelow (p : Program) (Passed : ActionId → Type 0) (o : LevelOrder) (l : ℕ) (m : Joins) : Type 0 where
+  pub order : IsLevelOrder p o
+  pub joins : AreJoinsOf p Passed (λ a. IsAwaiting p a × (order.level a < l)) m
+
+-- the action has a level below l, or it is one of level l that is listed after k others or later
+abbrev pub HasCome : Program → (ActionId → ℕ) → LevelOrder → ℕ → ℕ → ActionId → Type 0
+HasCome p level o l k a =
+    IsAwaiting p a × ((level a < l) ⊎ ((level a ≡ l) × (m : ℕ) × (k ≤ m) × (m < length o.items.items) × (listed o.items.items m ≡ a)))
+
+-- .. and of those of level l from the action after `left` on, which is of level l too, or 0
+pub record AreJoinsFrom (p : Program) (Passed : ActionId → Type 0) (o : LevelOrder) (l left : ℕ) (m : Joins) : Type 0 where
+  pub order : IsLevelOrder p o
+  pub upto : left ≤ length o.items.items
+  pub here : 1 ≤ left → order.level (listed o.items.items (left - 1)) ≡ l
+  pub joins : AreJoinsOf p Passed (HasCome p order.level o l left) m
+
 -- the action is the next to have a row: rows stand for all that it directly needs
-pub record CanJoin (p : Program) (places : ActionPlaces) (m : Joins) (a : ActionId) : Type 0 where
-  pub sound : AreSound p places m
+pub record CanJoin (p : Program) (m : Joins) (a : ActionId) : Type 0 where
+  pub sound : AreSound p m
   pub action : IsAction p a
-  pub before : 1 < a.number → IsStanding p places m (action_before a)
-  pub awaited : (k : ℕ) (w : Await) → slice_get (awaits_of p a.agent a.number) k ≡ Some w → IsAction p (awaited w) × IsStanding p places m (awaited w)
+  pub before : IsStanding p m (action_before a)
+  pub awaited : (k : ℕ) (w : Await) → slice_get (awaits_of p a.agent a.number) k ≡ Some w → IsAction p (awaited w) × IsStanding p m (awaited w)
 
 -- what the first n awaits of the action need has been listed, and no list has lost anything
-pub record AreTaken (p : Program) (places : ActionPlaces) (a : ActionId) (n : ℕ) (old new : Joins) : Type 0 where
+pub record AreTaken (p : Program) (a : ActionId) (n : ℕ) (old new : Joins) : Type 0 where
   pub joins : new.joins ≡ old.joins
   pub standing : new.standing ≡ old.standing
   pub all : length new.needs.items ≡ length old.needs.items + n
   pub kept : (k : ℕ) → k < length old.needs.items → need_at new.needs.items k ≡ need_at old.needs.items k
   pub each : (k : ℕ) (w : Await) → k < n → slice_get (awaits_of p a.agent a.number) k ≡ Some w
-      → need_at new.needs.items (length old.needs.items + k) ≡ record { row = row_of places old (awaited w); wait = w }
+      → need_at new.needs.items (length old.needs.items + k) ≡ record { row = row_of p old (awaited w); wait = w }
   pub lasts : AreRaised old.lasts.items new.lasts.items
   pub noted : (k : ℕ) (w : Await) → k < n → slice_get (awaits_of p a.agent a.number) k ≡ Some w
-      → length old.joins.items + 1 ≤ slice_index new.lasts.items (row_of places old (awaited w))
+      → length old.joins.items + 1 ≤ slice_index new.lasts.items (row_of p old (awaited w))
 
 -- no join has gone, and one of the action may have come
 pub record HaveGrown (a : ActionId) (old new : List Join) : Type 0 where
@@ -187,8 +221,8 @@ pub record HaveGrown (a : ActionId) (old new : List Join) : Type 0 where
   pub last : (n : ℕ) → n < length new → (n < length old) ⊎ ((n ≡ length old) × ((join_at new n).action ≡ a))
 
 -- the row r is that of the action or stands for it
-pub record HasJoined (p : Program) (places : ActionPlaces) (a : ActionId) (made : Bool) (r : ℕ) (old new : Joins) : Type 0 where
-  pub sound : AreSound p places new
+pub record HasJoined (p : Program) (a : ActionId) (made : Bool) (r : ℕ) (old new : Joins) : Type 0 where
+  pub sound : AreSound p new
   pub standing : new.standing ≡ old.standing
   pub grown : HaveGrown a old.joins.items new.joins.items
   pub within : r ≤ length new.joins.items
@@ -196,11 +230,11 @@ pub record HasJoined (p : Program) (places : ActionPlaces) (a : ActionId) (made 
   pub here : made ≡ true → IsRow new.joins.items r a
 
 -- the action has been added
-pub record IsAdded (p : Program) (places : ActionPlaces) (a : ActionId) (made : Bool) (old new : Joins) : Type 0 where
-  pub sound : AreSound p places new
+pub record IsAdded (p : Program) (a : ActionId) (made : Bool) (old new : Joins) : Type 0 where
+  pub sound : AreSound p new
   pub grown : HaveGrown a old.joins.items new.joins.items
-  pub kept : (x : ActionId) → IsAction p x → x ≢ a → IsStanding p places old x → IsStanding p places new x
-  pub here : IsStanding p places new a
+  pub kept : (x : ActionId) → row_place p x ≢ row_place p a → IsStanding p old x → IsStanding p new x
+  pub here : IsStanding p new a
   pub row : made ≡ true → (r : ℕ) × IsRow new.joins.items r a
 
 -- the joins of all actions of the program, in which no action needs a later one of its agent
@@ -212,12 +246,12 @@ pub record AreAllJoins (p : Program) (m : Joins) : Type 0 where
   pub own : AreOwn p
 
 -- of each action of the program it is noted which row stands for it
-pub record AreStanding (p : Program) (places : ActionPlaces) (m : Joins) : Type 0 where
-  pub sound : AreSound p places m
-  pub each : (a : ActionId) → IsAction p a → IsStanding p places m a
+pub record AreStanding (p : Program) (m : Joins) : Type 0 where
+  pub sound : AreSound p m
+  pub each : (a : ActionId) → IsAction p a → IsStanding p m a
 
 -- .. and an action without a row is passed
-pub record AreJoinsEnd (p : Program) (places : ActionPlaces) (Passed : ActionId → Type 0) (m : Joins) : Type 0 where
+pub record AreJoinsEnd (p : Program) (Passed : ActionId → Type 0) (m : Joins) : Type 0 where
   pub all : AreAllJoins p m
-  pub standing : AreStanding p places m
+  pub standing : AreStanding p m
   pub passed : HasRowOr Passed p m.joins.items (IsAction p)

@@ -37,6 +37,12 @@ pub record TicksByPlace : Type 0 where
 abbrev pub finish_tick : TicksByPlace → ActionId → ℕ
 finish_tick m a = slice_index m.ticks (place_of_action m.places a)
 
+-- those of the actions that t ticks finish are right
+pub record AreTicksTo (p : Program) (t : ℕ) (m : TicksByPlace) : Type 0 where
+  pub places : ArePlacesOf p m.places
+  pub all : length m.ticks ≡ total_moves p
+  pub each : AreFinishTicks p m.places (IsFinishedBy p t) m.ticks
+
 -- each action has its tick, and what an action directly needs has a lower one
 pub record AreTicks (p : Program) (m : TicksByPlace) : Type 0 where
   pub places : ArePlacesOf p m.places

@@ -1,10 +1,10 @@
 //! Where the actions of a program, and their awaits, stand in rows of all.
 
 ghost use Rattle.std.specs.Prelude.{◌≡◌, ◌+◌, ◌<◌, ◌≤◌, length, slice_index, IfOk};
-ghost use Rattle.fleet_model.specs.Program.{awaits_of, total_awaits, total_moves};
+ghost use Rattle.fleet_model.specs.Program.{awaits_of, moves, total_awaits, total_moves};
 ghost use Rattle.fleet_model.specs.Chain.{IsAction};
 ghost use Rattle.fleet_needs.specs.Implied.{AreAwaitPlaces, first_await};
-ghost use Rattle.fleet_needs.specs.Places.{ArePlacesOf, place_of_action};
+ghost use Rattle.fleet_needs.specs.Places.{ArePlacesOf, place_of_action, row_place};
 
 use fleet_model::{ActionId, OutOfMemory, ProgramView, agent_awaits};
 use std::alloc::Global;
@@ -39,6 +39,14 @@ impl AwaitPlaces {
         Ok(AwaitPlaces { firsts })
     }
 
+    /// How many awaits the agents before this one have together.
+    pub(crate) fn begin(&self, agent: u16) -> u32
+        requires { agent < length self.now }
+        ensures { result ≡ slice_index self.now agent }
+    {
+        self.firsts[usize::from(agent)]
+    }
+
     /// The place of the first await of an action. Places count from 0.
     pub fn first<P: ProgramView>(&self, program: &P, action: ActionId) -> usize
         requires places { AreAwaitPlaces (P.program program.now) self.now }
@@ -49,6 +57,21 @@ impl AwaitPlaces {
     {
         let before = program.awaits_before(action.agent, action.number - 1);
         self.firsts[usize::from(action.agent)] as usize + before as usize
+    }
+
+    /// The place of the row that stands for an action, or, with the number 0, for none of its agent. Actions of an agent
+    /// share a place if those from the one to the other await nothing.
+    pub(crate) fn row_place<P: ProgramView>(&self, program: &P, action: ActionId) -> usize
+        requires places { AreAwaitPlaces (P.program program.now) self.now }
+        requires agent { action.agent < length (P.program program.now) }
+        requires last { action.number ≤ moves (P.program program.now) action.agent }
+        ensures place { result ≡ row_place (P.program program.now) action }
+        ensures within { result
+            < total_awaits (P.program program.now) + length (P.program program.now) }
+    {
+        let before = program.awaits_before(action.agent, action.number);
+        let agent = usize::from(action.agent);
+        self.firsts[agent] as usize + agent + before as usize
     }
 }
 

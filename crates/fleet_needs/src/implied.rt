@@ -13,8 +13,9 @@ ghost use Rattle.fleet_needs.specs.Flags.{AreImplied, AreSet, flags_of, AreFlags
 ghost use Rattle.fleet_needs.specs.JoinPass.{IsJoinRow, HasOthers};
 
 use crate::await_places::AwaitPlaces;
-use crate::finish_order::FinishOrder;
+use crate::finish_order::FinishTicks;
 use crate::join_pass::{JoinRow, JoinUse, use_joins};
+use crate::level_order::LevelOrder;
 use crate::questions::is_any;
 use crate::schedule::{Blocks, Schedule};
 use crate::settled::settle_all;
@@ -86,11 +87,13 @@ fn flag_implied<P: ProgramView>(
     requires flags { AreFlags (P.program program.now) implied.old }
     ensures { OnOk result (AreImplied (P.program program.now) implied.new) }
 {
-    let order = FinishOrder::of(alloc, program, ticks)?;
-    let asked = settle_all(alloc, program, &order, implied)?;
+    let mut finish = FinishTicks::of(alloc, program, ticks)?;
+    let asked = settle_all(alloc, program, &mut finish, implied)?;
     if !is_any(&asked) {
         return Ok(());
     }
+    let order = LevelOrder::by_ticks(alloc, program, &finish, ticks)?;
+    drop(finish);
     let schedule = Schedule::of(alloc, program, &order, Some(implied))?;
     // The rows need its room.
     drop(order);

@@ -1,18 +1,18 @@
 //! Which rows are made, and of which rows each is joined: one for each action that awaits something, unless it awaits
 //! one action alone and needs it anyhow. The row of any other is that of its agent's action before.
 
-ghost use Rattle.std.specs.Prelude.{◌≡◌, ◌↔◌, ◌+◌, ◌-◌, ◌<◌, ◌≤◌, Bool, true, false, [], length, get_or, set, IfOk, OnOk};
-ghost use Rattle.fleet_model.specs.Program.{AreInRange, awaits_of, total_moves};
+ghost use Rattle.std.specs.Prelude.{◌≡◌, ◌↔◌, ◌+◌, ◌-◌, ◌<◌, ◌≤◌, Bool, true, false, [], length, set, IfOk, OnOk};
+ghost use Rattle.fleet_model.specs.Program.{AreInRange, awaits_of, moves};
 ghost use Rattle.fleet_model.specs.Chain.{IsAction};
-ghost use Rattle.fleet_needs.specs.Places.{ArePlacesOf, place_of_action};
-ghost use Rattle.fleet_needs.specs.Order.{IsWholeOrder};
+ghost use Rattle.fleet_needs.specs.Implied.{AreAwaitPlaces};
+ghost use Rattle.fleet_needs.specs.Places.{row_place};
+ghost use Rattle.fleet_needs.specs.Order.{IsItem, IsLevelOrder, action_of, levels_in};
 ghost use Rattle.fleet_needs.specs.Flags.{AreSureIf, IsPassed, IsFirstSet, NeedsRow};
-ghost use Rattle.fleet_needs.specs.Joins.{AddsNone, AreJoinsEnd, CanJoin, AreTaken, HasJoined, IsAdded, AreRaised, rows_made, lasts_known, last_of, lasts_in, standing_in, needs_listed, room_for, row_of, StandsIn};
+ghost use Rattle.fleet_needs.specs.Joins.{AddsNone, AreNone, AreJoinsBelow, AreJoinsEnd, CanJoin, AreTaken, HasJoined, HasRoom, IsAdded, AreRaised, rows_made, lasts_known, last_of, lasts_in, standing_in, needs_listed, row_of, StandsIn};
 
-use crate::await_places::ActionPlaces;
-use crate::finish_order::{FinishOrder, Finishing};
+use crate::await_places::AwaitPlaces;
 use crate::implied::ImpliedAwaits;
-use crate::settled::before;
+use crate::level_order::{Item, LevelOrder};
 use fleet_model::{ActionId, Await, OutOfMemory, ProgramView, total_awaits, total_moves};
 use std::alloc::Global;
 
@@ -34,7 +34,7 @@ pub(crate) struct Need {
     pub(crate) wait: Await,
 }
 
-/// The joins of a program so far, in the order in which their actions finish.
+/// The joins of a program so far.
 #[derive(Drop)]
 pub(crate) struct Joins {
     pub(crate) joins: Vec<Join>,
@@ -42,56 +42,71 @@ pub(crate) struct Joins {
     pub(crate) needs: Vec<Need>,
     /// For each row, from 0 on, the last row that is joined of it, or 0.
     pub(crate) lasts: Vec<u32>,
-    /// For each action, by its place, the row that stands for it.
+    /// For each action, by its place among rows, the row that stands for it.
     standing: Vec<u32>,
 }
 
-/// The joins of a program, by the order in which its actions finish, and some awaits that others imply.
+/// The joins of a program, by an order of the actions that await something, and some awaits that others imply.
 pub(crate) fn joins_of<P: ProgramView>(
     alloc: Global,
     program: &P,
-    places: &ActionPlaces,
-    order: &FinishOrder,
+    order: &LevelOrder,
     implied: Option<&ImpliedAwaits>,
 ) -> Result<Joins, OutOfMemory>
     requires range { AreInRange (P.program program.now) }
-    requires places { ArePlacesOf (P.program program.now) places.now }
-    requires order { IsWholeOrder (P.program program.now) order.now }
+    requires order { IsLevelOrder (P.program program.now) order.now }
     requires sure { AreSureIf (P.program program.now) implied }
-    ensures { IfOk result (AreJoinsEnd (P.program program.now) places.now
+    ensures { IfOk result (AreJoinsEnd (P.program program.now)
         (IsPassed (P.program program.now) implied.entry)) }
 {
-    let rows = total_awaits(program).min(total_moves(program));
-    let mut joins = Joins::new(
-        alloc,
-        total_moves(program) as usize,
-        rows,
-        total_awaits(program),
-    )?;
-    let mut finishing = Finishing::of(alloc, program, order)?;
-    while let Some(finish) = finishing.next(program) {
-        let action = finish.action;
-        let count = program.await_count(action.agent, action.number);
-        let is_made = needs_row(program, implied, action, count);
-        joins.add_action(program, places, action, count, is_made)?;
+    let mut joins = Joins::new(alloc, program)?;
+    for level in 0..order.levels() {
+        add_level(program, implied, order, level, &mut joins)?;
     }
     Ok(joins)
 }
 
+/// Adds the actions of a level, from the last one to the first.
+fn add_level<P: ProgramView>(
+    program: &P,
+    implied: Option<&ImpliedAwaits>,
+    order: &LevelOrder,
+    level: usize,
+    joins: &mut Joins,
+) -> Result<(), OutOfMemory>
+    requires range { AreInRange (P.program program.now) }
+    requires sure { AreSureIf (P.program program.now) implied }
+    requires level { level < levels_in order.now }
+    requires joins { AreJoinsBelow (P.program program.now)
+        (IsPassed (P.program program.now) implied) order.now level joins.old }
+    ensures { OnOk result (AreJoinsBelow (P.program program.now)
+        (IsPassed (P.program program.now) implied.entry) order.now (level + 1) joins.new) }
+{
+    let mut left = order.last(level);
+    while left > 0 {
+        let item = order.item(left as usize - 1);
+        let is_made = needs_row(program, implied, item.action(), item.awaits);
+        joins.add_action(program, &order.places, &item, is_made)?;
+        left = item.before;
+    }
+    Ok(())
+}
+
 impl Joins {
-    /// No joins yet, of so many actions, with room for so many rows and awaits.
-    fn new(alloc: Global, actions: usize, rows: u32, awaits: u32) -> Result<Joins, OutOfMemory>
-        ensures joins { IfOk result (λ m. rows_made m ≡ 0) }
-        ensures lasts { IfOk result (λ m. lasts_known m ≡ 1) }
-        ensures standing { IfOk result (λ m. room_for m ≡ actions) }
+    /// No joins yet, with room for those of a program.
+    fn new<P: ProgramView>(alloc: Global, program: &P) -> Result<Joins, OutOfMemory>
+        ensures { IfOk result (AreNone (P.program program.now)) }
     {
+        let awaits = total_awaits(program);
+        let rows = awaits.min(total_moves(program));
         let mut lasts = Vec::with_capacity(alloc, rows as usize + 1)?;
         lasts.push(0)?;
+        let places = awaits as usize + usize::from(program.agents());
         Ok(Joins {
             joins: Vec::with_capacity(alloc, rows as usize)?,
             needs: Vec::with_capacity(alloc, awaits as usize)?,
             lasts,
-            standing: vec![in alloc; 0; actions]?,
+            standing: vec![in alloc; 0; places]?,
         })
     }
 
@@ -116,86 +131,92 @@ impl Joins {
         }
     }
 
-    /// Adds the next action that finishes, which has so many awaits, with a row if one is to be made.
+    /// Adds an action, with a row if one is to be made.
     fn add_action<P: ProgramView>(
         &mut self,
         program: &P,
-        places: &ActionPlaces,
-        action: ActionId,
-        count: u16,
+        places: &AwaitPlaces,
+        item: &Item,
         is_made: bool,
     ) -> Result<(), OutOfMemory>
         requires range { AreInRange (P.program program.now) }
-        requires count { count ≡ length
-            (awaits_of (P.program program.now) action.agent action.number) }
-        requires can { CanJoin (P.program program.now) places.now self.old action }
+        requires places { AreAwaitPlaces (P.program program.now) places.now }
+        requires item { IsItem (P.program program.now) item.now }
+        requires can { CanJoin (P.program program.now) self.old (action_of item.now) }
         requires none { is_made ≡ false
-            → AddsNone (P.program program.now) action.agent action.number }
+            → AddsNone (P.program program.now) item.now.agent item.now.number }
         ensures { OnOk result (IsAdded
-            (P.program program.now) places.now action is_made self.old self.new) }
+            (P.program program.now) (action_of item.now) is_made self.old self.new) }
     {
-        let base = self.row_before(program, places, action);
+        let base = self.row_before(program, item);
         if !is_made {
-            self.note(program, places, action, base);
+            self.note(program, item, base);
             return Ok(());
         }
-        let row = self.add_join(program, places, action, count, base)?;
-        self.note(program, places, action, row);
+        let row = self.add_join(program, places, item.action(), item.awaits, base)?;
+        self.note(program, item, row);
         Ok(())
     }
 
     /// The row that stands for the agent's action before this one.
-    fn row_before<P: ProgramView>(
-        &self,
-        program: &P,
-        places: &ActionPlaces,
-        action: ActionId,
-    ) -> u32
-        requires can { CanJoin (P.program program.now) places.now self.now action }
+    fn row_before<P: ProgramView>(&self, program: &P, item: &Item) -> u32
+        requires item { IsItem (P.program program.now) item.now }
+        requires can { CanJoin (P.program program.now) self.now (action_of item.now) }
         ensures within { result ≤ rows_made self.now }
         ensures stands { StandsIn (P.program program.now) self.now
-            result action.agent (action.number - 1) }
+            result item.now.agent (item.now.number - 1) }
     {
-        let is_first = action.number <= 1;
-        if is_first {
-            return 0;
-        }
-        self.row_of(program, places, before(action))
+        self.standing[item.place_before(program)]
+    }
+
+    /// Notes the row that stands for the action.
+    fn note<P: ProgramView>(&mut self, program: &P, item: &Item, row: u32)
+        requires room { HasRoom (P.program program.now) self.old }
+        requires item { IsItem (P.program program.now) item.now }
+        ensures joins { self.new.joins ≡ self.old.joins }
+        ensures needs { self.new.needs ≡ self.old.needs }
+        ensures lasts { self.new.lasts ≡ self.old.lasts }
+        ensures noted { standing_in self.new ≡ set (standing_in self.old)
+            (row_place (P.program program.now) (action_of item.now)) row }
+    {
+        self.standing[item.place(program)] = row;
     }
 
     /// The row that is noted for an action.
     pub(crate) fn row_of<P: ProgramView>(
         &self,
         program: &P,
-        places: &ActionPlaces,
+        places: &AwaitPlaces,
         action: ActionId,
     ) -> u32
-        requires room { room_for self.now ≡ total_moves (P.program program.now) }
-        requires places { ArePlacesOf (P.program program.now) places.now }
-        requires action { IsAction (P.program program.now) action }
-        ensures { result ≡ row_of places.now self.now action }
+        requires room { HasRoom (P.program program.now) self.now }
+        requires places { AreAwaitPlaces (P.program program.now) places.now }
+        requires agent { action.agent < length (P.program program.now) }
+        requires last { action.number ≤ moves (P.program program.now) action.agent }
+        ensures { result ≡ row_of (P.program program.now) self.now action }
     {
-        self.standing[places.place_of(program, action)]
+        self.standing[places.row_place(program, action)]
     }
 
     /// Adds a row for an action, after the row that stands for the agent's action before, and answers which it is.
     fn add_join<P: ProgramView>(
         &mut self,
         program: &P,
-        places: &ActionPlaces,
+        places: &AwaitPlaces,
         action: ActionId,
         count: u16,
         base: u32,
     ) -> Result<u32, OutOfMemory>
         requires range { AreInRange (P.program program.now) }
+        requires places { AreAwaitPlaces (P.program program.now) places.now }
         requires count { count ≡ length
             (awaits_of (P.program program.now) action.agent action.number) }
-        requires can { CanJoin (P.program program.now) places.now self.old action }
+        requires can { CanJoin (P.program program.now) self.old action }
         requires within { base ≤ rows_made self.old }
         requires stands { StandsIn (P.program program.now) self.old
             base action.agent (action.number - 1) }
         ensures { IfOk result (λ row. (made : Bool) → HasJoined
-            (P.program program.now) places.now action made row self.old self.new) }
+            (P.program program.now) action made row self.old self.new) }
     {
         let row = self.joins.len() + 1;
         let first = self.needs.len();
@@ -218,17 +239,18 @@ impl Joins {
     fn take_awaited<P: ProgramView>(
         &mut self,
         program: &P,
-        places: &ActionPlaces,
+        places: &AwaitPlaces,
         action: ActionId,
         count: u16,
         row: u32,
     ) -> Result<(), OutOfMemory>
         requires range { AreInRange (P.program program.now) }
+        requires places { AreAwaitPlaces (P.program program.now) places.now }
         requires count { count ≡ length
             (awaits_of (P.program program.now) action.agent action.number) }
-        requires can { CanJoin (P.program program.now) places.now self.old action }
+        requires can { CanJoin (P.program program.now) self.old action }
         requires row { row ≡ rows_made self.old + 1 }
-        ensures { OnOk result (AreTaken (P.program program.now) places.now action
+        ensures { OnOk result (AreTaken (P.program program.now) action
             (length (awaits_of (P.program program.now) action.agent action.number))
             self.old self.new) }
     {
@@ -256,26 +278,6 @@ impl Joins {
     {
         let last = self.lasts[taken as usize];
         self.lasts[taken as usize] = last.max(row);
-    }
-
-    /// Notes the row that stands for the action.
-    fn note<P: ProgramView>(
-        &mut self,
-        program: &P,
-        places: &ActionPlaces,
-        action: ActionId,
-        row: u32,
-    )
-        requires room { room_for self.old ≡ total_moves (P.program program.now) }
-        requires places { ArePlacesOf (P.program program.now) places.now }
-        requires action { IsAction (P.program program.now) action }
-        ensures joins { self.new.joins ≡ self.old.joins }
-        ensures needs { self.new.needs ≡ self.old.needs }
-        ensures lasts { self.new.lasts ≡ self.old.lasts }
-        ensures noted { standing_in self.new
-            ≡ set (standing_in self.old) (place_of_action places.now action) row }
-    {
-        self.standing[places.place_of(program, action)] = row;
     }
 }
 

@@ -5,16 +5,16 @@
 //! lane, eight counts at once, and then the counts that are left, one by one. A lane is a vector of `std::simd`, in a
 //! small function of its own, whose proof alone speaks of lanes: the loop over them knows places and counts.
 //!
-//! `finish_order` has the order in which the actions finish if nobody is held (the agents, tick by tick): that of a run,
-//! or what another `OrderSource` makes. `Finishing` goes through it, action by action; so the tick that finishes each
-//! action is noted, which rises along chains.
+//! `level_order` lists the actions that await something by levels, which rise along chains: for each level the last
+//! one, and for each action the one before it of its level. Any levels will do: `finish_order` notes by a run without
+//! holds which tick finishes each action, and another `OrderSource` may know others.
 //!
 //! A `schedule` says which rows are made, in which order, of which rows each is joined, and in which slot it is kept.
 //! It is made once, and serves all blocks of columns: each agent that is asked for has a column in one block. `joins`
-//! goes through the order in which actions finish: an action that awaits something has a row of its own, and the row of
-//! any other is that of its agent's action before. So is that of an action with one await, if that is known to be
-//! implied: it adds no chain. What is noted is the row that stands for the action before, those that the awaits take,
-//! and for each row the last one that is joined of it. Each row gets a slot, and none is used again before its row was
+//! goes through the actions that await something, level by level: each has a row of its own, and the row of any other
+//! action is that of its agent's action before. So is that of an action with one await, if that is known to be implied:
+//! it adds no chain. What is noted is the row that stands for the action before, those that the awaits take, and for each
+//! row the last one that is joined of it. Each row gets a slot, and none is used again before its row was
 //! taken for the last time.
 //!
 //! `join_pass` makes the rows in that order, in the columns of one block, and keeps their counts slot by slot. A row is
@@ -57,13 +57,15 @@ mod gather;
 mod implied;
 mod join_pass;
 mod joins;
+mod level_order;
 mod questions;
 mod schedule;
 mod settled;
 
 pub use counts::join_rows;
 pub use critical::{ActionCosts, CriticalCosts, MAX_COST};
-pub use finish_order::{FinishOrder, OrderSource, Ticks};
+pub use finish_order::Ticks;
 pub use gather::Pieces;
 pub use implied::{ImpliedAwaits, implied_awaits};
+pub use level_order::{Awaiting, Item, LevelOrder, OrderSource};
 pub use questions::{Question, answer_questions};

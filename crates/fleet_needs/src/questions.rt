@@ -10,14 +10,14 @@ ghost use Rattle.fleet_model.specs.Chain.{IsAction, Reaches};
 ghost use Rattle.fleet_needs.specs.Columns.{column_of};
 ghost use Rattle.fleet_needs.specs.Answering.{AreListed, IsAnswering, AreOthersLeft};
 ghost use Rattle.fleet_needs.specs.Counts.{counts_of};
+ghost use Rattle.fleet_needs.specs.Implied.{AreAwaitPlaces};
 ghost use Rattle.fleet_needs.specs.Joins.{AreOwn, AreStanding, joins_made};
-ghost use Rattle.fleet_needs.specs.Places.{ArePlacesOf};
 
-use crate::await_places::ActionPlaces;
+use crate::await_places::AwaitPlaces;
 use crate::counts::Counts;
-use crate::finish_order::OrderSource;
 use crate::join_pass::{JoinRow, JoinUse, use_joins};
 use crate::joins::Joins;
+use crate::level_order::OrderSource;
 use crate::schedule::{Blocks, Columns, Schedule};
 use fleet_model::{ActionId, OutOfMemory, ProgramView};
 use std::alloc::Global;
@@ -29,8 +29,8 @@ pub struct Question {
     pub last: ActionId,
 }
 
-/// For each question whether no chain of needs begins with its first action and ends with its last. The order in which
-/// actions finish is made if a look a few steps back leaves some question open. Rows of counts are kept as long as some
+/// For each question whether no chain of needs begins with its first action and ends with its last. The order of the
+/// actions is made if a look a few steps back leaves some question open. Rows of counts are kept as long as some
 /// action is still to take them.
 pub fn answer_questions<P: ProgramView, S: OrderSource + Drop>(
     alloc: Global,
@@ -165,12 +165,12 @@ impl<'a> ListedQuestions<'a> {
     pub(crate) fn of<P: ProgramView>(
         alloc: Global,
         program: &P,
-        places: &ActionPlaces,
+        places: &AwaitPlaces,
         joins: &Joins,
         questions: &'a [Question],
     ) -> Result<ListedQuestions<'a>, OutOfMemory>
-        requires places { ArePlacesOf (P.program program.now) places.now }
-        requires joins { AreStanding (P.program program.now) places.now joins.now }
+        requires places { AreAwaitPlaces (P.program program.now) places.now }
+        requires joins { AreStanding (P.program program.now) joins.now }
         requires questions { All (IsQuestion (P.program program.now)) questions.now }
         ensures questions { IfOk result (λ l. l.questions.now ≡ questions.now) }
         ensures listed { IfOk result (λ l. AreListed

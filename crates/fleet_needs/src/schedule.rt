@@ -8,16 +8,15 @@ ghost use Rattle.fleet_model.specs.Chain.{IsAction};
 ghost use Rattle.fleet_needs.specs.Asked.{IsQuestion};
 ghost use Rattle.fleet_needs.specs.Joins.{AreAllJoins, HasRowOr, joins_made, lasts_in, rows_made};
 ghost use Rattle.fleet_needs.specs.Flags.{AreSureIf, IsPassed};
-ghost use Rattle.fleet_needs.specs.Order.{IsWholeOrder};
+ghost use Rattle.fleet_needs.specs.Order.{IsLevelOrder};
 ghost use Rattle.fleet_needs.specs.Answering.{AreListed};
 ghost use Rattle.fleet_needs.specs.Schedule.{IsSchedule, IsNextJoin, IsNextNeed, joins_of, joins_in, next_action};
 ghost use Rattle.fleet_needs.specs.Slots.{AreSlotted, IsTaken};
 ghost use Rattle.fleet_needs.specs.Columns.{AreColumns, IsNextBlock, agents_in, column_of};
 
-use crate::await_places::ActionPlaces;
-use crate::finish_order::FinishOrder;
 use crate::implied::ImpliedAwaits;
 use crate::joins::{Join, Joins, Need, joins_of};
+use crate::level_order::LevelOrder;
 use crate::questions::{ListedQuestions, Question};
 use fleet_model::{MAX_AGENTS, OutOfMemory, ProgramView};
 use std::alloc::Global;
@@ -32,7 +31,7 @@ const LEAST_COLUMNS: u32 = 8;
 /// So many counts of two bytes are joined at once, so a block has no more columns than a multiple of them, if it can.
 const WHOLE_COLUMNS: u32 = 16;
 
-/// The rows of a program: those of the actions that add a chain, in the order in which they finish if nobody is held.
+/// The rows of a program: those of the actions that add a chain, each after all rows that it is joined of.
 #[derive(Drop)]
 pub struct Schedule {
     pub(crate) joins: Vec<Join>,
@@ -51,40 +50,38 @@ impl Schedule {
     pub(crate) fn of<P: ProgramView>(
         alloc: Global,
         program: &P,
-        order: &FinishOrder,
+        order: &LevelOrder,
         implied: Option<&ImpliedAwaits>,
     ) -> Result<Schedule, OutOfMemory>
         requires range { AreInRange (P.program program.now) }
-        requires order { IsWholeOrder (P.program program.now) order.now }
+        requires order { IsLevelOrder (P.program program.now) order.now }
         requires sure { AreSureIf (P.program program.now) implied }
         ensures schedule { IfOk result (IsSchedule (P.program program.now)) }
         ensures passed { IfOk result (λ s. HasRowOr (IsPassed (P.program program.now) implied.entry)
             (P.program program.now) (joins_of s) (IsAction (P.program program.now))) }
     {
-        let places = ActionPlaces::of(alloc, program)?;
-        let joins = joins_of(alloc, program, &places, order, implied)?;
+        let joins = joins_of(alloc, program, order, implied)?;
         Schedule::of_joins(alloc, program, joins)
     }
 
-    /// The schedule of a program whose actions finish in this order, and the questions by the rows that stand for their
+    /// The schedule of a program whose actions have this order, and the questions by the rows that stand for their
     /// last actions.
     pub(crate) fn for_questions<'a, P: ProgramView>(
         alloc: Global,
         program: &P,
-        order: FinishOrder,
+        order: LevelOrder,
         questions: &'a [Question],
     ) -> Result<(Schedule, ListedQuestions<'a>), OutOfMemory>
         requires range { AreInRange (P.program program.now) }
-        requires order { IsWholeOrder (P.program program.now) order }
+        requires order { IsLevelOrder (P.program program.now) order }
         requires questions { All (IsQuestion (P.program program.now)) questions.now }
         ensures schedule { IfOk result (λ made. IsSchedule (P.program program.now) made.0) }
         ensures questions { IfOk result (λ made. made.1.questions.now ≡ questions.now) }
         ensures listed { IfOk result (λ made.
             AreListed (P.program program.now) (joins_of made.0) made.1) }
     {
-        let places = ActionPlaces::of(alloc, program)?;
-        let joins = joins_of(alloc, program, &places, &order, None)?;
-        let listed = ListedQuestions::of(alloc, program, &places, &joins, questions)?;
+        let joins = joins_of(alloc, program, &order, None)?;
+        let listed = ListedQuestions::of(alloc, program, &order.places, &joins, questions)?;
         let schedule = Schedule::of_joins(alloc, program, joins)?;
         Ok((schedule, listed))
     }

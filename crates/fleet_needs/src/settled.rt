@@ -6,11 +6,10 @@ ghost use Rattle.fleet_model.specs.declared.program.Await.{Await};
 ghost use Rattle.fleet_model.specs.Chain.{IsAction, Reaches};
 ghost use Rattle.fleet_needs.specs.Implied.{IsImplied};
 ghost use Rattle.fleet_needs.specs.Flags.{AreFlags, flags_of};
-ghost use Rattle.fleet_needs.specs.Order.{IsWholeOrder};
 ghost use Rattle.fleet_needs.specs.Settled.{AreTicks, AreSettledBy, AreSettledOf, AreSettledTo, AreMoreAsked, IsUpTo, ReachesNeed};
 ghost use Rattle.fleet_needs.specs.Rows.{action_before};
 
-use crate::finish_order::{FinishOrder, FinishTicks};
+use crate::finish_order::FinishTicks;
 use crate::implied::ImpliedAwaits;
 use fleet_model::{ActionId, OutOfMemory, ProgramView};
 use std::alloc::Global;
@@ -26,21 +25,21 @@ const NO_AWAIT: u16 = AWAITS + 1;
 pub fn settle_all<P: ProgramView>(
     alloc: Global,
     program: &P,
-    order: &FinishOrder,
+    finish: &mut FinishTicks,
     implied: &mut ImpliedAwaits,
 ) -> Result<Vec<bool>, OutOfMemory>
     requires range { AreInRange (P.program program.now) }
-    requires order { IsWholeOrder (P.program program.now) order.now }
+    requires ticks { AreTicks (P.program program.now) finish.old }
     requires flags { AreFlags (P.program program.now) implied.old }
+    ensures ticks { OnOk result (finish.new ≡ finish.old) }
     ensures flags { OnOk result (AreFlags (P.program program.now) implied.new) }
     ensures asked { IfOk result (λ asked. AreSettledBy
         (P.program program.now) asked (flags_of implied.new)) }
 {
-    let mut finish = FinishTicks::of(alloc, program, order)?;
     let agents = program.agents();
     let mut asked = vec![in alloc; false; usize::from(agents)]?;
     for agent in 0..agents {
-        settle_agent(program, &finish, agent, implied, &mut asked);
+        settle_agent(program, finish, agent, implied, &mut asked);
         finish.look_less_if_most(&asked);
     }
     Ok(asked)
@@ -336,7 +335,7 @@ fn reaches_need<P: ProgramView>(
 }
 
 /// The action of the same agent right before one that is not its first.
-pub(crate) fn before(action: ActionId) -> ActionId
+fn before(action: ActionId) -> ActionId
     requires { 1 < action.number }
     ensures { result ≡ action_before action }
 {

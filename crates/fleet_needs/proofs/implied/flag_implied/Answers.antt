@@ -1,4 +1,4 @@
-use Rattle.fleet_needs.proofs.Words.{◌∙◌, Bool, false, List, get_or, sym, ap, flags_of}
+use Rattle.fleet_needs.proofs.Words.{◌∙◌, Bool, false, List, get_or, sym, subst, ap, flags_of, AreSettled}
 use Rattle.fleet_needs.proofs.Flagged.{flagged_if_none, sure_of}
 use Rattle.fleet_needs.proofs.implied.flag_implied.Goals as goal
 
@@ -14,3 +14,7 @@ of-requires-2-clause-sure g c = record {
   flags = c.in_ok-asked.ensures.flags;
   sure = sure_of (g.P.ProgramView.program c.args.program.now) c.in_ok-asked.asked.items _ c.in_ok-asked.ensures.asked.settled;
 }
+
+pub flag_all-requires-clause-settled : goal.flag_all-requires-clause-settled
+flag_all-requires-clause-settled g c =
+    subst (λ (xs : List Bool). AreSettled (g.P.ProgramView.program c.args.program.now) xs (flags_of c.settle_all.new.implied)) (sym c.deref-2.ensures.value) c.in_ok-asked.ensures.asked.settled

@@ -2,4 +2,4 @@ use Rattle.fleet_needs.specs.Joins.{AreTaken}
 use Rattle.fleet_needs.proofs.joins.Joins.take_awaited.Given as goal
 
 abbrev pub invariant-loop-k : goal.invariant-loop-k
-invariant-loop-k g l = record { taken : AreTaken (g.P.ProgramView.program l.program) l.places l.action l.k l.fn.self l.self }
+invariant-loop-k g l = record { taken : AreTaken (g.P.ProgramView.program l.program) l.action l.k l.fn.self l.self }

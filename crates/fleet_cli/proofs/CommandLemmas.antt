@@ -1,11 +1,10 @@
 -- What the words of the command line ask.
 use Rattle.std.proofs.Common.{◌≡◌, ℕ, List, [], ◌∷◌, map, Option, Ok, Err, inl, inr, refl}
 use Rattle.clap.specs.Words.{Text}
-use Rattle.fleet_args.specs.Request.{ReadsFleet}
-use Rattle.fleet_args.specs.declared.{commands.Request.Request, request.WordStop.WordStop}
+use Rattle.fleet_args.specs.{Request.ReadsFleet, declared.commands.Request.Request, declared.request.WordStop.WordStop}
 use Rattle.fleet_cli.specs.Files.{AreUnchanged}
-use Rattle.fleet_text.specs.Sink.{SinkState}
 use Rattle.fleet_cli.specs.Command.{Around, RunsRequest, StopsAtWords, RunsCommand}
+use Rattle.fleet_text.specs.Sink.{SinkState}
 
 module _ {X : Type 0} (text : X → Text) (input : Option (List ℕ)) (w : Around) (out out' err err' : SinkState) (status : ℕ) where
   pub asked : (ws : List X) (request : Request) → (ws ≡ [] → ⊥) → ReadsFleet (map text ws) (Ok request) → RunsRequest w request out out' err err' status

@@ -1,22 +1,18 @@
 -- A dispatch that keeps its reports in a file of a store.
 use Rattle.std.proofs.Common.{◌≡◌, ◌∙◌, ℕ, Bool, false, List, [], Option, None, Some, Result, Err, inl, inr, refl, subst}
-use Rattle.std.specs.Prelude.{IfSome}
-use Rattle.std.specs.Borrow.{Bor}
+use Rattle.std.specs.{Prelude.IfSome, Borrow.Bor}
 use Rattle.fleet_text.specs.Sink.{SinkState}
 use Rattle.fleet_model.specs.Program.{Program}
-use Rattle.fleet_dispatch.specs.Talk.{Talk}
+use Rattle.fleet_dispatch.specs.{Talk.Talk, Dispatch.Course, Dispatch.Left, Dispatch.Dispatches}
 use Rattle.fleet_dispatch.specs.declared.{form.ReportForm.ReportForm, run.DispatchReport.DispatchReport, fault.DispatchFault.DispatchFault, run.Session.Session}
-use Rattle.fleet_dispatch.specs.Dispatch.{Course, Left, Dispatches}
-use Rattle.fleet_dispatch.specs.Session.{course_in, left_in}
-use Rattle.fleet_dispatch.specs.Replay.{IsLedOn, LeadsOn}
+use Rattle.fleet_dispatch.specs.{Session.course_in, Session.left_in, Replay.IsLedOn, Replay.LeadsOn}
 use Rattle.fleet_dispatch.proofs.Said.{dispatches_more, led_stops}
 use Rattle.fleet_args.specs.declared.commands.DispatchRequest.{DispatchRequest}
-use Rattle.fleet_cli.specs.declared.fault.Fault.{Fault}
-use Rattle.fleet_cli.specs.declared.fault.Fault.TheVariants as f
-use Rattle.fleet_cli.specs.Files.{Store, AreUnchanged, IsOwnLog, bytes_of}
+use Rattle.fleet_cli.specs.{declared.fault.Fault.Fault, Files.Store, Files.AreUnchanged, Files.IsOwnLog, Files.bytes_of}
 use Rattle.fleet_cli.specs.Journal.{ChangesOnlyLog, IsKeptAfter, log_in, log_state, lines_in}
 use Rattle.fleet_cli.specs.JournalLaws.{log_self, log_longer}
 use Rattle.fleet_cli.specs.DispatchCommand.{AnswersTold, Leads, pace_of}
+use Rattle.fleet_cli.specs.declared.fault.Fault.TheVariants as f
 
 -- every file but the log is as before, in two stretches, one after the other
 pub others_on : (a b c : Option Store) (name : Option (Bor (List ℕ))) → ChangesOnlyLog a b name → ChangesOnlyLog b c name → ChangesOnlyLog a c name

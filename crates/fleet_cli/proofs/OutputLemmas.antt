@@ -2,10 +2,8 @@
 use Rattle.std.proofs.Common.{◌≡◌, ◌∙◌, ℕ, ◌+◌, ◌<◌, List, [], ◌∷◌, ◌++◌, length, take, drop, get_or, ap, refl, sym, subst, append_assoc, append-nil}
 use Rattle.std.proofs.lemmas.List.{take_more, map-append, take-append-drop}
 use Rattle.std.specs.Borrow.{Bor}
-use Rattle.fleet_text.specs.Sink.{SinkState, StopsWithin}
-use Rattle.fleet_text.specs.Row.{PassesOn}
+use Rattle.fleet_text.specs.{Sink.SinkState, Sink.StopsWithin, Row.PassesOn, Words.count_line}
 use Rattle.fleet_text.proofs.SinkLemmas.{passes_more, stops_past, stops_before}
-use Rattle.fleet_text.specs.Words.{count_line}
 use Rattle.fleet_cli.specs.Output.{with_labels, count_lines}
 
 count_lines-append : (xs ys : List (List ℕ × ℕ)) → count_lines (xs ++ ys) ≡ count_lines xs ++ count_lines ys

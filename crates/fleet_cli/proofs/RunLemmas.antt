@@ -1,20 +1,16 @@
 -- A run and the flush after it, and the program that was made of texts and run.
 use Rattle.std.proofs.Common.{ℕ, List, None, Some, Option, Err, refl, subst}
 use Rattle.std.specs.Io.KnownBytes.{Keeps}
-use Rattle.fleet_model.specs.declared.{deps.Deps.Deps, task.Task.Task}
-use Rattle.fleet_model.specs.Program.{Program}
+use Rattle.fleet_model.specs.{declared.deps.Deps.Deps, declared.task.Task.Task, Program.Program}
 use Rattle.fleet_text.specs.Sink.{SinkState, IsWorking, IsUnwritten}
 use Rattle.fleet_grid.specs.Ground.{Ground}
-use Rattle.fleet_code.specs.declared.format.Version.TheVariants.{One}
-use Rattle.fleet_code.specs.Laws.{OneProgramEach}
-use Rattle.fleet_run.specs.Trace.{Traces}
-use Rattle.fleet_run.specs.declared.{run.RunFault.RunFault, run.RunFault.TheVariants.OutOfMemory}
+use Rattle.fleet_code.specs.{declared.format.Version.TheVariants.One, Laws.OneProgramEach}
+use Rattle.fleet_run.specs.{Trace.Traces, declared.run.RunFault.RunFault, declared.run.RunFault.TheVariants.OutOfMemory}
 use Rattle.fleet_args.specs.declared.commands.Tries.{Tries}
-use Rattle.fleet_cli.specs.declared.steps.PlanNumbers.{PlanNumbers}
-use Rattle.fleet_cli.specs.Faults.{in_step}
-use Rattle.fleet_cli.specs.declared.fault.AutoFault.TheVariants as a
+use Rattle.fleet_cli.specs.{declared.steps.PlanNumbers.PlanNumbers, Faults.in_step}
 use Rattle.fleet_cli.specs.Steps.{AreTextsOf, IsMadeFor, SpellsMade, Accepts}
 use Rattle.fleet_cli.specs.RunCommands.{MakesProgram, AutoRuns, one_try}
+use Rattle.fleet_cli.specs.declared.fault.AutoFault.TheVariants as a
 
 keeps_self : (a : Option (List ℕ)) → Keeps a a
 keeps_self None = tt

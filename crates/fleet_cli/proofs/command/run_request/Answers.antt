@@ -1,6 +1,5 @@
 use Rattle.std.proofs.Common.{Err, inl, inr, refl, subst}
-use Rattle.fleet_cli.specs.Named.{given_names, IsUnread, AreTexts}
-use Rattle.fleet_cli.specs.declared.files.FileNames.{FileNames}
+use Rattle.fleet_cli.specs.{Named.given_names, Named.IsUnread, Named.AreTexts, declared.files.FileNames.FileNames}
 use Rattle.fleet_cli.proofs.RunLemmas.{nothing_written}
 use Rattle.fleet_cli.proofs.command.run_request.Goals as goal
 

@@ -1,9 +1,7 @@
 use Rattle.std.proofs.Common.{◌≡◌, ◌<◌, List, ℕ, length, sym, ap, subst, ◌∙◌, inl, inr}
 use Rattle.std.proofs.lemmas.{Result.err_from_is_err_and, List.length-map, List.FromFn.length-range_with_len}
 use Rattle.std.specs.Prelude.{IfSome}
-use Rattle.fleet_model.specs.declared.task.Task.{Task}
-use Rattle.fleet_model.specs.Machine.{indices}
-use Rattle.fleet_model.specs.Accepted.{IsAccepted}
+use Rattle.fleet_model.specs.{declared.task.Task.Task, Machine.indices, Accepted.IsAccepted}
 use Rattle.fleet_grid.specs.Ground.{is_passable}
 use Rattle.fleet_scen.specs.ScenWriting.{scen_text}
 use Rattle.fleet_verify.specs.Rest.{cell_at, rest, rest_tasks}

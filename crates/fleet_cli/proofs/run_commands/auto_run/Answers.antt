@@ -1,14 +1,11 @@
 use Rattle.std.proofs.Common.{◌≢◌, ℕ, List, Option, Err}
 use Rattle.fleet_model.specs.declared.deps.Deps.{Deps}
 use Rattle.fleet_text.specs.Sink.{SinkState, IsUnwritten}
-use Rattle.fleet_grid.specs.Ground.{Ground}
-use Rattle.fleet_grid.specs.MapText.{IsMapText}
-use Rattle.fleet_scen.specs.ScenText.{IsFirstScenFault}
-use Rattle.fleet_scen.specs.declared.fault.ScenFault.{ScenFault}
+use Rattle.fleet_grid.specs.{Ground.Ground, MapText.IsMapText}
+use Rattle.fleet_scen.specs.{ScenText.IsFirstScenFault, declared.fault.ScenFault.ScenFault}
 use Rattle.fleet_scen.specs.declared.fault.ScenFault.TheVariants as s
-use Rattle.fleet_cli.specs.Faults.{in_step}
+use Rattle.fleet_cli.specs.{Faults.in_step, RunCommands.AutoRuns}
 use Rattle.fleet_cli.specs.declared.fault.AutoFault.TheVariants as a
-use Rattle.fleet_cli.specs.RunCommands.{AutoRuns}
 use Rattle.fleet_cli.proofs.RunLemmas.{auto_stops, made, nothing_written}
 use Rattle.fleet_cli.proofs.run_commands.auto_run.Goals as goal
 

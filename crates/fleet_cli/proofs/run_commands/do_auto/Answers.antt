@@ -1,5 +1,4 @@
-use Rattle.std.proofs.Common.{inl, inr, refl}
-use Rattle.std.proofs.lemmas.Result.{err_from_is_err_and}
+use Rattle.std.proofs.{Common.inl, Common.inr, Common.refl, lemmas.Result.err_from_is_err_and}
 use Rattle.fleet_cli.proofs.RunLemmas.{made}
 use Rattle.fleet_cli.proofs.run_commands.do_auto.Goals as goal
 

@@ -1,6 +1,5 @@
 use Rattle.std.proofs.Common.{◌≡◌, Result, Ok, subst}
-use Rattle.fleet_model.specs.Program.{Program}
-use Rattle.fleet_model.specs.Accepted.{IsAccepted}
+use Rattle.fleet_model.specs.{Program.Program, Accepted.IsAccepted}
 use Rattle.fleet_grid.specs.Ground.{is_passable}
 use Rattle.fleet_code.specs.declared.fault.LoadFault.{LoadFault}
 use Rattle.fleet_cli.proofs.steps.accept_made.Goals as goal

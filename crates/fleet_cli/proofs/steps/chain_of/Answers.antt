@@ -1,6 +1,5 @@
 use Rattle.std.proofs.Common.{sym, subst}
-use Rattle.fleet_model.specs.Program.{Program}
-use Rattle.fleet_model.specs.Chain.{IsLongestChain}
+use Rattle.fleet_model.specs.{Program.Program, Chain.IsLongestChain}
 use Rattle.fleet_cli.proofs.steps.chain_of.Goals as goal
 
 pub returns : goal.returns

@@ -1,5 +1,4 @@
-use Rattle.std.proofs.Common.{arith}
-use Rattle.std.proofs.lemmas.Map.Text.{text_keys}
+use Rattle.std.proofs.{Common.arith, lemmas.Map.Text.text_keys}
 use Rattle.fleet_cli.proofs.mem_files.MemFiles.put.Goals as goal
 
 pub returns-clause-others : goal.returns-clause-others

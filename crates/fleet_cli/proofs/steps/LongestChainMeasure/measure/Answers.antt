@@ -1,8 +1,6 @@
 use Rattle.std.proofs.Common.{◌≡◌, ◌∙◌, ℕ, List, refl, sym, subst}
 use Rattle.std.specs.Prelude.{Result, Ok, Err, IfOk}
-use Rattle.fleet_model.specs.declared.deps.Deps.TheVariants.{Last}
-use Rattle.fleet_model.specs.Program.{Program}
-use Rattle.fleet_model.specs.Chain.{IsLongestChain}
+use Rattle.fleet_model.specs.{declared.deps.Deps.TheVariants.Last, Program.Program, Chain.IsLongestChain}
 use Rattle.fleet_plan.specs.Plan.{Plan}
 use Rattle.fleet_adg.specs.Compiled.{compiled_if_few, compiled_staying}
 use Rattle.fleet_adg.specs.declared.fault.CompileFault.{CompileFault}

@@ -159,7 +159,7 @@ pub record AreNone (p : Program) (m : Joins) : Type 0 where
   pub room : HasRoom p m
   pub standing : (k : ℕ) → slice_index m.standing.items k ≡ 0
 
--- agent i has such an action, or, with the number 0, none
+-- the agent has this action, or, with the number 0, it is before its first one
 pub record IsUpToLast (p : Program) (a : ActionId) : Type 0 where
   pub agent : a.agent < length p
   pub last : a.number ≤ moves p a.agent
@@ -168,8 +168,8 @@ pub record IsUpToLast (p : Program) (a : ActionId) : Type 0 where
 abbrev pub AreUpTo : Program → (ActionId → Type 0) → ActionId → Type 0
 AreUpTo p These a = (m : ℕ) → m ≤ a.number → IsAwaiting p (record { agent = a.agent; number = m }) → These (record { agent = a.agent; number = m })
 
--- the joins of these actions, which have those of all that they need; a row is noted for each action up to which they
--- are all
+-- the joins of these actions, those of an agent in their order; of each action up to which all that await something are
+-- among these it is noted which row stands for it
 pub record AreJoinsOf (p : Program) (Passed These : ActionId → Type 0) (m : Joins) : Type 0 where
   pub sound : AreSound p m
   pub standing : (a : ActionId) → IsUpToLast p a → AreUpTo p These a → IsStanding p m a

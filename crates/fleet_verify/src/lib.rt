@@ -9,22 +9,22 @@
 //! on as far as its awaits allow, and reads it instruction by instruction; whom it looks at next says `queue`. It keeps
 //! the levels of its actions (`level_row`), of each cell the last visit (`last_visits`) and the open pairs, which
 //! mostly the last await of an action spares, and says yes if all arrive on passable ground and chains order those
-//! pairs, which `chained` asks for: `level_order` sorts all actions by their levels, since that is the order in which
-//! they finish if nobody is held, and chains are found in it. If it does not, `unheld_run` runs the program with nobody
-//! held, looks whether each place that it comes to is passable, and adds each visit as it begins to the `VisitOrder` of
-//! `order`, which groups them by cell and keeps the *open pairs*: a visit and the next of its cell, by another agent,
-//! which does not await that the first is left. A run that finishes has met each await, and `agents` looks whether all
-//! stand on their goals. Only if that run goes wrong are the paths judged one by one, in the order of the faults
-//! (`agents`, `path`); if they are right the run is stuck, and `ring` finds a ring of needs. If pairs are open `order`
-//! asks for chains, unless the run ahead has asked for all of them, whose answers `chained` has kept, and if some pair
-//! has none `order` finds which is reported. `runs`, `orders`, `schedules`, `exactness`, `promises`, `counting`,
-//! `ahead_laws`, `reduced` and `rest` are laws: their functions do nothing. What `verify` promises stands in the spec
-//! `Promises`. `reach` keeps, of an accepted program, where chains begin (`Reach`): the pieces of `fleet_needs`.
-//! `times` has when its actions end at the soonest (`Times`), by the critical costs of `fleet_needs`, or by the levels
-//! if each costs one and no pair was open (`kept_levels`), and a chain that takes so long, in stretches of one agent's
-//! actions, which `stretch` also writes; `stopped` how far each agent comes if some actions are never ended: each of
-//! these costs one and all others nothing, so that what costs nothing needs none of them. `fault` has the refusals.
-//! `covers` compares two rows of counts, for callers alone.
+//! pairs, which `chained` asks for: `level_order` lists the actions that await something by their levels, and chains
+//! are found in that order. If it does not, `unheld_run` runs the program with nobody held, looks whether each place
+//! that it comes to is passable, and adds each visit as it begins to the `VisitOrder` of `order`, which groups them by
+//! cell and keeps the *open pairs*: a visit and the next of its cell, by another agent, which does not await that the
+//! first is left. A run that finishes has met each await, and `agents` looks whether all stand on their goals. Only if
+//! that run goes wrong are the paths judged one by one, in the order of the faults (`agents`, `path`); if they are
+//! right the run is stuck, and `ring` finds a ring of needs. If pairs are open `order` asks for chains, unless the run
+//! ahead has asked for all of them, whose answers `chained` has kept, and if some pair has none `order` finds which is
+//! reported. `runs`, `orders`, `schedules`, `exactness`, `promises`, `counting`, `ahead_laws`, `reduced` and `rest` are
+//! laws: their functions do nothing. What `verify` promises stands in the spec `Promises`. `reach` keeps, of an
+//! accepted program, where chains begin (`Reach`): the pieces of `fleet_needs`. `times` has when its actions end at the
+//! soonest (`Times`), by the critical costs of `fleet_needs`, or by the levels if each costs one and no pair was open
+//! (`kept_levels`), and a chain that takes so long, in stretches of one agent's actions, which `stretch` also writes;
+//! `stopped` how far each agent comes if some actions are never ended: each of these costs one and all others nothing,
+//! so that what costs nothing needs none of them. `fault` has the refusals. `covers` compares two rows of counts, for
+//! callers alone.
 //!
 //! `needed` finds for two visits how many actions of each agent they need, and `breaking` runs the machine, tick by
 //! tick, and says whom each tick holds: those whose next action is not needed.

@@ -48,7 +48,7 @@ abbrev pub Prints : List ℕ → (out out' : SinkState) → Result ℕ Fault →
 Prints text out out' (Ok status) = IsDelivered out out' text × (status ≡ 0)
 Prints text out out' (Err fault) = IsOutFault fault × FailsAfter out out' text
 
--- it was refused, and nothing was written
+-- such a refusal is answered, and nothing was written
 abbrev pub Refuses : (Fault → Type 0) → (out out' : SinkState) → Result ℕ Fault → Type 0
 Refuses IsRefusal out out' result = (fault : Fault) × (result ≡ Err fault) × IsRefusal fault × IsUnwritten out out'
 
@@ -73,6 +73,6 @@ WritesFiles files after (one ∷ others) text out out' result =
 -- What a command answers that makes a value, writes files of it and then prints a text of it. The value was made, and
 -- this came of the writing; or it was refused, before anything is written: every file is as before
 abbrev pub AnswersOut : {A : Type 0} → (files after : Option Store) → (A → Type 0) → (Fault → Type 0) → (A → List (Option (Bor (List ℕ)) × List ℕ)) → (A → List ℕ) → (out out' : SinkState) → Result ℕ Fault → Type 0
-AnswersOut {A} files after Makes Refuses written text out out' result =
+AnswersOut {A} files after Makes IsRefusal written text out out' result =
     ((made : A) × Makes made × WritesFiles files after (written made) (text made) out out' result)
-    ⊎ ((fault : Fault) × (result ≡ Err fault) × Refuses fault × AreUnchanged files after × IsUnwritten out out')
+    ⊎ ((fault : Fault) × (result ≡ Err fault) × IsRefusal fault × AreUnchanged files after × IsUnwritten out out')

@@ -80,8 +80,8 @@ IsPlanRefusal texts asked (f.Check fault) =
     (g : Ground) × (tasks : List Task) × (paths : Plan) × ArePlanTexts texts asked g tasks paths × (fault ≢ p.OutOfMemory → IsFirstPlanFault (is_passable g) tasks paths fault)
 IsPlanRefusal texts asked fault = IsProblemRefusal texts asked fault
 
--- What `check` answers for the texts of its files. The plan for which they stand is free of conflict, and it is printed
--- with its bound, if that is asked for
+-- What `check` answers for the texts of its files. The plan for which they stand is free of conflict; this is printed
+-- with its numbers, and with its bound if that is asked for
 abbrev pub AnswersCheck : CheckRequest → FileTexts → (out out' : SinkState) → Result ℕ Fault → Type 0
 AnswersCheck r texts out out' result =
     ((g : Ground) × (tasks : List Task) × (paths : Plan) × (bound : Option ℕ) × ArePlanTexts texts r.tasks.agents g tasks paths × IsConflictFree (is_passable g) tasks paths

@@ -97,19 +97,6 @@ module _ (p : Program) (s : Schedule) (columns : Columns) (r : ℕ) where
         after = λ k c q at of from has. absurd (last.none k from (slice_get_within m.listed.now.questions.now k q at) of);
       }
 
-  -- until none is left
-  pub row_ended : (left : ℕ) (m : Answering) → left ≡ 0 → IsAnsweringRow p s columns r left m → IsAnswering p s columns (r + 1) m
-  row_ended left m none h = record {
-    row = h.answers.row;
-    linked = h.answers.linked;
-    questions = h.answers.questions;
-    flags = h.answers.flags;
-    answered = λ k c q at l has. elim (cases_lt (h.answers.row k) r) [
-      | inl less ↦ h.answers.answered k c q at less has
-      | inr high ↦ h.after k c q at (omega (arith, l, high)) (omega (arith, none)) has
-    ];
-  }
-
   -- one more
   module _ (left k : ℕ) (old : Answering) (h : IsAnsweringRow p s columns r left old) (some : 1 ≤ left) (here : k + 1 ≡ left) (question : Question) (at : slice_get old.listed.now.questions.now k ≡ Some question) where
     own : h.answers.row k ≡ r

@@ -137,14 +137,7 @@ module _ (p : Program) where
       let e : suc t + 1 ≡ suc (suc t) = omega arith in
       subst (λ (n : ℕ). EndsChain p n b) e (ends_more p (suc t) d.needed b (unfinished_ends range t d.needed d.action d.unfinished) k d.needs)
 
-  -- an action is finished after as many ticks as its level
-  pub level_done : AreInRange p → (t n : ℕ) (a : ActionId) → IsAction p a → IsLevel p a n → n ≤ t → a.number ≤ count t a.agent
-  level_done range t n a k level h = elim (cases_lt (count t a.agent) a.number) [
-    | inr g ↦ g
-    | inl l ↦ absurd (let up : suc t ≤ n = level.most (suc t) (unfinished_ends range t a k l) in omega arith)
-  ]
-
-  -- and no sooner
+  -- an action is finished after no fewer ticks than its level
   pub done_level : (t n : ℕ) (a : ActionId) → IsAction p a → IsLevel p a n → a.number ≤ count t a.agent → n ≤ t
   done_level t n a k level done = ends_in_time t n a level.some k done
 

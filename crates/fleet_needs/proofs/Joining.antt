@@ -171,10 +171,6 @@ awaited_action p range i n k w e =
     let known = range i n w (k, slice_get_within (awaits_of p i n) k w e, get_or_from_slice_get (awaits_of p i n) k w w e) in
     record { agent = known.agent; first = known.first; last = known.last }
 
--- the action before one of the program
-pub is_before : (p : Program) (a : ActionId) → IsAction p a → 1 < a.number → IsAction p (action_before a)
-is_before p a is some = record { agent = is.agent; first = omega arith; last = (let l : a.number ≤ moves p a.agent = is.last in omega arith) }
-
 -- ---- chains found from their ends
 
 pub own_first : (p : Program) (first last : ActionId) → 1 ≤ first.number → IsAction p last → last.agent ≡ first.agent → first.number ≤ last.number → Reaches p first last

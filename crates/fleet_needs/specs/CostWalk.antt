@@ -129,7 +129,8 @@ pub record IsGoal (p : Program) (w : Await) : Type 0 where
 abbrev pub goals_of : Vec Await Global → List Await
 goals_of goals = goals.items
 
--- the last goal is the last one of the old ones that is open, or the first of all if none is; the goals before it are left
+-- the last goal is the last one of the old ones that is open, or the first of all if none is; the goals before it are
+-- left
 pub record IsLastOpen (counts : List ℕ) (old new : List Await) (first last : Await) : Type 0 where
   pub front : new ≡ take (length new) old
   pub latest : (k : ℕ) (d : Await) → k < length old → IsOpen counts (get_or old k d) → (k ≤ length new) × (last ≡ get_or old (length new) d)

@@ -183,7 +183,7 @@ pub record AreJoinsBelow (p : Program) (Passed : ActionId → Type 0) (o : Level
   pub order : IsLevelOrder p o
   pub joins : AreJoinsOf p Passed (λ a. IsAwaiting p a × (order.level a < l)) m
 
--- the action has a level below l, or it is one of level l that is listed after k others or later
+-- the action awaits something, and has a level below l, or it is one of level l that is listed after k others or later
 abbrev pub HasCome : Program → (ActionId → ℕ) → LevelOrder → ℕ → ℕ → ActionId → Type 0
 HasCome p level o l k a =
     IsAwaiting p a × ((level a < l) ⊎ ((level a ≡ l) × (m : ℕ) × (k ≤ m) × (m < length o.items.items) × (listed o.items.items m ≡ a)))

@@ -76,7 +76,7 @@ AreMoreAsked old new = (j : ℕ) → get_or old j false ≡ true → get_or new 
 abbrev pub AreSettledTo : Program → List Bool → ActionId → ℕ → List Bool → List Bool → Type 0
 AreSettledTo p asked a n old new = AreNoted p a (λ k w flag. IsSettled p asked a w flag) n old new
 
--- x is reached from the action before a, or from one of its awaits, but not this one
+-- x reaches the action before a, or what one of its awaits names, but not this one
 abbrev pub ReachesNeed : Program → ActionId → ActionId → ℕ → Type 0
 ReachesNeed p x a but = Reaches p x (action_before a) ⊎ ByOneOf (λ k w. k ≢ but) p x a
 

@@ -59,8 +59,8 @@ impl AwaitPlaces {
         self.firsts[usize::from(action.agent)] as usize + before as usize
     }
 
-    /// The place of the row that stands for an action, or, with the number 0, for none of its agent. Actions of an agent
-    /// share a place if those from the one to the other await nothing.
+    /// The place of the row that stands for an action, or, with the number 0, for none of its agent. Actions of an
+    /// agent share a place if those from the one to the other await nothing.
     pub(crate) fn row_place<P: ProgramView>(&self, program: &P, action: ActionId) -> usize
         requires places { AreAwaitPlaces (P.program program.now) self.now }
         requires agent { action.agent < length (P.program program.now) }

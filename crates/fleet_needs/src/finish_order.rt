@@ -1,6 +1,6 @@
 //! The ticks that finish the actions of a program if nobody is held.
 
-ghost use Rattle.std.specs.Prelude.{◌≡◌, ◌-◌, ◌<◌, ◌≤◌, length, IfOk, []};
+ghost use Rattle.std.specs.Prelude.{◌≡◌, ◌-◌, ◌<◌, ◌≤◌, IfOk, []};
 ghost use Rattle.fleet_model.specs.declared.program.ActionId.{ActionId};
 ghost use Rattle.fleet_model.specs.Program.{AreInRange};
 ghost use Rattle.fleet_model.specs.Machine.{IsFinish};
@@ -15,7 +15,7 @@ use fleet_model::{ActionId, MAX_AGENTS, OutOfMemory, ProgramView, total_moves};
 use std::alloc::Global;
 use std::marker::Model;
 
-/// How many ticks a program takes if nobody is held. Its order is that of a run.
+/// How many ticks a program takes if nobody is held. It gives the order by the ticks of a run.
 #[derive(Clone, Copy)]
 pub struct Ticks {
     pub count: u32,

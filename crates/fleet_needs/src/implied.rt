@@ -5,7 +5,7 @@ ghost use Rattle.fleet_model.specs.declared.program.Await.{Await};
 ghost use Rattle.fleet_model.specs.Program.{AreInRange, awaits_of, total_awaits};
 ghost use Rattle.fleet_model.specs.Machine.{IsFinish};
 ghost use Rattle.fleet_model.specs.Chain.{IsAction};
-ghost use Rattle.fleet_needs.specs.Implied.{IsImpliedFlag, AreAwaitPlaces, first_await};
+ghost use Rattle.fleet_needs.specs.Implied.{IsImpliedFlag, first_await};
 ghost use Rattle.fleet_needs.specs.Joins.{HasRowOr};
 ghost use Rattle.fleet_needs.specs.Settled.{AreSettled};
 ghost use Rattle.fleet_needs.specs.Schedule.{IsSchedule, joins_of};

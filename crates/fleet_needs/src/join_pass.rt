@@ -1,11 +1,11 @@
 //! A pass over the rows of a schedule, in the columns of one block: each is made of rows whose counts are still in
 //! their slots, used, and kept in its own slot.
 
-ghost use Rattle.std.specs.Prelude.{◌≡◌, ◌≢◌, ◌+◌, ◌<◌, ℕ, length, max, slice_index, OnOk, ◌-◌, ◌*◌, ◌≤◌, Some, IfOk};
+ghost use Rattle.std.specs.Prelude.{◌≡◌, ◌≢◌, ◌+◌, ◌<◌, ℕ, length, max, slice_index, OnOk, ◌-◌, ◌*◌, ◌≤◌, Some};
 ghost use Rattle.fleet_needs.specs.Columns.{agents_in};
 ghost use Rattle.fleet_needs.specs.Block.{HasColumn};
 ghost use Rattle.fleet_model.specs.Program.{AreInRange};
-ghost use Rattle.fleet_needs.specs.Counts.{counts_of, CanHold, AreAlike, are_narrow};
+ghost use Rattle.fleet_needs.specs.Counts.{counts_of, CanHold, AreAlike};
 ghost use Rattle.fleet_needs.specs.Schedule.{IsSchedule, AreColumnsOf, AreRowsTo, IsRowFor, joins_in, AreCounts, IsThere, StandsThere, AreJoinedWith, AreCountsOfTwo, HasSlot, slot_of, next_action};
 ghost use Rattle.fleet_needs.specs.JoinPass.{AreOthers, AreWhole, IsJoinRow, HasOthers, HasWhole};
 

@@ -1,8 +1,8 @@
 //! Needs: which actions of a program begin a chain of needs that ends with another action, by rows of counts that are
 //! joined by lanes, and which awaits others imply.
 //!
-//! `counts` keeps the counts of rows in two bytes each or in four, and joins rows: two rows of four bytes a count lane by
-//! lane, eight counts at once, and then the counts that are left, one by one. A lane is a vector of `std::simd`, in a
+//! `counts` keeps the counts of rows in two bytes each or in four, and joins rows: two rows of four bytes a count lane
+//! by lane, eight counts at once, and then the counts that are left, one by one. A lane is a vector of `std::simd`, in a
 //! small function of its own, whose proof alone speaks of lanes: the loop over them knows places and counts.
 //!
 //! `level_order` lists the actions that await something by levels, which rise along chains: for each level the last
@@ -13,9 +13,9 @@
 //! It is made once, and serves all blocks of columns: each agent that is asked for has a column in one block. `joins`
 //! goes through the actions that await something, level by level: each has a row of its own, and the row of any other
 //! action is that of its agent's action before. So is that of an action with one await, if that is known to be implied:
-//! it adds no chain. What is noted is the row that stands for the action before, those that the awaits take, and for each
-//! row the last one that is joined of it. Each row gets a slot, and none is used again before its row was
-//! taken for the last time.
+//! it adds no chain. What is noted is the row that stands for the action before, those that the awaits take, and for
+//! each row the last one that is joined of it. Each row gets a slot, and none is used again before its row was taken for
+//! the last time.
 //!
 //! `join_pass` makes the rows in that order, in the columns of one block, and keeps their counts slot by slot. A row is
 //! made in two steps: first of the rows of all that its action needs, and then, for each await, with the awaited
@@ -30,7 +30,7 @@
 //! `gather` gathers the counts of all rows: by each row it goes on with the last *piece* of the two agents, or begins a
 //! new one, block by block of columns. It sorts the pieces (`Pieces`) and looks counts up in them.
 //!
-//! Flags stand agent by agent, action by action (`await_places`). `settled` looks a few steps back from each action, as
+//! Flags, and the rows that stand for actions, stand agent by agent, action by action (`await_places`). `settled` looks a few steps back from each action, as
 //! far as the ticks let it: most awaits are settled so, and the agents of the others are asked for. Once most agents
 //! are asked for it looks back less, the less the shorter rows are.
 //!

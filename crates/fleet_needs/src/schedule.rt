@@ -82,6 +82,8 @@ impl Schedule {
     {
         let joins = joins_of(alloc, program, &order, None)?;
         let listed = ListedQuestions::of(alloc, program, &order.places, &joins, questions)?;
+        // The slots need its room.
+        drop(order);
         let schedule = Schedule::of_joins(alloc, program, joins)?;
         Ok((schedule, listed))
     }

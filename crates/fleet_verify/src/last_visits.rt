@@ -41,7 +41,7 @@ const NO_VISIT: u32 = u32::MAX;
 /// The last visit of each cell so far. A visit takes four bytes: its position times the most agents, and its agent.
 #[derive(Drop)]
 pub struct LastVisits {
-    /// By the number of a square what is kept of its cells, row by row.
+    /// By the number of a square what is kept of its cells, row by row from the place of its first cell on, and round.
     squares: IndexMap<u32, [u32; CELLS]>,
     /// The number of the square of the last visit of all, and where it stands among them.
     recent: u32,
@@ -122,7 +122,7 @@ fn number_of_square(cell: Cell) -> u32
     u32::from(y) / SIDE * SIDE * (MAX_COORDINATE + 1) + u32::from(x) / SIDE * SIDE
 }
 
-/// The cell's place in its square. The first cell of one may have any place, the next ones of its rows go on from there.
+/// The cell's place in its square. Its first cell has some multiple of 8, and the others go on from there, row by row.
 #[inline(always)]
 fn place_of_cell(cell: Cell) -> usize
     ensures place { result ≡ place_in_square cell }

@@ -1,5 +1,5 @@
-//! The visits in the order in which they begin, grouped by cell, pairs of neighbours of which the second does not await
-//! that the first is left, and which of these pairs has no order.
+//! The visits in the order in which they begin: of each cell the last one, the pairs of neighbours of which the second
+//! does not await that the first is left, and which of these pairs has no order.
 
 ghost use Rattle.std.specs.Prelude.{◌≡◌, ◌<◌, ℕ, nat_eq, length, List, Some, None, OnOk, IfErr, [], ◌≢◌, map, All, IfOk, ◌↔◌, ◌++◌, ◌≤◌, ◌∷◌, IsTrue};
 ghost use Rattle.indexmap.specs.IndexMap.{get};

@@ -1,5 +1,5 @@
 -- The breaking holds of one program, by computation.
-use Rattle.std.proofs.Common.{◌≡◌, ◌≢◌, ℕ, zero, suc, ◌+◌, ◌<◌, ◌≤◌, Bool, true, not, ◌&&◌, ◌||◌, ◌==◌, nat_lt, nat_le, List, [], ◌∷◌, ◌++◌, length, get_or, slice_index, arith, inl, inr}
+use Rattle.std.proofs.Common.{◌≡◌, ◌≢◌, ℕ, zero, suc, ◌+◌, ◌<◌, ◌≤◌, Bool, true, not, ◌&&◌, ◌||◌, ◌==◌, nat_lt, nat_le, List, [], ◌∷◌, ◌++◌, length, get_or, slice_index, arith, inl, inr, refl}
 use Rattle.std.specs.Prelude.{Contains, ◌⊎◌, ◌↔◌}
 use Rattle.std.proofs.lemmas.Bool.{and_parts, and_from, or_cases, cases_lt, leb-true, le-leb, ltb-true, lt-ltb, eqb-true, eqb-false, not-true, both_ways}
 use Rattle.std.proofs.lemmas.List.{get_or_past}
@@ -150,7 +150,7 @@ are_under_way p v w needed zero = true
 are_under_way p v w needed (suc n) = not (have_come p v w (holds_for p needed n)) && are_under_way p v w needed n
 
 begun_for : (p : Program) (v w : Visit) → IsVisit p v → IsVisit p w → (needed : List ℕ) → AreNeeded p v w (slice_index needed) → (n : ℕ) → are_under_way p v w needed n ≡ true → IsBegun p v w (holds_for p needed n)
-begun_for p v w a b needed f zero e = meeting_start p v w
+begun_for p v w a b needed f zero e = (meeting_start p v w [] refl _ refl).0
 begun_for p v w a b needed f (suc n) e =
     grown p v w holds (begun_for p v w a b needed f n parts.1) open_yet (held_row p needed c) (those_rise (is_back p needed c) (length p)) (row_has p v w needed f c)
   where

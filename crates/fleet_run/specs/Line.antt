@@ -93,6 +93,17 @@ pub record IsResized (k : ℕ) (text row row' begins begins' : List ℕ) : Type 
   pub moved : (j : ℕ) → j < k + 1 → get_or begins' j 0 + get_or begins k 0 ≡ get_or begins j 0 + to
   pub others : (j : ℕ) → k + 1 ≤ j → get_or begins' j 0 ≡ get_or begins j 0
 
+-- for a text in place of a numeral there is no room, with the time before the line, and all is as it was
+pub record LacksRoom (k : ℕ) (text row row' begins begins' : List ℕ) : Type 0 where
+  pub full : get_or begins 0 0 + get_or begins (k + 1) 0 < get_or begins k 0 + TIME + length text
+  pub same_row : row' ≡ row
+  pub same_begins : begins' ≡ begins
+
+-- .. for one of the numerals of agent i, if it stands there
+abbrev pub LacksPlace : (i : ℕ) → Place → (row row' begins begins' : List ℕ) → Type 0
+LacksPlace i q row row' begins begins' =
+    LacksRoom (2 * i) (numeral_text (numeral 32 q.x)) row row' begins begins' ⊎ LacksRoom (2 * i + 1) (numeral_text (numeral 44 q.y)) row row' begins begins'
+
 -- the numbers differ by one at most
 pub record AreClose (a b : ℤ) : Type 0 where
   pub low : a ≤ℤ (b +ℤ pos 1)

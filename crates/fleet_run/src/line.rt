@@ -6,7 +6,7 @@ ghost use Rattle.std.specs.List.{copy_within};
 ghost use Rattle.std.specs.Fmt.{decimal};
 ghost use Rattle.fleet_model.specs.declared.standing.Standing.{Standing};
 ghost use Rattle.fleet_model.specs.Machine.{Configuration, standing_at};
-ghost use Rattle.fleet_run.specs.Line.{AreClose, EndsWith, HasNumerals, HaveOtherTens, IsBeside, IsDigit, IsDigitOver, IsLineKept, IsKeptBefore, IsNumeralAt, IsResized, Numeral, WritesOver, numeral, numeral_text, places_of};
+ghost use Rattle.fleet_run.specs.Line.{AreClose, EndsWith, HasNumerals, HaveOtherTens, IsBeside, IsDigit, IsDigitOver, IsLineKept, IsKeptBefore, IsNumeralAt, IsResized, LacksPlace, LacksRoom, Numeral, WritesOver, numeral, numeral_text, places_of};
 
 use crate::trace::{LINE, NUMBER, write_count, write_separated};
 use fleet_machine::Machine;
@@ -163,7 +163,7 @@ fn place_for(text: &[u8], front: usize, begin: usize, end: usize) -> Option<usiz
 }
 
 /// Writes a text over a number of the line, however many bytes it has, and moves the numbers before it as far. Answers
-/// whether there is room for that.
+/// whether there is room for that; if there is none, nothing changes.
 fn resize_to(at: usize, text: &[u8], row: &mut [u8], begins: &mut [u16]) -> bool
     requires room { length row.old ≡ LINE }
     requires number { at + 1 < length begins.old }
@@ -175,8 +175,7 @@ fn resize_to(at: usize, text: &[u8], row: &mut [u8], begins: &mut [u16]) -> bool
     ensures resized { result ≡ true
         → IsResized at text.now row.old row.new begins.old begins.new }
     ensures full { result ≡ false
-        → get_or begins.old 0 0 + get_or begins.old (at + 1) 0
-        < get_or begins.old at 0 + TIME + length text.now }
+        → LacksRoom at text.now row.old row.new begins.old begins.new }
 {
     let front = usize::from(begins[0]);
     let begin = usize::from(begins[at]);
@@ -200,6 +199,8 @@ fn put_text(at: usize, text: &[u8], row: &mut [u8], begins: &mut [u16]) -> u32
     ensures kept { result ≤ MOST_RESIZED → (ns : List Numeral) (n : Numeral)
         → HasNumerals ns row.old begins.old → at < length ns → text.now ≡ numeral_text n
         → HasNumerals (set ns at n) row.new begins.new }
+    ensures full { MOST_RESIZED < result
+        → LacksRoom at text.now row.old row.new begins.old begins.new }
 {
     if overwrite(at, text, row, begins) {
         return 0;
@@ -218,6 +219,9 @@ fn put_numeral(at: usize, separator: u8, value: i32, row: &mut [u8], begins: &mu
     ensures kept { result ≤ MOST_RESIZED → (ns : List Numeral)
         → HasNumerals ns row.old begins.old → at < length ns
         → HasNumerals (set ns at (numeral separator value)) row.new begins.new }
+    ensures full { MOST_RESIZED < result
+        → LacksRoom at (numeral_text (numeral separator value))
+        row.old row.new begins.old begins.new }
 {
     let mut text = [0; NUMBER];
     let begin = write_separated(separator, value, &mut text, NUMBER);
@@ -310,6 +314,9 @@ fn change_numeral(
     ensures kept { result ≤ MOST_RESIZED → (ns : List Numeral)
         → HasNumerals ns row.old begins.old → IsNumeralAt ns at (numeral separator old)
         → HasNumerals (set ns at (numeral separator new)) row.new begins.new }
+    ensures full { MOST_RESIZED < result
+        → LacksRoom at (numeral_text (numeral separator new))
+        row.old row.new begins.old begins.new }
 {
     if patch(at, old, new, row, begins) {
         return 0;
@@ -328,6 +335,8 @@ fn move_place(i: usize, old: Place, new: Place, row: &mut [u8], begins: &mut [u1
     ensures kept { result ≤ MOST_RESIZED → (c : Configuration)
         → IsLineKept c row.old begins.old → i < length c → (standing_at c i).place ≡ old
         → (s : Standing) → s.place ≡ new → IsLineKept (set c i s) row.new begins.new }
+    ensures full { MOST_RESIZED < result
+        → LacksPlace i new row.old row.new begins.old begins.new }
 {
     let is_other_row = old.y != new.y;
     if is_other_row {

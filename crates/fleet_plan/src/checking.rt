@@ -19,7 +19,6 @@ use std::marker::Model;
 ///
 /// It takes time in proportion to the cells of the plan, and memory for the agents and for the parts of the map on
 /// which they stand.
-#[tactic(auto, using(crate::proofs::FaultLaws::not_free))]
 pub fn check<'g>(
     alloc: Global,
     plan: Plan,

@@ -1,7 +1,7 @@
 use Rattle.std.proofs.Common.{sym, arith}
 use Rattle.std.proofs.lemmas.List.{with_items_is}
-use Rattle.fleet_plan.proofs.MeetLaws.{entered_apart, first_in, free_in}
-use Rattle.fleet_plan.proofs.SweepLaws.{found_first, found_none, others_there, others_stay, names_movers, others_entered, others_settled, come_to_as}
+use Rattle.fleet_plan.proofs.MeetLaws.{ahead_agents, entered_apart, first_in, free_in}
+use Rattle.fleet_plan.proofs.SweepLaws.{found_first, found_none, nobody_yet, unwalked_yet, others_there, others_stay, names_movers, others_entered, others_settled, come_to_as}
 use Rattle.fleet_plan.proofs.sweep.Sweep.look_ahead.Goals as goal
 
 pub fill_next-requires-clause-others : goal.fill_next-requires-clause-others
@@ -18,6 +18,19 @@ pub conflict_in-requires-clause-agents : goal.conflict_in-requires-clause-agents
 conflict_in-requires-clause-agents c =
     let has = come_to_as _ _ _ _ _ _ _ _ c.as_slice-places.ensures.value c.as_mut_slice-next.ensures.value c.as_mut_slice-ahead.ensures.value c.as_mut_slice-walks.ensures.value (rw (sym c.self.view_is) at c.requires.swept) in
     rw c.as_slice-agents.ensures.value (names_movers c.args.grid.now c.args.plan.now c.self.inside.table c.as_slice-places.result.now c.as_mut_slice-next.result.now c.as_mut_slice-ahead.result.now c.as_mut_slice-walks.result.now c.self.inside.agents.items c.args.time has.swept has.fits.next c.fill_next.new.next c.fill_next.ensures c.fill_ahead-apart.new.ahead c.fill_ahead-apart.ensures.ahead)
+
+pub fill_ahead-apart-requires-clause-nobody : goal.fill_ahead-apart-requires-clause-nobody
+fill_ahead-apart-requires-clause-nobody c =
+    let has = come_to_as _ _ _ _ _ _ _ _ c.as_slice-places.ensures.value c.as_mut_slice-next.ensures.value c.as_mut_slice-ahead.ensures.value c.as_mut_slice-walks.ensures.value (rw (sym c.self.view_is) at c.requires.swept) in
+    nobody_yet c.args.grid.now c.args.plan.now c.self.inside.table c.as_slice-places.result.now c.as_mut_slice-next.result.now c.as_mut_slice-ahead.result.now c.as_mut_slice-walks.result.now c.self.inside.agents.items c.args.time has.swept has.fits.next has.fits.ahead
+
+pub conflict_in-requires-clause-ahead : goal.conflict_in-requires-clause-ahead
+conflict_in-requires-clause-ahead c = ahead_agents c.as_slice-places.result.now c.fill_next.new.next c.fill_ahead-apart.new.ahead c.fill_ahead-apart.ensures.ahead
+
+pub conflict_in-requires-clause-unwalked : goal.conflict_in-requires-clause-unwalked
+conflict_in-requires-clause-unwalked c =
+    let has = come_to_as _ _ _ _ _ _ _ _ c.as_slice-places.ensures.value c.as_mut_slice-next.ensures.value c.as_mut_slice-ahead.ensures.value c.as_mut_slice-walks.ensures.value (rw (sym c.self.view_is) at c.requires.swept) in
+    unwalked_yet c.args.grid.now c.args.plan.now c.self.inside.table c.as_slice-places.result.now c.as_mut_slice-next.result.now c.as_mut_slice-ahead.result.now c.as_mut_slice-walks.result.now c.self.inside.agents.items c.args.time has.swept has.fits.next has.fits.walks
 
 pub returns-clause-some : goal.returns-clause-some
 returns-clause-some c =

@@ -1,5 +1,5 @@
 -- Where the parts of a program stand in its bytes.
-use Rattle.std.proofs.Common.{◌≡◌, ℕ, zero, suc, ◌-◌, ◌+◌, ◌*◌, ◌/◌, ◌%◌, get_or, ◌≤◌, ◌<◌, List, [], ◌∷◌, ◌++◌, length, take, drop, slice_get, slice_index_or, Option, Some, Result, Ok, refl, sym, ap, subst, ◌∙◌, append_assoc, arith, inl, inr, All, ◌⊎◌}
+use Rattle.std.proofs.Common.{◌≡◌, ℕ, zero, suc, ◌-◌, ◌+◌, ◌*◌, ◌/◌, ◌%◌, get_or, ◌≤◌, ◌<◌, Bool, List, [], ◌∷◌, ◌++◌, length, take, drop, slice_get, slice_index_or, Option, Some, Result, Ok, refl, sym, ap, subst, ◌∙◌, append_assoc, arith, inl, inr, All, ◌⊎◌}
 use Rattle.std.specs.List.{flat_map}
 use Rattle.std.specs.Int.{w32, to_be_bytes}
 use Rattle.std.proofs.lemmas.Nat.{be_bytes_4}
@@ -240,7 +240,7 @@ pub view_is : (version : Version) (bytes : List ℕ) (p : Program) (parts : List
 view_is version bytes p parts e spelled parts_are = subst (λ (q : Program). IsViewOf version bytes q parts) (sym (program_found bytes p e)) (record { spelled = spelled; parts_are = parts_are })
 
 -- the view of a program is that of what its bytes spell
-pub viewed : {version : Version} {bytes : List ℕ} {p : Program} {parts : List PartOffsets} {w : Viewed} → ◌≡◌ {A = Viewed} (record { version = version; program = p }) w → IsViewOf version bytes p parts → IsViewOf w.version bytes w.program parts
+pub viewed : {version : Version} {bytes : List ℕ} {p : Program} {all_move : Bool} {parts : List PartOffsets} {w : Viewed} → ◌≡◌ {A = Viewed} (record { version = version; program = p; all_move = all_move }) w → IsViewOf version bytes p parts → IsViewOf w.version bytes w.program parts
 viewed {bytes = bytes} {parts = parts} same v = subst (λ (w : Viewed). IsViewOf w.version bytes w.program parts) same v
 
 -- what is kept of an action's offset

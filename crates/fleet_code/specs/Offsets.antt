@@ -1,5 +1,5 @@
 -- Where the parts of a program stand in its bytes.
-use Rattle.std.specs.Prelude.{◌≡◌, ◌≢◌, ℕ, ◌+◌, ◌-◌, ◌*◌, ◌^◌, ◌<◌, List, [], ◌∷◌, ◌++◌, length, map, take, drop, slice_index_or, All, ◌≤◌, Result, Ok, Err}
+use Rattle.std.specs.Prelude.{◌≡◌, ◌≢◌, ℕ, ◌+◌, ◌-◌, ◌*◌, ◌^◌, ◌<◌, Bool, List, [], ◌∷◌, ◌++◌, length, map, take, drop, slice_index_or, All, ◌≤◌, Result, Ok, Err}
 use Rattle.std.specs.List.{flat_map, range_with_len}
 use Rattle.std.specs.Result.{result_unwrap_or}
 use Rattle.fleet_model.specs.declared.program.Action.{Action}
@@ -114,10 +114,11 @@ part_at v p i = record { begin = begin_of v p i + head_len v; offsets = 0 ∷ en
 abbrev pub program_in : List ℕ → Program
 program_in bytes = result_unwrap_or (program_at bytes) []
 
--- a program that is read in place, and the version of its bytes
+-- a program that is read in place, the version of its bytes, and whether each action is known to be a move
 pub record Viewed : Type 0 where
   pub version : Version
   pub program : Program
+  pub all_move : Bool
 
 -- the bytes spell the program in this version, and these are its parts
 pub record IsViewOf (v : Version) (bytes : List ℕ) (p : Program) (parts : List PartOffsets) : Type 0 where

@@ -1,6 +1,6 @@
 //! Programs in place: a view of the bytes that spell one.
 
-ghost use Rattle.std.specs.Prelude.{◌≢◌, ◌≡◌, ◌≤◌, ◌<◌, ◌+◌, ◌++◌, ◌^◌, ℕ, true, List, length, IfOk, IfErr};
+ghost use Rattle.std.specs.Prelude.{◌≢◌, ◌≡◌, ◌≤◌, ◌<◌, ◌+◌, ◌++◌, ◌^◌, ◌↔◌, ℕ, true, List, length, IfOk, IfErr, IsTrue};
 ghost use Rattle.fleet_model.specs.declared.geometry.Cell.{Cell};
 ghost use Rattle.fleet_model.specs.declared.program.Await.{Await};
 ghost use Rattle.fleet_model.specs.declared.program.AgentProgram.{AgentProgram};
@@ -35,7 +35,11 @@ impl<'a> Model for CodeView<'a> {
 
     ghost Value = { Viewed };
 
-    ghost view = { λ v. record { version = v.version; program = program_in v.bytes.now } };
+    ghost view = { λ v. record {
+      version = v.version;
+      program = program_in v.bytes.now;
+      all_move = v.all_move;
+    } };
 
     ghost invariant = { λ v. IsViewOf v.version v.bytes.now
         (program_in v.bytes.now) v.parts.items };
@@ -58,6 +62,9 @@ pub fn view(alloc: Global, bytes: &[u8]) -> Result<CodeView<'_>, LoadFault>
 
     // Bytes that are refused for another cause than memory spell no program.
     ensures refused { IfErr result (λ e. e ≢ LoadFault.OutOfMemory → SpellsNothing bytes.now) }
+
+    // The view knows whether each action is a move.
+    ensures known { IfOk result (λ v. IsTrue v.all_move ↔ NeverStays v.program) }
 {
     let version = version_of(bytes);
     let parts = parts_in(alloc, version, bytes)?;
@@ -70,14 +77,13 @@ pub fn view(alloc: Global, bytes: &[u8]) -> Result<CodeView<'_>, LoadFault>
     Ok(with_stays_known(unknown))
 }
 
-/// The same view, which knows whether each action is a move. Version 1 has no byte for a stay.
+/// The same view, which knows whether each action is a move.
 fn with_stays_known(view: CodeView<'_>) -> CodeView<'_>
-    ensures { result ≡ view.entry }
+    ensures version { result.version ≡ view.entry.version }
+    ensures program { result.program ≡ view.entry.program }
+    ensures known { IsTrue result.all_move ↔ NeverStays view.entry.program }
 {
-    let all_move = match view.version {
-        Version::One => true,
-        Version::Two => never_stays(&view),
-    };
+    let all_move = moves_always(&view);
     let CodeView {
         bytes,
         version,
@@ -89,6 +95,17 @@ fn with_stays_known(view: CodeView<'_>) -> CodeView<'_>
         version,
         parts,
         all_move,
+    }
+}
+
+/// Whether each action is a move. Version 1 has no byte for a stay.
+#[tactic(auto, using(crate::proofs::Written::never_stays))]
+fn moves_always(view: &CodeView<'_>) -> bool
+    ensures { IsTrue result ↔ NeverStays view.now.program }
+{
+    match view.version {
+        Version::One => true,
+        Version::Two => never_stays(view),
     }
 }
 
@@ -228,7 +245,10 @@ impl<'a> ProgramView for CodeView<'a> {
         }
     }
 
-    fn never_stays(&self) -> bool {
+    fn never_stays(&self) -> bool
+        ensures known { result ≡ self.now.all_move }
+        ensures moves { result ≡ true → NeverStays self.now.program }
+    {
         self.all_move
     }
 

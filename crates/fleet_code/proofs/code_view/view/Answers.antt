@@ -1,9 +1,9 @@
-use Rattle.std.proofs.Common.{◌≡◌, ◌∙◌, ap, subst, sym, arith, Ok}
-use Rattle.fleet_model.specs.Program.{Program}
+use Rattle.std.proofs.Common.{◌≡◌, ◌∙◌, ◌↔◌, IsTrue, ap, subst, sym, arith, Ok}
+use Rattle.fleet_model.specs.Program.{Program, NeverStays}
 use Rattle.fleet_code.proofs.InPlace.{view_is, program_found}
 use Rattle.std.proofs.lemmas.Result.{err_from_is_err_and}
 use Rattle.fleet_code.specs.Spelling.{SpellsIn}
-use Rattle.fleet_code.specs.Offsets.{Viewed, program_in}
+use Rattle.fleet_code.specs.Offsets.{program_in}
 use Rattle.fleet_code.specs.Reading.{program_at}
 use Rattle.fleet_code.proofs.Versions.{program_takes_at, program_again_at, refused_spells_nothing, is_first_at}
 use Rattle.fleet_code.proofs.code_view.view.Goals as goal
@@ -37,10 +37,15 @@ returns-clause-found c =
     let read : program_at c.args.bytes.now ≡ Ok found.0 = rw c.version_of-version.ensures at found.1 in
     let spelled : SpellsIn c.version_of-version.result c.args.bytes.now found.0 = rw c.version_of-version.ensures (program_takes_at c.args.bytes.now found.0 (λ i. omega (arith, c.type_inv.bytes i)) read) in
     let there : SpellsIn c.version_of-version.result c.args.bytes.now (program_in c.args.bytes.now) = subst (SpellsIn c.version_of-version.result c.args.bytes.now) (sym (program_found c.args.bytes.now found.0 read)) spelled in
-    let same : program_in c.args.bytes.now ≡ c.with_stays_known.result.program = sym (ap (λ (w : Viewed). w.program) c.with_stays_known.ensures) in
+    let same : program_in c.args.bytes.now ≡ c.with_stays_known.result.program = sym c.with_stays_known.ensures.program in
     record { version = c.version_of-version.result; spelling = subst (SpellsIn c.version_of-version.result c.args.bytes.now) same there }
 
 pub returns-clause-only : goal.returns-clause-only
 returns-clause-only c = λ p spells.
-    let same : program_in c.args.bytes.now ≡ c.with_stays_known.result.program = sym (ap (λ (w : Viewed). w.program) c.with_stays_known.ensures) in
+    let same : program_in c.args.bytes.now ≡ c.with_stays_known.result.program = sym c.with_stays_known.ensures.program in
     ap (λ (q : Program). Ok q) (sym (program_found c.args.bytes.now p (program_again_at c.args.bytes.now p spells)) ∙ same)
+
+pub returns-clause-known : goal.returns-clause-known
+returns-clause-known c =
+    let made = c.with_stays_known.result in
+    subst (λ (q : Program). IsTrue made.all_move ↔ NeverStays q) (sym c.with_stays_known.ensures.program) c.with_stays_known.ensures.known

@@ -1,22 +1,18 @@
 -- Open pairs asked for.
-use Rattle.std.proofs.Common.{◌≡◌, ℕ, ◌+◌, ◌<◌, ◌≤◌, Bool, true, false, List, [], ◌∷◌, ◌++◌, length, get_or, eqb, Option, Some, slice_get, refl, sym, ap, ◌∙◌, subst, arith, inl, inr}
-use Rattle.std.proofs.lemmas.Bool.{cases_lt, cases_eq, ne_eqb}
-use Rattle.std.proofs.lemmas.List.{get_or_append_left, get_or_push}
-use Rattle.std.proofs.lemmas.Option.{slice_get-get_or, slice_get_within, get_or_from_slice_get, same_Some}
-use Rattle.fleet_model.specs.declared.program.ActionId.{ActionId}
-use Rattle.fleet_model.specs.Program.{Program}
-use Rattle.fleet_model.specs.Chain.{Reaches}
-use Rattle.fleet_model.specs.Visit.{entering, leaving}
+use Rattle.fleet_verify.proofs.Words.{◌≡◌, ℕ, ◌+◌, ◌<◌, ◌≤◌, Bool, true, false, List, [], ◌∷◌, ◌++◌, length, get_or, Option, Some, None, IfSome, slice_get, refl, sym, ap, ◌∙◌, subst, arith, inl, inr, All, cases_lt, cases_eq, cases_order, cases_Bool, ne_eqb, get_or_append_left, get_or_push, slice_get-get_or, slice_get_within, get_or_from_slice_get, same_Some, ActionId, Visit, Program, Reaches, entering, leaving}
+use Rattle.std.proofs.Common.{eqb, Result, Ok, Err, IfOk}
 use Rattle.fleet_needs.specs.declared.questions.Question.{Question}
 use Rattle.fleet_needs.specs.Asked.{AreAnswers}
-use Rattle.fleet_verify.specs.Ahead.{AreCountedUp, level_in}
-use Rattle.fleet_verify.specs.Chained.{AreKnown, IsChained, IsAskedOf, AreAsked, IsFlagOf, EndApart, AreAmong, key_of}
+use Rattle.fleet_verify.specs.Ahead.{AreCountedUp, count_in, level_in}
+use Rattle.fleet_verify.specs.Chained.{AreKnown, IsChained, IsAskedOf, AreAsked, BeginsLate, BeginsLater, IsFlagOf, EndApart, EnterApart, AreAmong, key_of}
+use Rattle.fleet_verify.specs.LevelRows.{HasLevels}
 use Rattle.fleet_verify.specs.OpenPairs.{AreVisits, question_of}
 use Rattle.fleet_verify.specs.declared.chained.Answers.{Answers}
 use Rattle.fleet_verify.specs.declared.chained.TheConstants.{NUMBERS}
 use Rattle.fleet_verify.specs.declared.order.OpenPair.{OpenPair}
 use Rattle.fleet_verify.proofs.Decide.{Reaches-dec}
 use Rattle.fleet_verify.proofs.Levels.{counted_numbers}
+use Rattle.fleet_verify.proofs.Listing.{levels_number, entry_start, entry_later, rank_rises}
 
 -- the question for a pair
 pub asked_of : (p : Program) (o : OpenPair) (first : ActionId) → AreVisits p o → first ≡ leaving p o.first → 1 ≤ first.number → 1 ≤ o.second.position
@@ -32,11 +28,32 @@ asked_of p o first visits leaves number entered = record {
 
 -- no questions are answered by no flags
 pub known_none : (p : Program) (known : Answers) → known.questions.items ≡ [] → known.flags.items ≡ [] → AreKnown p known
-known_none p known questions flags =
-    subst (λ (qs : List Question). AreAnswers p qs known.flags.items) (sym questions) (subst (λ (fs : List Bool). AreAnswers p [] fs) (sym flags) (record {
-      all = refl;
-      each = λ k q here. absurd (omega (arith, slice_get_within [] k q here));
-    }))
+known_none p known questions flags = record {
+  answers = subst (λ (qs : List Question). AreAnswers p qs known.flags.items) (sym questions) (subst (λ (fs : List Bool). AreAnswers p [] fs) (sym flags) (record {
+    all = refl;
+    each = λ k q here. absurd (omega (arith, slice_get_within [] k q here));
+  }));
+  apart = subst EndApart (sym questions) (λ j k q r here there same. absurd (omega (arith, slice_get_within [] j q here)));
+}
+
+-- a pair has no question if its second visit is a start
+pub start_none : (rows : List (List ℕ)) (o : OpenPair) → o.second.position ≡ 0 → BeginsLater rows o → ⊥
+start_none rows o start later = omega (arith, later, entry_start (level_in rows) o.second start)
+
+-- nor if that has no level
+pub row_none : (p : Program) (rows : List (List ℕ)) (o : OpenPair) → HasLevels p rows → AreVisits p o → count_in rows o.second.agent < o.second.position → ⊥
+row_none p rows o levels visits past = omega (arith, past, levels.whole o.second.agent visits.second.agent, visits.second.position)
+
+-- nor if the first visit begins no sooner
+pub late_none : (p : Program) (rows : List (List ℕ)) (o : OpenPair) (level : ℕ) → HasLevels p rows → AreVisits p o → 1 ≤ o.second.position → level ≡ level_in rows (entering o.second) → BeginsLate rows o.first level → BeginsLater rows o → ⊥
+late_none p rows o level levels visits entered is late later =
+    let first = entry_later (level_in rows) o.first late.0 in
+    let second = entry_later (level_in rows) o.second entered in
+    omega (arith, later, first, second, is, late.1 (omega (arith, levels.whole o.first.agent visits.first.agent, visits.first.position)))
+
+-- of a pair with a chain the second visit begins later
+pub chained_later : (p : Program) (rows : List (List ℕ)) (o : OpenPair) → HasLevels p rows → IsChained p o → BeginsLater rows o
+chained_later p rows o levels chained = rank_rises p (level_in rows) (levels_number p (level_in rows) levels.each) o.first o.second chained
 
 -- one question more
 pub asked_more : (p : Program) (pairs : List OpenPair) (k : ℕ) (asked : List Question) (pair : OpenPair) (question : Question) → length asked ≡ k → ((o : OpenPair) → get_or pairs k o ≡ pair) → IsAskedOf p pair question
@@ -59,6 +76,44 @@ all_chained p rows pairs asked flags counted h answers none k o l =
       | yes r ↦ subst (λ (x : Question). Reaches p x.first x.last) (h.each k o (question_of p o) l).of r
       | no m ↦ absurd (let set : get_or flags k false ≡ true = (answers.each k q here).1 m in let clear : get_or flags k false ≡ false = none k (omega (arith, l, h.all, answers.all)) in cc)
     ]
+
+-- and if there is a chain for each pair, none is flagged
+pub none_flagged : (p : Program) (pairs : List OpenPair) (asked : List Question) (flags : List Bool) → AreAsked p pairs asked → AreAnswers p asked flags → All (IsChained p) pairs → (k : ℕ) → k < length flags → get_or flags k false ≡ false
+none_flagged p pairs asked flags h answers all k l = elim (cases_Bool (get_or flags k false)) [
+  | inr clear ↦ clear
+  | inl set ↦
+      let none : Visit = record { agent = 0; position = 0 } in
+      let o : OpenPair = get_or pairs k (record { cell = record { x = 0; y = 0 }; first = none; second = none }) in
+      let within : k < length pairs = omega (arith, l, h.all, answers.all) in
+      let q : Question = get_or asked k (question_of p o) in
+      let here : slice_get asked k ≡ Some q = slice_get-get_or asked k (question_of p o) (omega (arith, within, h.all)) in
+      let of : q ≡ question_of p o = (h.each k _ (question_of p o) within).of in
+      absurd ((answers.each k q here).0 set (subst (λ (x : Question). Reaches p x.first x.last) (sym of) (all k _ within)))
+]
+
+-- the questions of pairs with other second visits end apart
+pub asked_apart : (p : Program) (pairs : List OpenPair) (asked : List Question) → AreAsked p pairs asked → EnterApart pairs → EndApart asked
+asked_apart p pairs asked h apart j k q r at there same =
+    let none : Visit = record { agent = 0; position = 0 } in
+    let d : OpenPair = record { cell = record { x = 0; y = 0 }; first = none; second = none } in
+    let low : j < length pairs = omega (arith, slice_get_within asked j q at, h.all) in
+    let high : k < length pairs = omega (arith, slice_get_within asked k r there, h.all) in
+    let first : q ≡ question_of p (get_or pairs j d) = sym (get_or_from_slice_get asked j q q at) ∙ (h.each j d q low).of in
+    let second : r ≡ question_of p (get_or pairs k d) = sym (get_or_from_slice_get asked k r r there) ∙ (h.each k d r high).of in
+    let ends : entering (get_or pairs j d).second ≡ entering (get_or pairs k d).second = sym (ap (λ (x : Question). x.last) first) ∙ same ∙ ap (λ (x : Question). x.last) second in
+    let visits : (get_or pairs j d).second ≡ (get_or pairs k d).second = λ i. record { agent = (ends i).agent; position = (ends i).number } in
+    elim (cases_order j k) [
+      | inl e ↦ e
+      | inr (inl l) ↦ absurd (apart j k d l high visits)
+      | inr (inr l) ↦ absurd (apart k j d l low (sym visits))
+    ]
+
+-- what was answered to such questions is known
+pub known_asked : {E : Type 0} (p : Program) (asked : List Question) (r : Result (Option Answers) E) → EndApart asked
+    → IfOk r (λ found. IfSome found (λ known. AreAnswers p known.questions.items known.flags.items)) → IfOk r (λ found. IfSome found (λ known. known.questions.items ≡ asked)) → IfOk r (λ found. IfSome found (AreKnown p))
+known_asked p asked (Ok (Some known)) apart answers same = record { answers = answers; apart = subst EndApart (sym same) apart }
+known_asked p asked (Ok None) apart answers same = tt
+known_asked p asked (Err e) apart answers same = tt
 
 -- ---- the places of questions, by the numbers of their last actions
 
@@ -105,8 +160,8 @@ flag_more known questions flags k q flag long at is each j r l = elim (cases_lt 
 pub flag_there : (p : Program) (known : Answers) (questions : List Question) (k : ℕ) (q : Question) (place : ℕ → Option ℕ) → slice_get questions k ≡ Some q
     → (EndApart known.questions.items → (j : ℕ) (r : Question) → slice_get known.questions.items j ≡ Some r → place (key_of r.last) ≡ Some j)
     → ((j : ℕ) → j < length known.flags.items → place (key_of q.last) ≡ Some j → slice_get known.questions.items j ≡ Some q → ⊥)
-    → AreKnown p known → EndApart known.questions.items → AreAmong known.questions.items questions → ⊥
-flag_there p known questions k q place at places none answers apart among =
+    → AreKnown p known → AreAmong known.questions.items questions → ⊥
+flag_there p known questions k q place at places none is_known among =
     let asked = among k q (slice_get_within questions k q at) in
     let is : slice_get known.questions.items asked.0 ≡ Some q = asked.1 ∙ ap Some (get_or_from_slice_get questions k q q at) in
-    none asked.0 (omega (arith, slice_get_within known.questions.items asked.0 q is, answers.all)) (places apart asked.0 q is) is
+    none asked.0 (omega (arith, slice_get_within known.questions.items asked.0 q is, is_known.answers.all)) (places is_known.apart asked.0 q is) is

@@ -17,9 +17,9 @@ use Rattle.fleet_model.specs.Visit.{is_entry, IsVisit, IsVisitOf, ListsVisits, A
 use Rattle.fleet_model.proofs.Cells.{is_same_place-true, is_same_place-eq}
 use Rattle.fleet_verify.specs.Ahead.{AreEarlier, AreBegun, AreKeptOnGround}
 use Rattle.fleet_verify.specs.Faults.{StandsRight, EachAction}
-use Rattle.fleet_verify.specs.Chained.{IsChained}
+use Rattle.fleet_verify.specs.Chained.{IsChained, EnterApart}
 use Rattle.fleet_verify.specs.OpenPairs.{AreVisits}
-use Rattle.fleet_verify.specs.Order.{visits_of, entries, IsLastVisit, AreAddedBy, AreConsecutive, IsOpenPair}
+use Rattle.fleet_verify.specs.Order.{visits_of, entries, IsLastVisit, AreAddedBy, AreConsecutive, IsOpenPair, StandsBefore}
 use Rattle.fleet_verify.specs.declared.order.OpenPair.{OpenPair}
 use Rattle.fleet_verify.proofs.Judged.{some_cell}
 use Rattle.fleet_verify.proofs.Listing.{await_chain}
@@ -129,6 +129,14 @@ module _ (passable : Place → Bool) (p : Program) where
       let r = begun_last begun last pairs h c cell v is in
       let below : v.position < begun w.agent = subst (λ (i : ℕ). v.position < begun i) own r.1 in
       omega (arith, below, le)
+
+  -- no two open pairs have the same second visit
+  pub begun_apart : (begun : ℕ → ℕ) (last : Cell → Option Visit) (pairs : List OpenPair) → AreBegun passable p begun last pairs → EnterApart pairs
+  begun_apart begun last pairs h i j d l m same =
+      let entered : Visit → Bool = λ w. is_entry p w.agent w.position in
+      let distinct : AllPairs (λ (v w : Visit). v ≢ w) (entries p h.positions) = AllPairs-filter (λ (v w : Visit). v ≢ w) entered h.positions h.distinct in
+      let s : StandsBefore (entries p h.positions) (get_or pairs i d).second (get_or pairs j d).second = subst (λ (vs : List Visit). StandsBefore vs (get_or pairs i d).second (get_or pairs j d).second) h.added.same (h.added.grouped.in_order i j d l m) in
+      omega (arith, s.order, distinct_once (entries p h.positions) distinct s.sooner s.later (get_or pairs i d).second s.first (s.second ∙ ap Some (sym same)))
 
   -- all have begun
   module _ (begun : ℕ → ℕ) (last : Cell → Option Visit) (pairs : List OpenPair) (h : AreBegun passable p begun last pairs) (whole : (i : ℕ) → i < length p → begun i ≡ moves p i + 1) where

@@ -16,7 +16,7 @@ use Rattle.fleet_model.specs.Program.{Program, origin, start_of, moves, path, Ar
 use Rattle.fleet_model.proofs.Chains.{own_reach, Reaches-rises}
 use Rattle.fleet_grid.specs.Ground.{Ground, is_passable}
 use Rattle.fleet_verify.specs.Ahead.{AreCountedUp, IsTop, IsAhead, AreBegun, AreDone, count_in, level_in}
-use Rattle.fleet_verify.specs.Chained.{IsChained}
+use Rattle.fleet_verify.specs.Chained.{IsChained, EnterApart}
 use Rattle.fleet_verify.specs.Faults.{HasStarts, HasRanges, EndsRight, StandsRight}
 use Rattle.fleet_verify.specs.OpenPairs.{AreVisits}
 use Rattle.fleet_verify.specs.LastVisits.{kept_at}
@@ -24,7 +24,7 @@ use Rattle.fleet_verify.specs.Order.{AreAddedBy}
 use Rattle.fleet_verify.specs.Parts.{IsAcceptedFor}
 use Rattle.fleet_verify.specs.declared.ahead.Ahead.{Ahead}
 use Rattle.fleet_verify.specs.declared.order.OpenPair.{OpenPair}
-use Rattle.fleet_verify.proofs.Begin.{begun_none, begun_more, begun_ground, begun_visits, begun_chained}
+use Rattle.fleet_verify.proofs.Begin.{begun_none, begun_more, begun_ground, begun_visits, begun_apart, begun_chained}
 use Rattle.fleet_verify.proofs.RunCounts.{longest_finishes}
 use Rattle.fleet_verify.proofs.Ordered.{none_ranked, all_counted, all_in_range, top_longest}
 use Rattle.fleet_verify.specs.LevelRows.{HasLevels}
@@ -197,6 +197,9 @@ module _ (grid : Ground) (tasks : List Task) (p : Program) (a : Ahead) (n chain 
 
   pub done_visits : All (AreVisits p) a.pairs.items
   done_visits = begun_visits passable p begun (kept_at a.last) a.pairs.items h.begun come
+
+  pub done_apart : EnterApart a.pairs.items
+  done_apart = begun_apart passable p begun (kept_at a.last) a.pairs.items h.begun
 
   pub done_levels : HasLevels p rows
   done_levels = record { all = h.rows; whole = whole; each = counted_levels p level done_counted }

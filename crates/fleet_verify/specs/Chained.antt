@@ -1,5 +1,6 @@
 -- Open pairs as questions for chains, and what was answered to questions.
-use Rattle.std.specs.Prelude.{◌≡◌, ℕ, ◌+◌, ◌*◌, ◌<◌, ◌≤◌, Bool, false, List, length, get_or, slice_get, Some, All}
+use Rattle.std.specs.Prelude.{◌≡◌, ◌≢◌, ℕ, ◌+◌, ◌*◌, ◌<◌, ◌≤◌, Bool, false, List, length, get_or, slice_get, Some, All}
+use Rattle.std.specs.List.{AllPairs}
 use Rattle.fleet_model.specs.declared.program.ActionId.{ActionId}
 use Rattle.fleet_model.specs.declared.program.Visit.{Visit}
 use Rattle.fleet_model.specs.Program.{Program}
@@ -8,6 +9,7 @@ use Rattle.fleet_model.specs.Visit.{entering, leaving}
 use Rattle.fleet_needs.specs.Asked.{IsQuestion, AreAnswers}
 use Rattle.fleet_needs.specs.declared.questions.Question.{Question}
 use Rattle.fleet_verify.specs.Ahead.{level_in, count_in}
+use Rattle.fleet_verify.specs.Listing.{entry_level}
 use Rattle.fleet_verify.specs.OpenPairs.{question_of}
 use Rattle.fleet_verify.specs.declared.chained.Answers.{Answers}
 use Rattle.fleet_verify.specs.declared.chained.TheConstants.{NUMBERS}
@@ -17,13 +19,13 @@ use Rattle.fleet_verify.specs.declared.order.OpenPair.{OpenPair}
 abbrev pub IsChained : Program → OpenPair → Type 0
 IsChained p o = Reaches p (leaving p o.first) (entering o.second)
 
--- its flags answer its questions
-abbrev pub AreKnown : Program → Answers → Type 0
-AreKnown p known = AreAnswers p known.questions.items known.flags.items
-
 -- the visit begins with an action, which has no level in these rows, or none below this one
 abbrev pub BeginsLate : List (List ℕ) → Visit → ℕ → Type 0
 BeginsLate rows v level = (1 ≤ v.position) × (v.position ≤ count_in rows v.agent → level ≤ level_in rows (entering v))
+
+-- the second visit of the pair begins later than the first, by the levels in these rows
+abbrev pub BeginsLater : List (List ℕ) → OpenPair → Type 0
+BeginsLater rows o = entry_level (level_in rows) o.first < entry_level (level_in rows) o.second
 
 -- the question for this pair, which is one of the program
 pub record IsAskedOf (p : Program) (o : OpenPair) (q : Question) : Type 0 where
@@ -43,6 +45,15 @@ key_of a = a.agent * NUMBERS + a.number
 abbrev pub EndApart : List Question → Type 0
 EndApart questions =
     (j k : ℕ) (q r : Question) → slice_get questions j ≡ Some q → slice_get questions k ≡ Some r → q.last ≡ r.last → j ≡ k
+
+-- no two of the pairs have the same second visit
+abbrev pub EnterApart : List OpenPair → Type 0
+EnterApart pairs = AllPairs (λ (o u : OpenPair). o.second ≢ u.second) pairs
+
+-- its flags answer its questions, no two of which end with the same action
+pub record AreKnown (p : Program) (known : Answers) : Type 0 where
+  pub answers : AreAnswers p known.questions.items known.flags.items
+  pub apart : EndApart known.questions.items
 
 -- each of the questions is one of those that were asked
 abbrev pub AreAmong : List Question → List Question → Type 0

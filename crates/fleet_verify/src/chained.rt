@@ -3,9 +3,11 @@
 
 ghost use Rattle.std.specs.Prelude.{◌≡◌, ◌<◌, ◌↔◌, ℕ, true, false, IsTrue, All, IfOk, IfNone, IfSome, get_or, length};
 ghost use Rattle.fleet_model.specs.Program.{AreInRange};
+ghost use Rattle.fleet_needs.specs.Asked.{AreAnswers};
 ghost use Rattle.fleet_verify.specs.LevelOrder.{AreAllLevels};
+ghost use Rattle.fleet_verify.specs.LevelRows.{HasLevels};
 ghost use Rattle.fleet_verify.specs.OpenPairs.{AreVisits};
-ghost use Rattle.fleet_verify.specs.Chained.{key_of, AreKnown, IsChained, IsAskedOf, AreAsked, BeginsLate};
+ghost use Rattle.fleet_verify.specs.Chained.{key_of, AreKnown, IsChained, IsAskedOf, AreAsked, BeginsLate, BeginsLater, EnterApart};
 
 use crate::level_order::AllLevels;
 use crate::level_row::{LevelRow, row_of};
@@ -64,13 +66,14 @@ impl Answers {
         requires source { S.gives (P.program program.now) source }
         requires questions { All (IsQuestion (P.program program.now)) questions.items }
         ensures questions { IfOk result (λ a. a.questions.items ≡ questions.items) }
-        ensures known { IfOk result (AreKnown (P.program program.now)) }
+        ensures answers { IfOk result (λ a.
+            AreAnswers (P.program program.now) a.questions.items a.flags.items) }
     {
         let flags = answer_questions(alloc, program, source, &questions)?;
         Ok(Answers { questions, flags })
     }
 
-    /// The flags of these questions, if each of them was asked, and no two that were asked end with one action.
+    /// The flags of these questions, if each of them was asked.
     pub fn flags_of(
         &self,
         alloc: Global,
@@ -79,7 +82,6 @@ impl Answers {
         ensures some { IfOk result (λ found. IfSome found (λ flags. (p : Program)
             → AreKnown p self.now → AreAnswers p questions.now flags.items)) }
         ensures none { IfOk result (λ found. IfNone found ((p : Program) → AreKnown p self.now
-            → EndApart self.now.questions.items
             → AreAmong self.now.questions.items questions.now → ⊥)) }
     {
         let places = self.places(alloc)?;
@@ -126,9 +128,8 @@ impl Answers {
     }
 }
 
-/// Nothing if a chain orders each of the open pairs of a program whose levels these are. Else, or if it is not found,
-/// what was answered.
-#[tactic(auto, using(crate::proofs::Asked::known_none))]
+/// Nothing if a chain orders each of the open pairs of a program whose levels these are. Else what was answered: all is
+/// asked, unless some pair is surely without a chain.
 pub fn unless_chained<P: ProgramView>(
     alloc: Global,
     program: &P,
@@ -137,9 +138,15 @@ pub fn unless_chained<P: ProgramView>(
 ) -> Result<Option<Answers>, OutOfMemory>
     requires levels { AreAllLevels (P.program program.now) levels }
     requires visits { All (AreVisits (P.program program.now)) pairs.items }
-    ensures chained { IfOk result (λ found. IfNone found ((k : ℕ) → (o : OpenPair)
-        → k < length pairs.items → IsChained (P.program program.now) (get_or pairs.items k o))) }
+    requires apart { EnterApart pairs.items }
+    ensures chained { IfOk result (λ found. IfNone found
+        (All (IsChained (P.program program.now)) pairs.items)) }
+    ensures unchained { IfOk result (λ found. IfSome found (λ _.
+        ¬ All (IsChained (P.program program.now)) pairs.items)) }
     ensures known { IfOk result (λ found. IfSome found (AreKnown (P.program program.now))) }
+    ensures asked { IfOk result (λ found. IfSome found (λ known.
+        All (BeginsLater levels.rows.items) pairs.items
+        → AreAsked (P.program program.now) pairs.items known.questions.items)) }
 {
     match ask_all(alloc, program, &levels.rows, &pairs)? {
         Some(questions) => answer_asked(alloc, program, levels, pairs, questions),
@@ -158,9 +165,14 @@ fn answer_asked<P: ProgramView>(
 ) -> Result<Option<Answers>, OutOfMemory>
     requires levels { AreAllLevels (P.program program.now) levels }
     requires asked { AreAsked (P.program program.now) pairs.items questions.items }
-    ensures chained { IfOk result (λ found. IfNone found ((k : ℕ) → (o : OpenPair)
-        → k < length pairs.items → IsChained (P.program program.now) (get_or pairs.items k o))) }
-    ensures known { IfOk result (λ found. IfSome found (AreKnown (P.program program.now))) }
+    ensures chained { IfOk result (λ found. IfNone found
+        (All (IsChained (P.program program.now)) pairs.items)) }
+    ensures unchained { IfOk result (λ found. IfSome found (λ _.
+        ¬ All (IsChained (P.program program.now)) pairs.items)) }
+    ensures answers { IfOk result (λ found. IfSome found (λ known.
+        AreAnswers (P.program program.now) known.questions.items known.flags.items)) }
+    ensures questions { IfOk result (λ found. IfSome found (λ known.
+        known.questions.items ≡ questions.items)) }
 {
     let_go(pairs);
     let answers = Answers::to(alloc, program, levels, questions)?;
@@ -180,8 +192,8 @@ fn let_go<T: Drop>(list: Vec<T>) {
 
 /// Whether nothing is flagged.
 fn is_none(flags: &Vec<bool>) -> bool
-    ensures { result ≡ true → (k : ℕ) → k < length flags.now.items
-        → get_or flags.now.items k false ≡ false }
+    ensures { IsTrue result ↔ ((k : ℕ) → k < length flags.now.items
+        → get_or flags.now.items k false ≡ false) }
 {
     for k in 0..flags.len() {
         let is_flagged = flags[k];
@@ -199,10 +211,12 @@ fn ask_all<P: ProgramView>(
     rows: &Vec<LevelRow>,
     pairs: &Vec<OpenPair>,
 ) -> Result<Option<Vec<Question>>, OutOfMemory>
-    requires rows { length rows.now.items ≡ length (P.program program.now) }
+    requires levels { HasLevels (P.program program.now) rows.now.items }
     requires visits { All (AreVisits (P.program program.now)) pairs.now.items }
-    ensures { IfOk result (λ found. IfSome found (λ asked.
+    ensures asked { IfOk result (λ found. IfSome found (λ asked.
         AreAsked (P.program program.now) pairs.now.items asked.items)) }
+    ensures none { IfOk result (λ found. IfNone found
+        (¬ All (BeginsLater rows.now.items) pairs.now.items)) }
 {
     let mut asked = Vec::with_capacity(alloc, pairs.len())?;
     for k in 0..pairs.len() {
@@ -226,9 +240,10 @@ fn pair_at(pairs: &Vec<OpenPair>, k: usize) -> OpenPair
 /// on to such a one.
 #[tactic(auto, using(crate::proofs::Asked::asked_of))]
 fn ask<P: ProgramView>(program: &P, rows: &Vec<LevelRow>, pair: OpenPair) -> Option<Question>
-    requires rows { length rows.now.items ≡ length (P.program program.now) }
+    requires levels { HasLevels (P.program program.now) rows.now.items }
     requires visits { AreVisits (P.program program.now) pair }
-    ensures { IfSome result (IsAskedOf (P.program program.now) pair) }
+    ensures asked { IfSome result (IsAskedOf (P.program program.now) pair) }
+    ensures none { IfNone result (¬ BeginsLater rows.now.items pair) }
 {
     let OpenPair { first, second, .. } = pair;
     if second.position == 0 {

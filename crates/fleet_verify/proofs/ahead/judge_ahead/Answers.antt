@@ -1,6 +1,6 @@
 use Rattle.std.proofs.Common.{◌≡◌, ◌∙◌, subst, sym, arith, eqb-true}
 use Rattle.fleet_verify.specs.LevelRows.{HasLevels}
-use Rattle.fleet_verify.proofs.Beginning.{done_counted, done_range, done_finish, done_visits, done_levels, ahead_accepted}
+use Rattle.fleet_verify.proofs.Beginning.{done_counted, done_range, done_finish, done_visits, done_apart, done_levels, ahead_accepted}
 use Rattle.fleet_verify.proofs.ahead.judge_ahead.Goals as goal
 
 pub unless_chained-requires : goal.unless_chained-requires
@@ -19,6 +19,7 @@ unless_chained-requires g c =
         levels = done_counted c.args.grid.now c.args.instance.now p c.args.ahead n c.in-Some.chain wf c.requires.starts c.requires.ahead done all;
       };
       visits = done_visits c.args.grid.now c.args.instance.now p c.args.ahead n c.in-Some.chain wf c.requires.starts c.requires.ahead done all;
+      apart = done_apart c.args.grid.now c.args.instance.now p c.args.ahead n c.in-Some.chain wf c.requires.starts c.requires.ahead done all;
     }
 
 pub returns-then-is_empty : goal.returns-then-is_empty

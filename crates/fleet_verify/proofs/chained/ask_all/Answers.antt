@@ -1,7 +1,7 @@
 use Rattle.std.proofs.Common.{ℕ, ◌+◌, List, length, get_or, ap, sym, ◌∙◌, subst, arith}
 use Rattle.std.proofs.lemmas.List.{length_push}
 use Rattle.fleet_needs.specs.declared.questions.Question.{Question}
-use Rattle.fleet_verify.specs.Chained.{IsAskedOf}
+use Rattle.fleet_verify.specs.Chained.{IsAskedOf, BeginsLater}
 use Rattle.fleet_verify.specs.OpenPairs.{AreVisits}
 use Rattle.fleet_verify.proofs.Asked.{asked_more}
 use Rattle.fleet_verify.proofs.chained.ask_all.Goals as goal
@@ -21,5 +21,9 @@ loop-k-preserved g c =
     record {
       all = ap (λ (xs : List Question). length xs) pushed ∙ length_push asked c.in-Some.question ∙ ap (λ (n : ℕ). n + 1) was.all;
       each = λ j o q l. subst (λ (xs : List Question). IsAskedOf p (get_or pairs j o) (get_or xs j q)) (sym pushed)
-          (asked_more p pairs c.loop-k.k asked c.pair_at.result c.in-Some.question was.all c.pair_at.ensures c.in-Some.ensures was.each j o q l);
+          (asked_more p pairs c.loop-k.k asked c.pair_at.result c.in-Some.question was.all c.pair_at.ensures c.in-Some.ensures.asked was.each j o q l);
     }
+
+pub returns-in_default-clause-none : goal.returns-in_default-clause-none
+returns-in_default-clause-none g c = λ later.
+    c.in_default.ensures.none (subst (BeginsLater c.args.rows.now.items) (c.pair_at.ensures c.pair_at.result) (later c.loop-k.k c.pair_at.result (omega arith)))

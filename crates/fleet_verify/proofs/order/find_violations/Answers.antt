@@ -35,6 +35,6 @@ returns g c =
     let pairs = c.args.pairs.now in
     let flags = c.deref-2.result.now in
     let answers : AreAnswers p (map (question_of p) pairs) flags =
-    subst (λ (qs : List Question). AreAnswers p qs flags) (c.in_ok-asked.ensures.questions ∙ c.in_ok-questions.ensures) (subst (λ (fs : List Bool). AreAnswers p c.in_ok-asked.asked.questions.items fs) (sym c.deref-2.ensures.value) c.in_ok-asked.ensures.known) in
+    subst (λ (qs : List Question). AreAnswers p qs flags) (c.in_ok-asked.ensures.questions ∙ c.in_ok-questions.ensures) (subst (λ (fs : List Bool). AreAnswers p c.in_ok-asked.asked.questions.items fs) (sym c.deref-2.ensures.value) c.in_ok-asked.ensures.answers) in
     on_ok (λ found. (n : ℕ) → AnswersFirstBad (IsFlagged flags) pairs (length pairs) n (get nat_eq found n)) (λ found. (n : ℕ) → AnswersFirstBad (λ _ o. HasNoChain p o) pairs (length pairs) n (get nat_eq found n))
     (λ found h n. flags_tell p pairs flags answers n (get nat_eq found n) (h n)) c.first_flagged-2.result c.first_flagged-2.ensures

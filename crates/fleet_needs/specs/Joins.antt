@@ -1,5 +1,6 @@
 -- Rows that are made, and the rows that they are joined of.
-use Rattle.std.specs.Prelude.{◌≡◌, ◌≢◌, ℕ, ◌+◌, ◌-◌, ◌<◌, ◌≤◌, ◌⊎◌, Bool, true, List, length, get_or, slice_index, slice_get, Some}
+use Rattle.std.specs.Prelude.{◌≡◌, ◌≢◌, ℕ, ◌+◌, ◌-◌, ◌<◌, ◌≤◌, ◌⊎◌, Bool, true, List, length, get_or, slice_index, slice_get, Some, min}
+use Rattle.std.specs.Option.{option_map_or}
 use Rattle.fleet_model.specs.declared.program.Await.{Await}
 use Rattle.fleet_model.specs.declared.program.ActionId.{ActionId}
 use Rattle.fleet_model.specs.Program.{Program, awaits_of, moves, total_awaits}
@@ -124,6 +125,10 @@ standing_in m = m.standing.items
 -- how many needs are listed
 abbrev pub needs_listed : Joins → ℕ
 needs_listed m = length m.needs.items
+
+-- where the needs of the join after n others begin, or where those of all joins end
+abbrev pub needs_begin : Joins → ℕ → ℕ
+needs_begin m n = min (option_map_or (λ (j : Join). j.first) (slice_get m.joins.items n) (needs_listed m)) (needs_listed m)
 
 -- there is room to note the row that stands for each action
 abbrev pub HasRoom : Program → Joins → Type 0

@@ -1,14 +1,14 @@
 //! Which rows are made, and of which rows each is joined: one for each action that awaits something, unless it awaits
 //! one action alone and needs it anyhow. The row of any other is that of its agent's action before.
 
-ghost use Rattle.std.specs.Prelude.{◌≡◌, ◌↔◌, ◌+◌, ◌-◌, ◌<◌, ◌≤◌, Bool, true, false, [], length, set, IfOk, OnOk};
+ghost use Rattle.std.specs.Prelude.{◌≡◌, ◌↔◌, ◌+◌, ◌-◌, ◌<◌, ◌≤◌, Bool, true, false, [], length, set, slice_range, IfOk, OnOk};
 ghost use Rattle.fleet_model.specs.Program.{AreInRange, awaits_of, moves};
 ghost use Rattle.fleet_model.specs.Chain.{IsAction};
 ghost use Rattle.fleet_needs.specs.Implied.{AreAwaitPlaces};
 ghost use Rattle.fleet_needs.specs.Places.{row_place};
 ghost use Rattle.fleet_needs.specs.Order.{IsItem, IsLevelOrder, action_of, levels_in};
 ghost use Rattle.fleet_needs.specs.Flags.{AreSureIf, IsPassed, IsFirstSet, NeedsRow};
-ghost use Rattle.fleet_needs.specs.Joins.{AddsNone, AreNone, AreJoinsBelow, AreJoinsEnd, CanJoin, AreTaken, HasJoined, HasRoom, IsAdded, AreRaised, rows_made, lasts_known, last_of, lasts_in, standing_in, needs_listed, row_of, StandsIn};
+ghost use Rattle.fleet_needs.specs.Joins.{AddsNone, AreNone, AreJoinsBelow, AreJoinsEnd, CanJoin, AreTaken, HasJoined, HasRoom, IsAdded, AreRaised, rows_made, lasts_known, last_of, lasts_in, standing_in, needs_begin, row_of, StandsIn};
 
 use crate::await_places::AwaitPlaces;
 use crate::implied::ImpliedAwaits;
@@ -111,7 +111,10 @@ impl Joins {
     }
 
     /// The needs of the join after n others.
-    pub(crate) fn needs_of(&self, n: usize) -> &[Need] {
+    pub(crate) fn needs_of(&self, n: usize) -> &[Need]
+        ensures { result.now ≡ slice_range self.now.needs.items (needs_begin self.now n)
+            (needs_begin self.now (n + 1)) }
+    {
         let from = self.first_need(n);
         let end = self.first_need(n.saturating_add(1));
         if from < end {
@@ -123,7 +126,7 @@ impl Joins {
 
     /// Where the needs of the join after n others begin, or where those of all joins end.
     fn first_need(&self, n: usize) -> usize
-        ensures { result ≤ needs_listed self.now }
+        ensures { result ≡ needs_begin self.now n }
     {
         match self.joins.get(n) {
             Some(join) => (join.first as usize).min(self.needs.len()),

@@ -1,20 +1,5 @@
 -- Visits that begin in any order.
-use Rattle.std.proofs.Common.{◌≡◌, ◌≢◌, ℕ, suc, ◌+◌, ◌<◌, ◌≤◌, Bool, List, [], ◌∷◌, ◌++◌, length, get_or, Option, Some, slice_get, refl, ap, sym, ◌∙◌, subst, arith, inl, inr}
-use Rattle.std.specs.Prelude.{All, Contains, IsTrue}
-use Rattle.std.specs.List.{filter, AllPairs}
-use Rattle.std.proofs.lemmas.Bool.{cases_order, cases_eq, cases_lt}
-use Rattle.std.proofs.lemmas.List.{get_or_default}
-use Rattle.std.proofs.lemmas.List.Kept.{AllPairs-filter}
-use Rattle.std.proofs.lemmas.List.Elements.{Contains-push, Contains-push_cases, Contains-append_left}
-use Rattle.std.proofs.lemmas.List.Quantifiers.{all_pairs_push}
-use Rattle.std.proofs.lemmas.Option.{slice_get_within, get_or_from_slice_get, slice_get-get_or}
-use Rattle.fleet_model.specs.declared.geometry.Cell.{Cell}
-use Rattle.fleet_model.specs.declared.geometry.Place.{Place}
-use Rattle.fleet_model.specs.declared.program.Visit.{Visit}
-use Rattle.fleet_model.specs.Geometry.{place_of, is_same_place}
-use Rattle.fleet_model.specs.Program.{Program, moves, path, AreInRange, IsCell}
-use Rattle.fleet_model.specs.Visit.{is_entry, IsVisit, IsVisitOf, ListsVisits, Adjacent, ComesAfter, IsOrderly}
-use Rattle.fleet_model.proofs.Cells.{is_same_place-true, is_same_place-eq}
+use Rattle.fleet_verify.proofs.Words.{◌≡◌, ◌≢◌, ℕ, suc, ◌+◌, ◌<◌, ◌≤◌, Bool, List, [], ◌∷◌, ◌++◌, length, get_or, Option, Some, slice_get, refl, ap, sym, ◌∙◌, subst, arith, inl, inr, All, Contains, IsTrue, filter, AllPairs, cases_order, cases_eq, cases_lt, get_or_default, AllPairs-filter, Contains-push, Contains-push_cases, Contains-append_left, all_pairs_push, slice_get_within, get_or_from_slice_get, slice_get-get_or, Cell, Place, Visit, place_of, is_same_place, Program, moves, path, AreInRange, IsCell, is_entry, IsVisit, IsVisitOf, ListsVisits, Adjacent, ComesAfter, IsOrderly, is_same_place-true, is_same_place-eq}
 use Rattle.fleet_verify.specs.Ahead.{AreEarlier, AreBegun, AreKeptOnGround}
 use Rattle.fleet_verify.specs.Faults.{StandsRight, EachAction}
 use Rattle.fleet_verify.specs.Chained.{IsChained, EnterApart}

@@ -1,20 +1,7 @@
 -- The agents one after another: on their starts, and at their ends.
-use Rattle.std.proofs.Common.{◌≡◌, ℕ, zero, suc, ◌+◌, ◌-◌, ◌<◌, ◌≤◌, Bool, List, [], ◌∷◌, ◌++◌, length, get_or, slice_index, max, Option, refl, sym, ap, ◌∙◌, subst, arith, inl, inr, ◌⊎◌}
-use Rattle.std.specs.Prelude.{All, IsTrue}
-use Rattle.std.proofs.lemmas.Bool.{cases_eq, cases_lt}
-use Rattle.std.proofs.lemmas.List.{get_or_append_left, get_or-append_right, length-append}
+use Rattle.fleet_verify.proofs.Words.{◌≡◌, ℕ, zero, suc, ◌+◌, ◌-◌, ◌<◌, ◌≤◌, Bool, List, [], ◌∷◌, ◌++◌, length, get_or, slice_index, Option, refl, sym, ap, ◌∙◌, subst, arith, inl, inr, ◌⊎◌, All, IsTrue, cases_eq, cases_lt, get_or_append_left, get_or-append_right, length-append, Cell, Place, ActionId, Visit, Task, IsNumbering, IsLongestChain, IsFinish, place_of, Program, origin, start_of, moves, path, AreInRange, IsWellFormed, own_reach, Reaches-rises, Ground, is_passable}
+use Rattle.std.proofs.Common.{max}
 use Rattle.std.proofs.Math.Seq.{get_or-append_seam}
-use Rattle.fleet_model.specs.declared.geometry.Cell.{Cell}
-use Rattle.fleet_model.specs.declared.geometry.Place.{Place}
-use Rattle.fleet_model.specs.declared.program.ActionId.{ActionId}
-use Rattle.fleet_model.specs.declared.program.Visit.{Visit}
-use Rattle.fleet_model.specs.declared.task.Task.{Task}
-use Rattle.fleet_model.specs.Chain.{IsNumbering, IsLongestChain}
-use Rattle.fleet_model.specs.Machine.{IsFinish}
-use Rattle.fleet_model.specs.Geometry.{place_of}
-use Rattle.fleet_model.specs.Program.{Program, origin, start_of, moves, path, AreInRange, IsWellFormed}
-use Rattle.fleet_model.proofs.Chains.{own_reach, Reaches-rises}
-use Rattle.fleet_grid.specs.Ground.{Ground, is_passable}
 use Rattle.fleet_verify.specs.Ahead.{AreCountedUp, IsTop, IsAhead, AreBegun, AreDone, count_in, level_in}
 use Rattle.fleet_verify.specs.Chained.{IsChained, EnterApart}
 use Rattle.fleet_verify.specs.Faults.{HasStarts, HasRanges, EndsRight, StandsRight}

@@ -1,26 +1,18 @@
 -- Rows of levels that climb.
-use Rattle.std.proofs.Common.{◌≡◌, ◌≢◌, ℕ, zero, suc, ◌+◌, ◌-◌, ◌<◌, ◌≤◌, List, [], ◌∷◌, ◌++◌, length, get_or, set, slice_index, refl, sym, ap, ◌∙◌, subst, arith, inl, inr}
-use Rattle.std.specs.Prelude.{All}
-use Rattle.std.proofs.lemmas.List.{get_or-set_same, get_or-set_other, set-get_or, length-set, length-append, get_or_default}
+use Rattle.fleet_verify.proofs.Words.{◌≡◌, ◌≢◌, ℕ, zero, suc, ◌+◌, ◌-◌, ◌<◌, ◌≤◌, List, [], ◌∷◌, ◌++◌, length, get_or, set, slice_index, refl, sym, ap, ◌∙◌, subst, arith, inl, inr, All, get_or-set_same, get_or-set_other, length-set, length-append, get_or_default, Bool, IsTrue, Cell, Place, Await, place_of, stepped, Program, moves, path, MAX_COORDINATE, cases_lt, Ground, IsGround, is_passable}
+use Rattle.std.proofs.lemmas.List.{set-get_or}
 use Rattle.std.proofs.Math.Seq.{get_or-append_seam}
 use Rattle.std.proofs.Math.Nat.{add-zero}
 use Rattle.fleet_verify.specs.declared.level_row.Piece.{Piece}
 use Rattle.fleet_verify.specs.Pieces.{level_at, levels_to}
 use Rattle.fleet_verify.specs.Rising.{last_level, climbed_by, climbed}
-use Rattle.std.specs.Prelude.{Bool, IsTrue}
-use Rattle.fleet_model.specs.declared.geometry.Cell.{Cell}
-use Rattle.fleet_model.specs.declared.geometry.Place.{Place}
-use Rattle.fleet_model.specs.Geometry.{place_of, stepped}
-use Rattle.fleet_model.specs.Program.{Program, moves, path}
-use Rattle.fleet_model.specs.declared.limits.TheConstants.{MAX_COORDINATE}
-use Rattle.std.proofs.lemmas.Bool.{cases_lt, false≢true}
-use Rattle.fleet_grid.specs.Ground.{Ground, IsGround, is_passable}
+use Rattle.std.proofs.lemmas.Bool.{false≢true}
 use Rattle.fleet_grid.proofs.StoredLaws.{off_map}
 use Rattle.fleet_verify.specs.declared.ahead.Ahead.{Ahead}
 use Rattle.fleet_verify.specs.declared.ahead.Needs.{Needs}
 use Rattle.fleet_verify.specs.declared.ahead.Runner.{Runner}
 use Rattle.fleet_verify.specs.LastVisits.{kept_at}
-use Rattle.fleet_verify.specs.Ahead.{AddsLevel, IsAhead, IsAheadBy, IsArrival, IsRunner, AreNeeds, climbed_in, count_in, stand}
+use Rattle.fleet_verify.specs.Ahead.{AddsLevel, IsAhead, IsAheadBy, IsArrival, IsRunner, AreNeeds, IsKeptBack, climbed_in, count_in, stand}
 use Rattle.fleet_verify.proofs.NextLevel.{place_at, leads_on}
 use Rattle.fleet_verify.proofs.PieceLaws.{row_last, push_same}
 
@@ -175,11 +167,19 @@ module _ {passable : Place → Bool} {p : Program} {offset : (i finished k : ℕ
   pub runner_count : count_in (climbed_in a.rows.items i r.finished) i ≡ r.finished
   runner_count = own_count a.rows.items i r.finished runner_there h.begun
 
+  pub runner_within : r.finished ≤ moves p i
+  runner_within = omega (arith, runner_count, h.ahead.ranked.within i)
+
   pub runner_place : place_of (stand r) ≡ path p i r.finished
   runner_place = place_at passable p (climbed_in a.rows.items i r.finished) a.cells.items (kept_at a.last) a.pairs.items i r.finished (stand r) h.ahead h.agent (sym runner_count)
 
   pub runner_rows : length a.rows.items ≡ length p
   runner_rows = sym (length-set a.rows.items i (climbed (get_or a.rows.items i []) r.finished)) ∙ h.ahead.rows
+
+-- what keeps an agent back that stops
+pub kept_back : (p : Program) (new rows : List (List ℕ)) (i n : ℕ) (w : Await) → new ≡ rows → count_in rows i ≡ n → IsKeptBack p rows i (n + 1) w → IsKeptBack p new i (count_in new i + 1) w
+kept_back p new rows i n w same count kept =
+    subst (λ (rs : List (List ℕ)). IsKeptBack p rs i (count_in rs i + 1) w) (sym same) (subst (λ (m : ℕ). IsKeptBack p rows i (m + 1) w) (sym count) kept)
 
 -- an agent that has not run on yet
 pub runner_begins : (passable : Place → Bool) (p : Program) (offset : (i finished k : ℕ) → ℕ) (a : Ahead) (i : ℕ) (r : Runner) → IsAhead passable p a → i < length p → r.finished ≡ count_in a.rows.items i → r.at ≡ offset i r.finished 0

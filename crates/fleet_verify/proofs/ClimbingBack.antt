@@ -1,8 +1,5 @@
 -- Stretches that are followed back along levels that rise by one.
-use Rattle.std.proofs.Common.{◌≡◌, ◌≢◌, ℕ, zero, suc, ◌+◌, ◌-◌, ◌<◌, ◌≤◌, List, refl, sym, ap, subst, arith, inl}
-use Rattle.fleet_model.specs.declared.program.ActionId.{ActionId}
-use Rattle.fleet_model.specs.Program.{Program}
-use Rattle.fleet_model.specs.Chain.{IsAction, IsCriticalCost}
+use Rattle.fleet_verify.proofs.Words.{◌≡◌, ◌≢◌, ℕ, zero, suc, ◌+◌, ◌-◌, ◌<◌, ◌≤◌, List, refl, sym, ap, subst, arith, inl, ActionId, Program, IsAction, IsCriticalCost}
 use Rattle.fleet_needs.proofs.Costing.{one_cost}
 use Rattle.fleet_verify.specs.Ahead.{level_in}
 use Rattle.fleet_verify.specs.LevelRows.{AreCostRows}

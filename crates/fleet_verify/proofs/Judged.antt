@@ -1,23 +1,11 @@
 -- The cells, one after another.
-use Rattle.std.proofs.Common.{◌≡◌, ℕ, suc, ◌+◌, ◌<◌, ◌≤◌, Bool, true, false, List, [], ◌∷◌, length, Option, Some, None, refl, ap, sym, ◌∙◌, subst, arith, inl, inr}
-use Rattle.std.specs.Prelude.{◌⊎◌, All}
-use Rattle.std.proofs.lemmas.Bool.{cases_eq}
-use Rattle.fleet_model.specs.declared.geometry.Cell.{Cell}
-use Rattle.fleet_model.specs.declared.geometry.Place.{Place}
-use Rattle.fleet_model.specs.declared.task.Task.{Task}
-use Rattle.fleet_model.specs.declared.program.Visit.{Visit}
-use Rattle.fleet_model.specs.Geometry.{place_of, is_same_place}
-use Rattle.fleet_model.specs.Program.{Program, moves, path, IsCell}
-use Rattle.fleet_model.specs.Visit.{IsVisitOf, Adjacent, ComesAfter, IsOrderly}
-use Rattle.fleet_model.specs.Visit.{IsVisit}
+use Rattle.fleet_verify.proofs.Words.{◌≡◌, ℕ, suc, ◌+◌, ◌<◌, ◌≤◌, Bool, true, false, List, [], ◌∷◌, length, Option, Some, None, refl, ap, sym, ◌∙◌, subst, arith, inl, inr, ◌⊎◌, All, cases_eq, Cell, Place, Task, Visit, place_of, is_same_place, Program, moves, path, IsCell, IsVisitOf, Adjacent, ComesAfter, IsOrderly, IsVisit, is_same_place-true, IsIn, is_in}
 use Rattle.fleet_verify.proofs.Listing.{levels_number}
 use Rattle.fleet_verify.specs.declared.order.PlacedVisit.{PlacedVisit}
 use Rattle.fleet_verify.specs.declared.fault.VerifyFault.{VerifyFault}
 use Rattle.fleet_verify.specs.declared.fault.VerifyFault.TheVariants.{Unordered}
 use Rattle.fleet_verify.specs.declared.order.OrderViolation.{OrderViolation}
 use Rattle.fleet_verify.specs.Order.{visits_of, IsListJudged, IsVisitPlaced, IsPathOrderly, AreAllPlaced, AreViolations}
-use Rattle.fleet_model.proofs.Cells.{is_same_place-true}
-use Rattle.fleet_model.proofs.Chains.{IsIn, is_in}
 use Rattle.fleet_verify.specs.Faults.{IsFirstBreak, HasRanges, IsFault, IsSooner, IsOrderlyAt}
 
 -- the visits of the place come one after another

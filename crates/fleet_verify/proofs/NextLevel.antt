@@ -1,19 +1,6 @@
 -- The level of the next action, await by await; and the action finished.
-use Rattle.std.proofs.Common.{◌≡◌, ℕ, ◌+◌, ◌-◌, ◌<◌, ◌≤◌, Bool, true, List, [], ◌∷◌, ◌++◌, length, get_or, set, max, slice_index, Option, Some, slice_get, refl, sym, ap, ◌∙◌, subst, arith, inl, inr, ◌⊎◌}
-use Rattle.std.specs.Prelude.{IsTrue}
-use Rattle.std.proofs.lemmas.Bool.{cases_eq, cases_lt}
-use Rattle.std.proofs.lemmas.List.{get_or-set_same, get_or-set_other, length-set}
-use Rattle.std.proofs.lemmas.Option.{slice_get-get_or, slice_get_within, get_or_from_slice_get, same_Some}
-use Rattle.fleet_model.specs.declared.geometry.Cell.{Cell}
-use Rattle.fleet_model.specs.declared.geometry.Place.{Place}
-use Rattle.fleet_model.specs.declared.geometry.Step.{Step}
-use Rattle.fleet_model.specs.declared.program.ActionId.{ActionId}
-use Rattle.fleet_model.specs.declared.program.Await.{Await}
-use Rattle.fleet_model.specs.declared.program.Visit.{Visit}
-use Rattle.fleet_model.specs.Geometry.{place_of, stepped, is_move}
-use Rattle.fleet_model.specs.Visit.{is_entry, IsVisit}
-use Rattle.fleet_model.specs.Program.{Program, origin, awaits_of, step_of, path, moves}
-use Rattle.fleet_model.specs.Chain.{DirectlyNeeds, awaited}
+use Rattle.fleet_verify.proofs.Words.{◌≡◌, ℕ, ◌+◌, ◌-◌, ◌<◌, ◌≤◌, Bool, true, List, [], ◌∷◌, ◌++◌, length, get_or, set, slice_index, Option, Some, slice_get, refl, sym, ap, ◌∙◌, subst, arith, inl, inr, ◌⊎◌, IsTrue, cases_eq, cases_lt, get_or-set_same, get_or-set_other, length-set, slice_get-get_or, slice_get_within, get_or_from_slice_get, same_Some, Cell, Place, Step, ActionId, Await, Visit, place_of, stepped, is_move, is_entry, IsVisit, Program, origin, awaits_of, step_of, path, moves, DirectlyNeeds, awaited}
+use Rattle.std.proofs.Common.{max}
 use Rattle.fleet_verify.specs.Ahead.{IsRanked, IsNextLevel, AddsLevel, IsAheadBy, IsArrival, count_in, level_in}
 use Rattle.fleet_verify.specs.Faults.{StandsRight}
 use Rattle.fleet_verify.specs.Order.{AreAddedBy}

@@ -1,20 +1,6 @@
 -- Open pairs: questions for chains, and the first neighbours of each cell without one.
-use Rattle.std.proofs.Common.{◌≡◌, ◌≢◌, ℕ, zero, suc, ◌+◌, ◌<◌, ◌≤◌, Bool, List, [], ◌∷◌, length, map, get_or, Option, Some, None, slice_get, refl, ap, sym, ◌∙◌, subst, arith, inl, inr, add-one}
-use Rattle.std.specs.Prelude.{All, Contains, ◌⊎◌, ◌↔◌, option_map}
-use Rattle.std.specs.Option.{option_or}
-use Rattle.std.proofs.lemmas.Bool.{cases_eq, cases_lt}
-use Rattle.std.proofs.lemmas.List.{length-map}
+use Rattle.fleet_verify.proofs.Words.{◌≡◌, ◌≢◌, ℕ, zero, suc, ◌+◌, ◌<◌, ◌≤◌, Bool, List, [], ◌∷◌, length, map, get_or, Option, Some, None, slice_get, refl, ap, sym, ◌∙◌, subst, arith, inl, inr, add-one, All, Contains, ◌⊎◌, ◌↔◌, option_map, option_or, cases_eq, cases_lt, length-map, slice_get-get_or, slice_get_within, get_or_from_slice_get, same_Some, Cell, Place, Task, ActionId, Visit, place_of, Program, path, start_of, IsCell, AreInRange, Reaches, IsNumbering, IsVisitOf, ComesAfter, ComesAfterByChain, entering, leaving}
 use Rattle.std.proofs.lemmas.List.Elements.{All-map}
-use Rattle.std.proofs.lemmas.Option.{slice_get-get_or, slice_get_within, get_or_from_slice_get, same_Some}
-use Rattle.fleet_model.specs.declared.geometry.Cell.{Cell}
-use Rattle.fleet_model.specs.declared.geometry.Place.{Place}
-use Rattle.fleet_model.specs.declared.task.Task.{Task}
-use Rattle.fleet_model.specs.declared.program.ActionId.{ActionId}
-use Rattle.fleet_model.specs.declared.program.Visit.{Visit}
-use Rattle.fleet_model.specs.Geometry.{place_of}
-use Rattle.fleet_model.specs.Program.{Program, path, start_of, IsCell, AreInRange}
-use Rattle.fleet_model.specs.Chain.{Reaches, IsNumbering}
-use Rattle.fleet_model.specs.Visit.{IsVisitOf, ComesAfter, ComesAfterByChain, entering, leaving}
 use Rattle.fleet_model.proofs.Cells.{place_of-injective}
 use Rattle.fleet_scen.specs.Instance.{IsInstance}
 use Rattle.fleet_needs.specs.Asked.{IsQuestion, AreAnswers}

@@ -1,26 +1,10 @@
 -- Visits that a numbering orders.
-use Rattle.std.proofs.Common.{◌≡◌, ◌≢◌, ℕ, zero, suc, ◌+◌, ◌<◌, Bool, true, false, List, [], ◌∷◌, ◌++◌, length, map, get_or, Option, Some, None, slice_get, refl, ap, sym, ◌∙◌, subst, arith, inl, inr, ◌-◌, ◌≤◌, slice_index, ◌⊎◌}
-use Rattle.std.specs.List.{filter, AllPairs}
-use Rattle.std.specs.Prelude.{All, Contains, ◌⊎◌, Some}
-use Rattle.std.proofs.lemmas.Bool.{cases_eq, cases_lt}
-use Rattle.std.proofs.lemmas.List.{map-append, append_assoc, append-nil, length-append, get_or_append_left}
-use Rattle.std.proofs.lemmas.List.Elements.{filter-append, All-push, Contains-push, Contains-append_left}
-use Rattle.std.proofs.lemmas.List.Quantifiers.{all_pairs_push}
-use Rattle.std.proofs.lemmas.Option.{slice_get_within, same_Some, slice_get-get_or}
-use Rattle.fleet_model.specs.declared.geometry.Cell.{Cell}
-use Rattle.fleet_model.specs.declared.geometry.Place.{Place}
-use Rattle.fleet_model.specs.declared.program.Visit.{Visit}
-use Rattle.fleet_model.specs.Geometry.{place_of, is_same_place}
-use Rattle.fleet_model.specs.Program.{Program, IsCell, moves, awaits_of, AreInRange, IsWellFormed}
-use Rattle.fleet_model.specs.Visit.{is_entry, ComesAfterByAwait}
-use Rattle.fleet_model.proofs.Cells.{place_of-injective, is_same_place-true, is_same_place-eq}
+use Rattle.fleet_verify.proofs.Words.{◌≡◌, ◌≢◌, ℕ, zero, suc, ◌+◌, ◌<◌, Bool, true, false, List, [], ◌∷◌, ◌++◌, length, map, get_or, Option, Some, None, slice_get, refl, ap, sym, ◌∙◌, subst, arith, inl, inr, ◌-◌, ◌≤◌, slice_index, ◌⊎◌, filter, AllPairs, All, Contains, cases_eq, cases_lt, map-append, append_assoc, append-nil, length-append, get_or_append_left, filter-append, All-push, Contains-push, Contains-append_left, all_pairs_push, slice_get_within, same_Some, slice_get-get_or, Cell, Place, Visit, place_of, is_same_place, Program, IsCell, moves, awaits_of, AreInRange, IsWellFormed, is_entry, ComesAfterByAwait, is_same_place-true, is_same_place-eq, ActionId, IsAction, DirectlyNeeds, EndsChain, IsLongestChain, awaited, ends_within, ends_action}
+use Rattle.fleet_model.proofs.Cells.{place_of-injective}
 use Rattle.fleet_verify.specs.declared.order.PlacedVisit.{PlacedVisit}
 use Rattle.fleet_verify.specs.declared.order.OpenPair.{OpenPair}
 use Rattle.fleet_verify.specs.Order.{number_of, visits_of, entries, IsOpenNext, IsLastVisit, IsGrouped, IsOpenPair, IsVisitPlaced, AreAddedBy, AreGroupedBy, AreConsecutive, StandsBefore}
 use Rattle.std.proofs.Math.Seq.{get_or-append_seam}
-use Rattle.fleet_model.specs.declared.program.ActionId.{ActionId}
-use Rattle.fleet_model.specs.Chain.{IsAction, DirectlyNeeds, EndsChain, IsLongestChain, awaited}
-use Rattle.fleet_model.proofs.Chains.{ends_within, ends_action}
 use Rattle.fleet_verify.specs.Rows.{IsCountedUp}
 use Rattle.fleet_verify.specs.Ahead.{AreCountedUp, IsTop, IsRanked, AreRanked, IsNextLevel, AddsLevel, count_in, level_in, next_in}
 use Rattle.fleet_verify.proofs.Members.{same_action}

@@ -1,19 +1,6 @@
 -- What is refused is not accepted, and what is accepted runs well.
-use Rattle.std.proofs.Common.{◌≡◌, ◌≢◌, ℕ, suc, ◌+◌, ◌<◌, Bool, List, length, get_or, Some, slice_get, refl, ap, sym, ◌∙◌, subst, arith, add-one}
-use Rattle.std.specs.Prelude.{option_map}
-use Rattle.std.proofs.lemmas.Option.{slice_get-get_or, slice_get_within, get_or_from_slice_get}
-use Rattle.fleet_model.specs.declared.geometry.Cell.{Cell}
-use Rattle.fleet_model.specs.declared.geometry.Place.{Place}
-use Rattle.fleet_model.specs.declared.task.Task.{Task}
-use Rattle.fleet_model.specs.declared.program.ActionId.{ActionId}
-use Rattle.fleet_model.specs.declared.program.Visit.{Visit}
-use Rattle.fleet_model.specs.Geometry.{place_of}
-use Rattle.fleet_model.specs.Machine.{Holds, IsFinish, run}
-use Rattle.fleet_model.specs.Program.{Program, origin}
-use Rattle.fleet_model.specs.Chain.{IsLongestChain}
-use Rattle.fleet_model.specs.Visit.{ListsVisits, Adjacent, ComesAfter}
-use Rattle.fleet_model.specs.Accepted.{IsAccepted}
-use Rattle.fleet_model.specs.Run.{IsOwnedInTurn, Arrives}
+use Rattle.fleet_verify.proofs.Words.{◌≡◌, ◌≢◌, ℕ, suc, ◌+◌, ◌<◌, Bool, List, length, get_or, Some, slice_get, refl, ap, sym, ◌∙◌, subst, arith, add-one, option_map, slice_get-get_or, slice_get_within, get_or_from_slice_get, Cell, Place, Task, ActionId, Visit, place_of, Holds, IsFinish, run, Program, origin, IsLongestChain, ListsVisits, Adjacent, ComesAfter, IsAccepted, IsOwnedInTurn}
+use Rattle.fleet_model.specs.Run.{Arrives}
 use Rattle.fleet_verify.proofs.FreeRun.{runs_owned}
 use Rattle.fleet_verify.proofs.RunCounts.{finish_exists, finish_above, finish_below, finish_stays}
 use Rattle.fleet_verify.specs.Ring.{IsToldRing}

@@ -1,14 +1,5 @@
 -- Neighbours among sorted visits without a chain have no order either way.
-use Rattle.std.proofs.Common.{◌≡◌, ℕ, suc, ◌+◌, ◌<◌, ◌≤◌, List, length, get_or, Some, sym, ap, ◌∙◌, subst, arith, inl, inr}
-use Rattle.std.specs.Prelude.{slice_get}
-use Rattle.std.proofs.lemmas.Bool.{cases_order}
-use Rattle.std.proofs.lemmas.Option.{slice_get_within, get_or_from_slice_get}
-use Rattle.fleet_model.specs.declared.geometry.Place.{Place}
-use Rattle.fleet_model.specs.declared.program.ActionId.{ActionId}
-use Rattle.fleet_model.specs.declared.program.Visit.{Visit}
-use Rattle.fleet_model.specs.Program.{Program}
-use Rattle.fleet_model.specs.Chain.{IsNumbering}
-use Rattle.fleet_model.specs.Visit.{IsVisitOf, ComesAfterByChain, AreUnordered}
+use Rattle.fleet_verify.proofs.Words.{◌≡◌, ℕ, suc, ◌+◌, ◌<◌, ◌≤◌, List, length, get_or, Some, sym, ap, ◌∙◌, subst, arith, inl, inr, slice_get, cases_order, slice_get_within, get_or_from_slice_get, Place, ActionId, Visit, Program, IsNumbering, IsVisitOf, ComesAfterByChain, AreUnordered}
 use Rattle.fleet_verify.specs.Listing.{entry_level, IsBefore, IsSortedListing}
 use Rattle.fleet_verify.proofs.Listing.{after_reaches, before_rank, rank_rises}
 use Rattle.fleet_verify.proofs.Neighbours.{adjacent_at}

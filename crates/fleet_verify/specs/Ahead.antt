@@ -1,6 +1,7 @@
 -- Actions finished in any order that respects needs: their levels, and the visits that have begun.
-use Rattle.std.specs.Prelude.{◌≡◌, ◌≢◌, ℕ, ◌+◌, ◌-◌, ◌<◌, ◌≤◌, ◌⊎◌, Bool, Some, List, [], ◌∷◌, ◌++◌, length, get_or, set, slice_index, Option, Contains, IsTrue}
+use Rattle.std.specs.Prelude.{◌≡◌, ◌≢◌, ℕ, ◌+◌, ◌-◌, ◌^◌, ◌<◌, ◌≤◌, ◌⊎◌, Bool, Some, None, List, [], ◌∷◌, ◌++◌, length, get_or, set, slice_index, Option, Contains, IsTrue}
 use Rattle.std.specs.List.{AllPairs}
+use Rattle.fleet_model.specs.declared.limits.TheConstants.{MAX_MOVES_IN_ALL}
 use Rattle.fleet_model.specs.declared.geometry.Cell.{Cell}
 use Rattle.fleet_model.specs.declared.geometry.Place.{Place}
 use Rattle.fleet_model.specs.declared.program.ActionId.{ActionId}
@@ -132,6 +133,21 @@ pub record AreNeeds (p : Program) (offset : (i finished k : ℕ) → ℕ) (rows 
   pub step : step_of p i (finished + 1) ≡ Some needs.step
   pub after : needs.after ≡ offset i (finished + 1) 0
 
+-- action n of agent i, its next one, awaits what is not finished yet; or its level would be above all levels
+abbrev pub IsKeptBack : Program → List (List ℕ) → (i n : ℕ) → Await → Type 0
+IsKeptBack p rows i n w =
+    (Contains (awaits_of p i n) w × (count_in rows w.agent < w.count))
+    ⊎ ((l : ℕ) × IsNextLevel p rows i l × (MAX_MOVES_IN_ALL < l))
+
+-- agent i has finished all its actions, or this await keeps it back
+abbrev pub IsStopped : Program → List (List ℕ) → ℕ → Option Await → Type 0
+IsStopped p rows i None = count_in rows i ≡ moves p i
+IsStopped p rows i (Some w) = IsKeptBack p rows i (count_in rows i + 1) w
+
+-- the agent has come to its end, or to an action that awaits something, or its level with all its moves is too high
+abbrev pub IsBareNoMore : Program → (i count level : ℕ) → Type 0
+IsBareNoMore p i count level = (count ≡ moves p i) ⊎ ((1 ≤ length (awaits_of p i (count + 1))) ⊎ (2 ^ 32 ≤ level + moves p i))
+
 -- the visit is entered, if by a move, by an action whose step and last await are these
 pub record IsArrival (p : Program) (v : Visit) (needs : Needs) : Type 0 where
   pub first : 1 ≤ v.position
@@ -140,6 +156,10 @@ pub record IsArrival (p : Program) (v : Visit) (needs : Needs) : Type 0 where
   pub latest : IsAwaitOrOwn p v.agent v.position needs.latest
 
 -- ---- the ends
+
+-- all agents have finished all actions and stand where they are to end
+abbrev pub HaveFinished : List Task → Program → List (List ℕ) → Type 0
+HaveFinished tasks p rows = (i : ℕ) → i < length p → (count_in rows i ≡ moves p i) × EndsRight tasks p i
 
 -- the first n agents have finished all actions and stand where they are to end, and the chain is the greatest of their
 -- levels

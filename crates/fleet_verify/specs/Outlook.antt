@@ -13,3 +13,8 @@ use Rattle.fleet_verify.specs.declared.ahead.Outlook.TheVariants.{Accepted, Unkn
 abbrev pub IsOutlook : Ground → List Task → Program → Outlook → Type 0
 IsOutlook grid tasks p (Accepted chain levels) = IsAcceptedFor grid tasks p chain × IfSome levels (HasLevels p)
 IsOutlook grid tasks p (Unknown known) = AreKnown p known
+
+-- it is accepted
+abbrev pub IsFound : Outlook → Type 0
+IsFound (Accepted chain levels) = Unit {0}
+IsFound (Unknown known) = ⊥

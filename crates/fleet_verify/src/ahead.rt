@@ -1,19 +1,21 @@
 //! A verifier without ticks: each agent runs on as far as its awaits allow. It only says yes, or what was answered.
 
-ghost use Rattle.std.specs.Prelude.{◌≡◌, ◌≢◌, ◌<◌, ◌≤◌, ◌+◌, ◌-◌, ◌↔◌, get_or, set, ℕ, Some, None, true, IsTrue, length, max, IfOk, IfErr, IfNone, IfSome, OnOk, List, [], ◌∷◌, ◌++◌};
+ghost use Rattle.std.specs.Prelude.{◌≡◌, ◌≢◌, ◌<◌, ◌≤◌, ◌+◌, ◌-◌, ◌↔◌, ◌⊎◌, All, Option, get_or, set, ℕ, Some, None, true, IsTrue, length, max, IfOk, IfErr, IfNone, IfSome, OnOk, List, [], ◌∷◌, ◌++◌};
 ghost use Rattle.fleet_model.specs.declared.geometry.Cell.{Cell};
+ghost use Rattle.fleet_model.specs.declared.program.Await.{Await};
 ghost use Rattle.fleet_model.specs.declared.program.Visit.{Visit};
 ghost use Rattle.fleet_model.specs.Geometry.{place_of};
 ghost use Rattle.fleet_verify.specs.Order.{AreAddedBy, IsOpenNext, numbered_cell};
-ghost use Rattle.fleet_model.specs.Program.{Program, start_of, moves, path, IsCell};
+ghost use Rattle.fleet_model.specs.Program.{Program, start_of, moves, awaits_of, path, IsCell};
 ghost use Rattle.fleet_model.specs.Visit.{IsVisit, ComesAfterByAwait, leaving};
 ghost use Rattle.fleet_grid.specs.Ground.{is_passable};
 ghost use Rattle.fleet_model.specs.Chain.{awaited};
-ghost use Rattle.fleet_verify.specs.Ahead.{IsRanked, IsAhead, IsNext, IsRunner, AreNeeds, AddsLevel, AreDone, AreKeptOnGround, AreEarlier, IsAwaitOrOwn, count_in, stand, level_in, climbed_in};
+ghost use Rattle.fleet_verify.specs.Ahead.{IsRanked, IsAhead, IsNext, IsRunner, AreNeeds, AddsLevel, AreDone, AreKeptOnGround, AreEarlier, IsAwaitOrOwn, IsKeptBack, IsStopped, IsBareNoMore, HaveFinished, count_in, stand, level_in, climbed_in};
 ghost use Rattle.fleet_verify.specs.Rising.{climbed, last_level};
 ghost use Rattle.fleet_verify.specs.Faults.{HasStarts};
 ghost use Rattle.fleet_verify.specs.LastVisits.{kept_at};
-ghost use Rattle.fleet_verify.specs.Outlook.{IsOutlook};
+ghost use Rattle.fleet_verify.specs.Chained.{IsChained};
+ghost use Rattle.fleet_verify.specs.Outlook.{IsFound, IsOutlook};
 
 use crate::agents::ends_right;
 use crate::chained::{Answers, unless_chained};
@@ -105,7 +107,9 @@ fn needs_of<P: ProgramView>(
         runner }
     ensures needs { IfOk result (AreNeeds (P.program program.now) (P.offset program.now)
         (climbed_in rows.now.items agent runner.finished) agent runner.finished) }
-    ensures waits { IfErr result (λ w. w.agent < length (P.program program.now)) }
+    ensures agent { IfErr result (λ w. w.agent < length (P.program program.now)) }
+    ensures waits { IfErr result (IsKeptBack (P.program program.now)
+        (climbed_in rows.now.items agent runner.finished) agent (runner.finished + 1)) }
 {
     let _agents = program.agents();
     let Runner {
@@ -326,7 +330,9 @@ fn enter<P: ProgramView>(
 fn follows<P: ProgramView>(program: &P, first: Visit, second: Visit, latest: Await) -> bool
     requires latest { IsAwaitOrOwn (P.program program.now) second.agent second.position latest }
     requires earlier { first.agent ≡ second.agent → first.position < second.position }
-    ensures { IsTrue result → ComesAfterByAwait (P.program program.now) first second }
+    ensures after { IsTrue result → ComesAfterByAwait (P.program program.now) first second }
+    ensures follows { IsTrue result ↔ (first.agent ≡ second.agent) ⊎ ((latest.agent ≡ first.agent)
+        × ((leaving (P.program program.now) first).number ≤ latest.count)) }
 {
     let _agents = program.agents();
     if first.agent == second.agent {
@@ -464,6 +470,8 @@ fn bare_needs<P: ProgramView>(
     ensures needs { IfSome result (AreNeeds (P.program program.now) (P.offset program.now)
         (climbed_in rows.now.items agent runner.finished) agent runner.finished) }
     ensures level { IfSome result (λ n. n.level ≡ runner.level + 1) }
+    ensures none { IfNone result
+        (1 ≤ length (awaits_of (P.program program.now) agent (runner.finished + 1))) }
 {
     // Clauses alone speak of the rows.
     let _ = rows;
@@ -512,6 +520,8 @@ fn run_bare<P: ProgramView>(
     ensures runner { IfOk result (IsRunner (is_passable grid.now) (P.program program.now)
         (P.offset program.now) ahead.new agent) }
     ensures finished { IfOk result (λ r. runner.finished ≤ r.finished) }
+    ensures rest { IfOk result (λ r. IsBareNoMore (P.program program.now)
+        agent r.finished runner.level) }
 {
     let moves = program.moves(agent);
     let may_be_high = u64::from(runner.level) + u64::from(moves) > u64::from(u32::MAX);
@@ -541,6 +551,8 @@ fn run_agent<P: ProgramView>(
     ensures ahead { OnOk result (IsAhead (is_passable grid.now) (P.program program.now) ahead.new) }
     ensures waits { IfOk result (λ w. IfSome w
         (λ a. a.agent < length (P.program program.now))) }
+    ensures stopped { IfOk result (IsStopped (P.program program.now)
+        ahead.new.rows.items agent) }
 {
     let _agents = program.agents();
     let moves = program.moves(agent);
@@ -643,6 +655,8 @@ fn look_at<P: ProgramView>(
     requires agent { agent < length (P.program program.now) }
     ensures ahead { OnOk result (IsAhead (is_passable grid.now) (P.program program.now) ahead.new) }
     ensures queue { OnOk result (queue.new ≡ queue.old) }
+    ensures stopped { OnOk result ((w : Option Await)
+        × IsStopped (P.program program.now) ahead.new.rows.items agent w) }
 {
     if let Some(awaited) = run_agent(program, grid, ahead, agent)? {
         queue.wait(agent, awaited);
@@ -670,8 +684,10 @@ fn finished_chain<P: ProgramView>(
 ) -> Option<u32>
     requires starts { HasStarts instance.now (P.program program.now) }
     requires ahead { IsAhead (is_passable grid.now) (P.program program.now) ahead.now }
-    ensures { IfSome result (λ chain. (n : ℕ) × (length (P.program program.now) ≤ n)
+    ensures done { IfSome result (λ chain. (n : ℕ) × (length (P.program program.now) ≤ n)
         × AreDone instance.now (P.program program.now) ahead.now.rows.items n chain) }
+    ensures none { IfNone result
+        (¬ HaveFinished instance.now (P.program program.now) ahead.now.rows.items) }
 {
     // Clauses alone speak of the map.
     let _ = grid;
@@ -709,7 +725,9 @@ fn judge_ahead<P: ProgramView>(
 ) -> Result<Outlook, OutOfMemory>
     requires starts { HasStarts instance.now (P.program program.now) }
     requires ahead { IsAhead (is_passable grid.now) (P.program program.now) ahead }
-    ensures { IfOk result (IsOutlook grid.now instance.now (P.program program.now)) }
+    ensures outlook { IfOk result (IsOutlook grid.now instance.now (P.program program.now)) }
+    ensures found { HaveFinished instance.now (P.program program.now) ahead.rows.items
+        → All (IsChained (P.program program.now)) ahead.pairs.items → IfOk result IsFound }
 {
     let _agents = program.agents();
     let Some(chain) = finished_chain(program, grid, instance, &ahead) else {

@@ -1,9 +1,4 @@
-use Rattle.std.proofs.Common.{◌+◌, ◌∙◌, sym, ap, subst, arith}
-use Rattle.std.specs.Prelude.{IsTrue}
-use Rattle.fleet_model.specs.declared.geometry.Cell.{Cell}
-use Rattle.fleet_model.specs.Geometry.{is_move, place_of, stepped}
-use Rattle.fleet_grid.specs.Ground.{is_passable}
-use Rattle.fleet_model.specs.declared.program.Visit.{Visit}
+use Rattle.fleet_verify.proofs.Words.{◌+◌, ◌∙◌, sym, ap, subst, arith, IsTrue, Cell, is_move, place_of, stepped, is_passable, Visit}
 use Rattle.fleet_verify.specs.declared.order.PlacedVisit.{PlacedVisit}
 use Rattle.fleet_verify.specs.Ahead.{count_in, climbed_in, stand}
 use Rattle.fleet_verify.specs.LastVisits.{kept_at}

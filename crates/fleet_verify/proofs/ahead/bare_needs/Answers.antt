@@ -1,5 +1,4 @@
-use Rattle.std.proofs.Common.{◌≡◌, ◌+◌, ◌<◌, ◌∙◌, length, sym, ap, arith, inl}
-use Rattle.fleet_model.specs.Program.{awaits_of}
+use Rattle.fleet_verify.proofs.Words.{◌≡◌, ◌+◌, ◌<◌, ◌∙◌, length, sym, ap, arith, inl, awaits_of}
 use Rattle.fleet_verify.specs.Ahead.{climbed_in}
 use Rattle.fleet_verify.specs.Rising.{last_level}
 use Rattle.fleet_verify.proofs.NextLevel.{least_begins, least_ends}

@@ -1,5 +1,4 @@
-use Rattle.std.proofs.Common.{sym, ◌∙◌, arith}
-use Rattle.fleet_grid.specs.Ground.{is_passable}
+use Rattle.fleet_verify.proofs.Words.{sym, ◌∙◌, arith, is_passable}
 use Rattle.fleet_verify.proofs.Beginning.{beginning_first, beginning_more, beginning_all}
 use Rattle.fleet_verify.proofs.ahead.begin.Goals as goal
 

@@ -1,6 +1,4 @@
-use Rattle.std.proofs.Common.{Option, sym, ◌∙◌, subst}
-use Rattle.fleet_model.specs.declared.program.Visit.{Visit}
-use Rattle.fleet_model.specs.Visit.{ComesAfterByAwait}
+use Rattle.fleet_verify.proofs.Words.{Option, sym, ◌∙◌, subst, Visit, ComesAfterByAwait}
 use Rattle.fleet_verify.specs.Order.{IsOpenNext}
 use Rattle.fleet_verify.proofs.ahead.enter.Goals as goal
 

@@ -1,7 +1,4 @@
-use Rattle.std.proofs.Common.{◌≡◌, ◌+◌, [], ℕ, List, length, get_or, set, sym, ap, subst, arith}
-use Rattle.std.proofs.lemmas.List.{length-set}
-use Rattle.fleet_model.specs.declared.geometry.Cell.{Cell}
-use Rattle.fleet_grid.specs.Ground.{is_passable}
+use Rattle.fleet_verify.proofs.Words.{◌≡◌, ◌+◌, [], ℕ, List, length, get_or, set, sym, ap, subst, arith, length-set, Cell, is_passable}
 use Rattle.fleet_verify.specs.Ahead.{IsAheadBy, AddsLevel, climbed_in, stand}
 use Rattle.fleet_verify.specs.LastVisits.{kept_at}
 use Rattle.fleet_verify.specs.Order.{numbered_cell}

@@ -11,5 +11,5 @@ loop-agent-preserved g c =
     (c.ends_right.ensures.0 c.if-not-ends_right.false) c.last.result c.max-chain.result
     (subst (λ (row : List ℕ). c.last.result ≡ slice_index row (length row - 1)) c.row_of.ensures c.last.ensures) c.max-chain.ensures
 
-pub returns : goal.returns
-returns g c = (c.loop-agent.agent, omega (arith, c.agents-agent-end.ensures.count), c.loop-agent.invariant)
+pub returns-clause-done : goal.returns-clause-done
+returns-clause-done g c = (c.loop-agent.agent, omega (arith, c.agents-agent-end.ensures.count), c.loop-agent.invariant)

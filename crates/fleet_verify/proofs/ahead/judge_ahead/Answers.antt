@@ -6,9 +6,9 @@ use Rattle.fleet_verify.proofs.ahead.judge_ahead.Goals as goal
 pub unless_chained-requires : goal.unless_chained-requires
 unless_chained-requires g c =
     let p = g.P.ProgramView.program c.args.program.now in
-    let n = c.in-Some.ensures.0 in
-    let all = c.in-Some.ensures.1 in
-    let done = c.in-Some.ensures.2 in
+    let n = c.in-Some.ensures.done.0 in
+    let all = c.in-Some.ensures.done.1 in
+    let done = c.in-Some.ensures.done.2 in
     let wf = c.agents-agents.ensures.well_formed in
     record {
       levels = record {
@@ -22,23 +22,23 @@ unless_chained-requires g c =
       apart = done_apart c.args.grid.now c.args.instance.now p c.args.ahead n c.in-Some.chain wf c.requires.starts c.requires.ahead done all;
     }
 
-pub returns-then-is_empty : goal.returns-then-is_empty
-returns-then-is_empty g c =
+pub returns-then-is_empty-clause-outlook : goal.returns-then-is_empty-clause-outlook
+returns-then-is_empty-clause-outlook g c =
     let p = g.P.ProgramView.program c.args.program.now in
-    let n = c.in-Some.ensures.0 in
-    let all = c.in-Some.ensures.1 in
-    let done = c.in-Some.ensures.2 in
+    let n = c.in-Some.ensures.done.0 in
+    let all = c.in-Some.ensures.done.1 in
+    let done = c.in-Some.ensures.done.2 in
     let wf = c.agents-agents.ensures.well_formed in (
       ahead_accepted c.args.grid.now c.args.instance.now p c.args.ahead n c.in-Some.chain wf c.requires.starts c.requires.ahead done all (λ k o l. absurd (let none : c.args.ahead.pairs.len ≡ 0 = eqb-true c.args.ahead.pairs.len 0 (sym c.is_empty.ensures ∙ c.if-is_empty.true) in omega (arith, none, l, c.args.ahead.pairs.ok.0))),
       subst (HasLevels p) (sym c.of.ensures) (done_levels c.args.grid.now c.args.instance.now p c.args.ahead n c.in-Some.chain wf c.requires.starts c.requires.ahead done all),
     )
 
-pub returns-in-None : goal.returns-in-None
-returns-in-None g c =
+pub returns-in-None-clause-outlook : goal.returns-in-None-clause-outlook
+returns-in-None-clause-outlook g c =
     let p = g.P.ProgramView.program c.args.program.now in
-    let n = c.in-Some.ensures.0 in
-    let all = c.in-Some.ensures.1 in
-    let done = c.in-Some.ensures.2 in (
+    let n = c.in-Some.ensures.done.0 in
+    let all = c.in-Some.ensures.done.1 in
+    let done = c.in-Some.ensures.done.2 in (
       ahead_accepted c.args.grid.now c.args.instance.now p c.args.ahead n c.in-Some.chain c.agents-agents.ensures.well_formed c.requires.starts c.requires.ahead done all
           (rw c.in-None.is at c.in_ok-unless_chained.ensures.chained),
       tt,

@@ -1,8 +1,4 @@
-use Rattle.std.proofs.Common.{◌≡◌, ◌-◌, ◌+◌, ◌<◌, ◌∙◌, ℕ, List, length, slice_index, sym, ap, arith, inl, inr}
-use Rattle.std.proofs.lemmas.Option.{slice_get_within, get_or_from_slice_get}
-use Rattle.fleet_model.specs.Chain.{awaited}
-use Rattle.fleet_model.specs.Program.{awaits_of}
-use Rattle.fleet_model.proofs.Totals.{few_awaits_of}
+use Rattle.fleet_verify.proofs.Words.{◌≡◌, ◌-◌, ◌+◌, ◌<◌, ◌∙◌, ℕ, List, length, slice_index, refl, sym, ap, arith, inl, inr, slice_get_within, get_or_from_slice_get, awaited, awaits_of, few_awaits_of}
 use Rattle.fleet_verify.specs.Ahead.{level_in, count_in, climbed_in}
 use Rattle.fleet_verify.specs.Rising.{last_level}
 use Rattle.fleet_verify.proofs.Waiting.{await_agent, await_count, await_other}
@@ -34,8 +30,36 @@ pub greater_level-requires-clause-count : goal.greater_level-requires-clause-cou
 greater_level-requires-clause-count g c =
     await_count (g.P.ProgramView.program c.args.program.now) c.agents-agents.ensures.well_formed c.args.agent (c.args.runner.finished + 1) c.instructions.k c.in-Await.awaited (rw c.in-Await.is at c.read-reading.ensures.instruction)
 
+pub returns-in-None-clause-agent : goal.returns-in-None-clause-agent
+returns-in-None-clause-agent g c = await_agent (g.P.ProgramView.program c.args.program.now) c.agents-agents.ensures.well_formed c.args.agent (c.args.runner.finished + 1) c.instructions.k c.in-Await.awaited (rw c.in-Await.is at c.read-reading.ensures.instruction)
+
 pub returns-in-None-clause-waits : goal.returns-in-None-clause-waits
-returns-in-None-clause-waits g c = await_agent (g.P.ProgramView.program c.args.program.now) c.agents-agents.ensures.well_formed c.args.agent (c.args.runner.finished + 1) c.instructions.k c.in-Await.awaited (rw c.in-Await.is at c.read-reading.ensures.instruction)
+returns-in-None-clause-waits g c =
+    let p = g.P.ProgramView.program c.args.program.now in
+    let w = c.in-Await.awaited in
+    let rows = c.args.rows.now.items in
+    let i = c.args.agent in
+    let n = c.args.runner.finished + 1 in
+    let here = rw c.in-Await.is at c.read-reading.ensures.instruction in
+    let same = other_row rows i c.args.runner.finished w.agent (await_other p c.agents-agents.ensures.well_formed i n c.instructions.k w here) in
+    let long : count_in (climbed_in rows i c.args.runner.finished) w.agent ≡ count_in rows w.agent = ap (λ (row : List ℕ). length row) same in
+    let few : count_in rows w.agent < w.count = c.in-None.ensures.none in
+    inl ((c.instructions.k, slice_get_within (awaits_of p i n) c.instructions.k w here, get_or_from_slice_get (awaits_of p i n) c.instructions.k w w here), omega (arith, few, long))
+
+pub returns-then-least-ge-MOST_LEVEL-clause-waits : goal.returns-then-least-ge-MOST_LEVEL-clause-waits
+returns-then-least-ge-MOST_LEVEL-clause-waits g c =
+    let p = g.P.ProgramView.program c.args.program.now in
+    let rows = c.args.rows.now.items in
+    let i = c.args.agent in
+    let r = c.args.runner in
+    let count = own_count rows i r.finished (omega (arith, c.requires.rows, c.requires.next.agent)) c.requires.next.begun in
+    let said = rw c.in-Step.is at c.read-reading.ensures.instruction in
+    let all : c.instructions.k ≡ length (awaits_of p i (r.finished + 1)) = said.0 in
+    inr (
+      c.instructions.least + 1,
+      least_ends p (climbed_in rows i r.finished) i (r.finished + 1) c.instructions.k c.instructions.least c.instructions.invariant.least (omega (arith, count)) (omega (arith, all)) (c.instructions.least + 1) refl,
+      omega (arith, c.if-least-ge-MOST_LEVEL.true),
+    )
 
 pub returns-in-Step-clause-needs : goal.returns-in-Step-clause-needs
 returns-in-Step-clause-needs g c =

@@ -1,5 +1,4 @@
-use Rattle.std.proofs.Common.{◌≡◌, ◌≤◌, ◌+◌, ◌-◌, length}
-use Rattle.fleet_model.specs.Program.{awaits_of}
+use Rattle.fleet_verify.proofs.Words.{◌≡◌, ◌≤◌, ◌+◌, ◌-◌, length, awaits_of}
 use Rattle.fleet_verify.specs.Ahead.{IsAwaitOrOwn, climbed_in}
 use Rattle.fleet_verify.proofs.NextLevel.{IsLeastTo}
 use Rattle.fleet_verify.proofs.ahead.needs_of.Given as goal

@@ -1,5 +1,4 @@
-use Rattle.std.proofs.Common.{◌≡◌, length}
-use Rattle.fleet_grid.specs.Ground.{is_passable}
+use Rattle.fleet_verify.proofs.Words.{◌≡◌, length, is_passable}
 use Rattle.fleet_verify.specs.Ahead.{IsAhead}
 use Rattle.fleet_verify.proofs.ahead.run_ahead.Given as goal
 

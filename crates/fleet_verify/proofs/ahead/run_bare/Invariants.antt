@@ -1,5 +1,4 @@
-use Rattle.std.proofs.Common.{◌≤◌, ◌+◌, ◌-◌}
-use Rattle.fleet_grid.specs.Ground.{is_passable}
+use Rattle.fleet_verify.proofs.Words.{◌≤◌, ◌+◌, ◌-◌, is_passable}
 use Rattle.fleet_verify.specs.Ahead.{IsRunner}
 use Rattle.fleet_verify.proofs.ahead.run_bare.Given as goal
 

@@ -1,5 +1,4 @@
-use Rattle.std.proofs.Common.{ℕ, ◌+◌, List, length, get_or, ap, sym, ◌∙◌, subst, arith}
-use Rattle.std.proofs.lemmas.List.{length_push}
+use Rattle.fleet_verify.proofs.Words.{ℕ, ◌+◌, List, length, get_or, ap, sym, ◌∙◌, subst, arith, length_push}
 use Rattle.fleet_needs.specs.declared.questions.Question.{Question}
 use Rattle.fleet_verify.specs.Chained.{IsAskedOf, BeginsLater}
 use Rattle.fleet_verify.specs.OpenPairs.{AreVisits}

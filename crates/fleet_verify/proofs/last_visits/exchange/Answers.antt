@@ -1,5 +1,4 @@
-use Rattle.std.proofs.Common.{arith}
-use Rattle.std.proofs.lemmas.List.{get_or-set_same, get_or-set_other}
+use Rattle.fleet_verify.proofs.Words.{arith, get_or-set_same, get_or-set_other}
 use Rattle.fleet_verify.specs.declared.last_visits.TheConstants.{NO_VISIT}
 use Rattle.fleet_verify.proofs.last_visits.exchange.Goals as goal
 

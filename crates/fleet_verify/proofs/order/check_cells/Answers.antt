@@ -1,5 +1,4 @@
-use Rattle.std.proofs.Common.{below_more, arith}
-use Rattle.fleet_model.specs.Visit.{ComesAfter}
+use Rattle.fleet_verify.proofs.Words.{below_more, arith, ComesAfter}
 use Rattle.fleet_verify.specs.Order.{IsPathOrderly}
 use Rattle.fleet_verify.proofs.Judged.{all_in_turn}
 use Rattle.fleet_verify.proofs.order.check_cells.Goals as goal

@@ -1,7 +1,5 @@
-use Rattle.std.proofs.Common.{◌≡◌, ℕ, List, length, map, None, refl, sym, ◌∙◌, subst, arith}
-use Rattle.std.proofs.lemmas.Result.{err_from_is_err_and}
-use Rattle.std.specs.Prelude.{nat_eq, All}
-use Rattle.std.proofs.lemmas.Bool.{eqb-true}
+use Rattle.fleet_verify.proofs.Words.{◌≡◌, ℕ, List, length, map, None, refl, sym, ◌∙◌, subst, arith, err_from_is_err_and, All, eqb-true}
+use Rattle.std.specs.Prelude.{nat_eq}
 use Rattle.fleet_needs.specs.Asked.{IsQuestion}
 use Rattle.fleet_verify.specs.declared.order.OpenPair.{OpenPair}
 use Rattle.fleet_verify.specs.OpenPairs.{AreVisits, question_of, HasNoChain, AnswersFirstBad}

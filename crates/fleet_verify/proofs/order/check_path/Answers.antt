@@ -1,10 +1,6 @@
-use Rattle.std.proofs.Common.{◌≡◌, ◌+◌, arith}
-use Rattle.std.proofs.lemmas.Result.{err_from_is_err_and}
+use Rattle.fleet_verify.proofs.Words.{◌≡◌, ◌+◌, arith, err_from_is_err_and, place_of, path, is_passable}
 use Rattle.std.specs.Prelude.{nat_eq}
-use Rattle.fleet_model.specs.Geometry.{place_of}
 use Rattle.fleet_verify.specs.Order.{number_of}
-use Rattle.fleet_model.specs.Program.{path}
-use Rattle.fleet_grid.specs.Ground.{is_passable}
 use Rattle.indexmap.specs.IndexMap.{get}
 use Rattle.fleet_verify.proofs.UnderWay.{next_cell, next_there}
 use Rattle.fleet_verify.proofs.Judged.{broken_fault, unbroken, starts_on, judged_begins, judged_first, judged_more, judged_path}

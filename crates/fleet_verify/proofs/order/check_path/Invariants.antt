@@ -1,6 +1,4 @@
-use Rattle.std.proofs.Common.{◌≡◌, ◌+◌}
-use Rattle.fleet_model.specs.Geometry.{place_of}
-use Rattle.fleet_model.specs.Program.{path}
+use Rattle.fleet_verify.proofs.Words.{◌≡◌, ◌+◌, place_of, path}
 use Rattle.fleet_verify.proofs.Judged.{AreJudged}
 use Rattle.fleet_verify.proofs.order.check_path.Given as goal
 

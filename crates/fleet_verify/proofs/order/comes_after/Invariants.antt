@@ -1,8 +1,4 @@
-use Rattle.std.proofs.Common.{◌≡◌, ◌≤◌, ◌<◌, ℕ, Some}
-use Rattle.std.specs.Prelude.{slice_get}
-use Rattle.fleet_model.specs.declared.program.Await.{Await}
-use Rattle.fleet_model.specs.Program.{awaits_of}
-use Rattle.fleet_model.specs.Visit.{leaving}
+use Rattle.fleet_verify.proofs.Words.{◌≡◌, ◌≤◌, ◌<◌, ℕ, Some, slice_get, Await, awaits_of, leaving}
 use Rattle.fleet_verify.proofs.order.comes_after.Given as goal
 
 abbrev pub invariant-loop-k : goal.invariant-loop-k

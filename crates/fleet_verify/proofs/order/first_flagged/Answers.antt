@@ -1,8 +1,6 @@
-use Rattle.std.proofs.Common.{get_or}
+use Rattle.fleet_verify.proofs.Words.{get_or, slice_get-get_or, Visit}
 use Rattle.std.specs.Prelude.{nat_eq}
-use Rattle.std.proofs.lemmas.Option.{slice_get-get_or}
 use Rattle.indexmap.specs.IndexMap.{get}
-use Rattle.fleet_model.specs.declared.program.Visit.{Visit}
 use Rattle.fleet_verify.specs.declared.order.OpenPair.{OpenPair}
 use Rattle.fleet_verify.specs.OpenPairs.{IsFlagged}
 use Rattle.fleet_verify.proofs.OpenPairs.{first_next, first_skip}

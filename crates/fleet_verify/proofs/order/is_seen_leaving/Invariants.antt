@@ -1,5 +1,4 @@
-use Rattle.std.proofs.Common.{◌≤◌, ◌<◌}
-use Rattle.fleet_model.specs.Visit.{next_move}
+use Rattle.fleet_verify.proofs.Words.{◌≤◌, ◌<◌, next_move}
 use Rattle.fleet_verify.proofs.order.is_seen_leaving.Given as goal
 
 abbrev pub invariant-loop-finished : goal.invariant-loop-finished

@@ -1,6 +1,4 @@
-use Rattle.std.proofs.Common.{◌≡◌, ◌+◌, ◌≤◌, ap, ℕ, arith}
-use Rattle.fleet_model.specs.Geometry.{is_move}
-use Rattle.fleet_model.specs.Visit.{next_move}
+use Rattle.fleet_verify.proofs.Words.{◌≡◌, ◌+◌, ◌≤◌, ap, ℕ, arith, is_move, next_move}
 use Rattle.fleet_model.proofs.Chains.{past_moves}
 use Rattle.fleet_verify.proofs.Leaving.{left_by, in_still}
 use Rattle.fleet_verify.proofs.order.leaving.Goals as goal

@@ -1,5 +1,4 @@
-use Rattle.std.proofs.Common.{Some, refl}
-use Rattle.fleet_model.specs.Visit.{ComesAfterByAwait}
+use Rattle.fleet_verify.proofs.Words.{Some, refl, ComesAfterByAwait}
 use Rattle.fleet_verify.proofs.Ordered.{pairs_after, pairs_more}
 use Rattle.fleet_verify.proofs.order.open_unless_after.Goals as goal
 

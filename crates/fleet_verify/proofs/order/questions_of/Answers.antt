@@ -1,5 +1,4 @@
-use Rattle.std.proofs.Common.{map, ap, ◌∙◌}
-use Rattle.std.proofs.lemmas.List.{take_all}
+use Rattle.fleet_verify.proofs.Words.{map, ap, ◌∙◌, take_all}
 use Rattle.fleet_verify.specs.OpenPairs.{question_of}
 use Rattle.fleet_verify.proofs.order.questions_of.Goals as goal
 

@@ -1,9 +1,6 @@
-use Rattle.std.proofs.Common.{◌≡◌, Bool, true, false, [], ◌∷◌, length, get_or, ap, sym, subst, arith}
-use Rattle.std.specs.Prelude.{◌↔◌, nat_eq}
-use Rattle.std.proofs.lemmas.List.{length-append}
+use Rattle.fleet_verify.proofs.Words.{◌≡◌, Bool, true, false, [], ◌∷◌, length, get_or, ap, sym, subst, arith, ◌↔◌, length-append, slice_get_within, get_or_from_slice_get, slice_get-get_or, Reaches}
+use Rattle.std.specs.Prelude.{nat_eq}
 use Rattle.indexmap.specs.IndexMap.{get}
-use Rattle.std.proofs.lemmas.Option.{slice_get_within, get_or_from_slice_get, slice_get-get_or}
-use Rattle.fleet_model.specs.Chain.{Reaches}
 use Rattle.fleet_needs.specs.declared.questions.Question.{Question}
 use Rattle.fleet_verify.specs.Chained.{IsFlagOf}
 use Rattle.fleet_verify.proofs.Asked.{flag_more, flag_there}

@@ -587,7 +587,6 @@ impl Machine {
 
     /// Each agent that is ready and not held finishes an action, and is due, as are those that it wakes. Answers also
     /// how many were ready.
-    #[tactic(auto, using(crate::proofs::Ticking::all_counted, crate::proofs::Ticking::any_held, crate::proofs::Ticking::all_ready, crate::proofs::Ticking::few_ready))]
     fn advance<P: ProgramView>(&mut self, program: &P, held: &[bool]) -> (Tick, u16)
         requires runs { Runs (P.program program.now) self.old }
         requires held { length held.now ≡ length (P.program program.now) }

@@ -51,3 +51,6 @@ pass_time-requires-clause-kept g c = (c.ticks.machine.configuration, c.ticks.inv
 pub after-counts-requires-clause-few : goal.after-counts-requires-clause-few
 after-counts-requires-clause-few g c =
     omega (arith, few_ticks (g.P.ProgramView.program c.args.program.now) (g.S.HoldSource.state c.args.source.now) _ _ _ _ _ c.ticks.invariant.so_far.under_way)
+
+pub tick_row-ready_held-requires-clause-kept : goal.tick_row-ready_held-requires-clause-kept
+tick_row-ready_held-requires-clause-kept g c = c.pass_time.ensures.kept c.ticks.machine.configuration c.ticks.invariant.kept

@@ -1,12 +1,13 @@
-use Rattle.std.proofs.Common.{◌≡◌, ◌+◌, ◌∙◌, length, slice_get, Some, sym, ap, arith}
+use Rattle.std.proofs.Common.{◌≡◌, ◌+◌, ◌∙◌, true, length, slice_get, take, Some, sym, ap, arith}
+use Rattle.std.specs.List.{list_all}
 use Rattle.std.proofs.lemmas.Bool.{true≢false}
 use Rattle.std.proofs.lemmas.Option.{slice_get_within}
 use Rattle.fleet_model.specs.declared.standing.Standing.{Standing}
 use Rattle.fleet_model.specs.Program.{awaits_of}
-use Rattle.fleet_model.specs.Machine.{count_at}
+use Rattle.fleet_model.specs.Machine.{count_at, is_met}
 use Rattle.fleet_model.proofs.Totals.{few_awaits_of}
 use Rattle.fleet_machine.proofs.Ready.{awaited_agent, one_more_met, not_ready_if_unmet}
-use Rattle.fleet_machine.proofs.Lacking.{one_lacked}
+use Rattle.fleet_machine.proofs.Lacking.{one_lacked, none_lacked, all_met}
 use Rattle.fleet_machine.proofs.Waiting.{list_within}
 use Rattle.fleet_machine.proofs.machine.Machine.read_on.Goals as goal
 
@@ -69,3 +70,21 @@ awaits-preserved g c =
 
 pub instruction-requires-clause-left : goal.instruction-requires-clause-left
 instruction-requires-clause-left g c = omega (arith, ap (λ (s : Standing). s.count) c.agent-finished.ensures.standing, c.requires.left)
+
+pub returns-in-Step-clause-lacked : goal.returns-in-Step-clause-lacked
+returns-in-Step-clause-lacked g c =
+    let p = g.P.ProgramView.program c.args.program.now in
+    let rows = c.args.self.now.configuration in
+    let standing = c.agent-finished.ensures.standing in
+    let all : c.awaits.met ≡ length (awaits_of p c.args.i (count_at rows c.args.i + 1)) = rw standing at c.in-Step.ensures.0 in
+    let met : list_all (is_met rows) (take c.awaits.met (awaits_of p c.args.i (count_at rows c.args.i + 1))) ≡ true = rw standing at c.awaits.invariant.met in
+    none_lacked p rows c.args.i c.requires.left c.awaits.met all met
+
+pub returns-in-Step-clause-ready : goal.returns-in-Step-clause-ready
+returns-in-Step-clause-ready g c =
+    let p = g.P.ProgramView.program c.args.program.now in
+    let rows = c.args.self.now.configuration in
+    let standing = c.agent-finished.ensures.standing in
+    let all : c.awaits.met ≡ length (awaits_of p c.args.i (count_at rows c.args.i + 1)) = rw standing at c.in-Step.ensures.0 in
+    let met : list_all (is_met rows) (take c.awaits.met (awaits_of p c.args.i (count_at rows c.args.i + 1))) ≡ true = rw standing at c.awaits.invariant.met in
+    all_met p rows c.args.i c.requires.left c.awaits.met all met

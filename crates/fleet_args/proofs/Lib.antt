@@ -1,5 +1,4 @@
 mod CommandLemmas
 mod RequestLemmas
 mod NoCommand
-mod OwnCommand
-mod OwnValues
+pub mod ValueLaws

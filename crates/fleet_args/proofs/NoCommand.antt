@@ -1,7 +1,7 @@
--- Words that begin with the name of no command: the command line finds a fault in them.
+-- Words that do not begin with the name of a command: the command line finds a fault in them.
 use Rattle.std.proofs.Common.{◌≡◌, ◌≢◌, ◌||◌, ◌++◌, ◌==◌, ℕ, zero, suc, Bool, cond, true, false, List, [], ◌∷◌, Option, Some, None, codes, length, map, refl, sym, ap, subst, true≢false}
 use Rattle.std.specs.Prelude.{slice_get}
-use Rattle.std.specs.{List.find, List.list_any, Option.option_map, Option.option_map_or, Str.bytes_eq, Str.chars}
+use Rattle.std.specs.{List.find, Option.option_map, Option.option_map_or, Str.bytes_eq, Str.chars}
 use Rattle.std.proofs.lemmas.Slice.Eq.{bytes_eq-Decides}
 use Rattle.clap.specs.{Lexer.long_of, Lexer.short_of, Kinds.Kinds, Kinds.or_else}
 use Rattle.clap.specs.Words.{Shape, Rule, Text, fault_of, with_subcommand}
@@ -10,7 +10,7 @@ use Rattle.clap.specs.Walk.{Held, Step, after_flag, answers_to, bundle_met, bund
 use Rattle.clap.specs.Faults.{bundle_fault, bundle_step_fault, defaults_fault, flag_word_fault, flags_fault, long_fault, other_fault, short_fault, step_fault, turn_fault, walk_fault}
 use Rattle.clap.specs.declared.error.kind.ErrorKind.{ErrorKind}
 use Rattle.fleet_args.specs.declared.{arguments.Argument.Argument, arguments.OptionNames.OptionNames}
-use Rattle.fleet_args.specs.Commands.{commands, fleet, fleet_top}
+use Rattle.fleet_args.specs.{Commands.commands, Commands.fleet, Commands.fleet_top, Request.command_and_rest}
 
 first_fault : (a b : Kinds) → a ≢ [] → or_else a b ≢ []
 first_fault [] b some = absurd (some refl)
@@ -86,18 +86,18 @@ no_dashes : (word : Text) (b : Bool) → b ≡ false
 no_dashes word true e = absurd (true≢false e)
 no_dashes word false e = long_word_fault word (long_of word)
 
-only_help : (word : Text) (cs : List (Text × List Argument)) → list_any (λ c. bytes_eq c.0 word) cs ≡ false
+only_help : (word : Text) (cs : List (Text × List Argument)) → find (λ c. bytes_eq c.0 word) cs ≡ None
     → find (answers_to word) (map (λ c. (c.0, [])) cs ++ (codes "help", []) ∷ []) ≡ find (answers_to word) ((codes "help", []) ∷ [])
 only_help word [] none = refl
 only_help word (c ∷ cs) none = go (bytes_eq c.0 word) none (only_help word cs)
   where
-    go : (b : Bool) → (b || list_any (λ d. bytes_eq d.0 word) cs) ≡ false
-        → (list_any (λ d. bytes_eq d.0 word) cs ≡ false → find (answers_to word) (map (λ d. (d.0, [])) cs ++ (codes "help", []) ∷ []) ≡ find (answers_to word) ((codes "help", []) ∷ []))
+    go : (b : Bool) → cond b (Some c) (find (λ d. bytes_eq d.0 word) cs) ≡ None
+        → (find (λ d. bytes_eq d.0 word) cs ≡ None → find (answers_to word) (map (λ d. (d.0, [])) cs ++ (codes "help", []) ∷ []) ≡ find (answers_to word) ((codes "help", []) ∷ []))
         → cond (b || false) (Some (c.0, [])) (find (answers_to word) (map (λ d. (d.0, [])) cs ++ (codes "help", []) ∷ [])) ≡ find (answers_to word) ((codes "help", []) ∷ [])
-    go true e later = absurd (true≢false e)
+    go true e later = cc
     go false e later = later e
 
-no_name : (names : OptionNames) (word : Text) → list_any (λ c. bytes_eq c.0 word) commands ≡ false → bytes_eq word (45 ∷ 45 ∷ []) ≡ false
+no_name : (names : OptionNames) (word : Text) → find (λ c. bytes_eq c.0 word) commands ≡ None → bytes_eq word (45 ∷ 45 ∷ []) ≡ false
     → turn_fault (built (fleet names)).top (names_of (built (fleet names))) (walk_from nothing_held) word ≢ []
 no_name names word none other =
     let is : subcommand_met (names_of (built (fleet names))) idle word ≡ option_map (λ (s : Text × List Text). s.0) (find (answers_to word) ((codes "help", []) ∷ [])) =
@@ -114,10 +114,15 @@ unfolding walk_fault defaults_fault walked
 dashes names [] = faulty _ _
 dashes names (word ∷ rest) = faulty _ _
 
-pub unnamed : (names : OptionNames) (word : Text) (rest : List Text) → list_any (λ c. bytes_eq c.0 word) commands ≡ false → fault_of (fleet names) (word ∷ rest) ≢ []
-unfolding walk_fault
-unnamed names word rest none = go (bytes_eq word (45 ∷ 45 ∷ [])) refl
+named_none : {X Y : Type 0} (f : X → Y) (o : Option X) → option_map f o ≡ None → o ≡ None
+named_none f None e = refl
+named_none f (Some x) e = cc
+
+pub unnamed : (names : OptionNames) (words : List Text) → command_and_rest words ≡ None → fault_of (fleet names) words ≢ []
+unfolding walk_fault defaults_fault
+unnamed names [] none = faulty _ _
+unnamed names (word ∷ rest) none = go (bytes_eq word (45 ∷ 45 ∷ [])) refl
   where
     go : (b : Bool) → bytes_eq word (45 ∷ 45 ∷ []) ≡ b → fault_of (fleet names) (word ∷ rest) ≢ []
     go true e = subst (λ w. fault_of (fleet names) (w ∷ rest) ≢ []) (sym ((bytes_eq-Decides word (45 ∷ 45 ∷ [])).0 e)) (dashes names rest)
-    go false e = first_fault _ _ (first_fault _ _ (no_name names word none e))
+    go false e = first_fault _ _ (first_fault _ _ (no_name names word (named_none _ _ none) e))

@@ -1,34 +1,30 @@
 -- From the getters of the matches to what the words ask.
-use Rattle.std.proofs.Common.{◌≡◌, ◌≢◌, ◌∙◌, ◌⊎◌, inl, inr, not, ℕ, Bool, true, false, List, [], ◌∷◌, Option, Some, None, Result, Ok, Err, refl, sym, ap, subst, true≢false}
+use Rattle.std.proofs.Common.{◌≡◌, ◌∙◌, ◌⊎◌, inl, inr, not, ℕ, Bool, cond, true, false, List, [], ◌∷◌, Option, Some, None, Result, Ok, Err, is_some, map, option_map, unwrap_or, refl, sym, ap, subst, true≢false}
 use Rattle.std.proofs.lemmas.Bool.{or_right}
-use Rattle.std.specs.{List.list_any, Str.Parse.ParsesUnsigned}
-use Rattle.clap.specs.Words.{App, Text, rows_of, first_of, one_of, first_value, one_text, fault_of, subcommand_of, takes, is_simple_and_free, IsAmong}
-use Rattle.clap.specs.{Matches.ReadsOne, declared.error.ErrorKind.ErrorKind, declared.parser.matches.Found.Found}
+use Rattle.std.specs.{Borrow.Bor, List.find, List.list_all, List.list_any, Str.bytes_eq, Str.Parse.ParsesUnsigned}
+use Rattle.clap.specs.Words.{App, Text, HasMatchesOf, rows_of, first_of, found_of, one_of, first_value, one_text, fault_of, is_simple_and_free, matches_of, IsAmong}
+use Rattle.clap.specs.{Matches.ReadsOne, declared.error.ErrorKind.ErrorKind, declared.parser.ArgMatches.ArgMatches, declared.parser.matches.Found.Found}
 use Rattle.clap.specs.declared.error.ErrorKind.TheVariants as kind
-use Rattle.clap.proofs.WalkLemmas.{first_value-rows, one_text-rows}
-use Rattle.fleet_args.specs.Values.{HasNumber, IsNumberIfUsed, values_found, values_of}
-use Rattle.fleet_args.specs.{Commands.AsksCommand, Request.Asks, Request.is_help, Request.IsStopOf, Request.StopsFor}
-use Rattle.fleet_args.specs.declared.{commands.Request.Request, request.WordStop.WordStop}
+use Rattle.clap.proofs.WalkLemmas.{both, find-map, first_value-rows, one_text-rows}
+use Rattle.fleet_args.specs.Values.{IsNumberIfUsed, SpellsNumber, values_found, values_of}
+use Rattle.fleet_args.specs.{Arguments.own, Arguments.said, Commands.AsksCommand, Commands.IsCommand, Commands.IsCommandName, Commands.commands}
+use Rattle.fleet_args.specs.Request.{Asks, IsStopOf, StopsFor, command_and_rest, is_help}
+use Rattle.fleet_args.specs.declared.{arguments.Argument.Argument, arguments.CommandText.CommandText, arguments.OptionNames.OptionNames, commands.Request.Request, request.WordStop.WordStop}
 use Rattle.fleet_args.specs.declared.request.WordStop.TheVariants as stop
 
--- ---- a number
-
--- what `get_one` gives is the option's number, which can be read
+-- what `get_one` gives is the option's number
 pub number_used :
     {E : Type 0} (bits : ℕ) (gives : Text → Result ℕ E → Type 0) → ((t : Text) (r : Result ℕ E) → gives t r → ParsesUnsigned bits 10 t r)
     → (f : Found) (id : Text) (r : Option ℕ) → (one_text f id ≡ None → r ≡ None) → ((t : Text) → one_text f id ≡ Some t → ReadsOne gives t r)
-    → HasNumber (values_found f) id bits → IsNumberIfUsed bits (values_found f) id r
-number_used bits gives parses f id r none some has = go has.0 has.1 r none some
+    → IsNumberIfUsed bits (values_found f) id r
+number_used bits gives parses f id None none some = λ t n is spelled. parses t (Err (some t is).0) (some t is).1 spelled.0
+number_used bits gives parses f id (Some v) none some = go (one_text f id) refl
   where
-    go : (used : Option ℕ) → IsNumberIfUsed bits (values_found f) id used → (r : Option ℕ) → (one_text f id ≡ None → r ≡ None)
-        → ((t : Text) → one_text f id ≡ Some t → ReadsOne gives t r) → IsNumberIfUsed bits (values_found f) id r
-    go None unused r none some = subst (IsNumberIfUsed bits (values_found f) id) (sym (none unused)) unused
-    go (Some n) used (Some v) none some = (used.0, used.1, parses used.0 (Ok v) (some used.0 used.1))
-    go (Some n) used None none some =
-        let failed = some used.0 used.1 in
-        absurd (parses used.0 (Err failed.0) failed.1 used.2.0)
-
--- ---- the command
+    go : (o : Option Text) → one_text f id ≡ o → (t : Text) × (one_text f id ≡ Some t) × SpellsNumber bits t v
+    go None e =
+        let bad : Some v ≡ None = none e in
+        cc
+    go (Some t) e = (t, e, parses t (Ok v) (some t e))
 
 -- the values that the matches give are those of their rows
 same_values : (f : Found) → values_found f ≡ values_of (rows_of f)
@@ -37,17 +33,48 @@ same_values f =
     let ones : ◌≡◌ {A = Text → Option Text} (one_text f) (λ id. one_of id (rows_of f)) = λ i id. one_text-rows f id i in
     rw (firsts, ones) refl
 
--- so what the matches ask is what the words ask that enter this command with their rows
-pub request_found : (app : App) (words : List Text) (f : Found) (name : Text) (request : Request) → fault_of app words ≡ [] → subcommand_of app words ≡ Some (name, rows_of f)
-    → AsksCommand name (values_found f) request → Asks app words request
-request_found app words f name request none is h = (none, ((name, rows_of f), is, subst (λ values. AsksCommand name values request) (same_values f) h))
+-- what is found passes what all pass
+found_passes : {X : Type 0} (p q : X → Bool) (xs : List X) (x : X) → list_all q xs ≡ true → find p xs ≡ Some x → q x ≡ true
+found_passes p q [] x all e = cc
+found_passes {X} p q (y ∷ ys) x all e = go (p y) e (found_passes p q ys x (both _ _ all).1)
+  where
+    go : (b : Bool) → cond b (Some y) (find p ys) ≡ Some x → (find p ys ≡ Some x → q x ≡ true) → q x ≡ true
+    go true e later = ap q (sym (ap (λ (o : Option X). unwrap_or o y) e)) ∙ (both _ _ all).0
+    go false e later = later e
 
--- ---- an answer
+-- ---- the command of a name
 
--- the command line finds no fault in the words
-pub faultless : (built app : App) (words : List Text) → built ≡ app → is_simple_and_free app ≡ true
-    → (is_simple_and_free built ≡ true → fault_of built words ≡ []) → fault_of app words ≡ []
-faultless built app words is free none = ap (λ x. fault_of x words) (sym is) ∙ none (ap is_simple_and_free is ∙ free)
+-- what is found among the texts of the commands is what is found among these
+pub named : (texts : List CommandText) → map said texts ≡ commands → (name : Text) (r : Option (Bor CommandText))
+    → option_map (λ text. text.now) r ≡ find (λ text. bytes_eq text.name.now name) texts → option_map (λ text. said text.now) r ≡ find (λ c. bytes_eq c.0 name) commands
+named texts same name r is = go r is
+  where
+    all : option_map said (find (λ text. bytes_eq text.name.now name) texts) ≡ find (λ c. bytes_eq c.0 name) commands
+    all = find-map (λ c. bytes_eq c.0 name) said texts ∙ ap (find (λ c. bytes_eq c.0 name)) same
+
+    go : (r : Option (Bor CommandText)) → option_map (λ text. text.now) r ≡ find (λ text. bytes_eq text.name.now name) texts → option_map (λ text. said text.now) r ≡ find (λ c. bytes_eq c.0 name) commands
+    go None is = ap (option_map said) is ∙ all
+    go (Some text) is = ap (option_map said) is ∙ all
+
+-- .. with the words after it
+pub named_first : (word name : Text) (rest : List Text) (c : Text × List Argument) → name ≡ word → Some c ≡ find (λ d. bytes_eq d.0 name) commands → Some (c, rest) ≡ command_and_rest (word ∷ rest)
+named_first word name rest c same is = ap (option_map (λ d. (d, rest))) (is ∙ ap (λ n. find (λ d. bytes_eq d.0 n) commands) same)
+
+pub named_is : (words : List Text) (found : (Text × List Argument) × List Text) → Some found ≡ command_and_rest words → IsCommand found.0
+named_is [] found e = cc
+named_is (word ∷ words) found e = (word, go (find (λ d. bytes_eq d.0 word) commands) e)
+  where
+    go : (o : Option (Text × List Argument)) → Some found ≡ option_map (λ d. (d, words)) o → o ≡ Some found.0
+    go None e = cc
+    go (Some d) e = ap (option_map (λ f. f.0)) (sym e)
+
+-- a command by itself is one of which the matches and the faults are defined
+each_free : (names : OptionNames) → list_all (λ c. is_simple_and_free (own names c)) commands ≡ true
+each_free names = refl
+
+-- .. and has its name
+pub own_name : (c : Text × List Argument) → IsCommand c → IsCommandName c.0
+own_name c known = found_passes (λ d. bytes_eq d.0 known.0) (λ d. is_some (find (λ e. bytes_eq d.0 e.0) commands)) commands c refl known.1
 
 -- ---- a stop
 
@@ -58,35 +85,44 @@ among_any passes k (x ∷ xs) h t = elim h [
   | inr rest ↦ or_right (passes x) _ (among_any passes k xs rest t)
 ]
 
-refuses : (app : App) (words : List Text) (k : ErrorKind) → (takes app words ≡ true → k ≡ kind.OutOfMemory) → k ≢ kind.OutOfMemory → takes app words ≡ false
-refuses app words k passes other = go (takes app words) refl
-  where
-    go : (b : Bool) → takes app words ≡ b → b ≡ false
-    go false e = refl
-    go true e = absurd (other (passes e))
+stops_for : (app : App) (words : List Text) (k : ErrorKind) (s : WordStop) → (k ≡ kind.OutOfMemory) ⊎ IsAmong k (fault_of app words) → IsStopOf k s → StopsFor app words s
+stops_for app words k stop.OutOfMemory among h = tt
+stops_for app words k (stop.Usage text) among h = elim among [
+  | inl memory ↦ absurd (h.1 memory)
+  | inr a ↦ among_any (λ x. not (is_help x)) k _ a (ap not h.0)
+]
+stops_for app words k (stop.Help text) among h = elim among [
+  | inl memory ↦ absurd (true≢false (sym h ∙ ap is_help memory))
+  | inr a ↦ among_any is_help k _ a h
+]
 
-stops_for :
-    (app : App) (words : List Text) (k : ErrorKind) (s : WordStop) → (takes app words ≡ true → k ≡ kind.OutOfMemory)
-    → (k ≡ kind.OutOfMemory) ⊎ IsAmong k (fault_of app words) → IsStopOf k s → StopsFor app words s
-stops_for app words k stop.OutOfMemory passes among h = tt
-stops_for app words k (stop.Usage text) passes among h = (
-  refuses app words k passes h.1,
-  elim among [
-    | inl memory ↦ absurd (h.1 memory)
-    | inr a ↦ among_any (λ x. not (is_help x)) k _ a (ap not h.0)
-  ],
-)
-stops_for app words k (stop.Help text) passes among h =
-    let other : k ≢ kind.OutOfMemory = λ memory. true≢false (sym h ∙ ap is_help memory) in (
-      refuses app words k passes other,
-      elim among [ inl memory ↦ absurd (other memory) | inr a ↦ among_any is_help k _ a h ],
-    )
+-- ---- an answer of what was built as this command line
 
--- the same, of a command that is built as the command line says
-pub stops_for_built :
-    (built app : App) (words : List Text) (k : ErrorKind) (s : WordStop) → built ≡ app → is_simple_and_free app ≡ true
-    → (takes built words ≡ true → k ≡ kind.OutOfMemory)
-    → (is_simple_and_free built ≡ true → (k ≡ kind.OutOfMemory) ⊎ IsAmong k (fault_of built words)) → IsStopOf k s → StopsFor app words s
-stops_for_built built app words k s is free passes kinds h =
-    let P : App → Type 0 = λ x. (k ≡ kind.OutOfMemory) ⊎ IsAmong k (fault_of x words) in
-    stops_for app words k s (λ t. passes (ap (λ x. takes x words) is ∙ t)) (subst P is (kinds (ap is_simple_and_free is ∙ free))) h
+module _ (built app : App) (is : built ≡ app) (free : is_simple_and_free app ≡ true) (words : List Text) where
+  built_free : is_simple_and_free built ≡ true
+  built_free = ap is_simple_and_free is ∙ free
+
+  -- it finds no fault in the words
+  pub faultless : (is_simple_and_free built ≡ true → fault_of built words ≡ []) → fault_of app words ≡ []
+  faultless none = ap (λ x. fault_of x words) (sym is) ∙ none built_free
+
+  -- it stops at them
+  pub stops_by : (k : ErrorKind) (s : WordStop) → (is_simple_and_free built ≡ true → (k ≡ kind.OutOfMemory) ⊎ IsAmong k (fault_of built words)) → IsStopOf k s → StopsFor app words s
+  stops_by k s kinds h = stops_for app words k s (subst (λ x. (k ≡ kind.OutOfMemory) ⊎ IsAmong k (fault_of x words)) is (kinds built_free)) h
+
+-- .. as a command by itself
+module _ (names : OptionNames) (c : Text × List Argument) (known : IsCommand c) (built : App) (is : built ≡ own names c) (words : List Text) where
+  free : is_simple_and_free (own names c) ≡ true
+  free = found_passes (λ d. bytes_eq d.0 known.0) (λ d. is_simple_and_free (own names d)) commands c (each_free names) known.1
+
+  -- it asks what its matches have
+  pub asks : (m : ArgMatches) (request : Request) → (is_simple_and_free built ≡ true → fault_of built words ≡ []) → HasMatchesOf built words m → AsksCommand c.0 (values_found (found_of m)) request
+      → Asks names c words request
+  asks m request none has h =
+      let rows = (has (both _ _ (ap is_simple_and_free is ∙ free)).0).0 in (
+        faultless built (own names c) is free words none,
+        subst (λ values. AsksCommand c.0 values request) (same_values (found_of m) ∙ ap values_of (rows ∙ ap (λ a. matches_of a words) is)) h,
+      )
+
+  pub stops : (k : ErrorKind) (s : WordStop) → (is_simple_and_free built ≡ true → (k ≡ kind.OutOfMemory) ⊎ IsAmong k (fault_of built words)) → IsStopOf k s → StopsFor (own names c) words s
+  stops = stops_by built (own names c) is free words

@@ -83,9 +83,9 @@ shape_for names text = shape_in names (said text)
 abbrev pub alone : Shape → App
 alone shape = record { top = shape; subs = [] }
 
--- .. by itself: its words begin after its name
-abbrev pub own : Shape → App
-own shape = alone (record shape { no_binary_name = true })
+-- a command by itself: its words begin after its name
+abbrev pub own : OptionNames → Text × List Argument → App
+own names c = alone (record (shape_in names c) { no_binary_name = true })
 
 -- the argument has this rule, and does not reach into other commands
 abbrev pub IsArg : Rule → Arg → Type 0

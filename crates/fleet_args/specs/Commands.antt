@@ -1,10 +1,10 @@
 -- The commands, each with its arguments and with what it is asked for, and the command line that has them.
-use Rattle.std.specs.Prelude.{◌≡◌, true, List, [], ◌∷◌, Option, None, Some, codes, fold, map}
-use Rattle.std.specs.{List.AllByRecursion, List.find, Str.bytes_eq}
+use Rattle.std.specs.Prelude.{◌≡◌, true, List, [], ◌∷◌, Some, IsSome, codes, fold, map}
+use Rattle.std.specs.{List.find, Str.bytes_eq}
 use Rattle.clap.specs.Words.{App, Shape, Text, new_app, with_subcommand}
 pub use Rattle.fleet_args.specs.{Arguments.AreNames, declared.arguments.OptionNames.OptionNames}
 use Rattle.fleet_args.specs.Arguments.{shape_in}
-use Rattle.fleet_args.specs.Values.{Values, IsText, IsTextIfUsed, IsNumberIfUsed, IsNumberOr, AreDepsOr, IsBestIfUsed, IsFlag, HasValue}
+use Rattle.fleet_args.specs.Values.{Values, IsText, IsTextIfUsed, IsNumberIfUsed, IsNumberOr, AreDepsOr, IsBestIfUsed, IsFlag}
 use Rattle.fleet_args.specs.declared.{arguments.Argument.Argument, commands.ProgramFor.ProgramFor, commands.Tasks.Tasks, commands.Tries.Tries, commands.Request.Request}
 use Rattle.fleet_model.specs.declared.deps.Deps.TheVariants.{Last}
 use Rattle.fleet_args.specs.declared.arguments.Argument.TheVariants as a
@@ -44,14 +44,13 @@ commands =
 abbrev pub fleet : OptionNames → App
 fleet names = with_shapes fleet_top (map (shape_in names) commands)
 
--- these values has the command that was found for its arguments, as far as it cannot do without them
-abbrev pub HasAll : Values → Option (Text × List Argument) → Type 0
-HasAll values None = ⊥
-HasAll values (Some c) = AllByRecursion (HasValue values) c.1
+-- the command is one that is found in this list
+abbrev pub IsCommand : Text × List Argument → Type 0
+IsCommand c = (name : Text) × (find (λ d. bytes_eq d.0 name) commands ≡ Some c)
 
--- this is the name of a command, and the values are such
-abbrev pub HasValues : Text → Values → Type 0
-HasValues name values = HasAll values (find (λ c. bytes_eq name c.0) commands)
+-- this is the name of a command
+abbrev pub IsCommandName : Text → Type 0
+IsCommandName name = IsSome (find (λ c. bytes_eq name c.0) commands)
 
 -- a map, a scenario and how many of its agents are asked for
 abbrev pub AsksTasks : Values → Tasks → Type 0

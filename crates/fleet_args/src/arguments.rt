@@ -4,7 +4,7 @@ ghost use Rattle.std.specs.Prelude.{◌≡◌, IfOk, None, fold, map};
 ghost use Rattle.clap.specs.Words.{app_of, with_rule};
 ghost use Rattle.fleet_args.specs.Arguments.{IsArg, IsApp, IsLocal, alone, described, parser_for, plain_rule, rule_for, shape_for, told};
 ghost use Rattle.fleet_args.specs.declared.arguments.OptionNames.{OptionNames};
-ghost use Rattle.fleet_args.specs.Values.{AreDepsIfUsed, HasBest, HasDeps, HasNumber, HasText, IsBestIfUsed, IsFlag, IsNumberIfUsed, IsText, values_in};
+ghost use Rattle.fleet_args.specs.Values.{AreDepsIfUsed, IsBestIfUsed, IsFlag, IsNumberIfUsed, IsText, values_in};
 
 use crate::commands::Best;
 use clap::builder::ValueParser;
@@ -77,10 +77,12 @@ struct ArgumentText {
     form: Form,
 }
 
-/// A command: its name, its text for help, and its arguments.
+/// A command: its name, also after that of the program, as help and errors have it; its text for help, and its
+/// arguments.
 #[derive(Clone, Copy)]
 pub(crate) struct CommandText {
     pub(crate) name: &'static str,
+    pub(crate) line: &'static str,
     pub(crate) about: &'static str,
     pub(crate) arguments: &'static [Argument],
 }
@@ -99,26 +101,49 @@ static ARGUMENTS: [ArgumentText; 25] = argument_rows![
     "plan", Form::Word, "PLAN", "Plan text: a line per agent, its cells x,y at times 0, 1, 2 ..";
     "out", Form::Word, "OUT", "The file to which the program bytes are written";
     "program", Form::Word, "PROGRAM", "Program file (bytes, not hexadecimal)";
-    "agents", Form::Numbers(0, u16::MAX as u32), "K", "Take the first K agents of the scenario, 1 to 1024 [default: all]";
-    "horizon", Form::Numbers(1, u16::MAX as u32), "H", "The latest time at which an agent may arrive, 1 to 65535; below its shortest way there is no path [default: 1024]";
-    "tries", Form::Numbers(1, MAX_TRIES), "N", "How many orders of the agents are tried, 1 to 1000000: an agent that finds no path is planned first in the next one [default: 1]";
-    "best", Form::Best, "BEST", "Tries all N orders, and keeps the first plan with the shortest chain (chain) or the least sum of costs (cost)";
-    "deps", Form::Deps, "DEPS", "What a move into a cell waits for: the last leaving by each other agent (all), or only the latest leaving (last) [default: last]";
-    "dwell", Form::Numbers(0, MAX_MOVES), "N", "How many actions each agent stays on its last cell after its moves, 0 to 1000000 [default: 0]";
-    "holds", Form::Text, "FILE", "Holds text: a line per tick, - for nobody or the numbers of the held agents, rising [default: nobody is held]";
+    "agents", Form::Numbers(0, u16::MAX as u32), "K",
+        "Take the first K agents of the scenario, 1 to 1024 [default: all]";
+    "horizon", Form::Numbers(1, u16::MAX as u32), "H",
+        "The latest time at which an agent may arrive, 1 to 65535; below its shortest way there is no path \
+         [default: 1024]";
+    "tries", Form::Numbers(1, MAX_TRIES), "N",
+        "How many orders of the agents are tried, 1 to 1000000: an agent that finds no path is planned first \
+         in the next one [default: 1]";
+    "best", Form::Best, "BEST",
+        "Tries all N orders, and keeps the first plan with the shortest chain (chain) or the least sum of \
+         costs (cost)";
+    "deps", Form::Deps, "DEPS",
+        "What a move into a cell waits for: the last leaving by each other agent (all), or only the latest \
+         leaving (last) [default: last]";
+    "dwell", Form::Numbers(0, MAX_MOVES), "N",
+        "How many actions each agent stays on its last cell after its moves, 0 to 1000000 [default: 0]";
+    "holds", Form::Text, "FILE",
+        "Holds text: a line per tick, - for nobody or the numbers of the held agents, rising \
+         [default: nobody is held]";
     "numbers", Form::Flag, "", "Prints more numbers of the plan at the end";
-    "ahead", Form::Numbers(1, u8::MAX as u32), "K", "How many orders an agent may have at most that it has not reported, 1 to 255 [default: 1]";
-    "unnumbered", Form::Flag, "", "Orders and reports name agents alone: go AGENT FROM TO, and a report that comes twice counts twice";
-    "resume", Form::Text, "FILE", "Goes on after the reports in this file: takes them first, and then prints the orders that are open";
-    "costs", Form::Text, "FILE", "What actions cost: lines A X, each action of agent A, and A:N X, its action N [default: each action costs 1]";
-    "broken", Form::Text, "ACTIONS", "The actions in which robots break down: words A:N, rising, one space between two [default: all robots go on]";
+    "ahead", Form::Numbers(1, u8::MAX as u32), "K",
+        "How many orders an agent may have at most that it has not reported, 1 to 255 [default: 1]";
+    "unnumbered", Form::Flag, "",
+        "Orders and reports name agents alone: go AGENT FROM TO, and a report that comes twice counts twice";
+    "resume", Form::Text, "FILE",
+        "Goes on after the reports in this file: takes them first, and then prints the orders that are open";
+    "costs", Form::Text, "FILE",
+        "What actions cost: lines A X, each action of agent A, and A:N X, its action N \
+         [default: each action costs 1]";
+    "broken", Form::Text, "ACTIONS",
+        "The actions in which robots break down: words A:N, rising, one space between two \
+         [default: all robots go on]";
     "reports", Form::Word, "LOG", "The log of a dispatch: its reports, a line for each";
     "scen_out", Form::Word, "SCEN_OUT", "The file to which the tasks that are left are written, as a scenario";
     "program_out", Form::Word, "PROGRAM_OUT", "The file to which the program bytes that are left are written";
-    "without", Form::Text, "CELLS", "The agent of a dead robot, and the cells on which it stands: A:X,Y or A:X,Y:X,Y [default: no robot is dead]";
-    "map-out", Form::Text, "FILE", "A file to which the map is written, in which the cells of the dead robot are blocked";
-    "others-out", Form::Text, "FILE", "A file to which the tasks of all but the dead robot's agent are written, as a scenario";
-    "log", Form::Text, "FILE", "Appends each report that is taken to this file, on the disk before anything follows from it";
+    "without", Form::Text, "CELLS",
+        "The agent of a dead robot, and the cells on which it stands: A:X,Y or A:X,Y:X,Y [default: no robot is dead]";
+    "map-out", Form::Text, "FILE",
+        "A file to which the map is written, in which the cells of the dead robot are blocked";
+    "others-out", Form::Text, "FILE",
+        "A file to which the tasks of all but the dead robot's agent are written, as a scenario";
+    "log", Form::Text, "FILE",
+        "Appends each report that is taken to this file, on the disk before anything follows from it";
 ];
 
 /// What this argument is.
@@ -215,20 +240,15 @@ pub(crate) fn command_of<'a>(
     )
 }
 
-/// The text of an argument that has one.
+/// The text of an argument that the command needs: words without it are refused.
 pub(crate) fn text<'a>(matches: &ArgMatches<'a>, id: &str) -> &'a str
-    requires { HasText (values_in matches.now) id.now }
     ensures { IsText (values_in matches.now) id.now result }
 {
-    match matches.get_str(id) {
-        Some(text) => text,
-        None => unreachable!(),
-    }
+    matches.get_str(id).unwrap_or("")
 }
 
 /// The number of up to 16 bits of an option, if it was used.
 pub(crate) fn used_number(matches: &ArgMatches<'_>, id: &str) -> Option<u16>
-    requires { HasNumber (values_in matches.now) id.now 16 }
     ensures { IsNumberIfUsed 16 (values_in matches.now) id.now result }
 {
     matches.get_one::<u16>(id)
@@ -236,7 +256,6 @@ pub(crate) fn used_number(matches: &ArgMatches<'_>, id: &str) -> Option<u16>
 
 /// The same of a number of up to 32 bits.
 pub(crate) fn used_count(matches: &ArgMatches<'_>, id: &str) -> Option<u32>
-    requires { HasNumber (values_in matches.now) id.now 32 }
     ensures { IsNumberIfUsed 32 (values_in matches.now) id.now result }
 {
     matches.get_one::<u32>(id)
@@ -244,25 +263,23 @@ pub(crate) fn used_count(matches: &ArgMatches<'_>, id: &str) -> Option<u32>
 
 /// The kind of awaits that an option names, if it was used.
 pub(crate) fn used_deps(matches: &ArgMatches<'_>, id: &str) -> Option<Deps>
-    requires { HasDeps (values_in matches.now) id.now }
     ensures { AreDepsIfUsed (values_in matches.now) id.now result }
 {
     match matches.get_str(id)? {
         "all" => Some(Deps::All),
         "last" => Some(Deps::Last),
-        _ => unreachable!(),
+        _ => None,
     }
 }
 
 /// What an option names as making a plan the best, if it was used.
 pub(crate) fn used_best(matches: &ArgMatches<'_>, id: &str) -> Option<Best>
-    requires { HasBest (values_in matches.now) id.now }
     ensures { IsBestIfUsed (values_in matches.now) id.now result }
 {
     match matches.get_str(id)? {
         "chain" => Some(Best::Chain),
         "cost" => Some(Best::Cost),
-        _ => unreachable!(),
+        _ => None,
     }
 }
 

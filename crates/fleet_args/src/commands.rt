@@ -1,8 +1,8 @@
 //! The commands: what each is asked for, its words and options, and how they are read from the matches.
 
 ghost use Rattle.std.specs.Prelude.{codes};
-ghost use Rattle.fleet_args.specs.Values.{HasBest, HasNumber, HasText, values_in};
-ghost use Rattle.fleet_args.specs.Commands.{AsksCommand, AsksProgram, AsksTasks, AsksTries, HasValues};
+ghost use Rattle.fleet_args.specs.Values.{values_in};
+ghost use Rattle.fleet_args.specs.Commands.{AsksCommand, AsksProgram, AsksTasks, AsksTries, IsCommandName};
 
 use crate::arguments::Argument::{
     Agents, Ahead, BestBy, Broken, Costs, DepsKind, Dwell, Holds, Horizon, Log, Map, MapOut,
@@ -169,7 +169,7 @@ pub enum Request<'a> {
 /// The rows of a table of commands, each by its name, its arguments and its text for help.
 macro_rules! command_rows {
     ($($name:literal, $arguments:expr, $about:literal;)*) => {
-        [$(CommandText { name: $name, about: $about, arguments: $arguments }),*]
+        [$(CommandText { name: $name, line: concat!("fleet ", $name), about: $about, arguments: $arguments }),*]
     };
 }
 
@@ -182,27 +182,32 @@ pub(crate) static COMMANDS: [CommandText; 14] = command_rows![
     "plan", &[Map, Scen, Agents, Horizon, TryCount, BestBy],
         "Plans a path for each agent in turn, and prints the plan text";
     "compile", &[Map, Scen, Plan, Out, Agents, DepsKind, Dwell],
-        "Compiles a conflict-free plan into a program, writes it to OUT, and prints its agents, moves, awaits and bytes";
+        "Compiles a conflict-free plan into a program, writes it to OUT, and prints its agents, moves, awaits and \
+         bytes";
     "verify", &[Map, Scen, Program, Agents],
         "Tells whether a program is safe and arrives whoever is held, or its first fault";
     "run", &[Map, Scen, Program, Agents, Holds],
         "Verifies a program and runs it: prints the positions tick by tick, then agents, ticks, chain and held";
     "rehearse", &[Program, Holds],
-        "Runs any program until it is finished or stuck: prints the positions tick by tick, then agents, ticks and held";
+        "Runs any program until it is finished or stuck: prints the positions tick by tick, then agents, ticks and \
+         held";
     "auto", &[Map, Scen, Agents, Horizon, TryCount, BestBy, DepsKind, Holds, Numbers],
         "Plans, compiles, verifies and runs: prints the positions tick by tick, then agents, ticks, chain and held";
     "thin", &[Map, Scen, Program, Out, Agents],
-        "Drops the awaits of an accepted program that others imply, writes it to OUT, and prints its awaits before and after";
+        "Drops the awaits of an accepted program that others imply, writes it to OUT, and prints its awaits before \
+         and after";
     "migrate", &[Program, Out],
         "Writes a program to OUT in version 2 of the bytes, and prints how many they are";
     "list", &[Program],
         "Prints any program as text: a line for each agent, and after it one for each of its actions";
     "dispatch", &[Map, Scen, Program, Agents, Ahead, Unnumbered, Resume, Log],
-        "Dispatches robots: prints go AGENT:N FROM TO as each move may begin, and reads a line for each report of which moves are done";
+        "Dispatches robots: prints go AGENT:N FROM TO as each move may begin, and reads a line for each report of \
+         which moves are done";
     "times", &[Map, Scen, Program, Agents, Costs, Broken],
         "Tells when each agent of an accepted program arrives at the soonest, or how far it comes if robots break down";
     "rest", &[Map, Scen, Program, Reports, ScenOut, ProgramOut, Agents, Without, MapOut, OthersOut],
-        "Writes what is left of an accepted program after the reports of a log: its tasks and its bytes, and prints its agents, moves, awaits and bytes";
+        "Writes what is left of an accepted program after the reports of a log: its tasks and its bytes, and prints \
+         its agents, moves, awaits and bytes";
 ];
 
 /// The horizon of a command that names none.
@@ -210,8 +215,6 @@ const DEFAULT_HORIZON: u16 = 1_024;
 
 /// The tries that the matches of a command ask for.
 fn tries_in(matches: &ArgMatches<'_>) -> Tries
-    requires count { HasNumber (values_in matches.now) (codes "tries") 32 }
-    requires best { HasBest (values_in matches.now) (codes "best") }
     ensures { AsksTries (values_in matches.now) result }
 {
     Tries {
@@ -222,9 +225,6 @@ fn tries_in(matches: &ArgMatches<'_>) -> Tries
 
 /// The tasks that the matches of a command ask for.
 fn tasks_in<'a>(matches: &ArgMatches<'a>) -> Tasks<'a>
-    requires map { HasText (values_in matches.now) (codes "map") }
-    requires scen { HasText (values_in matches.now) (codes "scen") }
-    requires agents { HasNumber (values_in matches.now) (codes "agents") 16 }
     ensures { AsksTasks (values_in matches.now) result }
 {
     Tasks {
@@ -236,10 +236,6 @@ fn tasks_in<'a>(matches: &ArgMatches<'a>) -> Tasks<'a>
 
 /// The program, and the tasks that it is for, that the matches of a command ask for.
 fn program_in<'a>(matches: &ArgMatches<'a>) -> ProgramFor<'a>
-    requires map { HasText (values_in matches.now) (codes "map") }
-    requires scen { HasText (values_in matches.now) (codes "scen") }
-    requires agents { HasNumber (values_in matches.now) (codes "agents") 16 }
-    requires program { HasText (values_in matches.now) (codes "program") }
     ensures { AsksProgram (values_in matches.now) result }
 {
     ProgramFor {
@@ -250,7 +246,6 @@ fn program_in<'a>(matches: &ArgMatches<'a>) -> ProgramFor<'a>
 
 /// The request of `check`.
 fn check_in<'a>(matches: &ArgMatches<'a>) -> Request<'a>
-    requires { HasValues (codes "check") (values_in matches.now) }
     ensures { AsksCommand (codes "check") (values_in matches.now) result }
 {
     Request::Check(CheckRequest {
@@ -262,7 +257,6 @@ fn check_in<'a>(matches: &ArgMatches<'a>) -> Request<'a>
 
 /// The request of `plan`.
 fn plan_in<'a>(matches: &ArgMatches<'a>) -> Request<'a>
-    requires { HasValues (codes "plan") (values_in matches.now) }
     ensures { AsksCommand (codes "plan") (values_in matches.now) result }
 {
     Request::Plan(PlanRequest {
@@ -274,7 +268,6 @@ fn plan_in<'a>(matches: &ArgMatches<'a>) -> Request<'a>
 
 /// The request of `compile`.
 fn compile_in<'a>(matches: &ArgMatches<'a>) -> Request<'a>
-    requires { HasValues (codes "compile") (values_in matches.now) }
     ensures { AsksCommand (codes "compile") (values_in matches.now) result }
 {
     Request::Compile(CompileRequest {
@@ -288,7 +281,6 @@ fn compile_in<'a>(matches: &ArgMatches<'a>) -> Request<'a>
 
 /// The request of `auto`.
 fn auto_in<'a>(matches: &ArgMatches<'a>) -> Request<'a>
-    requires { HasValues (codes "auto") (values_in matches.now) }
     ensures { AsksCommand (codes "auto") (values_in matches.now) result }
 {
     Request::Auto(AutoRequest {
@@ -303,7 +295,6 @@ fn auto_in<'a>(matches: &ArgMatches<'a>) -> Request<'a>
 
 /// The request of `dispatch`.
 fn dispatch_in<'a>(matches: &ArgMatches<'a>) -> Request<'a>
-    requires { HasValues (codes "dispatch") (values_in matches.now) }
     ensures { AsksCommand (codes "dispatch") (values_in matches.now) result }
 {
     Request::Dispatch(DispatchRequest {
@@ -317,7 +308,6 @@ fn dispatch_in<'a>(matches: &ArgMatches<'a>) -> Request<'a>
 
 /// The request of `times`.
 fn times_in<'a>(matches: &ArgMatches<'a>) -> Request<'a>
-    requires { HasValues (codes "times") (values_in matches.now) }
     ensures { AsksCommand (codes "times") (values_in matches.now) result }
 {
     Request::Times(TimesRequest {
@@ -329,7 +319,6 @@ fn times_in<'a>(matches: &ArgMatches<'a>) -> Request<'a>
 
 /// The request of `rest`.
 fn rest_in<'a>(matches: &ArgMatches<'a>) -> Request<'a>
-    requires { HasValues (codes "rest") (values_in matches.now) }
     ensures { AsksCommand (codes "rest") (values_in matches.now) result }
 {
     Request::Rest(RestRequest {
@@ -345,7 +334,7 @@ fn rest_in<'a>(matches: &ArgMatches<'a>) -> Request<'a>
 
 /// The request of the command of this name, by its matches.
 pub(crate) fn request_by<'a>(name: &str, matches: &ArgMatches<'a>) -> Request<'a>
-    requires { HasValues name.now (values_in matches.now) }
+    requires { IsCommandName name.now }
     ensures { AsksCommand name.now (values_in matches.now) result }
 {
     match name {

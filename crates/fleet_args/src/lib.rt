@@ -2,9 +2,9 @@
 //!
 //! `commands` has what each command is asked for, the table of the commands with their words and options, and how the
 //! matches of one are read; `arguments` has these words and options as data, makes a command of a list of them, and has
-//! what the matches have for them; `request` joins the commands and reads a command line. That words without a fault
-//! make a request is a law for any list of such arguments, so the functions that read the matches ask for the values,
-//! and have no way out.
+//! what the matches have for them; `request` reads words by the command with whose name they begin, and joins the
+//! commands to say what is wrong with others. An argument stands for what its text spells: words in which it spells
+//! nothing have a fault (`proofs/ValueLaws.antt`), and so have those that lack a word which the command needs.
 #![tactic(auto)]
 
 mod arguments;

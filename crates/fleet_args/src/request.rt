@@ -1,12 +1,11 @@
 //! The command line, and the request that its words make.
 
-ghost use Rattle.std.specs.Prelude.{◌≡◌, ◌≢◌, [], map, string_bytes, IfOk};
-ghost use Rattle.std.specs.List.{position};
+ghost use Rattle.std.specs.Prelude.{◌≡◌, None, find, map, option_map, string_bytes, IfOk};
 ghost use Rattle.std.specs.Str.{bytes_eq};
-ghost use Rattle.clap.specs.Words.{kind_of, app_of, fault_of, with_subcommand};
-ghost use Rattle.fleet_args.specs.Commands.{AreNames, fleet, fleet_top, with_shapes};
-ghost use Rattle.fleet_args.specs.Request.{AsksAlone, IsStopOf, ReadsFleet, StopsFor};
-ghost use Rattle.fleet_args.specs.Arguments.{IsApp, own, shape_for};
+ghost use Rattle.clap.specs.Words.{kind_of, app_of, with_subcommand};
+ghost use Rattle.fleet_args.specs.Commands.{AreNames, IsCommand, commands, fleet, fleet_top, with_shapes};
+ghost use Rattle.fleet_args.specs.Request.{AsksOrStops, IsStopOf, ReadsFleet, StopsFor, command_and_rest};
+ghost use Rattle.fleet_args.specs.Arguments.{own, said, shape_for};
 
 use crate::arguments::{CommandText, OptionNames, command_of};
 use crate::commands::{COMMANDS, Request, request_by};
@@ -40,25 +39,43 @@ fn stop_of(alloc: Global, error: &clap::Error) -> WordStop
     }
 }
 
-/// Why the whole command line with these names does not take the words, in which it finds a fault.
+/// Why the whole command line with these names does not take the words, which begin with the name of no command.
 fn stop_by_line<'a>(alloc: Global, names: OptionNames<'a>, words: &'a [String]) -> WordStop
-    requires { fault_of (fleet names) (map string_bytes words.now) ≢ [] }
+    requires { command_and_rest (map string_bytes words.now) ≡ None }
     ensures { StopsFor (fleet names.entry) (map string_bytes words.entry.now) result }
 {
-    let Ok(command) = fleet_command(alloc, names) else {
+    let Ok(line) = fleet_command(alloc, names) else {
         return WordStop::OutOfMemory;
     };
-    match command.try_get_matches_from(words) {
+    match line.try_get_matches_from(words) {
         Ok(_) => unreachable!(),
         Err(error) => stop_of(alloc, &error),
     }
 }
 
-/// The place of the first command of this name among these.
-fn place_of_command(texts: &[CommandText], name: &str) -> Option<usize>
-    ensures { result ≡ position (λ text. bytes_eq text.name.now name.now) texts.now }
+/// The first command of this name among these.
+fn command_among<'t>(texts: &'t [CommandText], name: &str) -> Option<&'t CommandText>
+    ensures { option_map (λ text. text.now) result
+        ≡ find (λ text. bytes_eq text.name.now name.now) texts.now }
 {
-    texts.iter().position(|text| text.name == name)
+    texts.iter().find(|text| text.name == name)
+}
+
+/// The command of this name.
+fn command_named(name: &str) -> Option<&'static CommandText>
+    ensures { option_map (λ text. said text.now) result
+        ≡ find (λ c. bytes_eq c.0 name.now) commands }
+{
+    command_among(COMMANDS.as_slice(), name)
+}
+
+/// The command with whose name the words begin, and the words after it.
+fn command_and_rest(words: &[String]) -> Option<(&'static CommandText, &[String])>
+    ensures { option_map (λ found. (said found.0.now, map string_bytes found.1.now)) result
+        ≡ command_and_rest (map string_bytes words.entry.now) }
+{
+    let (name, rest) = words.split_first()?;
+    Some((command_named(name.as_str())?, rest))
 }
 
 /// The command by itself, whose words begin after its name.
@@ -67,34 +84,30 @@ fn own_command<'a>(
     names: OptionNames<'a>,
     text: &CommandText,
 ) -> Result<Command<'a>, AllocError>
-    ensures { IfOk result (IsApp (own (shape_for names.entry text.now))) }
+    ensures { IfOk result (λ command. app_of command ≡ own names.entry (said text.now)) }
 {
-    Ok(command_of(alloc, names, text)?.no_binary_name(true))
+    command_of(alloc, names, text)?
+        .no_binary_name(true)
+        .bin_name(text.line)
 }
 
-/// Reads the words by the command itself with whose name they begin, if there is one and it takes those after it. The
-/// command line with all commands costs ten times as much to make.
-fn read_alone<'a>(
+/// What the words after the name of this command ask of it. To make the command alone costs a tenth of what it costs to
+/// make the whole command line.
+fn read_rest<'a>(
     alloc: Global,
     names: OptionNames<'a>,
+    text: &CommandText,
     words: &'a [String],
-) -> Result<Option<Request<'a>>, AllocError>
-    requires { AreNames names }
-    ensures { IfOk result (AsksAlone names.entry (map string_bytes words.entry.now)) }
+) -> Result<Request<'a>, WordStop>
+    requires { IsCommand (said text.now) }
+    ensures { AsksOrStops names.entry (said text.now) (map string_bytes words.entry.now) result }
 {
-    let [first, rest @ ..] = words else {
-        return Ok(None);
+    let Ok(command) = own_command(alloc, names, text) else {
+        return Err(WordStop::OutOfMemory);
     };
-    let name = first.as_str();
-    let texts = COMMANDS.as_slice();
-    let Some(j) = place_of_command(texts, name) else {
-        return Ok(None);
-    };
-    let command = own_command(alloc, names, &texts[j])?;
-    match command.try_get_matches_from(rest) {
-        Ok(matches) => Ok(Some(request_by(name, &matches))),
-        Err(error) if error.kind() == ErrorKind::OutOfMemory => Err(AllocError),
-        Err(_) => Ok(None),
+    match command.try_get_matches_from(words) {
+        Ok(matches) => Ok(request_by(text.name, &matches)),
+        Err(error) => Err(stop_of(alloc, &error)),
     }
 }
 
@@ -112,7 +125,8 @@ fn option_names() -> OptionNames<'static>
     }
 }
 
-/// Reads the words after the program's name, as `clap` reads them by the definition of the command line.
+/// Reads the words after the program's name, as `clap` reads them by the definition of the command with whose name they
+/// begin, or else by that of the command line.
 ///
 /// Errors: `Usage` and `Help` only if that definition does not take the words, and `Help` only if they ask for help or
 /// for the version; `OutOfMemory`.
@@ -120,11 +134,8 @@ pub fn read_words<'a>(alloc: Global, words: &'a [String]) -> Result<Request<'a>,
     ensures { ReadsFleet (map string_bytes words.entry.now) result }
 {
     let names = option_names();
-    let Ok(read) = read_alone(alloc, names, words) else {
-        return Err(WordStop::OutOfMemory);
-    };
-    match read {
-        Some(request) => Ok(request),
+    match command_and_rest(words) {
+        Some((text, rest)) => read_rest(alloc, names, text, rest),
         None => Err(stop_by_line(alloc, names, words)),
     }
 }
@@ -135,11 +146,14 @@ fn without_commands<'a>(alloc: Global) -> Result<Command<'a>, AllocError>
 {
     Command::new(alloc, "fleet")
         .about(
-            "Programs for a fleet of robots on a grid. Without a command: waits for one as hexadecimal text on standard input",
+            "Programs for a fleet of robots on a grid. Without a command: waits for one as hexadecimal text on \
+             standard input",
         )
         .override_usage("fleet <COMMAND>\n       fleet < HEXADECIMAL")
         .after_help(
-            "Without a command: rehearses, with nobody held, the program that standard input gives in hexadecimal.\nStatus: 0 done, 1 refused or stuck, 2 wrong usage, 3 a file, the output or memory failed.\nA refusal is one line on standard error: part, number, name, particulars. docs/REFUSALS.md explains each.",
+            "Without a command: rehearses, with nobody held, the program that standard input gives in hexadecimal.\n\
+             Status: 0 done, 1 refused or stuck, 2 wrong usage, 3 a file, the output or memory failed.\n\
+             A refusal is one line on standard error: part, number, name, particulars. docs/REFUSALS.md explains each.",
         )
         .no_binary_name(true)
         .version("1.0")

@@ -6,4 +6,4 @@ use Rattle.fleet_args.proofs.arguments.used_number.Goals as goal
 pub returns : goal.returns
 returns c =
     number_used 16 (λ bs r. ParsesUnsigned 16 10 bs r × ExplainsUnsignedError 10 bs r × HasUnsignedDigitsIfOk bs r) (λ t r h. h.0)
-    (found_of c.args.matches.now) c.args.id.now c.get_one.result c.get_one.ensures.none c.get_one.ensures.value c.requires
+    (found_of c.args.matches.now) c.args.id.now c.get_one.result c.get_one.ensures.none c.get_one.ensures.value

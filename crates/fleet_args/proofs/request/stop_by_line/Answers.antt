@@ -1,14 +1,15 @@
 use Rattle.std.proofs.Common.{map, refl, string_bytes}
 use Rattle.clap.specs.Words.{app_of, kind_of}
 use Rattle.fleet_args.specs.Commands.{fleet}
-use Rattle.fleet_args.proofs.RequestLemmas.{faultless, stops_for_built}
+use Rattle.fleet_args.proofs.{NoCommand.unnamed, RequestLemmas.faultless, RequestLemmas.stops_by}
 use Rattle.fleet_args.proofs.request.stop_by_line.Goals as goal
 
 pub unreachable-requires : goal.unreachable-requires
 unreachable-requires c =
-    c.requires (faultless (app_of c.in-Ok.command) (fleet c.args.names) (map string_bytes c.args.words.now) c.in-Ok.ensures refl c.in-Ok-try_get_matches_from.ensures.kinds)
+    unnamed c.args.names (map string_bytes c.args.words.now) c.requires
+    (faultless (app_of c.in-Ok.line) (fleet c.args.names) c.in-Ok.ensures refl (map string_bytes c.args.words.now) c.in-Ok-try_get_matches_from.ensures.kinds)
 
 pub returns : goal.returns
 returns c =
-    stops_for_built (app_of c.in-Ok.command) (fleet c.args.names) (map string_bytes c.args.words.now) (kind_of c.in-Err.error) c.stop_of.result
-    c.in-Ok.ensures refl c.in-Err.ensures.passes c.in-Err.ensures.kinds c.stop_of.ensures
+    stops_by (app_of c.in-Ok.line) (fleet c.args.names) c.in-Ok.ensures refl (map string_bytes c.args.words.now)
+    (kind_of c.in-Err.error) c.stop_of.result c.in-Err.ensures.kinds c.stop_of.ensures

@@ -1,5 +1,5 @@
 -- Rows of levels that climb.
-use Rattle.fleet_verify.proofs.Words.{◌≡◌, ◌≢◌, ℕ, zero, suc, ◌+◌, ◌-◌, ◌<◌, ◌≤◌, List, [], ◌∷◌, ◌++◌, length, get_or, set, slice_index, refl, sym, ap, ◌∙◌, subst, arith, inl, inr, All, get_or-set_same, get_or-set_other, length-set, length-append, get_or_default, Bool, IsTrue, Cell, Place, Await, place_of, stepped, Program, moves, path, MAX_COORDINATE, cases_lt, Ground, IsGround, is_passable}
+use Rattle.fleet_verify.proofs.Words.{◌≡◌, ◌≢◌, ℕ, zero, suc, ◌+◌, ◌-◌, ◌<◌, ◌≤◌, List, [], ◌∷◌, ◌++◌, length, get_or, set, slice_index, refl, sym, ap, ◌∙◌, subst, arith, inl, inr, All, get_or-set_same, get_or-set_other, length-set, length-append, get_or_default, Bool, IsTrue, Cell, Place, Await, place_of, stepped, Program, moves, path, MAX_COORDINATE, cases_lt, Ground, IsGround, is_passable, ℤ, pos, negsuc, passable_at, true, false}
 use Rattle.std.proofs.lemmas.List.{set-get_or}
 use Rattle.std.proofs.Math.Seq.{get_or-append_seam}
 use Rattle.std.proofs.Math.Nat.{add-zero}
@@ -13,6 +13,9 @@ use Rattle.fleet_verify.specs.declared.ahead.Needs.{Needs}
 use Rattle.fleet_verify.specs.declared.ahead.Runner.{Runner}
 use Rattle.fleet_verify.specs.LastVisits.{kept_at}
 use Rattle.fleet_verify.specs.Ahead.{AddsLevel, IsAhead, IsAheadBy, IsArrival, IsRunner, AreNeeds, IsKeptBack, climbed_in, count_in, stand}
+use Rattle.fleet_verify.specs.Walk.{IsStop, IsStopAt, LeavesGround}
+use Rattle.fleet_verify.specs.declared.unheld_run.Stop.{Stop}
+use Rattle.fleet_verify.specs.declared.unheld_run.Stop.TheVariants.{OutOfMemory, OffGround}
 use Rattle.fleet_verify.proofs.NextLevel.{place_at, leads_on}
 use Rattle.fleet_verify.proofs.PieceLaws.{row_last, push_same}
 
@@ -226,3 +229,20 @@ within_numbers g sizes c ground = (
     | inr ge ↦ absurd (false≢true (sym (off_map g c.x c.y sizes (inr ge)) ∙ ground))
   ],
 )
+
+-- a passable place is a cell
+cell_of : (g : Ground) (x y : ℤ) → passable_at g x y ≡ true → (c : Cell) × (place_of c ≡ record { x = x; y = y })
+cell_of g (pos x) (pos y) h = (record { x = x; y = y }, refl)
+cell_of g (pos x) (negsuc y) h = absurd (false≢true h)
+cell_of g (negsuc x) y h = absurd (false≢true h)
+
+-- the one cell that this place of a path can be is not passable
+pub off_ground : (g : Ground) (p : Program) (i n : ℕ) (q : Place) (cell : Cell) → i < length p → n ≤ moves p i → q ≡ path p i n → ((c : Cell) → place_of c ≡ q → cell ≡ c) → is_passable g (place_of cell) ≡ false → LeavesGround (is_passable g) p
+off_ground g p i n q cell agent within there only blocked steps =
+    let right : is_passable g q ≡ true = subst (λ (r : Place). is_passable g r ≡ true) (sym there) (steps i n agent within) in
+    let is = cell_of g q.x q.y right in
+    false≢true (sym blocked ∙ (ap (λ (c : Cell). is_passable g (place_of c)) (only is.0 is.1) ∙ (ap (is_passable g) is.1 ∙ right)))
+
+pub stop_on : (g : Ground) (p : Program) (i n : ℕ) (q : Place) (cell : Cell) → i < length p → n ≤ moves p i → q ≡ path p i n → ((c : Cell) → place_of c ≡ q → cell ≡ c) → (e : Stop) → IsStopAt (is_passable g) (place_of cell) e → IsStop (is_passable g) p e
+stop_on g p i n q cell agent within there only OutOfMemory at = tt
+stop_on g p i n q cell agent within there only OffGround at = off_ground g p i n q cell agent within there only at

@@ -1,5 +1,5 @@
 -- Actions finished in any order that respects needs: their levels, and the visits that have begun.
-use Rattle.std.specs.Prelude.{◌≡◌, ◌≢◌, ℕ, ◌+◌, ◌-◌, ◌^◌, ◌<◌, ◌≤◌, ◌⊎◌, Bool, Some, None, List, [], ◌∷◌, ◌++◌, length, get_or, set, slice_index, Option, Contains, IsTrue}
+use Rattle.std.specs.Prelude.{◌≡◌, ◌≢◌, ℕ, ◌+◌, ◌-◌, ◌^◌, ◌<◌, ◌≤◌, ◌⊎◌, Bool, Some, None, List, [], ◌∷◌, ◌++◌, length, get_or, set, slice_get, slice_index, Option, Contains, IsTrue}
 use Rattle.std.specs.List.{AllPairs}
 use Rattle.fleet_model.specs.declared.limits.TheConstants.{MAX_MOVES_IN_ALL}
 use Rattle.fleet_model.specs.declared.geometry.Cell.{Cell}
@@ -125,6 +125,10 @@ pub record IsRunner (passable : Place → Bool) (p : Program) (offset : (i finis
 -- the await is one of those of action n of agent i, or of agent i itself
 abbrev pub IsAwaitOrOwn : Program → (i n : ℕ) → Await → Type 0
 IsAwaitOrOwn p i n w = (w.agent ≡ i) ⊎ Contains (awaits_of p i n) w
+
+-- the last of the first k awaits of action n of agent i, or for none of them one of agent i itself
+abbrev pub IsLatest : Program → (i n k : ℕ) → Await → Type 0
+IsLatest p i n k w = ((k ≡ 0) × (w ≡ record { agent = i; count = 0 })) ⊎ (slice_get (awaits_of p i n) (k - 1) ≡ Some w)
 
 -- what the action of agent i after so many says, all of whose awaits are met, and where the next action stands
 pub record AreNeeds (p : Program) (offset : (i finished k : ℕ) → ℕ) (rows : List (List ℕ)) (i finished : ℕ) (needs : Needs) : Type 0 where

@@ -1,5 +1,5 @@
 -- The run without holds, and the positions of the agents in the order in which it reaches them.
-use Rattle.std.specs.Prelude.{◌≡◌, ℕ, zero, suc, ◌+◌, ◌<◌, ◌≤◌, Bool, List, [], ◌++◌, length, map, filter, slice_index, Contains, All, IsTrue, EachIndex}
+use Rattle.std.specs.Prelude.{◌≡◌, ℕ, zero, suc, ◌+◌, ◌<◌, ◌≤◌, Bool, List, [], ◌++◌, length, map, filter, slice_index, Contains, All, IsTrue, EachIndex, false}
 use Rattle.fleet_model.specs.declared.program.Await.{Await}
 use Rattle.fleet_model.specs.declared.program.Visit.{Visit}
 use Rattle.fleet_model.specs.Program.{Program, moves, awaits_of}
@@ -71,6 +71,11 @@ pub record IsAtStart (p : Program) (run : UnheldRun) : Type 0 where
 abbrev pub IsStop : (Place → Bool) → Program → Stop → Type 0
 IsStop passable p OutOfMemory = Unit {0}
 IsStop passable p OffGround = LeavesGround passable p
+
+-- the place is no passable ground, unless memory ran out
+abbrev pub IsStopAt : (Place → Bool) → Place → Stop → Type 0
+IsStopAt passable q OutOfMemory = Unit {0}
+IsStopAt passable q OffGround = passable q ≡ false
 
 -- the run without holds to its end, with all visits that begin in it, each of them on passable ground
 pub record IsRunOnGround (passable : Place → Bool) (p : Program) (run : UnheldRun) : Type 0 where

@@ -10,10 +10,11 @@ ghost use Rattle.fleet_model.specs.Program.{Program, start_of, moves, awaits_of,
 ghost use Rattle.fleet_model.specs.Visit.{IsVisit, ComesAfterByAwait, leaving};
 ghost use Rattle.fleet_grid.specs.Ground.{is_passable};
 ghost use Rattle.fleet_model.specs.Chain.{awaited};
-ghost use Rattle.fleet_verify.specs.Ahead.{IsRanked, IsAhead, IsNext, IsRunner, AreNeeds, AddsLevel, AreDone, AreKeptOnGround, AreEarlier, IsAwaitOrOwn, IsKeptBack, IsStopped, IsBareNoMore, HaveFinished, count_in, stand, level_in, climbed_in};
+ghost use Rattle.fleet_verify.specs.Ahead.{IsRanked, IsAhead, IsNext, IsRunner, AreNeeds, AddsLevel, AreDone, AreKeptOnGround, AreEarlier, IsAwaitOrOwn, IsLatest, IsKeptBack, IsStopped, IsBareNoMore, HaveFinished, count_in, stand, level_in, climbed_in};
 ghost use Rattle.fleet_verify.specs.Rising.{climbed, last_level};
 ghost use Rattle.fleet_verify.specs.Faults.{HasStarts};
 ghost use Rattle.fleet_verify.specs.LastVisits.{kept_at};
+ghost use Rattle.fleet_verify.specs.Walk.{IsStop, IsStopAt};
 ghost use Rattle.fleet_verify.specs.Chained.{IsChained};
 ghost use Rattle.fleet_verify.specs.Outlook.{IsFound, IsOutlook};
 
@@ -86,7 +87,8 @@ pub struct Needs {
 /// An await of the agent itself, as none has.
 #[inline(always)]
 fn no_await(agent: u16) -> Await
-    ensures { result.agent ≡ agent }
+    ensures agent { result.agent ≡ agent }
+    ensures count { result.count ≡ 0 }
 {
     Await { agent, count: 0 }
 }
@@ -107,6 +109,8 @@ fn needs_of<P: ProgramView>(
         runner }
     ensures needs { IfOk result (AreNeeds (P.program program.now) (P.offset program.now)
         (climbed_in rows.now.items agent runner.finished) agent runner.finished) }
+    ensures latest { IfOk result (λ n. IsLatest (P.program program.now) agent (runner.finished + 1)
+        (length (awaits_of (P.program program.now) agent (runner.finished + 1))) n.latest) }
     ensures agent { IfErr result (λ w. w.agent < length (P.program program.now)) }
     ensures waits { IfErr result (IsKeptBack (P.program program.now)
         (climbed_in rows.now.items agent runner.finished) agent (runner.finished + 1)) }
@@ -171,6 +175,7 @@ fn finish_next<P: ProgramView>(
         (P.offset program.now) ahead.new agent) }
     ensures finished { IfOk result (λ r. r.finished ≡ runner.finished + 1) }
     ensures level { IfOk result (λ r. r.level ≡ needs.level) }
+    ensures stop { IfErr result (IsStop (is_passable grid.now) (P.program program.now)) }
 {
     let _agents = program.agents();
     let number = arrive(program, grid, ahead, agent, runner, needs)?;
@@ -253,6 +258,7 @@ fn arrive<P: ProgramView>(
         → AreAddedBy (P.program program.now)
         (visits ++ record { agent = agent; position = runner.finished + 1 } ∷ [])
         (kept_at ahead.new.last) ahead.new.pairs.items) }
+    ensures stop { IfErr result (IsStop (is_passable grid.now) (P.program program.now)) }
 {
     // What these calls ensure is known: a well-formed program, and a map that ends before the numbers of a cell do.
     let _agents = program.agents();
@@ -307,6 +313,7 @@ fn enter<P: ProgramView>(
     ensures pairs { OnOk result (IsOpenNext (ComesAfterByAwait (P.program program.now))
         (kept_at last.old placed.cell) placed pairs.old.items pairs.new.items) }
     ensures cell { IsCell placed.cell }
+    ensures stop { IfErr result (IsStopAt (is_passable grid.now) (place_of placed.cell)) }
 {
     let _agents = program.agents();
     match last.replace(placed.cell, placed.visit)? {
@@ -396,7 +403,8 @@ fn open_at<P: ProgramView>(
 
 /// All agents on their starts, if these are passable.
 fn begin<P: ProgramView>(alloc: Global, program: &P, grid: &Grid) -> Result<Ahead, Stop>
-    ensures { IfOk result (IsAhead (is_passable grid.now) (P.program program.now)) }
+    ensures ahead { IfOk result (IsAhead (is_passable grid.now) (P.program program.now)) }
+    ensures stop { IfErr result (IsStop (is_passable grid.now) (P.program program.now)) }
 {
     let agents = program.agents();
     let visits = total_moves(program) + u32::from(agents);
@@ -469,6 +477,8 @@ fn bare_needs<P: ProgramView>(
     requires fits { runner.level < u32.MAX }
     ensures needs { IfSome result (AreNeeds (P.program program.now) (P.offset program.now)
         (climbed_in rows.now.items agent runner.finished) agent runner.finished) }
+    ensures latest { IfSome result (λ n. IsLatest (P.program program.now) agent (runner.finished + 1)
+        (length (awaits_of (P.program program.now) agent (runner.finished + 1))) n.latest) }
     ensures level { IfSome result (λ n. n.level ≡ runner.level + 1) }
     ensures none { IfNone result
         (1 ≤ length (awaits_of (P.program program.now) agent (runner.finished + 1))) }
@@ -522,6 +532,7 @@ fn run_bare<P: ProgramView>(
     ensures finished { IfOk result (λ r. runner.finished ≤ r.finished) }
     ensures rest { IfOk result (λ r. IsBareNoMore (P.program program.now)
         agent r.finished runner.level) }
+    ensures stop { IfErr result (IsStop (is_passable grid.now) (P.program program.now)) }
 {
     let moves = program.moves(agent);
     let may_be_high = u64::from(runner.level) + u64::from(moves) > u64::from(u32::MAX);
@@ -553,6 +564,7 @@ fn run_agent<P: ProgramView>(
         (λ a. a.agent < length (P.program program.now))) }
     ensures stopped { IfOk result (IsStopped (P.program program.now)
         ahead.new.rows.items agent) }
+    ensures stop { IfErr result (IsStop (is_passable grid.now) (P.program program.now)) }
 {
     let _agents = program.agents();
     let moves = program.moves(agent);
@@ -628,7 +640,8 @@ fn run_ahead<P: ProgramView>(
     ahead: &mut Ahead,
 ) -> Result<(), Stop>
     requires { IsAhead (is_passable grid.now) (P.program program.now) ahead.old }
-    ensures { OnOk result (IsAhead (is_passable grid.now) (P.program program.now) ahead.new) }
+    ensures ahead { OnOk result (IsAhead (is_passable grid.now) (P.program program.now) ahead.new) }
+    ensures stop { IfErr result (IsStop (is_passable grid.now) (P.program program.now)) }
 {
     let agents = program.agents();
     let most = 2 * total_moves(program) + u32::from(agents);
@@ -657,6 +670,7 @@ fn look_at<P: ProgramView>(
     ensures queue { OnOk result (queue.new ≡ queue.old) }
     ensures stopped { OnOk result ((w : Option Await)
         × IsStopped (P.program program.now) ahead.new.rows.items agent w) }
+    ensures stop { IfErr result (IsStop (is_passable grid.now) (P.program program.now)) }
 {
     if let Some(awaited) = run_agent(program, grid, ahead, agent)? {
         queue.wait(agent, awaited);
@@ -753,7 +767,8 @@ fn judge_ahead<P: ProgramView>(
 
 /// All agents, run on as far as their awaits allow.
 fn run_all<P: ProgramView>(alloc: Global, program: &P, grid: &Grid) -> Result<Ahead, Stop>
-    ensures { IfOk result (IsAhead (is_passable grid.now) (P.program program.now)) }
+    ensures ahead { IfOk result (IsAhead (is_passable grid.now) (P.program program.now)) }
+    ensures stop { IfErr result (IsStop (is_passable grid.now) (P.program program.now)) }
 {
     let mut ahead = begin(alloc, program, grid)?;
     run_ahead(alloc, program, grid, &mut ahead)?;

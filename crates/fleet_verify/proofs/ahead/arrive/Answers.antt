@@ -1,11 +1,11 @@
-use Rattle.fleet_verify.proofs.Words.{◌+◌, ◌∙◌, sym, ap, subst, arith, IsTrue, Cell, is_move, place_of, stepped, is_passable, Visit}
+use Rattle.fleet_verify.proofs.Words.{◌+◌, ◌∙◌, sym, ap, subst, arith, IsTrue, Cell, is_move, place_of, stepped, is_passable, Visit, err_from_is_err_and}
 use Rattle.fleet_verify.specs.declared.order.PlacedVisit.{PlacedVisit}
 use Rattle.fleet_verify.specs.Ahead.{count_in, climbed_in, stand}
 use Rattle.fleet_verify.specs.LastVisits.{kept_at}
 use Rattle.fleet_verify.specs.Order.{numbered_cell}
 use Rattle.fleet_verify.proofs.Begin.{begun_kept, begun_earlier}
-use Rattle.fleet_verify.proofs.NextLevel.{enters_by, visit_by}
-use Rattle.fleet_verify.proofs.Climbing.{runner_count, runner_ground, arrival_by, arrival_here, within_numbers}
+use Rattle.fleet_verify.proofs.NextLevel.{enters_by, leads_on, visit_by}
+use Rattle.fleet_verify.proofs.Climbing.{stop_on, runner_count, runner_place, runner_ground, arrival_by, arrival_here, within_numbers}
 use Rattle.fleet_verify.proofs.Ordered.{added_visit, added_stay}
 use Rattle.fleet_verify.proofs.ahead.arrive.Goals as goal
 
@@ -63,3 +63,13 @@ returns-in-Dwell-clause-added g c =
     let p = g.P.ProgramView.program c.args.program.now in
     let v : Visit = record { agent = c.args.agent; position = c.args.runner.finished + 1 } in
     added_stay p v (kept_at c.args.ahead.now.last) c.args.ahead.now.pairs.items (enters_by p v c.args.needs (arrival_by c.requires.runner c.requires.left c.requires.needs) ∙ ap is_move c.in-Dwell.is)
+
+pub returns-in_err-enter-in-Go-clause-stop : goal.returns-in_err-enter-in-Go-clause-stop
+returns-in_err-enter-in-Go-clause-stop g c =
+    let p = g.P.ProgramView.program c.args.program.now in
+    let r = c.args.runner in
+    let step = c.args.needs.step in
+    let there = leads_on p c.args.agent r.finished step (place_of (stand r)) c.requires.needs.step (runner_place c.requires.runner) in
+    let q = err_from_is_err_and c.from_residual.result c.from_residual.ensures.1 in
+    rw (q.1, q.2) (stop_on c.args.grid.now p c.args.agent (r.finished + 1) (stepped (place_of (stand r)) step) c.numbered_cell-cell.result c.requires.runner.agent (omega (arith, c.requires.left))
+    there (λ d e. c.numbered_cell-cell.ensures ∙ c.next_number-next.ensures.cell d e) c.in_err-enter-in-Go.field-0.0 c.in_err-enter-in-Go.ensures.stop)

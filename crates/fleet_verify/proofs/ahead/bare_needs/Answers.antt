@@ -20,7 +20,7 @@ returns-in-Step-clause-needs g c =
       level = least_ends p (climbed_in rows i r.finished) i (r.finished + 1) 0 r.level
           (least_begins p (climbed_in rows i r.finished) i (r.finished + 1) r.level (omega (arith, count)) (next.level ∙ ap last_level (sym (own_row rows i r.finished lt))))
           (omega (arith, count)) (omega (arith, none)) _ (omega arith);
-      latest = inl c.no_await.ensures;
+      latest = inl c.no_await.ensures.agent;
       step = said.1;
       after = rw c.in-Step.is at c.read-reading.ensures.after;
     }

@@ -1,5 +1,5 @@
-use Rattle.fleet_verify.proofs.Words.{◌≡◌, ◌-◌, ◌+◌, ◌<◌, ◌∙◌, ℕ, List, length, slice_index, refl, sym, ap, arith, inl, inr, slice_get_within, get_or_from_slice_get, awaited, awaits_of, few_awaits_of}
-use Rattle.fleet_verify.specs.Ahead.{level_in, count_in, climbed_in}
+use Rattle.fleet_verify.proofs.Words.{◌≡◌, ◌-◌, ◌+◌, ◌<◌, ◌∙◌, ℕ, List, length, slice_index, refl, sym, ap, arith, inl, inr, slice_get_within, get_or_from_slice_get, awaited, awaits_of, few_awaits_of, slice_get, subst}
+use Rattle.fleet_verify.specs.Ahead.{IsLatest, level_in, count_in, climbed_in}
 use Rattle.fleet_verify.specs.Rising.{last_level}
 use Rattle.fleet_verify.proofs.Waiting.{await_agent, await_count, await_other}
 use Rattle.fleet_verify.proofs.NextLevel.{least_begins, least_max, least_ends}
@@ -17,7 +17,8 @@ instructions-init g c =
       within = omega arith;
       least = least_begins p (climbed_in rows c.args.agent c.args.runner.finished) c.args.agent (c.args.runner.finished + 1) c.from-least.result (omega (arith, count))
           (c.from-least.ensures ∙ next.level ∙ ap last_level (sym (own_row rows c.args.agent c.args.runner.finished lt)));
-      latest = inl c.no_await-latest.ensures;
+      latest = inl c.no_await-latest.ensures.agent;
+      last = inl (refl, λ i. record { agent = c.no_await-latest.ensures.agent i; count = c.no_await-latest.ensures.count i });
       at = next.at;
     }
 
@@ -94,6 +95,7 @@ instructions-preserved g c =
       within = omega (arith, within);
       least = least_max p (climbed_in rows i c.args.runner.finished) i n c.instructions.k c.instructions.least c.instructions.invariant.least w here found.met.first (omega (arith, found.met.last, long)) (level_in rows (awaited w)) level c.in-Some.level found.greater;
       latest = inr (c.instructions.k, within, get_or_from_slice_get (awaits_of p i n) c.instructions.k w w here);
+      last = let back : c.instructions.k + 1 - 1 ≡ c.instructions.k = omega arith in inr (ap (slice_get (awaits_of p i n)) back ∙ here);
       at = rw c.in-Await.is at c.read-reading.ensures.after;
     }
 
@@ -103,3 +105,9 @@ overflow_add-k g c =
     let n = c.args.runner.finished + 1 in
     let here = rw c.in-Await.is at c.read-reading.ensures.instruction in
     omega (arith, few_awaits_of p c.args.agent n c.requires.next.agent c.agents-agents.ensures.well_formed, slice_get_within (awaits_of p c.args.agent n) c.instructions.k c.in-Await.awaited here)
+
+pub returns-in-Step-clause-latest : goal.returns-in-Step-clause-latest
+returns-in-Step-clause-latest g c =
+    let p = g.P.ProgramView.program c.args.program.now in
+    let said = rw c.in-Step.is at c.read-reading.ensures.instruction in
+    subst (λ (k : ℕ). IsLatest p c.args.agent (c.args.runner.finished + 1) k c.instructions.latest) said.0 c.instructions.invariant.last

@@ -14,7 +14,10 @@ use Rattle.fleet_model.proofs.Tick.{length-run, standing_at_tick, standing_at_op
 use Rattle.fleet_verify.proofs.RunCounts.{start_reached, tick_reached}
 use Rattle.fleet_verify.proofs.UnderWay.{on_path}
 use Rattle.fleet_dispatch.specs.Report.{Words, Counts, count_of}
-use Rattle.fleet_dispatch.specs.Dispatch.{AreTaken, counts_by, configuration_at}
+use Rattle.fleet_dispatch.specs.Dispatch.{AreTaken, Left, counts_by, configuration_at, reports_in}
+use Rattle.fleet_dispatch.specs.Replay.{IsReplayed}
+use Rattle.fleet_dispatch.specs.Standing.{log_course}
+use Rattle.fleet_dispatch.specs.declared.standing.TheConstants.{MOST_AHEAD}
 use Rattle.fleet_dispatch.specs.Lead.{none_done, counts_at}
 use Rattle.fleet_dispatch.proofs.Leading.{long, grows, limited, may_told, told_needs}
 
@@ -162,3 +165,8 @@ module _ (p : Program) (k : ℕ) (reports : List Words) (taken : AreTaken p k (n
       ext_get_or (standing_at [] 0) s.at (configuration_at p counts) (agents ∙ sym (length-map-range_with_len (λ j. record { place = path p j (count_of counts j); count = count_of counts j }) 0 (length p))) each in
       let all : counts ≡ counts_by (none_done p) reports = ap (counts_by (none_done p)) (take_all (length reports) reports (omega arith)) in
       subst (λ (x : Counts). IsReached p (configuration_at p x)) all (subst (IsReached p) same s.reached)
+
+-- so it is after the reports of a log
+pub replay_reached : (p : Program) (log : List ℕ) (past : Left) → IsReplayed (log_course p) log past → IsReached p (configuration_at p past.done)
+replay_reached p log past (inl h) = rw (ap (λ (z : Left). z.done) h.1.2) (stood p MOST_AHEAD (reports_in h.1.0) h.1.1.taken)
+replay_reached p log past (inr h) = rw (ap (λ (z : Left). z.done) h.1.2) (stood p MOST_AHEAD (reports_in h.1.0) h.1.1.taken)

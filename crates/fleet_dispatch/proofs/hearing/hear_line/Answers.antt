@@ -1,6 +1,8 @@
-use Rattle.std.proofs.Common.{◌≡◌, ◌∙◌, List, ℕ, take, ap, sym, subst}
+use Rattle.std.proofs.Common.{◌≡◌, ◌∙◌, List, ℕ, length, take, ap, sym, subst, arith}
+use Rattle.std.proofs.lemmas.List.Quantifiers.{position-Some}
 use Rattle.std.specs.Io.KnownBytes.{prepend_known}
 use Rattle.std.specs.Str.Lines.{strip_carriage_return}
+use Rattle.fleet_text.specs.Text.{is_lf}
 use Rattle.fleet_dispatch.specs.ReportText.{line_of, heard_line}
 use Rattle.fleet_dispatch.specs.Stream.{GivesLine}
 use Rattle.fleet_dispatch.specs.Window.{window_rest}
@@ -27,3 +29,13 @@ returns g c =
     subst (λ (xs : List ℕ). GivesLine c.args.form (prepend_known (window_rest c.args.window.now) (g.R.Read.remaining c.args.input.now)) (prepend_known xs left) said) (sym c.pass.ensures)
     (heard c.args.form _ read left c.in-Some.end said c.in_ok-found.ensures.0 (c.in_ok-found.ensures.1.0 ∙ c.in-Some.is)
     (ap (line_of c.args.form) (sym line) ∙ c.in-Some-read_line.ensures))
+
+pub overflow_add-end : goal.overflow_add-end
+overflow_add-end g c =
+    let within = (position-Some is_lf (window_rest c.find_line.new.window) c.in-Some.end 0 (c.in_ok-found.ensures.1.0 ∙ c.in-Some.is)).0 in
+    omega (arith, within, ap length c.rest.ensures)
+
+pub pass-requires : goal.pass-requires
+pass-requires g c =
+    let within = (position-Some is_lf (window_rest c.find_line.new.window) c.in-Some.end 0 (c.in_ok-found.ensures.1.0 ∙ c.in-Some.is)).0 in
+    omega (arith, within)

@@ -1,5 +1,7 @@
-use Rattle.std.proofs.Common.{◌+◌, ◌∙◌, take, drop, refl, ap, sym}
+use Rattle.std.proofs.Common.{◌+◌, ◌∙◌, take, drop, refl, ap, sym, arith}
+use Rattle.std.proofs.lemmas.List.Quantifiers.{position-Some}
 use Rattle.std.specs.Str.Lines.{strip_carriage_return}
+use Rattle.fleet_text.specs.Text.{is_lf}
 use Rattle.fleet_dispatch.specs.ReportText.{line_of}
 use Rattle.fleet_dispatch.proofs.replay.LogFloorFloor.hear.Goals as goal
 
@@ -20,3 +22,8 @@ returns-in_default-read_line c =
       ),
       refl,
     )
+
+pub overflow_add-self : goal.overflow_add-self
+overflow_add-self c =
+    let within = (position-Some is_lf c.args.self.now.rest.now c.in-Some.end 0 (sym c.end_in.ensures ∙ c.in-Some.is)).0 in
+    omega (arith, within)

@@ -1,6 +1,6 @@
--- The costs of critical paths: that of an action from those of what it directly needs.
-use Rattle.fleet_needs.proofs.Words.{◌≡◌, ℕ, zero, suc, ◌+◌, ◌*◌, ◌≤◌, List, [], ◌∷◌, refl, ap, sym, subst, arith, inl, inr, ◌⊎◌, sum_by, ActionId, Program, AreInRange, IsAction, DirectlyNeeds, ChainFrom, IsCriticalCost, need_action, but_last, ends_alone, ends_dearer, IsNotedCost, IsFinishedBy, MAX_COST}
-use Rattle.fleet_needs.proofs.Free.{needs_before, none_started}
+-- The costs of critical paths: that of an action from those of what it directly needs, one after another; and levels.
+use Rattle.fleet_needs.proofs.Words.{◌≡◌, ◌≢◌, ℕ, ◌+◌, ◌*◌, ◌<◌, ◌≤◌, List, [], ◌∷◌, length, set, slice_index, refl, ap, sym, subst, ◌∙◌, arith, inl, inr, ◌⊎◌, mul-le, sum_by, get_or-set_same, get_or-set_other, ActionId, Program, total_moves, AreInRange, IsAction, DirectlyNeeds, ChainFrom, IsCriticalCost, IsNumbering, unit_cost, need_action, but_last, ends_alone, ends_dearer, ends_within, ArePlacesOf, ActionPlaces, place_of_action, IsNumberedTo, IsNotedCost, AreNotedCosts, CostsByPlace, AreCriticalCosts, AreLevels, critical_cost, value_at, MAX_COST}
+use Rattle.fleet_needs.proofs.Placed.{place_apart, place_within}
 
 module _ (p : Program) (cost : ActionId → ℕ) where
   -- no chain that ends with the action costs more
@@ -37,21 +37,44 @@ module _ (p : Program) (cost : ActionId → ℕ) where
   }
 
   -- as it is noted
-  pub noted_next : AreInRange p → (b : ActionId) → IsAction p b → (m : ℕ) (value : ActionId → ℕ) → ((d : ActionId) → DirectlyNeeds p b d → IsNotedCost p cost d (value d)) → ((d : ActionId) → DirectlyNeeds p b d → value d ≤ m)
-      → (m ≡ 0) ⊎ ((d : ActionId) × DirectlyNeeds p b d × IsCriticalCost p cost d m) → (own : ℕ) → own ≡ cost b → own ≤ MAX_COST → IsNotedCost p cost b (m + own)
-  noted_next range b act m value noted greatest some own is most = record {
+  pub noted_next : (number : ActionId → ℕ) → IsNumbering p number → AreInRange p → (b : ActionId) → IsAction p b → (m : ℕ) (value : ActionId → ℕ) → ((d : ActionId) → DirectlyNeeds p b d → IsNotedCost p cost number d (value d))
+      → ((d : ActionId) → DirectlyNeeds p b d → value d ≤ m) → (m ≡ 0) ⊎ ((d : ActionId) × DirectlyNeeds p b d × IsCriticalCost p cost d m) → (own : ℕ) → own ≡ cost b → own ≤ MAX_COST → IsNotedCost p cost number b (m + own)
+  noted_next number rising range b act m value noted greatest some own is most = record {
     critical = subst (λ (k : ℕ). IsCriticalCost p cost b (m + k)) (sym is) (critical_from value b m act (λ d need. (noted d need).critical) greatest some);
-    few = few;
+    few = elim some [
+      | inl e ↦ omega (arith, e, most, times 0 (rising.positive b act))
+      | inr d ↦ omega (arith, (noted d.0 d.1).few, one_cost d.0 m (value d.0) d.2 (noted d.0 d.1).critical, most, times (number d.0) (rising.rising b d.0 act (need_action p range b d.0 act d.1) d.1))
+    ];
   }
     where
-      needs_cost : (t : ℕ) → IsFinishedBy p (suc t) b → m ≤ t * MAX_COST
-      needs_cost t done = elim some [
-        | inl e ↦ omega (arith, e)
-        | inr d ↦
-            let before = needs_before p t b d.0 act (need_action p range b d.0 act d.1) done d.1 in
-            omega (arith, (noted d.0 d.1).few t before, one_cost d.0 m (value d.0) d.2 (noted d.0 d.1).critical)
-      ]
+      times : (n : ℕ) → n < number b → (n + 1) * MAX_COST ≤ number b * MAX_COST
+      times n l = mul-le (n + 1) MAX_COST (number b) MAX_COST (omega (arith, l)) (omega arith)
 
-      few : (t : ℕ) → IsFinishedBy p t b → m + own ≤ t * MAX_COST
-      few zero done = absurd (none_started p b act done)
-      few (suc t) done = omega (arith, needs_cost t done, most)
+  -- the entries of one action more
+  pub noted_more : (number : ActionId → ℕ) (places : ActionPlaces) → ArePlacesOf p places → (Old New : ActionId → Type 0) (here : ActionId) → IsAction p here → ((a : ActionId) → IsAction p a → New a → Old a ⊎ (a ≡ here)) → (Old here → ⊥)
+      → (x : ℕ) → x ≡ place_of_action places here → (old : List ℕ) → length old ≡ total_moves p → (v : ℕ) → IsNotedCost p cost number here v → AreNotedCosts p cost number places Old old → AreNotedCosts p cost number places New (set old x v)
+  noted_more number places right Old New here is split not_before x place old all v noted before a k done = elim (split a k done) [
+    | inl was ↦
+        let ne : place_of_action places a ≢ x = (λ same. place_apart p places right a here k is (λ e. not_before (subst Old e was)) (same ∙ place)) in
+        subst (IsNotedCost p cost number a) (sym (get_or-set_other old x (place_of_action places a) v 0 ne)) (before a k was)
+    | inr same ↦
+        let there : place_of_action places a ≡ x = ap (place_of_action places) same ∙ sym place in
+        let within : x < length old = omega (arith, place_within p places right here is, all, place) in
+        let entry : value_at places (set old x v) a ≡ v = ap (slice_index (set old x v)) there ∙ get_or-set_same old x v 0 within in
+        subst (IsNotedCost p cost number a) (sym entry) (subst (λ (y : ActionId). IsNotedCost p cost number y v) (sym same) noted)
+  ]
+
+-- where each action costs one, these are levels
+pub levels_are : (p : Program) → AreInRange p → (m : CostsByPlace) → AreCriticalCosts p unit_cost m → AreLevels p m
+levels_are p range m h = record {
+  range = range;
+  entries = h.entries;
+  rising = record {
+    positive = λ a is. own_cost p unit_cost a (critical_cost m a) is (h.each a is);
+    rising = λ a b is needed need. (let k = (h.each a is).most (critical_cost m b + 1) (ends_dearer p unit_cost (critical_cost m b) b a (h.each b needed).some is need) in omega (arith, k));
+  };
+}
+
+-- .. and none is greater than the greatest number
+pub levels_upto : (p : Program) (most : ℕ) → IsNumberedTo p most → (m : CostsByPlace) → AreCriticalCosts p unit_cost m → (a : ActionId) → IsAction p a → critical_cost m a ≤ most
+levels_upto p most f m h a is = omega (arith, ends_within p f.number f.rising (critical_cost m a) a (h.each a is).some, f.upto a is)

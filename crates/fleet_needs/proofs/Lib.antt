@@ -1,6 +1,5 @@
 pub mod Words
 pub mod Lanes
-pub mod Free
 pub mod Joining
 pub mod Placed
 mod Firsts
@@ -16,7 +15,6 @@ pub mod GatheredAll
 pub mod LatestPiece
 pub mod AwaitOrder
 mod Settling
-mod Ticking
 pub mod ByLevel
 pub mod RowFlags
 pub mod Flagged

@@ -1,12 +1,9 @@
 -- Agents that go on as far as their awaits allow: that each step is right, and that they come to the end.
-use Rattle.fleet_needs.proofs.Words.{◌≡◌, ℕ, zero, suc, ◌+◌, ◌-◌, ◌*◌, ◌<◌, ◌≤◌, List, [], ◌∷◌, length, take, max, cond, set, slice_index, get_or, refl, sym, ap, subst, ◌∙◌, arith, inl, inr, ◌⊎◌, replicate, slice_get, nat_lt, Some, cases_lt, cases_eq, lt-ltb, le-ltb, mul-le, get_or-set_same, get_or-set_other, set-set, set-get_or, take_all, length-set, get_or-replicate, sum_by-take-le, slice_get_within, get_or_from_slice_get, slice_get-get_or, ActionId, Await, Program, moves, actions_of, awaits_of, awaits_before, agent_awaits, total_moves, AreInRange, IsAction, DirectlyNeeds, IsCriticalCost, awaited, Action, need_action, actions_more, moves_more, ArePlacesOf, place_of_action, EndsInTime, IsNotedCost, AreNotedCosts, value_at, Walked, after, next_in, IsGreatestTo, IsStage, IsReadyStage, HasAll, IsCostWalk, HaveGrown, IsUnmet, IsGoal, HasFirstPlace, stage_in, no_stage, gone_on, rested, Stage, Standing, MAX_COST}
+use Rattle.fleet_needs.proofs.Words.{◌≡◌, ℕ, zero, suc, ◌+◌, ◌-◌, ◌*◌, ◌<◌, ◌≤◌, List, [], ◌∷◌, length, take, max, cond, set, slice_index, get_or, refl, sym, ap, subst, ◌∙◌, arith, inl, inr, ◌⊎◌, replicate, slice_get, nat_lt, Some, cases_lt, cases_eq, lt-ltb, le-ltb, mul-le, get_or-set_same, get_or-set_other, set-set, set-get_or, take_all, length-set, get_or-replicate, sum_by-take-le, slice_get_within, get_or_from_slice_get, slice_get-get_or, ActionId, Await, Program, moves, actions_of, awaits_of, awaits_before, agent_awaits, total_moves, IsAction, DirectlyNeeds, IsCriticalCost, awaited, Action, need_action, actions_more, moves_more, ArePlacesOf, place_of_action, IsNumberedTo, IsNotedCost, AreNotedCosts, value_at, Walked, after, next_in, IsGreatestTo, IsStage, IsReadyStage, HasAll, IsCostWalk, HaveGrown, IsUnmet, IsOpen, HasFirstPlace, stage_in, no_stage, gone_on, rested, Stage, Standing, MAX_COST, MAX_LEVEL, own_reach, Reaches-rises, get_or_append_left, get_or_push, ◌++◌, length_push}
 use Rattle.fleet_needs.specs.Order.{IsCounted}
-use Rattle.fleet_needs.specs.declared.finish_order.TheConstants.{MAX_TICKS}
-use Rattle.fleet_needs.proofs.Free.{count, needs_before, none_started, all_finished}
-use Rattle.fleet_needs.proofs.Costing.{noted_next}
+use Rattle.fleet_needs.proofs.Costing.{noted_next, noted_more}
 use Rattle.fleet_needs.proofs.Counting.{counted_here, counted_back}
 use Rattle.fleet_needs.proofs.Placed.{rising_to}
-use Rattle.fleet_needs.proofs.Ticking.{grows_to, noted_more}
 
 -- ---- how far an agent has come
 
@@ -135,12 +132,12 @@ module _ (p : Program) (cost : ActionId → ℕ) where
           | inr ne ↦ omega (arith, get_or-set_other w.counts i j m 0 ne)
         ]
 
-        pub on : (new : Walked) (s : Stage) → new.counts ≡ more → new.stages ≡ set w.stages i s → new.places ≡ w.places → m ≤ moves p i → IsStage p cost offset (IsCounted more) i m s → length new.costs ≡ total_moves p → AreNotedCosts p cost w.places (IsCounted more) new.costs
+        pub on : (new : Walked) (s : Stage) → new.counts ≡ more → new.stages ≡ set w.stages i s → new.places ≡ w.places → m ≤ moves p i → IsStage p cost offset (IsCounted more) i m s → length new.costs ≡ total_moves p → AreNotedCosts p cost h.numbered.number w.places (IsCounted more) new.costs
             → IsCostWalk p cost offset new
         on new s counts stages places within stage all noted =
             let same : record { counts = more; stages = set w.stages i s; places = w.places; costs = new.costs; narrow = new.narrow } ≡ new = (λ t. record { counts = sym counts t; stages = sym stages t; places = sym places t; costs = new.costs; narrow = new.narrow }) in
             subst (IsCostWalk p cost offset) same (record {
-              ends = h.ends;
+              numbered = h.numbered;
               all = record { counts = length-set w.counts i m ∙ h.all.counts; stages = length-set w.stages i s ∙ h.all.stages; places = h.all.places; costs = all };
               within = λ j l. elim (cases_eq j i) [
                 | inl e ↦ (let f : slice_index more j ≡ m = ap (slice_index more) e ∙ own_count in let o : moves p j ≡ moves p i = ap (moves p) e in omega (arith, f, o, within))
@@ -159,7 +156,7 @@ module _ (p : Program) (cost : ActionId → ℕ) where
       pub stopped : (s : Stage) → IsStage p cost offset (IsCounted w.counts) i n s → IsCostWalk p cost offset (gone_on w i n s w.costs)
       stopped s stage =
           let same : w.counts ≡ set w.counts i n = sym (set-get_or w.counts i 0) in
-          on n (omega arith) (gone_on w i n s w.costs) s refl refl refl (h.within i agent) (subst (λ (cs : List ℕ). IsStage p cost offset (IsCounted cs) i n s) same stage) h.all.costs (subst (λ (cs : List ℕ). AreNotedCosts p cost w.places (IsCounted cs) w.costs) same h.noted)
+          on n (omega arith) (gone_on w i n s w.costs) s refl refl refl (h.within i agent) (subst (λ (cs : List ℕ). IsStage p cost offset (IsCounted cs) i n s) same stage) h.all.costs (subst (λ (cs : List ℕ). AreNotedCosts p cost h.numbered.number w.places (IsCounted cs) w.costs) same h.noted)
 
       -- ---- an action more
 
@@ -173,28 +170,27 @@ module _ (p : Program) (cost : ActionId → ℕ) where
         here_within : i < length w.counts
         here_within = omega (arith, agent, h.all.counts)
 
-        pub finished : (m : ℕ) → IsNotedCost p cost (after i n) m → (x : ℕ) → x ≡ place_of_action w.places (after i n) → (s : Stage) → s.met ≡ 0 → s.at ≡ offset i (n + 1) 0 → awaits_before p i (n + 1) + s.left ≡ agent_awaits p i → s.greatest ≡ m
+        pub finished : (m : ℕ) → IsNotedCost p cost h.numbered.number (after i n) m → (x : ℕ) → x ≡ place_of_action w.places (after i n) → (s : Stage) → s.met ≡ 0 → s.at ≡ offset i (n + 1) 0 → awaits_before p i (n + 1) + s.left ≡ agent_awaits p i → s.greatest ≡ m
             → (new : Walked) → new.counts ≡ next → new.stages ≡ set w.stages i s → new.places ≡ w.places → new.costs ≡ set w.costs x m → IsCostWalk p cost offset new
         finished m here x place s met at rest greatest new counts stages places costs =
             on (n + 1) (omega arith) new s counts stages places (omega (arith, left))
             (bare_stage (IsCounted next) i (n + 1) s met at rest (subst (IsGreatestTo p cost (IsCounted next) (after i (n + 1)) 0) (sym greatest) (greatest_own (IsCounted next) i n m (counted_here w.counts (after i n) here_within refl) here.critical)))
-            (ap length costs ∙ length-set w.costs x m ∙ h.all.costs) (subst (AreNotedCosts p cost w.places (IsCounted next)) (sym costs)
-            (noted_more p w.places h.all.places (IsNotedCost p cost) (IsCounted w.counts) (IsCounted next) (after i n) here_action (λ a act. counted_back w.counts (after i n) here_within refl a) (λ old. omega (arith, old)) x place w.costs h.all.costs m here h.noted))
+            (ap length costs ∙ length-set w.costs x m ∙ h.all.costs) (subst (AreNotedCosts p cost h.numbered.number w.places (IsCounted next)) (sym costs)
+            (noted_more p cost h.numbered.number w.places h.all.places (IsCounted w.counts) (IsCounted next) (after i n) here_action (λ a act. counted_back w.counts (after i n) here_within refl a) (λ old. omega (arith, old)) x place w.costs h.all.costs m here h.noted))
 
         module _ (s : Stage) (ready : IsReadyStage p cost offset (IsCounted w.counts) i n s) (own : ℕ) (is : own ≡ cost (after i n)) (most : own ≤ MAX_COST) where
           -- what the action costs, by the greatest cost of what it needs
-          pub costs_here : IsNotedCost p cost (after i n) (s.greatest + own)
-          costs_here = noted_next p cost h.ends.range (after i n) here_action s.greatest (value_at w.places w.costs) known (λ d need. (ready.greatest.needs d need).1 (value_at w.places w.costs d) (known d need).critical) ready.greatest.some own is most
+          pub costs_here : IsNotedCost p cost h.numbered.number (after i n) (s.greatest + own)
+          costs_here = noted_next p cost h.numbered.number h.numbered.rising h.numbered.range (after i n) here_action s.greatest (value_at w.places w.costs) known (λ d need. (ready.greatest.needs d need).1 (value_at w.places w.costs d) (known d need).critical) ready.greatest.some own is most
             where
-              known : (d : ActionId) → DirectlyNeeds p (after i n) d → IsNotedCost p cost d (value_at w.places w.costs d)
-              known d need = h.noted d (need_action p h.ends.range (after i n) d here_action need) (ready.greatest.needs d need).0
+              known : (d : ActionId) → DirectlyNeeds p (after i n) d → IsNotedCost p cost h.numbered.number d (value_at w.places w.costs d)
+              known d need = h.noted d (need_action p h.numbered.range (after i n) d here_action need) (ready.greatest.needs d need).0
 
           -- that fits
-          pub costs_fit : s.greatest + own ≤ MAX_TICKS * MAX_COST
+          pub costs_fit : s.greatest + own ≤ MAX_LEVEL * MAX_COST
           costs_fit =
-              let few = costs_here.few h.ends.ticks (all_finished p h.ends.ticks h.ends.finish.holds (after i n) here_action) in
-              let times = mul-le h.ends.ticks MAX_COST MAX_TICKS MAX_COST h.ends.few (omega arith) in
-              omega (arith, few, times)
+              let times = mul-le (h.numbered.number (after i n)) MAX_COST MAX_LEVEL MAX_COST (h.numbered.upto (after i n) here_action) (omega arith) in
+              omega (arith, costs_here.few, times)
 
 -- ---- an agent that has no await left
 
@@ -231,57 +227,39 @@ module _ (p : Program) (cost : ActionId → ℕ) (offset : (i finished k : ℕ) 
 
 -- ---- that agents come to the end
 
-module _ (p : Program) where
-  -- the tick of the first t without holds that finishes the action, or t if a later one does
-  pub waits : ℕ → ActionId → ℕ
-  waits zero a = 0
-  waits (suc t) a = cond (nat_lt (count p t a.agent) a.number) (suc t) (waits t a)
+-- a goal after n others, each of which waits for the next: its number is by as much below the greatest
+pub record IsDeep (p : Program) (number : ActionId → ℕ) (n : ℕ) (w : Await) : Type 0 where
+  pub action : IsAction p (awaited w)
+  pub deep : n + number (awaited w) ≤ MAX_LEVEL
 
-  waits_most : (t : ℕ) (a : ActionId) → waits t a ≤ t
-  unfolding waits
-  waits_most zero a = omega arith
-  waits_most (suc t) a = elim (cases_lt (count p t a.agent) a.number) [
-    | inl l ↦ rw (lt-ltb (count p t a.agent) a.number l) (omega arith)
-    | inr g ↦ rw (le-ltb (count p t a.agent) a.number g) (omega (arith, waits_most t a))
+abbrev pub AreDeep : Program → (ActionId → ℕ) → List Await → Type 0
+AreDeep p number goals = (k : ℕ) (d : Await) → k < length goals → IsDeep p number k (get_or goals k d)
+
+module _ (p : Program) (f : IsNumberedTo p MAX_LEVEL) where
+  -- what the agent of a goal waits for
+  pub deep_next : (counts : List ℕ) (n : ℕ) (goal w : Await) → IsDeep p f.number n goal → IsOpen counts goal → IsUnmet p counts goal.agent w → IsDeep p f.number (n + 1) w
+  deep_next counts n goal w h still unmet =
+      let next = next_in counts goal.agent in
+      let act : IsAction p next = record { agent = h.action.agent; first = omega arith; last = omega (arith, unmet.left) } in
+      let needed = need_action p f.range next (awaited w) act (inr unmet.await) in
+      let up = Reaches-rises p f.number f.rising next (awaited goal) (own_reach p goal.agent next.number goal.count h.action.agent (omega arith) (omega (arith, still)) h.action.last) in
+      record { action = needed; deep = omega (arith, h.deep, up, f.rising.rising next (awaited w) act needed (inr unmet.await)) }
+
+  -- one goal more
+  pub deep_more : (goals : List Await) (goal : Await) → AreDeep p f.number goals → IsDeep p f.number (length goals) goal → AreDeep p f.number (goals ++ goal ∷ [])
+  deep_more goals goal h is k d l = elim (cases_lt k (length goals)) [
+    | inl low ↦ subst (IsDeep p f.number k) (sym (get_or_append_left goals (goal ∷ []) d k low)) (h k d low)
+    | inr high ↦
+        let here : length goals ≡ k = omega (arith, l, high, length_push goals goal) in
+        subst (IsDeep p f.number k) (sym (get_or_push goals goal d k here)) (subst (λ (n : ℕ). IsDeep p f.number n goal) here is)
   ]
 
-  -- no tick before finishes it
-  waits_least : (t s : ℕ) (a : ActionId) → a.agent < length p → a.number ≤ count p s a.agent → waits t a ≤ s
-  unfolding waits
-  waits_least zero s a agent done = omega arith
-  waits_least (suc t) s a agent done = elim (cases_lt (count p t a.agent) a.number) [
-    | inl l ↦ elim (cases_lt t s) [
-      | inl less ↦ rw (lt-ltb (count p t a.agent) a.number l) (omega (arith, less))
-      | inr g ↦ absurd (omega (arith, done, l, grows_to p s t a.agent agent g))
-    ]
-    | inr g ↦ rw (le-ltb (count p t a.agent) a.number g) (waits_least t s a agent done)
-  ]
-
-  -- that tick does
-  waits_done : (t : ℕ) (a : ActionId) → a.number ≤ count p t a.agent → a.number ≤ count p (waits t a) a.agent
-  unfolding waits
-  waits_done zero a done = done
-  waits_done (suc t) a done = elim (cases_lt (count p t a.agent) a.number) [
-    | inl l ↦ rw (lt-ltb (count p t a.agent) a.number l) done
-    | inr g ↦ rw (le-ltb (count p t a.agent) a.number g) (waits_done t a g)
-  ]
-
-  -- the next action of an agent for which one waits is finished sooner than the next one of that
-  waits_less : (f : EndsInTime p) (t : ℕ) → f.ticks ≤ t → (counts : List ℕ) (i : ℕ) (w : Await) → i < length p → IsUnmet p counts i w → waits t (next_in counts w.agent) < waits t (next_in counts i)
-  waits_less f t late counts i w agent unmet =
-      go (waits t (next_in counts i)) refl (waits_done t (next_in counts i) (omega (arith, all_finished p f.ticks f.finish.holds (next_in counts i) act, grows_to p f.ticks t i agent late)))
-    where
-      act : IsAction p (next_in counts i)
-      act = record { agent = agent; first = omega arith; last = omega (arith, unmet.left) }
-
-      needed : IsAction p (awaited w)
-      needed = need_action p f.range (next_in counts i) (awaited w) act (inr unmet.await)
-
-      go : (s : ℕ) → waits t (next_in counts i) ≡ s → slice_index counts i + 1 ≤ count p s i → waits t (next_in counts w.agent) < waits t (next_in counts i)
-      go zero e done = absurd (none_started p (next_in counts i) act done)
-      go (suc s) e done =
-          let before = needs_before p s (next_in counts i) (awaited w) act needed done (inr unmet.await) in
-          omega (arith, e, waits_least t s (next_in counts w.agent) needed.agent (omega (arith, unmet.unfinished, before)))
+  -- one goal less
+  pub deep_less : (goals : List Await) (goal : Await) → AreDeep p f.number (goals ++ goal ∷ []) → AreDeep p f.number goals × IsDeep p f.number (length goals) goal
+  deep_less goals goal h = (
+    (λ k d l. subst (IsDeep p f.number k) (get_or_append_left goals (goal ∷ []) d k l) (h k d (omega (arith, l, length_push goals goal)))),
+    subst (IsDeep p f.number (length goals)) (get_or_push goals goal goal (length goals) refl) (h (length goals) goal (omega (arith, length_push goals goal))),
+  )
 
 -- how many actions are not finished
 left : Program → (ℕ → ℕ) → ℕ
@@ -300,33 +278,59 @@ left_less (a ∷ p) old new grown zero l within =
     omega (arith, left_le p (λ i. old (suc i)) (λ i. new (suc i)) (λ i. grown (suc i)), l, (let k : new 0 ≤ length a.actions = within in k))
 left_less (a ∷ p) old new grown (suc i) l within = omega (arith, grown 0, left_less p (λ j. old (suc j)) (λ j. new (suc j)) (λ j. grown (suc j)) i l within)
 
--- what is left, and how long the next action of agent i waits
-pub to_go : Program → List ℕ → ℕ → ℕ
-to_go p counts i = left p (slice_index counts) * (MAX_TICKS + 1) + waits p MAX_TICKS (next_in counts i)
+-- how many goals more there can be after n before an open one is reached; more if the last one is reached already
+turns : List ℕ → Await → ℕ → ℕ
+turns counts last n = cond (nat_lt (slice_index counts last.agent) last.count) (MAX_LEVEL - n) (MAX_LEVEL + 1 + n)
 
--- where the agent of the last goal went on, or the agent for which it waits is next, less is to go
-pub goes_on : (p : Program) → EndsInTime p → (old new : List ℕ) → HaveGrown old new → ((i : ℕ) → i < length p → slice_index new i ≤ moves p i)
-    → (i j : ℕ) → i < length p → (slice_index new i ≡ slice_index old i → (w : Await) × IsUnmet p new i w × (w.agent ≡ j)) → to_go p new j < to_go p old i
-unfolding to_go
-goes_on p f old new grown within i j agent next = elim (cases_lt (slice_index old i) (slice_index new i)) [
-  | inl l ↦ omega (arith, left_less p (slice_index old) (slice_index new) grown i l (within i agent), waits_most p MAX_TICKS (next_in new j))
-  | inr g ↦
-      let same : slice_index new i ≡ slice_index old i = omega (arith, g, grown i) in
-      let w = next same in
-      let down : waits p MAX_TICKS (next_in new j) < waits p MAX_TICKS (next_in old i) = subst (λ (k : ℕ). waits p MAX_TICKS (next_in new k) < waits p MAX_TICKS (next_in old i)) w.2
-      (subst (λ (n : ℕ). waits p MAX_TICKS (next_in new w.0.agent) < waits p MAX_TICKS (after i n)) same (waits_less p f MAX_TICKS f.few new i w.0 agent w.1)) in
-      omega (arith, down, left_le p (slice_index old) (slice_index new) grown)
+turns_open : (counts : List ℕ) (last : Await) (n : ℕ) → IsOpen counts last → turns counts last n ≡ MAX_LEVEL - n
+unfolding turns
+turns_open counts last n still = rw (lt-ltb (slice_index counts last.agent) last.count still) refl
+
+turns_most : (counts : List ℕ) (last : Await) (n : ℕ) → turns counts last n ≤ MAX_LEVEL + 1 + n
+unfolding turns
+turns_most counts last n = elim (cases_lt (slice_index counts last.agent) last.count) [
+  | inl still ↦ rw (lt-ltb (slice_index counts last.agent) last.count still) (omega arith)
+  | inr done ↦ rw (le-ltb (slice_index counts last.agent) last.count done) (omega arith)
 ]
 
--- what an agent waits for is a goal
-pub unmet_goal : (p : Program) → AreInRange p → (counts : List ℕ) (i : ℕ) (w : Await) → IsUnmet p counts i w → IsGoal p w
-unmet_goal p range counts i w unmet = let k = range i (slice_index counts i + 1) w unmet.await in record { agent = k.agent; within = k.last }
+-- what is left, and how many turns there are before more is finished
+pub to_go : Program → List ℕ → Await → ℕ → ℕ
+to_go p counts last n = left p (slice_index counts) * (2 * MAX_LEVEL + 2) + turns counts last n
+
+module _ (p : Program) (old new : List ℕ) (grown : HaveGrown old new) (last : Await) (n : ℕ) where
+  -- less is to go where the last goal waits for another
+  pub less_waiting : n < MAX_LEVEL → IsOpen new last → (next : Await) → IsOpen new next → to_go p new next (n + 1) < to_go p old last n
+  unfolding to_go
+  less_waiting few still next more =
+      omega (arith, few, turns_open new next (n + 1) more, turns_open old last n (omega (arith, still, grown last.agent)), left_le p (slice_index old) (slice_index new) grown)
+
+  -- .. and where it is reached, and the one before it is next, or one that was not reached
+  pub less_reached : n ≤ MAX_LEVEL → ((i : ℕ) → i < length p → slice_index new i ≤ moves p i) → last.agent < length p → last.count ≤ slice_index new last.agent
+      → (next : Await) (m : ℕ) → (n ≡ m + 1) ⊎ ((m ≡ n) × IsOpen old next × (next.agent < length p)) → to_go p new next m < to_go p old last n
+  unfolding to_go turns
+  less_reached few within agent reached next m before = elim (cases_lt (slice_index old last.agent) last.count) [
+    | inl still ↦ finished last agent still reached
+    | inr done ↦
+        let was : turns old last n ≡ MAX_LEVEL + 1 + n = rw (le-ltb (slice_index old last.agent) last.count done) refl in
+        elim before [
+          | inl e ↦ omega (arith, e, was, turns_most new next m, left_le p (slice_index old) (slice_index new) grown)
+          | inr is ↦ elim (cases_lt (slice_index new next.agent) next.count) [
+            | inl still ↦ omega (arith, was, turns_open new next m still, left_le p (slice_index old) (slice_index new) grown)
+            | inr over ↦ finished next is.2 is.1 over
+          ]
+        ]
+  ]
+    where
+      finished : (goal : Await) → goal.agent < length p → IsOpen old goal → goal.count ≤ slice_index new goal.agent → to_go p new next m < to_go p old last n
+      finished goal there still over =
+          let low : m ≤ n = elim before [ inl e ↦ omega (arith, e) | inr is ↦ omega (arith, is.0) ] in
+          omega (arith, few, low, turns_most new next m, left_less p (slice_index old) (slice_index new) grown goal.agent (omega (arith, still, over)) (within goal.agent there))
 
 -- nothing is finished
-pub walk_begins : (p : Program) (cost : ActionId → ℕ) (offset : (i finished k : ℕ) → ℕ) (w : Walked) → EndsInTime p → HasAll p w → w.counts ≡ replicate (length p) 0
+pub walk_begins : (p : Program) (cost : ActionId → ℕ) (offset : (i finished k : ℕ) → ℕ) (w : Walked) → IsNumberedTo p MAX_LEVEL → HasAll p w → w.counts ≡ replicate (length p) 0
     → ((i : ℕ) (s : Stage) → slice_get w.stages i ≡ Some s → IsFirstStage p offset i s) → IsCostWalk p cost offset w
-walk_begins p cost offset w ends all zeros first = record {
-  ends = ends;
+walk_begins p cost offset w numbered all zeros first = record {
+  numbered = numbered;
   all = all;
   within = λ i l. omega (arith, none i l);
   each = λ i l.

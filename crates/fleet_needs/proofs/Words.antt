@@ -12,16 +12,15 @@ pub use Rattle.fleet_model.specs.declared.program.Await.{Await}
 pub use Rattle.fleet_model.specs.declared.program.Action.{Action}
 pub use Rattle.fleet_model.specs.declared.program.AgentProgram.{AgentProgram}
 pub use Rattle.fleet_model.specs.Program.{Program, actions_of, awaits_of, agent_awaits, total_awaits, AreInRange, IsWellFormed, moves, total_moves, AreAwaits, awaits_before}
-pub use Rattle.fleet_model.specs.Chain.{IsAction, DirectlyNeeds, ChainFrom, IsCriticalCost, Reaches, awaited, IsNumbering}
-pub use Rattle.fleet_model.specs.Machine.{run, is_finished}
+pub use Rattle.fleet_model.specs.Chain.{IsAction, DirectlyNeeds, ChainFrom, IsCriticalCost, Reaches, awaited, IsNumbering, unit_cost}
 pub use Rattle.fleet_model.proofs.Totals.{awaits_more, actions_more, moves_more, awaits_fit, few_awaits_of}
-pub use Rattle.fleet_model.proofs.Chains.{but_last, need_action, ends_alone, ends_dearer, Reaches-last, chain_ends_by_step, Reaches-rises}
+pub use Rattle.fleet_model.proofs.Chains.{but_last, need_action, ends_alone, ends_dearer, ends_within, own_reach, Reaches-first, Reaches-last, chain_ends_by_step, Reaches-rises}
 pub use Rattle.fleet_needs.specs.Block.{HasColumn}
 pub use Rattle.fleet_needs.specs.Columns.{AreColumns, BlocksLeft, IsNextBlock, column_of}
 pub use Rattle.fleet_needs.specs.CostTable.{costs_of, is_narrow}
-pub use Rattle.fleet_needs.specs.CostWalk.{Walked, after, next_in, IsGreatestTo, IsStage, IsReadyStage, HasAll, IsCostWalk, HaveGrown, IsUnmet, IsGoal, HasFirstPlace, stage_in, no_stage, gone_on, rested, IsOpen}
+pub use Rattle.fleet_needs.specs.CostWalk.{Walked, after, next_in, IsGreatestTo, IsStage, IsReadyStage, HasAll, IsCostWalk, HaveGrown, IsUnmet, HasFirstPlace, stage_in, no_stage, gone_on, rested, IsOpen}
 pub use Rattle.fleet_needs.specs.Counts.{counts_of, are_narrow, CanHold, AreAlike}
-pub use Rattle.fleet_needs.specs.Critical.{IsNotedCost, EndsInTime, AreNotedCosts, value_at}
+pub use Rattle.fleet_needs.specs.Critical.{IsNumberedTo, IsNotedCost, AreNotedCosts, CostsByPlace, AreCriticalCosts, AreLevels, critical_cost, value_at}
 pub use Rattle.fleet_needs.specs.Flags.{AreSure, AreSureIf, IsFirstSet, IsPassed, AreSet, AreFlags, IsFlagged, IsFlaggedAt, AreFlagged, AreFlaggedFor, IsLeft, AreLeft, AreAllFlagged, AreAwaitFlags, AreFlaggedTo, AreImplied, flags_of}
 pub use Rattle.fleet_needs.specs.Gather.{raised, IsNoted, IsPairAt, HasSamePieces, link_at, no_link, AreLinked, IsWithin, AreBelow, IsOfBlock, IsNotedTo, AreNotedOf, IsGathering, IsGatheringRow, GoesOn, IsOpenPiece, IsNone}
 pub use Rattle.fleet_needs.specs.Implied.{EachFlag, AreNoted, first_await, IsImplied, IsImpliedFlag}
@@ -30,7 +29,7 @@ pub use Rattle.fleet_needs.specs.Kernels.{AreJoined}
 pub use Rattle.fleet_needs.specs.Pieces.{IsOf, IsTold, AreTold, key_of, AreSorted, IsLatest, AreLater, count_by}
 pub use Rattle.fleet_needs.specs.Places.{ArePlaces, action_place, ArePlacesOf, place_of_action}
 pub use Rattle.fleet_needs.specs.Rows.{IsColumn, IsJoined, OfFirst, OfOthers, OfOthersOrFirst, action_before, ByOneOf}
-pub use Rattle.fleet_needs.specs.Settled.{IsFinishedBy, AreSettled, IsSettled, AreSettledOf, AreMoreAsked, IsUpTo, finish_tick, AreSettledTo, AreTicks, ReachesNeed}
+pub use Rattle.fleet_needs.specs.Settled.{AreSettled, IsSettled, AreSettledOf, AreMoreAsked, IsUpTo, AreSettledTo, ReachesNeed}
 pub use Rattle.fleet_needs.specs.declared.schedule.Columns.{Columns}
 pub use Rattle.fleet_needs.specs.declared.schedule.Schedule.{Schedule}
 pub use Rattle.fleet_needs.specs.declared.gather.Piece.{Piece}
@@ -39,7 +38,8 @@ pub use Rattle.fleet_needs.specs.declared.gather.Gathering.{Gathering}
 pub use Rattle.fleet_needs.specs.declared.gather.TheConstants.{AGENTS, NUMBERS}
 pub use Rattle.fleet_needs.specs.declared.cost_walk.Stage.{Stage}
 pub use Rattle.fleet_needs.specs.declared.cost_walk.Standing.{Standing}
-pub use Rattle.fleet_needs.specs.declared.critical.TheConstants.{MAX_COST}
+pub use Rattle.fleet_needs.specs.declared.critical.TheConstants.{MAX_COST, MAX_LEVEL}
+pub use Rattle.fleet_needs.specs.declared.await_places.ActionPlaces.{ActionPlaces}
 pub use Rattle.fleet_needs.specs.declared.join_pass.JoinRow.{JoinRow}
 pub use Rattle.fleet_needs.specs.declared.join_pass.SlotRows.{SlotRows}
 pub use Rattle.fleet_needs.specs.declared.counts.Counts.{Counts}

@@ -1,10 +1,10 @@
 -- Actions finished in any order that respects needs, and the costs of their critical paths.
-use Rattle.std.specs.Prelude.{◌≡◌, ℕ, ◌+◌, ◌^◌, ◌<◌, ◌≤◌, ◌⊎◌, Bool, true, List, length, take, set, get_or, slice_index, Vec, Contains}
-use Rattle.std.specs.declared.alloc.Global.{Global}
+use Rattle.std.specs.Prelude.{◌≡◌, ℕ, ◌+◌, ◌^◌, ◌<◌, ◌≤◌, ◌⊎◌, Bool, true, List, length, set, get_or, slice_index, Contains}
 use Rattle.fleet_needs.specs.Words.{ActionId, Await, Program, moves, awaits_of, awaits_before, agent_awaits, total_moves, DirectlyNeeds, IsCriticalCost}
 use Rattle.fleet_needs.specs.Places.{ArePlacesOf}
 use Rattle.fleet_needs.specs.Order.{IsCounted}
-use Rattle.fleet_needs.specs.Critical.{EndsInTime, AreNotedCosts}
+use Rattle.fleet_needs.specs.Critical.{IsNumberedTo, AreNotedCosts}
+use Rattle.fleet_needs.specs.declared.critical.TheConstants.{MAX_LEVEL}
 use Rattle.fleet_needs.specs.declared.cost_walk.Stage.{Stage}
 use Rattle.fleet_needs.specs.declared.cost_walk.Standing.{Standing}
 
@@ -68,13 +68,13 @@ pub record HasAll (p : Program) (w : Walked) : Type 0 where
   pub places : ArePlacesOf p w.places
   pub costs : length w.costs ≡ total_moves p
 
--- the agents have come so far in a program that ends, and the costs of what is finished are noted
+-- the agents have come so far in a program whose actions have numbers, and the costs of what is finished are noted
 pub record IsCostWalk (p : Program) (cost : ActionId → ℕ) (offset : (i finished k : ℕ) → ℕ) (w : Walked) : Type 0 where
-  pub ends : EndsInTime p
+  pub numbered : IsNumberedTo p MAX_LEVEL
   pub all : HasAll p w
   pub within : (i : ℕ) → i < length p → slice_index w.counts i ≤ moves p i
   pub each : (i : ℕ) → i < length p → IsStage p cost offset (IsCounted w.counts) i (slice_index w.counts i) (stage_in w i)
-  pub noted : AreNotedCosts p cost w.places (IsCounted w.counts) w.costs
+  pub noted : AreNotedCosts p cost numbered.number w.places (IsCounted w.counts) w.costs
 
 -- the walk once agent i has gone on so far, with these costs
 abbrev pub gone_on : Walked → (i finished : ℕ) → Stage → List ℕ → Walked
@@ -117,22 +117,3 @@ pub record HasFirstPlace (p : Program) (w : Walked) (i x n : ℕ) : Type 0 where
   pub agent : i < length p
   pub begin : x ≡ slice_index w.places i
   pub last : n ≤ moves p i
-
--- ---- goals
-
--- the agent has so many actions, or more
-pub record IsGoal (p : Program) (w : Await) : Type 0 where
-  pub agent : w.agent < length p
-  pub within : w.count ≤ moves p w.agent
-
--- the goals, in their order
-abbrev pub goals_of : Vec Await Global → List Await
-goals_of goals = goals.items
-
--- the last goal is the last one of the old ones that is open, or the first of all if none is; the goals before it are
--- left
-pub record IsLastOpen (counts : List ℕ) (old new : List Await) (first last : Await) : Type 0 where
-  pub front : new ≡ take (length new) old
-  pub latest : (k : ℕ) (d : Await) → k < length old → IsOpen counts (get_or old k d) → (k ≤ length new) × (last ≡ get_or old (length new) d)
-  pub one : (IsOpen counts last × (length new < length old) × (last ≡ get_or old (length new) last)) ⊎ (last ≡ first)
-  pub still : IsOpen counts first → IsOpen counts last

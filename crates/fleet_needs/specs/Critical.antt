@@ -1,31 +1,29 @@
 -- The cost of the critical path of each action, as it is noted.
-use Rattle.std.specs.Prelude.{◌≡◌, ℕ, ◌*◌, ◌≤◌, List, [], length, slice_index}
-use Rattle.fleet_needs.specs.Words.{ActionId, Program, total_moves, AreInRange, IsFinish, IsAction, IsCriticalCost}
+use Rattle.std.specs.Prelude.{◌≡◌, ℕ, ◌*◌, ◌≤◌, List, length, slice_index}
+use Rattle.fleet_needs.specs.Words.{ActionId, Program, total_moves, AreInRange, IsAction, IsCriticalCost, IsNumbering}
 use Rattle.fleet_needs.specs.Places.{ArePlacesOf, place_of_action}
-use Rattle.fleet_needs.specs.Settled.{IsFinishedBy}
 use Rattle.fleet_needs.specs.declared.await_places.ActionPlaces.{ActionPlaces}
 use Rattle.fleet_needs.specs.declared.critical.TheConstants.{MAX_COST}
-use Rattle.fleet_needs.specs.declared.finish_order.TheConstants.{MAX_TICKS}
 
--- the program, whose awaits are in range, is finished after so many ticks if nobody is held
-pub record EndsInTime (p : Program) : Type 0 where
-  pub ticks : ℕ
+-- the awaits of the program are in range, and its actions have numbers that rise along chains, of which none is greater
+pub record IsNumberedTo (p : Program) (most : ℕ) : Type 0 where
   pub range : AreInRange p
-  pub finish : IsFinish p [] ticks
-  pub few : ticks ≤ MAX_TICKS
+  pub number : ActionId → ℕ
+  pub rising : IsNumbering p number
+  pub upto : (a : ActionId) → IsAction p a → number a ≤ most
 
--- the action's critical path costs so much; and no more than so many of the dearest actions as ticks finish it
-pub record IsNotedCost (p : Program) (cost : ActionId → ℕ) (a : ActionId) (m : ℕ) : Type 0 where
+-- the action's critical path costs so much; and no more than so many of the dearest actions as its number is
+pub record IsNotedCost (p : Program) (cost number : ActionId → ℕ) (a : ActionId) (m : ℕ) : Type 0 where
   pub critical : IsCriticalCost p cost a m
-  pub few : (t : ℕ) → IsFinishedBy p t a → m ≤ t * MAX_COST
+  pub few : m ≤ number a * MAX_COST
 
 -- the entry of an action
 abbrev pub value_at : ActionPlaces → List ℕ → ActionId → ℕ
 value_at places entries a = slice_index entries (place_of_action places a)
 
 -- the entries of these actions are the costs of their critical paths
-abbrev pub AreNotedCosts : Program → (ActionId → ℕ) → ActionPlaces → (ActionId → Type 0) → List ℕ → Type 0
-AreNotedCosts p cost places These entries = (a : ActionId) → IsAction p a → These a → IsNotedCost p cost a (value_at places entries a)
+abbrev pub AreNotedCosts : Program → (cost number : ActionId → ℕ) → ActionPlaces → (ActionId → Type 0) → List ℕ → Type 0
+AreNotedCosts p cost number places These entries = (a : ActionId) → IsAction p a → These a → IsNotedCost p cost number a (value_at places entries a)
 
 -- the places of actions, and for each action, by its place, a cost
 pub record CostsByPlace : Type 0 where
@@ -45,3 +43,10 @@ critical_cost m a = value_at m.places m.costs a
 pub record AreCriticalCosts (p : Program) (cost : ActionId → ℕ) (m : CostsByPlace) : Type 0 where
   pub entries : HasEntries p m
   pub each : (a : ActionId) → IsAction p a → IsCriticalCost p cost a (critical_cost m a)
+
+-- the awaits of the program are in range, and each action has a number that is greater than those of what it directly
+-- needs
+pub record AreLevels (p : Program) (m : CostsByPlace) : Type 0 where
+  pub range : AreInRange p
+  pub entries : HasEntries p m
+  pub rising : IsNumbering p (critical_cost m)

@@ -1,55 +1,9 @@
--- The tick that finishes each action if nobody is held, and awaits for which a few steps back show whether others imply
--- them.
-use Rattle.std.specs.Prelude.{◌≡◌, ◌≢◌, ℕ, ◌-◌, ◌<◌, ◌≤◌, ◌⊎◌, Bool, true, false, List, [], length, get_or, slice_index, Vec}
+-- Awaits for which a few steps back show whether others imply them.
+use Rattle.std.specs.Prelude.{◌≡◌, ◌≢◌, ℕ, ◌<◌, ◌≤◌, ◌⊎◌, Bool, true, false, List, length, get_or, Vec}
 use Rattle.std.specs.declared.alloc.Global.{Global}
-use Rattle.fleet_model.specs.declared.program.Await.{Await}
-use Rattle.fleet_model.specs.declared.program.ActionId.{ActionId}
-use Rattle.fleet_model.specs.Program.{Program, total_moves}
-use Rattle.fleet_model.specs.Chain.{IsAction, IsNumbering, Reaches}
-use Rattle.fleet_needs.specs.Places.{ArePlacesOf, place_of_action}
-use Rattle.fleet_needs.specs.declared.await_places.ActionPlaces.{ActionPlaces}
-use Rattle.fleet_model.specs.Machine.{run, count_at}
+use Rattle.fleet_needs.specs.Words.{Await, ActionId, Program, IsAction, Reaches}
 use Rattle.fleet_needs.specs.Rows.{action_before, ByOneOf}
 use Rattle.fleet_needs.specs.Implied.{IsImplied, IsImpliedFlag, EachFlag, AreNoted}
-
--- ---- the ticks
-
--- so many ticks finish the action
-abbrev pub IsFinishedBy : Program → ℕ → ActionId → Type 0
-IsFinishedBy p t a = a.number ≤ count_at (run p [] t) a.agent
-
--- so many ticks finish the action, and one less do not
-pub record IsFinishTick (p : Program) (a : ActionId) (t : ℕ) : Type 0 where
-  pub some : 1 ≤ t
-  pub done : IsFinishedBy p t a
-  pub not_yet : IsFinishedBy p (t - 1) a → ⊥
-
--- the entries of these actions are the ticks that finish them
-abbrev pub AreFinishTicks : Program → ActionPlaces → (ActionId → Type 0) → List ℕ → Type 0
-AreFinishTicks p places These ticks = (a : ActionId) → IsAction p a → These a → IsFinishTick p a (slice_index ticks (place_of_action places a))
-
--- the places of actions, and for each action, by its place, a tick
-pub record TicksByPlace : Type 0 where
-  pub places : List ℕ
-  pub ticks : List ℕ
-
--- the tick of an action
-abbrev pub finish_tick : TicksByPlace → ActionId → ℕ
-finish_tick m a = slice_index m.ticks (place_of_action m.places a)
-
--- those of the actions that t ticks finish are right
-pub record AreTicksTo (p : Program) (t : ℕ) (m : TicksByPlace) : Type 0 where
-  pub places : ArePlacesOf p m.places
-  pub all : length m.ticks ≡ total_moves p
-  pub each : AreFinishTicks p m.places (IsFinishedBy p t) m.ticks
-
--- each action has its tick, and what an action directly needs has a lower one
-pub record AreTicks (p : Program) (m : TicksByPlace) : Type 0 where
-  pub places : ArePlacesOf p m.places
-  pub all : length m.ticks ≡ total_moves p
-  pub rising : IsNumbering p (finish_tick m)
-
--- ---- the awaits
 
 -- the flag says whether the await is implied; or its agent is asked for, and the flag is set only if it is
 abbrev pub IsSettled : Program → List Bool → ActionId → Await → Bool → Type 0

@@ -1,15 +1,15 @@
 //! Agents that go on as far as their awaits allow, and the costs of the critical paths of what they have finished.
 
-ghost use Rattle.std.specs.Prelude.{◌≡◌, ◌+◌, ◌^◌, ◌<◌, ◌≤◌, ◌↔◌, ℕ, All, IsTrue, IfOk, IfErr, IfSome, IfNone, OnOk, length, set, slice_index};
+ghost use Rattle.std.specs.Prelude.{◌≡◌, ◌+◌, ◌^◌, ◌<◌, ◌≤◌, ◌↔◌, ℕ, IsTrue, IfOk, IfErr, IfSome, IfNone, OnOk, length, set, slice_index};
 ghost use Rattle.fleet_model.specs.Program.{Program, moves};
 ghost use Rattle.fleet_model.specs.Chain.{IsAction, awaited};
-ghost use Rattle.fleet_needs.specs.Critical.{EndsInTime, value_at};
+ghost use Rattle.fleet_needs.specs.Critical.{IsNumberedTo, value_at};
 ghost use Rattle.fleet_needs.specs.Order.{IsCounted, AreAllCounted};
-ghost use Rattle.fleet_needs.specs.CostWalk.{Walked, HasAll, IsCostWalk, IsStage, IsReadyStage, HaveGrown, IsUnmet, IsOpen, IsGoal, HasFirstPlace, IsFree, IsAtEnd, IsLastOpen, after, stage_in, gone_on, rested, goals_of};
+ghost use Rattle.fleet_needs.specs.CostWalk.{Walked, HasAll, IsCostWalk, IsStage, IsReadyStage, HaveGrown, IsUnmet, IsOpen, HasFirstPlace, IsFree, IsAtEnd, after, stage_in, gone_on, rested};
 
 use crate::await_places::ActionPlaces;
 use crate::cost_table::CostTable;
-use crate::critical::ActionCosts;
+use crate::critical::{ActionCosts, MAX_LEVEL};
 use fleet_model::{
     ActionId, Await, Instruction, MAX_AGENTS, OutOfMemory, ProgramView, agent_awaits, total_moves,
 };
@@ -100,7 +100,7 @@ pub struct Block {
 
 /// Nothing is finished.
 fn begin<P: ProgramView>(alloc: Global, program: &P) -> Result<CostWalk, OutOfMemory>
-    requires { EndsInTime (P.program program.now) }
+    requires { IsNumberedTo (P.program program.now) MAX_LEVEL }
     ensures { IfOk result (λ w. (cost : ActionId → ℕ)
         → IsCostWalk (P.program program.now) cost (P.offset program.now) w) }
 {
@@ -333,12 +333,13 @@ fn run_agent<P: ProgramView, C: ActionCosts>(
 ) -> Result<Option<Await>, OutOfMemory>
     requires walk { IsCostWalk (P.program program.now) (C.cost costs.now) (P.offset program.now)
         walk.old }
-    requires goal { IsGoal (P.program program.now) goal }
+    requires goal { IsAction (P.program program.now) (awaited goal) }
     ensures walk { OnOk result (IsCostWalk (P.program program.now) (C.cost costs.now)
         (P.offset program.now) walk.new) }
     ensures grown { OnOk result (HaveGrown walk.old.counts walk.new.counts) }
     ensures waits { IfOk result (λ waits. IfSome waits
         (IsUnmet (P.program program.now) walk.new.counts goal.agent)) }
+    ensures still { IfOk result (λ waits. IfSome waits (λ _. IsOpen walk.new.counts goal)) }
     ensures reached { IfOk result (λ waits. IfNone waits
         (goal.count ≤ slice_index walk.new.counts goal.agent)) }
 {
@@ -357,29 +358,6 @@ fn run_agent<P: ProgramView, C: ActionCosts>(
     Ok(None)
 }
 
-/// The last of the goals that is still open, or else the first goal of all. Those behind it go.
-fn last_open<P: ProgramView>(
-    program: &P,
-    walk: &CostWalk,
-    goals: &mut Vec<Await>,
-    first: Await,
-) -> Await
-    requires counts { length walk.now.counts ≡ length (P.program program.now) }
-    requires goals { All (IsGoal (P.program program.now)) (goals_of goals.old) }
-    requires first { IsGoal (P.program program.now) first }
-    ensures goals { All (IsGoal (P.program program.now)) (goals_of goals.new) }
-    ensures goal { IsGoal (P.program program.now) result }
-    ensures last { IsLastOpen walk.now.counts (goals_of goals.old) (goals_of goals.new) first
-        result }
-{
-    while let Some(goal) = goals.pop() {
-        if walk.is_open(goal) {
-            return goal;
-        }
-    }
-    first
-}
-
 /// Lets agents go on until the action that the goal names is finished: its agent, and while that waits, the agents for
 /// which it does.
 fn reach<P: ProgramView, C: ActionCosts>(
@@ -391,7 +369,8 @@ fn reach<P: ProgramView, C: ActionCosts>(
 ) -> Result<(), OutOfMemory>
     requires walk { IsCostWalk (P.program program.now) (C.cost costs.now) (P.offset program.now)
         walk.old }
-    requires goal { IsGoal (P.program program.now) goal }
+    requires goal { IsOpen walk.old.counts goal → IsAction (P.program program.now) (awaited goal) }
+    requires agent { goal.agent < length (P.program program.now) }
     ensures walk { OnOk result (IsCostWalk (P.program program.now) (C.cost costs.now)
         (P.offset program.now) walk.new) }
     ensures grown { OnOk result (HaveGrown walk.old.counts walk.new.counts) }
@@ -405,7 +384,10 @@ fn reach<P: ProgramView, C: ActionCosts>(
                 goals.push(last)?;
                 awaited
             }
-            None => last_open(program, walk, &mut goals, goal),
+            None => match goals.pop() {
+                Some(before) => before,
+                None => goal,
+            },
         };
     }
     Ok(())
@@ -417,7 +399,7 @@ pub(crate) fn walk_all<P: ProgramView, C: ActionCosts>(
     program: &P,
     costs: &C,
 ) -> Result<CostWalk, OutOfMemory>
-    requires { EndsInTime (P.program program.now) }
+    requires { IsNumberedTo (P.program program.now) MAX_LEVEL }
     ensures walk { IfOk result (IsCostWalk (P.program program.now) (C.cost costs.now)
         (P.offset program.now)) }
     ensures all { IfOk result (λ w. AreAllCounted (P.program program.now) w.counts) }

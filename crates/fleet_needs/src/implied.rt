@@ -1,10 +1,10 @@
 //! Awaits that others imply, and the use of rows that flags them.
 
-ghost use Rattle.std.specs.Prelude.{◌≡◌, ◌<◌, ◌+◌, [], Some, false, get_or, length, slice_get, IfOk, OnOk};
+ghost use Rattle.std.specs.Prelude.{◌≡◌, ◌<◌, ◌+◌, Some, false, get_or, length, slice_get, IfOk, OnOk};
 ghost use Rattle.fleet_model.specs.declared.program.Await.{Await};
 ghost use Rattle.fleet_model.specs.Program.{AreInRange, awaits_of, total_awaits};
-ghost use Rattle.fleet_model.specs.Machine.{IsFinish};
 ghost use Rattle.fleet_model.specs.Chain.{IsAction};
+ghost use Rattle.fleet_needs.specs.Critical.{IsNumberedTo};
 ghost use Rattle.fleet_needs.specs.Implied.{IsImpliedFlag, first_await};
 ghost use Rattle.fleet_needs.specs.Joins.{HasRowOr};
 ghost use Rattle.fleet_needs.specs.Settled.{AreSettled};
@@ -13,7 +13,7 @@ ghost use Rattle.fleet_needs.specs.Flags.{AreImplied, AreSet, flags_of, AreFlags
 ghost use Rattle.fleet_needs.specs.JoinPass.{IsJoinRow, HasOthers};
 
 use crate::await_places::AwaitPlaces;
-use crate::finish_order::FinishTicks;
+use crate::critical::CriticalCosts;
 use crate::join_pass::{JoinRow, JoinUse, use_joins};
 use crate::level_order::LevelOrder;
 use crate::questions::is_any;
@@ -57,20 +57,19 @@ impl ImpliedAwaits {
 }
 
 /// Which awaits of the program others imply: those whose awaited action begins a chain of needs that ends with another
-/// action which the same action directly needs. The program finishes after so many ticks if nobody is held.
+/// action which the same action directly needs. No level of the program is greater than `most`.
 pub fn implied_awaits<P: ProgramView>(
     alloc: Global,
     program: &P,
-    ticks: u32,
+    most: u32,
 ) -> Result<ImpliedAwaits, OutOfMemory>
-    requires range { AreInRange (P.program program.now) }
-    requires finish { IsFinish (P.program program.now) [] ticks }
+    requires { IsNumberedTo (P.program program.now) most }
     ensures { IfOk result (AreImplied (P.program program.now)) }
 {
     let places = AwaitPlaces::of(alloc, program)?;
     let flags = vec![in alloc; false; total_awaits(program) as usize]?;
     let mut implied = ImpliedAwaits { places, flags };
-    flag_implied(alloc, program, ticks, &mut implied)?;
+    flag_implied(alloc, program, most, &mut implied)?;
     Ok(implied)
 }
 
@@ -79,21 +78,20 @@ pub fn implied_awaits<P: ProgramView>(
 fn flag_implied<P: ProgramView>(
     alloc: Global,
     program: &P,
-    ticks: u32,
+    most: u32,
     implied: &mut ImpliedAwaits,
 ) -> Result<(), OutOfMemory>
-    requires range { AreInRange (P.program program.now) }
-    requires finish { IsFinish (P.program program.now) [] ticks }
+    requires numbered { IsNumberedTo (P.program program.now) most }
     requires flags { AreFlags (P.program program.now) implied.old }
     ensures { OnOk result (AreImplied (P.program program.now) implied.new) }
 {
-    let mut finish = FinishTicks::of(alloc, program, ticks)?;
-    let asked = settle_all(alloc, program, &mut finish, implied)?;
+    let levels = CriticalCosts::levels(alloc, program, most)?;
+    let asked = settle_all(alloc, program, &levels, implied)?;
     if !is_any(&asked) {
         return Ok(());
     }
-    let order = LevelOrder::by_ticks(alloc, program, &finish, ticks)?;
-    drop(finish);
+    let order = LevelOrder::by_levels(alloc, program, &levels, most)?;
+    drop(levels);
     let schedule = Schedule::of(alloc, program, &order, Some(implied))?;
     // The rows need its room.
     drop(order);

@@ -6,8 +6,8 @@
 //! small function of its own, whose proof alone speaks of lanes: the loop over them knows places and counts.
 //!
 //! `level_order` lists the actions that await something by levels, which rise along chains: for each level the last
-//! one, and for each action the one before it of its level. Any levels will do: `finish_order` notes by a run without
-//! holds which tick finishes each action, and another `OrderSource` may know others.
+//! one, and for each action the one before it of its level. Any levels will do: `critical` counts them anew, and another
+//! `OrderSource` may know others.
 //!
 //! A `schedule` says which rows are made, in which order, of which rows each is joined, and in which slot it is kept.
 //! It is made once, and serves all blocks of columns: each agent that is asked for has a column in one block. `joins`
@@ -31,7 +31,7 @@
 //! new one, block by block of columns. It sorts the pieces (`Pieces`) and looks counts up in them.
 //!
 //! Flags, and the rows that stand for actions, stand agent by agent, action by action (`await_places`). `settled` looks a few steps back from each action, as
-//! far as the ticks let it: most awaits are settled so, and the agents of the others are asked for. Once most agents
+//! far as the levels let it: most awaits are settled so, and the agents of the others are asked for. Once most agents
 //! are asked for it looks back less, the less the shorter rows are.
 //!
 //! `implied` has a flag for each await. Those that a few steps back settle come first (`settled`), and for the agents
@@ -52,7 +52,6 @@ mod cost_table;
 mod cost_walk;
 mod counts;
 mod critical;
-mod finish_order;
 mod gather;
 mod implied;
 mod join_pass;
@@ -63,8 +62,7 @@ mod schedule;
 mod settled;
 
 pub use counts::join_rows;
-pub use critical::{ActionCosts, CriticalCosts, MAX_COST};
-pub use finish_order::Ticks;
+pub use critical::{ActionCosts, CriticalCosts, LevelsTo, MAX_COST, OneEach};
 pub use gather::Pieces;
 pub use implied::{ImpliedAwaits, implied_awaits};
 pub use level_order::{Awaiting, Item, LevelOrder, OrderSource};

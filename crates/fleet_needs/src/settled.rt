@@ -6,10 +6,11 @@ ghost use Rattle.fleet_model.specs.declared.program.Await.{Await};
 ghost use Rattle.fleet_model.specs.Chain.{IsAction, Reaches};
 ghost use Rattle.fleet_needs.specs.Implied.{IsImplied};
 ghost use Rattle.fleet_needs.specs.Flags.{AreFlags, flags_of};
-ghost use Rattle.fleet_needs.specs.Settled.{AreTicks, AreSettledBy, AreSettledOf, AreSettledTo, AreMoreAsked, IsUpTo, ReachesNeed};
+ghost use Rattle.fleet_needs.specs.Critical.{AreLevels};
+ghost use Rattle.fleet_needs.specs.Settled.{AreSettledBy, AreSettledOf, AreSettledTo, AreMoreAsked, IsUpTo, ReachesNeed};
 ghost use Rattle.fleet_needs.specs.Rows.{action_before};
 
-use crate::finish_order::FinishTicks;
+use crate::critical::CriticalCosts;
 use crate::implied::ImpliedAwaits;
 use fleet_model::{ActionId, OutOfMemory, ProgramView};
 use std::alloc::Global;
@@ -20,18 +21,32 @@ const AWAITS: u16 = 16;
 /// The place of no await of an action from which a step goes back.
 const NO_AWAIT: u16 = AWAITS + 1;
 
+/// How many actions are looked at for one await, until most agents are asked for.
+const LOOKS: u8 = 16;
+
+/// How many at most from then on.
+const LESS_LOOKS: usize = 4;
+
+/// To look at one action costs about as much as to join so many counts.
+const COUNTS_A_LOOK: usize = 128;
+
+/// What is looked at: the levels of actions, and so many of these for one await, at most.
+#[derive(Clone, Copy)]
+pub struct Look<'a> {
+    levels: &'a CriticalCosts,
+    count: u8,
+}
+
 /// Flags the awaits that others imply, as far as a few steps back show it, and answers a flag for each agent: whether
 /// an await of one of its actions is left open.
 pub fn settle_all<P: ProgramView>(
     alloc: Global,
     program: &P,
-    finish: &mut FinishTicks,
+    levels: &CriticalCosts,
     implied: &mut ImpliedAwaits,
 ) -> Result<Vec<bool>, OutOfMemory>
-    requires range { AreInRange (P.program program.now) }
-    requires ticks { AreTicks (P.program program.now) finish.old }
+    requires levels { AreLevels (P.program program.now) levels.now }
     requires flags { AreFlags (P.program program.now) implied.old }
-    ensures ticks { OnOk result (finish.new ≡ finish.old) }
     ensures flags { OnOk result (AreFlags (P.program program.now) implied.new) }
     ensures asked { IfOk result (λ asked. AreSettledBy
         (P.program program.now) asked (flags_of implied.new)) }
@@ -39,22 +54,32 @@ pub fn settle_all<P: ProgramView>(
     let agents = program.agents();
     let mut asked = vec![in alloc; false; usize::from(agents)]?;
     for agent in 0..agents {
-        settle_agent(program, finish, agent, implied, &mut asked);
-        finish.look_less_if_most(&asked);
+        let count = looks_for(&asked);
+        settle_agent(program, &Look { levels, count }, agent, implied, &mut asked);
     }
     Ok(asked)
+}
+
+/// How many actions are looked at for one await: fewer once most agents are asked for, since rows answer for all these,
+/// so a look is worth it only if it may spare a long row.
+fn looks_for(asked: &[bool]) -> u8 {
+    let flagged = asked.iter().filter(|flag| **flag).count();
+    if flagged > asked.len() / 2 {
+        (asked.len() / COUNTS_A_LOOK).min(LESS_LOOKS) as u8
+    } else {
+        LOOKS
+    }
 }
 
 /// Settles the awaits of all actions of an agent.
 fn settle_agent<P: ProgramView>(
     program: &P,
-    ticks: &FinishTicks,
+    look: &Look<'_>,
     agent: u16,
     implied: &mut ImpliedAwaits,
     asked: &mut [bool],
 )
-    requires range { AreInRange (P.program program.now) }
-    requires ticks { AreTicks (P.program program.now) ticks.now }
+    requires levels { AreLevels (P.program program.now) look.now.levels.now }
     requires agent { agent < length (P.program program.now) }
     requires flags { AreFlags (P.program program.now) implied.old }
     requires asked { length asked.old ≡ length (P.program program.now) }
@@ -66,7 +91,7 @@ fn settle_agent<P: ProgramView>(
 {
     for finished in 0..program.moves(agent) {
         let number = finished + 1;
-        settle_action(program, ticks, ActionId { agent, number }, implied, asked);
+        settle_action(program, look, ActionId { agent, number }, implied, asked);
     }
 }
 
@@ -74,13 +99,12 @@ fn settle_agent<P: ProgramView>(
 /// that are left open.
 fn settle_action<P: ProgramView>(
     program: &P,
-    ticks: &FinishTicks,
+    look: &Look<'_>,
     action: ActionId,
     implied: &mut ImpliedAwaits,
     asked: &mut [bool],
 )
-    requires range { AreInRange (P.program program.now) }
-    requires ticks { AreTicks (P.program program.now) ticks.now }
+    requires levels { AreLevels (P.program program.now) look.now.levels.now }
     requires action { IsAction (P.program program.now) action }
     requires flags { AreFlags (P.program program.now) implied.old }
     requires asked { length asked.old ≡ length (P.program program.now) }
@@ -95,10 +119,10 @@ fn settle_action<P: ProgramView>(
         return;
     }
     let first = implied.places.first(program, action);
-    let latest = latest_await(program, ticks, action);
+    let latest = latest_await(program, look, action);
     let mut from = 0;
     for k in 0..awaits {
-        let known = is_implied(program, ticks, action, k, latest, &mut from);
+        let known = is_implied(program, look, action, k, latest, &mut from);
         implied.flags[first + usize::from(k)] = is_sure(known);
         ask_if_open(program, action, k, known, asked);
     }
@@ -134,10 +158,9 @@ fn ask_if_open<P: ProgramView>(
     }
 }
 
-/// The place of an await of the action of which the awaited action has the greatest tick, or 0.
-fn latest_await<P: ProgramView>(program: &P, ticks: &FinishTicks, action: ActionId) -> u16
-    requires range { AreInRange (P.program program.now) }
-    requires ticks { AreTicks (P.program program.now) ticks.now }
+/// The place of an await of the action of which the awaited action has the greatest level, or 0.
+fn latest_await<P: ProgramView>(program: &P, look: &Look<'_>, action: ActionId) -> u16
+    requires levels { AreLevels (P.program program.now) look.now.levels.now }
     requires action { IsAction (P.program program.now) action }
     ensures { 1 ≤ length (awaits_of (P.program program.now) action.agent action.number)
         → result < length (awaits_of (P.program program.now) action.agent action.number) }
@@ -149,10 +172,10 @@ fn latest_await<P: ProgramView>(program: &P, ticks: &FinishTicks, action: Action
     let mut latest = 0;
     let mut greatest = 0;
     for k in 0..program.await_count(action.agent, action.number) {
-        let tick = ticks.tick(program, awaited_at(program, action, k));
-        if tick > greatest {
+        let level = look.levels.cost(program, awaited_at(program, action, k));
+        if level > greatest {
             latest = k;
-            greatest = tick;
+            greatest = level;
         }
     }
     latest
@@ -178,14 +201,13 @@ fn awaited_at<P: ProgramView>(program: &P, action: ActionId, k: u16) -> ActionId
 /// steps back. The awaits of that action are looked at from the place `from` on, which rises.
 fn is_implied<P: ProgramView>(
     program: &P,
-    ticks: &FinishTicks,
+    look: &Look<'_>,
     action: ActionId,
     k: u16,
     latest: u16,
     from: &mut u16,
 ) -> Option<bool>
-    requires range { AreInRange (P.program program.now) }
-    requires ticks { AreTicks (P.program program.now) ticks.now }
+    requires levels { AreLevels (P.program program.now) look.now.levels.now }
     requires action { IsAction (P.program program.now) action }
     requires place { k < length (awaits_of (P.program program.now) action.agent action.number) }
     requires latest { latest < length
@@ -215,7 +237,8 @@ fn is_implied<P: ProgramView>(
         awaits,
         but: k,
     };
-    reaches_need(program, ticks, awaited, needs, &mut ticks.looks())
+    let mut steps = look.count;
+    reaches_need(program, look, awaited, needs, &mut steps)
 }
 
 /// The first of the awaits of an action, from this one on, that is of this agent or a later one.
@@ -249,13 +272,12 @@ fn is_needed<P: ProgramView>(program: &P, first: ActionId, action: ActionId, k: 
 #[cycle(reaches)]
 fn reaches<P: ProgramView>(
     program: &P,
-    ticks: &FinishTicks,
+    look: &Look<'_>,
     first: ActionId,
     last: ActionId,
     steps: &mut u8,
 ) -> Option<bool>
-    requires range { AreInRange (P.program program.now) }
-    requires ticks { AreTicks (P.program program.now) ticks.now }
+    requires levels { AreLevels (P.program program.now) look.now.levels.now }
     requires first { IsAction (P.program program.now) first }
     requires last { IsAction (P.program program.now) last }
     ensures yes { result ≡ Some true → Reaches (P.program program.now) first last }
@@ -266,7 +288,7 @@ fn reaches<P: ProgramView>(
     if is_own {
         return Some(first.number <= last.number);
     }
-    if ticks.tick(program, last) <= ticks.tick(program, first) {
+    if look.levels.cost(program, last) <= look.levels.cost(program, first) {
         return Some(false);
     }
     let awaits = program.await_count(last.agent, last.number);
@@ -279,7 +301,7 @@ fn reaches<P: ProgramView>(
         awaits,
         but: NO_AWAIT,
     };
-    reaches_need(program, ticks, first, needs, steps)
+    reaches_need(program, look, first, needs, steps)
 }
 
 /// What an action directly needs: the action before, and what all of its awaits but one name.
@@ -297,13 +319,12 @@ pub struct Needs {
 #[inline(always)]
 fn reaches_need<P: ProgramView>(
     program: &P,
-    ticks: &FinishTicks,
+    look: &Look<'_>,
     first: ActionId,
     needs: Needs,
     steps: &mut u8,
 ) -> Option<bool>
-    requires range { AreInRange (P.program program.now) }
-    requires ticks { AreTicks (P.program program.now) ticks.now }
+    requires levels { AreLevels (P.program program.now) look.now.levels.now }
     requires first { IsAction (P.program program.now) first }
     requires action { IsAction (P.program program.now) needs.action }
     requires awaits { needs.awaits
@@ -319,7 +340,7 @@ fn reaches_need<P: ProgramView>(
         let is_other = k != needs.but;
         if is_other {
             let needed = awaited_at(program, needs.action, k);
-            match reaches(program, ticks, first, needed, steps) {
+            match reaches(program, look, first, needed, steps) {
                 Some(true) => return Some(true),
                 Some(false) => {}
                 None => known = false,
@@ -330,7 +351,7 @@ fn reaches_need<P: ProgramView>(
     if is_first {
         return join_answers(known, Some(false));
     }
-    let own = reaches(program, ticks, first, before(needs.action), steps);
+    let own = reaches(program, look, first, before(needs.action), steps);
     join_answers(known, own)
 }
 

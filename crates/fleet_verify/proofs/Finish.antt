@@ -1,8 +1,9 @@
 -- What a run finishes, after which ticks, and that no list of holds finishes a ring.
-use Rattle.fleet_verify.proofs.Words.{◌≡◌, ℕ, suc, ◌+◌, ◌≤◌, ap, subst, arith, inl, inr, zero, ◌-◌, ◌<◌, true, List, length, get_or, Some, sym, ◌∙◌, Contains, slice_get, nat_le, ◌⊎◌, Await, ActionId, Program, moves, awaits_of, Configuration, count_at, Holds, is_held, run, IsDone, is_finished, IsLeast, DirectlyNeeds, IsAction, IsNumbering, Reaches, cases_lt, le-leb, leb-true, slice_get-get_or, slice_get_within, get_or_from_slice_get}
-use Rattle.fleet_verify.proofs.RunCounts.{counts, readies, run_counts, grows, grows_once, within_moves, count_past, count_opening, finished_all, first_passing, first_is, chain_before}
+use Rattle.fleet_verify.proofs.Words.{◌≡◌, ℕ, suc, ◌+◌, ◌≤◌, ap, subst, arith, inl, inr, zero, ◌-◌, ◌<◌, true, List, [], length, get_or, Some, sym, ◌∙◌, Contains, slice_get, nat_le, ◌⊎◌, Await, ActionId, Program, moves, awaits_of, Configuration, count_at, Holds, is_held, run, IsDone, is_finished, IsLeast, DirectlyNeeds, IsAction, IsNumbering, IsLongestChain, AreInRange, IsFinish, Reaches, cases_lt, le-leb, leb-true, slice_get-get_or, slice_get_within, get_or_from_slice_get}
+use Rattle.fleet_verify.proofs.RunCounts.{counts, readies, run_counts, grows, grows_once, within_moves, count_past, count_opening, finished_all, first_passing, first_is, chain_before, longest_finishes}
 use Rattle.fleet_verify.proofs.Waiting.{IsReadyTo, step}
 use Rattle.fleet_verify.specs.Ring.{IsRing}
+use Rattle.fleet_needs.specs.Critical.{IsNumberedTo}
 
 -- ---- what is finished in a run: more with each tick, and with an action all that it needs through chains
 
@@ -119,3 +120,16 @@ run_numbers p holds f h = record { positive = λ a k. later a k (done_after p ho
         open_at : (count_at (run p holds t) a.agent < a.number) ⊎ (a.number ≤ count_at (run p holds t) a.agent) → count_at (run p holds t) a.agent < a.number
         open_at (inl x) = x
         open_at (inr x) = absurd (let g : suc t ≤ t = l.least t (le-leb a.number (count_at (run p holds t) a.agent) x) in omega arith)
+
+-- .. so a program that finishes has numbers that rise along chains, of which none is greater than its ticks
+pub finish_numbers : (p : Program) → AreInRange p → (f : ℕ) → IsFinish p [] f → IsNumberedTo p f
+finish_numbers p range f finish = record {
+  range = range;
+  number = done_after p [] f;
+  rising = run_numbers p [] f finish.holds;
+  upto = λ a is. (done_first p [] f finish.holds a is).least f (le-leb a.number (count_at (run p [] f) a.agent) (finished_says p (run p [] f) finish.holds a is));
+}
+
+-- .. and one with a longest chain numbers that are no greater than that is long
+pub longest_numbers : (p : Program) → AreInRange p → (l : ℕ) → IsLongestChain p l → IsNumberedTo p l
+longest_numbers p range l h = finish_numbers p range l (longest_finishes p range l h)

@@ -73,7 +73,7 @@ pub use exactness::{
     unordered_visits_meet,
 };
 pub use fault::VerifyFault;
-pub use fleet_needs::{ActionCosts, MAX_COST, join_rows};
+pub use fleet_needs::{ActionCosts, MAX_COST, OneEach, join_rows};
 pub use orders::{
     awaits_are_chains, orderly_listings_rise, rings_are_never_finished, sorted_listings_decide,
 };
@@ -94,5 +94,5 @@ pub use schedules::{
 };
 pub use stopped::{reached_counts, stopped_agents};
 pub use stretch::{Stretch, put_stretches};
-pub use times::{OneEach, Times};
+pub use times::Times;
 pub use verifier::{Accepted, Refused, verify};

@@ -27,7 +27,7 @@ use crate::path::cell_after;
 use crate::unheld_run::UnheldRun;
 use fleet_grid::Grid;
 use fleet_model::{ActionId, Cell, MAX_COORDINATE, OutOfMemory, ProgramView, Step, Visit};
-use fleet_needs::{Question, Ticks};
+use fleet_needs::{LevelsTo, Question};
 use fleet_scen::Instance;
 use indexmap::IndexMap;
 use std::alloc::Global;
@@ -164,7 +164,7 @@ pub fn find_violations<P: ProgramView>(
     if let Some(flags) = known.flags_of(alloc, &questions)? {
         return first_flagged(alloc, pairs, &flags);
     }
-    let asked = Answers::to(alloc, program, Ticks { count: ticks }, questions)?;
+    let asked = Answers::to(alloc, program, LevelsTo { most: ticks }, questions)?;
     first_flagged(alloc, pairs, &asked.flags)
 }
 

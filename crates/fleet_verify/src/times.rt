@@ -13,25 +13,12 @@ use crate::kept_levels::Levels;
 use crate::stretch::Stretch;
 use crate::verifier::Accepted;
 use fleet_model::{ActionId, Instruction, OutOfMemory, ProgramView};
-use fleet_needs::{ActionCosts, CriticalCosts};
+use fleet_needs::{ActionCosts, CriticalCosts, OneEach};
 use std::alloc::Global;
 use std::marker::Model;
 
 /// How many actions a stretch has at most.
 const LONGEST: u32 = u16::MAX as u32;
-
-/// Each action costs one.
-pub struct OneEach;
-
-impl ActionCosts for OneEach {
-    ghost use Rattle.fleet_model.specs.Chain.{unit_cost};
-
-    ghost cost = { λ _. unit_cost };
-
-    fn cost(&self, _action: ActionId) -> u32 {
-        1
-    }
-}
 
 /// When each action ends.
 #[derive(Drop)]

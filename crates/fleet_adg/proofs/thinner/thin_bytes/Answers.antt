@@ -1,18 +1,18 @@
-use Rattle.std.proofs.Common.{◌≡◌, [], length, sym, ap, subst, ◌∙◌}
+use Rattle.std.proofs.Common.{◌≡◌, length, sym, ap, subst, ◌∙◌}
 use Rattle.fleet_model.specs.Program.{Program, total_moves}
-use Rattle.fleet_model.specs.Machine.{IsFinish}
+use Rattle.fleet_needs.specs.Critical.{IsNumberedTo}
 use Rattle.fleet_grid.specs.Ground.{is_passable}
-use Rattle.fleet_verify.proofs.RunCounts.{longest_finishes}
+use Rattle.fleet_verify.proofs.Finish.{longest_numbers}
 use Rattle.fleet_adg.specs.Thinned.{IsThinnedFor}
 use Rattle.fleet_adg.proofs.Thinning.{thinned_is, total_same}
 use Rattle.fleet_adg.proofs.ThinnedBytes.{thinned_for, thinned_shortest}
 use Rattle.fleet_adg.proofs.thinner.thin_bytes.Goals as goal
 
-pub implied_awaits-requires-clause-finish : goal.implied_awaits-requires-clause-finish
-implied_awaits-requires-clause-finish g c =
+pub implied_awaits-requires : goal.implied_awaits-requires
+implied_awaits-requires g c =
     let p = g.P.ProgramView.program c.program-program.result.now in
     let known = c.program-program.ensures.accepted in
-    subst (IsFinish p []) (sym c.chain.ensures.chain) (longest_finishes p known.accepted.right.in_range c.args.accepted.now.chain known.longest)
+    subst (IsNumberedTo p) (sym c.chain.ensures.chain) (longest_numbers p known.accepted.right.in_range c.args.accepted.now.chain known.longest)
 
 pub returns : goal.returns
 returns g c =

@@ -13,7 +13,7 @@ loop-k-init g c =
 
 pub cost_of-requires-clause-goal : goal.cost_of-requires-clause-goal
 cost_of-requires-clause-goal g c =
-    awaited_action (g.P.ProgramView.program c.args.program.now) c.requires.walk.ends.range c.args.agent (c.count-finished.result + 1) c.loop-k.k c.in-Await.awaited (rw c.in-Await.is at c.read-reading.ensures.instruction)
+    awaited_action (g.P.ProgramView.program c.args.program.now) c.requires.walk.numbered.range c.args.agent (c.count-finished.result + 1) c.loop-k.k c.in-Await.awaited (rw c.in-Await.is at c.read-reading.ensures.instruction)
 
 pub returns-in-None-clause-unmet : goal.returns-in-None-clause-unmet
 returns-in-None-clause-unmet g c =
@@ -63,7 +63,7 @@ loop-k-preserved g c =
     let at : slice_get (awaits_of p i (n + 1)) s.met ≡ Some w = subst (λ (j : ℕ). slice_get (awaits_of p i (n + 1)) j ≡ Some w) met here in
     let place : c.read-reading.result.after ≡ offset i n (s.met + 1) = (rw c.in-Await.is at c.read-reading.ensures.after) ∙ ap (λ (j : ℕ). offset i n (j + 1)) met in
     let more : 1 ≤ s.left = omega (arith, c.loop-k.invariant.stage.left, awaits_within p i n, slice_get_within (awaits_of p i (n + 1)) s.met w at) in
-    let is : IsCriticalCost p cost (awaited w) c.in-Some.cost = subst (IsCriticalCost p cost (awaited w)) (sym c.in-Some.ensures.cost) (walk.noted (awaited w) (awaited_action p walk.ends.range i (n + 1) k w here) c.in-Some.ensures.met).critical in
+    let is : IsCriticalCost p cost (awaited w) c.in-Some.cost = subst (IsCriticalCost p cost (awaited w)) (sym c.in-Some.ensures.cost) (walk.noted (awaited w) (awaited_action p walk.numbered.range i (n + 1) k w here) c.in-Some.ensures.met).critical in
     record {
       stage = stage_on p cost offset (IsCounted c.args.walk.now.counts) i n s c.loop-k.invariant.stage w at c.in-Some.ensures.met c.in-Some.cost is (record { met = k + 1; left = s.left - 1; at = c.read-reading.result.after; greatest = c.max.result })
           (ap (λ (j : ℕ). j + 1) met) (omega (arith, more)) place (omega (arith, c.max.ensures));

@@ -9,8 +9,8 @@ returns-then-not-is_any g c = record {
       (λ j. ap (λ (xs : List Bool). get_or xs j false) (sym c.deref.ensures.value) ∙ c.is_any.ensures.0 c.if-not-is_any.true j) c.in_ok-asked.ensures.asked.settled;
 }
 
-pub of-requires-2-clause-sure : goal.of-requires-2-clause-sure
-of-requires-2-clause-sure g c = record {
+pub of-requires-clause-sure : goal.of-requires-clause-sure
+of-requires-clause-sure g c = record {
   flags = c.in_ok-asked.ensures.flags;
   sure = sure_of (g.P.ProgramView.program c.args.program.now) c.in_ok-asked.asked.items _ c.in_ok-asked.ensures.asked.settled;
 }

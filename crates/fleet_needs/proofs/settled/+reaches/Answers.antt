@@ -1,4 +1,4 @@
-use Rattle.fleet_needs.proofs.Words.{rules, ◌≡◌, true, false, sym, ap, ◌∙◌, subst, arith, inl, inr, leb-true, le-leb, Some, same_Some, Reaches, finish_tick}
+use Rattle.fleet_needs.proofs.Words.{rules, ◌≡◌, true, false, sym, ap, ◌∙◌, subst, arith, inl, inr, leb-true, le-leb, Some, same_Some, Reaches, critical_cost}
 use Rattle.fleet_needs.proofs.Joining.{own_first}
 use Rattle.fleet_needs.proofs.Settling.{await_of, none_if_low, own_only, none_next, none_before, none_need, need_on, need_back, no_is_not_yes, yes_is_not_no}
 use Rattle.fleet_needs.proofs.settled.+reaches.Goals as goal
@@ -11,16 +11,16 @@ reaches-returns-then-is_own-clause-yes g t c = λ e.
 
 pub reaches-returns-then-is_own-clause-no : goal.reaches-returns-then-is_own-clause-no
 reaches-returns-then-is_own-clause-no g t c = λ e r.
-    let le = own_only (g.P.ProgramView.program c.args.program.now) (finish_tick c.args.ticks.now) c.requires.ticks.rising c.args.first c.args.last c.requires.first c.requires.last (omega (arith, c.if-is_own.true)) r in
+    let le = own_only (g.P.ProgramView.program c.args.program.now) (critical_cost c.args.look.now.levels.now) c.requires.levels.rising c.args.first c.args.last c.requires.first c.requires.last (omega (arith, c.if-is_own.true)) r in
     grind (arith, same_Some _ _ e, le-leb c.args.first.number c.args.last.number le)
 
-pub reaches-returns-then-tick-clause-yes : goal.reaches-returns-then-tick-clause-yes
-reaches-returns-then-tick-clause-yes g t c = λ e. absurd (no_is_not_yes e)
+pub reaches-returns-then-cost-clause-yes : goal.reaches-returns-then-cost-clause-yes
+reaches-returns-then-cost-clause-yes g t c = λ e. absurd (no_is_not_yes e)
 
-pub reaches-returns-then-tick-clause-no : goal.reaches-returns-then-tick-clause-no
-reaches-returns-then-tick-clause-no g t c = λ e.
-    none_if_low (g.P.ProgramView.program c.args.program.now) (finish_tick c.args.ticks.now) c.requires.ticks.rising c.args.first c.args.last (λ s. omega (arith, s, c.if-is_own.false))
-    (omega (arith, c.if-tick.true, c.tick.ensures, c.tick-2.ensures))
+pub reaches-returns-then-cost-clause-no : goal.reaches-returns-then-cost-clause-no
+reaches-returns-then-cost-clause-no g t c = λ e.
+    none_if_low (g.P.ProgramView.program c.args.program.now) (critical_cost c.args.look.now.levels.now) c.requires.levels.rising c.args.first c.args.last (λ s. omega (arith, s, c.if-is_own.false))
+    (omega (arith, c.if-cost.true, c.cost.ensures, c.cost-2.ensures))
 
 pub reaches-returns-clause-yes : goal.reaches-returns-clause-yes
 reaches-returns-clause-yes g t c = λ e. need_on (g.P.ProgramView.program c.args.program.now) c.args.first c.args.last _ c.requires.last (c.reaches_need.ensures.yes e)

@@ -6,7 +6,7 @@ pub returns-then-is_needed-clause-yes : goal.returns-then-is_needed-clause-yes
 returns-then-is_needed-clause-yes g c = λ w at e.
     let p = g.P.ProgramView.program c.args.program.now in
     let one = c.awaited_at-awaited.ensures.awaited in
-    subst (IsImplied p c.args.action) (same_Some (await_of c.awaited_at-awaited.result) w (sym one ∙ at)) (need_implied p c.agents.ensures.well_formed c.requires.range c.args.action c.args.k _ one c.requires.action.first (inr (record {
+    subst (IsImplied p c.args.action) (same_Some (await_of c.awaited_at-awaited.result) w (sym one ∙ at)) (need_implied p c.agents.ensures.well_formed c.requires.levels.range c.args.action c.args.k _ one c.requires.action.first (inr (record {
       place = c.args.latest;
       await = await_of c.awaited_at-other.result;
       this = λ same. c.if-k-latest.true (sym same);
@@ -19,11 +19,11 @@ returns-clause-yes g c = λ w at e.
     let p = g.P.ProgramView.program c.args.program.now in
     let one = c.awaited_at-awaited.ensures.awaited in
     subst (IsImplied p c.args.action) (same_Some (await_of c.awaited_at-awaited.result) w (sym one ∙ at))
-    (need_implied p c.agents.ensures.well_formed c.requires.range c.args.action c.args.k _ one c.requires.action.first (c.reaches_need.ensures.yes e))
+    (need_implied p c.agents.ensures.well_formed c.requires.levels.range c.args.action c.args.k _ one c.requires.action.first (c.reaches_need.ensures.yes e))
 
 pub returns-clause-no : goal.returns-clause-no
 returns-clause-no g c = λ w at e implied.
     let p = g.P.ProgramView.program c.args.program.now in
     let one = c.awaited_at-awaited.ensures.awaited in
     let here = subst (IsImplied p c.args.action) (same_Some w (await_of c.awaited_at-awaited.result) (sym at ∙ one)) implied in
-    c.reaches_need.ensures.no e (implied_need p c.agents.ensures.well_formed c.requires.range c.args.action c.args.k _ one here)
+    c.reaches_need.ensures.no e (implied_need p c.agents.ensures.well_formed c.requires.levels.range c.args.action c.args.k _ one here)

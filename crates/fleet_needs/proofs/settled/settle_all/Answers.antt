@@ -1,4 +1,4 @@
-use Rattle.fleet_needs.proofs.Words.{◌≡◌, ◌+◌, Bool, List, length, sym, subst, ◌∙◌, ap, arith, drop, take_at, flags_of, AreTicks, AreSettledOf, IsUpTo}
+use Rattle.fleet_needs.proofs.Words.{◌≡◌, ◌+◌, Bool, List, length, sym, subst, ◌∙◌, ap, arith, drop, take_at, flags_of, AreSettledOf, IsUpTo}
 use Rattle.fleet_needs.proofs.Settling.{agent_up}
 use Rattle.fleet_needs.proofs.settled.settle_all.Goals as goal
 
@@ -11,7 +11,5 @@ loop-agent-preserved g c =
     record {
       all = ap (λ (xs : List Bool). length xs) same ∙ c.settle_agent.auto.asked ∙ ap (λ (xs : List Bool). length xs) c.deref_mut.ensures.value ∙ c.loop-agent.invariant.all;
       flags = c.settle_agent.ensures.flags;
-      same = c.look_less_if_most.ensures ∙ c.loop-agent.invariant.same;
-      ticks = subst (AreTicks p) (sym c.look_less_if_most.ensures) c.loop-agent.invariant.ticks;
       settled = subst (λ (xs : List Bool). AreSettledOf p xs (IsUpTo (c.loop-agent.agent + 1) 0) (flags_of c.settle_agent.new.implied)) (sym same) (agent_up p c.loop-agent.agent new (flags_of c.settle_agent.new.implied) c.settle_agent.ensures.settled);
     }

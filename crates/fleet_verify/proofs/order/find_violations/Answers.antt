@@ -5,6 +5,7 @@ use Rattle.indexmap.specs.IndexMap.{get}
 use Rattle.fleet_needs.specs.declared.questions.Question.{Question}
 use Rattle.fleet_needs.specs.Asked.{AreAnswers}
 use Rattle.fleet_verify.specs.OpenPairs.{question_of, HasNoChain, IsFlagged, AnswersFirstBad}
+use Rattle.fleet_verify.proofs.Finish.{finish_numbers}
 use Rattle.fleet_verify.proofs.OpenPairs.{flags_tell}
 use Rattle.fleet_verify.proofs.order.find_violations.Goals as goal
 
@@ -38,3 +39,6 @@ returns g c =
     subst (λ (qs : List Question). AreAnswers p qs flags) (c.in_ok-asked.ensures.questions ∙ c.in_ok-questions.ensures) (subst (λ (fs : List Bool). AreAnswers p c.in_ok-asked.asked.questions.items fs) (sym c.deref-2.ensures.value) c.in_ok-asked.ensures.answers) in
     on_ok (λ found. (n : ℕ) → AnswersFirstBad (IsFlagged flags) pairs (length pairs) n (get nat_eq found n)) (λ found. (n : ℕ) → AnswersFirstBad (λ _ o. HasNoChain p o) pairs (length pairs) n (get nat_eq found n))
     (λ found h n. flags_tell p pairs flags answers n (get nat_eq found n) (h n)) c.first_flagged-2.result c.first_flagged-2.ensures
+
+pub to-requires-clause-source : goal.to-requires-clause-source
+to-requires-clause-source g c = finish_numbers (g.P.ProgramView.program c.args.program.now) c.requires.range c.args.ticks c.requires.finish

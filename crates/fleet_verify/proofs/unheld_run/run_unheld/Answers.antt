@@ -1,6 +1,18 @@
+use Rattle.std.proofs.Common.{◌≡◌, ℕ, ◌≤◌, false, take, replicate, ap, ◌∙◌, inl, inr}
+use Rattle.std.proofs.lemmas.Bool.{cases_lt}
+use Rattle.std.proofs.lemmas.List.{take-replicate, get_or-replicate, get_or_past, length-replicate}
+use Rattle.fleet_machine.specs.Machine.{flag_of}
 use Rattle.fleet_verify.proofs.Words.{arith, err_from_is_err_and, MAX_AGENTS}
-use Rattle.fleet_needs.proofs.Free.{none_flagged}
 use Rattle.fleet_verify.proofs.unheld_run.run_unheld.Goals as goal
+
+-- a row without flags
+none_flagged : (n m i : ℕ) → n ≤ m → flag_of (take n (replicate m false)) i ≡ false
+none_flagged n m i fits =
+    ap (λ flags. flag_of flags i) (take-replicate n m false fits)
+    ∙ elim (cases_lt i n) [
+      | inl l ↦ get_or-replicate n i false false l
+      | inr l ↦ get_or_past (replicate n false) i false (omega (arith, length-replicate n false))
+    ]
 
 pub run_on-requires-clause-nobody : goal.run_on-requires-clause-nobody
 run_on-requires-clause-nobody g c = λ i. none_flagged c.agents.result MAX_AGENTS i (omega (arith, c.agents.ensures.count, c.agents.ensures.well_formed.few_agents))

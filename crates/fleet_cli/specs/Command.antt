@@ -9,17 +9,17 @@ use Rattle.fleet_args.specs.declared.request.WordStop.TheVariants as w
 use Rattle.fleet_cli.specs.Files.{Store, AreUnchanged}
 use Rattle.fleet_text.specs.Sink.{Receives, FailsAfter, SinkState, IsUnwritten, IsDelivered}
 use Rattle.fleet_text.specs.Words.{line_text}
-use Rattle.fleet_cli.specs.Output.{IsRefusalWritten, Finishes}
+pub use Rattle.fleet_cli.specs.Output.{Around, around}
+use Rattle.fleet_cli.specs.Output.{IsRefusalWritten, Finishes, Prints, Declines}
+use Rattle.fleet_cli.specs.Steps.{IsProblemOf, IsProblemRefusal}
 use Rattle.fleet_cli.specs.Named.{given_names, IsUnread, AreTexts}
-use Rattle.fleet_cli.specs.declared.{files.FileNames.FileNames, files.FileTexts.FileTexts, fault.Fault.Fault}
+use Rattle.fleet_cli.specs.declared.{files.FileNames.FileNames, files.FileTexts.FileTexts, steps.Problem.Problem, fault.Fault.Fault}
 use Rattle.fleet_cli.specs.RunCommands.{RunsHex, AnswersRehearse, AnswersRun, AnswersAuto}
-use Rattle.fleet_cli.specs.PrintCommands.{AnswersInstance, AnswersCheck, AnswersPlan, AnswersVerify, AnswersList}
+use Rattle.fleet_cli.specs.PrintCommands.{instance_text, AnswersCheck, AnswersPlan, AnswersVerify, AnswersList}
 use Rattle.fleet_cli.specs.WriteCommands.{AnswersCompile, AnswersThin, AnswersMigrate}
 use Rattle.fleet_cli.specs.DispatchCommand.{AnswersDispatch}
 use Rattle.fleet_cli.specs.TimesCommand.{AnswersTimes}
 use Rattle.fleet_cli.specs.RestCommand.{AnswersRest}
-use Rattle.fleet_dispatch.specs.Talk.{Talk}
-use Rattle.fleet_dispatch.specs.declared.form.ReportForm.{ReportForm}
 use Rattle.fleet_cli.specs.declared.fault.Fault.TheVariants as f
 
 -- the files of a request: those of its tasks, if it has some, what it is about, the holds and the log
@@ -47,19 +47,6 @@ names_of (r.Dispatch q) = names_of_program q.subject None q.resume
 names_of (r.Times q) = names_of_program q.subject q.costs None
 names_of (r.Rest q) = names_of_program q.subject None (Some q.reports)
 
--- what a request finds and leaves: the files before it and after it; that nothing was read of the input, and that nothing
--- was written; and what robots were told, what they reported, and what was logged of that
-pub record Around : Type 1 where
-  pub files : Option Store
-  pub after : Option Store
-  pub unread : Type 0
-  pub unwritten : Type 0
-  pub talks : (log log' : SinkState) → ReportForm → Talk → Type 0
-
--- .. these, as one
-abbrev pub around : (files after : Option Store) → (unread unwritten : Type 0) → ((log log' : SinkState) → ReportForm → Talk → Type 0) → Around
-around files after unread unwritten talks = record { files = files; after = after; unread = unread; unwritten = unwritten; talks = talks }
-
 -- a command answers so, and leaves every file as before and the input unread
 abbrev pub Looks : Around → ((out out' : SinkState) → Result ℕ Fault → Type 0) → (out out' : SinkState) → Result ℕ Fault → Type 0
 Looks w Answers out out' result = Answers out out' result × AreUnchanged w.files w.after × w.unread
@@ -68,32 +55,36 @@ Looks w Answers out out' result = Answers out out' result × AreUnchanged w.file
 abbrev pub Writes : Around → ((files after : Option Store) → (out out' : SinkState) → Result ℕ Fault → Type 0) → (out out' : SinkState) → Result ℕ Fault → Type 0
 Writes w Answers out out' result = Answers w.files w.after out out' result × w.unread
 
+-- a command about tasks: the texts stand for a problem, and it answers so for it; or they are refused
+abbrev pub Reads : Around → Tasks → FileTexts → (Problem → (out out' : SinkState) → Result ℕ Fault → Type 0) → (out out' : SinkState) → Result ℕ Fault → Type 0
+Reads w tasks texts Answers out out' result =
+    ((problem : Problem) × IsProblemOf texts tasks.agents problem × Answers problem out out' result) ⊎ Declines w (IsProblemRefusal texts tasks.agents) out out' result
+
 -- what each command answers for the texts of its files; `dispatch` tells robots over the output, hears them by the
 -- input, and logs what they report
 abbrev pub AnswersRequest : Around → Request → FileTexts → (out out' : SinkState) → Result ℕ Fault → Type 0
-AnswersRequest w (r.Instance q) texts = Looks w (AnswersInstance q texts)
-AnswersRequest w (r.Check q) texts = Looks w (AnswersCheck q texts)
-AnswersRequest w (r.Plan q) texts = Looks w (AnswersPlan q texts)
-AnswersRequest w (r.Compile q) texts = Writes w (λ files after. AnswersCompile files after q texts)
-AnswersRequest w (r.Verify q) texts = Looks w (AnswersVerify q texts)
-AnswersRequest w (r.Run q) texts = Looks w (AnswersRun q texts)
+AnswersRequest w (r.Instance q) texts = Reads w q texts (λ problem. Looks w (Prints (instance_text problem.grid problem.instance)))
+AnswersRequest w (r.Check q) texts = Reads w q.tasks texts (λ problem. Looks w (AnswersCheck q problem))
+AnswersRequest w (r.Plan q) texts = Reads w q.tasks texts (λ problem. Looks w (AnswersPlan q problem))
+AnswersRequest w (r.Compile q) texts = Reads w q.tasks texts (λ problem. Writes w (λ files after. AnswersCompile files after q problem))
+AnswersRequest w (r.Verify q) texts = Reads w q.tasks texts (λ problem. Looks w (AnswersVerify problem))
+AnswersRequest w (r.Run q) texts = Reads w q.subject.tasks texts (λ problem. Looks w (AnswersRun problem))
 AnswersRequest w (r.Rehearse q) texts = Looks w (AnswersRehearse texts)
-AnswersRequest w (r.Auto q) texts = Looks w (AnswersAuto q texts)
-AnswersRequest w (r.Thin q) texts = Writes w (λ files after. AnswersThin files after q texts)
+AnswersRequest w (r.Auto q) texts = Reads w q.tasks texts (λ problem. Looks w (AnswersAuto q problem))
+AnswersRequest w (r.Thin q) texts = Reads w q.subject.tasks texts (λ problem. Writes w (λ files after. AnswersThin files after q problem))
 AnswersRequest w (r.Migrate q) texts = Writes w (λ files after. AnswersMigrate files after q texts)
 AnswersRequest w (r.List q) texts = Looks w (AnswersList texts)
-AnswersRequest w (r.Dispatch q) texts = λ out out' result. AnswersDispatch w.files w.after q texts (w.unread × w.unwritten) w.talks result
-AnswersRequest w (r.Times q) texts = Looks w (AnswersTimes q texts)
-AnswersRequest w (r.Rest q) texts = Writes w (λ files after. AnswersRest files after q texts)
+AnswersRequest w (r.Dispatch q) texts = Reads w q.subject.tasks texts (AnswersDispatch w q)
+AnswersRequest w (r.Times q) texts = Reads w q.subject.tasks texts (λ problem. Looks w (AnswersTimes q problem))
+AnswersRequest w (r.Rest q) texts = Reads w q.subject.tasks texts (λ problem. Writes w (λ files after. AnswersRest files after q problem))
 
 -- What a request is answered. Its files were read, which leaves every file as before, and this is the answer for their
--- texts; or one of them was not read, which is the refusal, and nothing was written, and the input not read
+-- texts; or one of them was not read, which is the refusal
 abbrev pub DoesRequest : Around → Request → (out out' : SinkState) → Result ℕ Fault → Type 0
 DoesRequest w request out out' result =
     ((texts : FileTexts) × (read : Option Store) × AreTexts w.files (names_of request) texts × AreUnchanged w.files read
     × AnswersRequest (record w { files = read }) request texts out out' result)
-    ⊎ ((fault : Fault) × (result ≡ Err fault) × IsUnread w.files (given_names (names_of request)) fault × AreUnchanged w.files w.after × IsUnwritten out out'
-    × w.unread × w.unwritten)
+    ⊎ Declines w (IsUnread w.files (given_names (names_of request))) out out' result
 
 -- the request was done, and its status is answered; or a refusal was reported, and the refusal's status is answered:
 -- the other output took that one line, or failed within it

@@ -8,10 +8,11 @@ use Rattle.fleet_dispatch.specs.Session.{first_course}
 use Rattle.fleet_dispatch.specs.declared.{form.ReportForm.ReportForm, form.ReportForm.TheVariants.Numbered, form.ReportForm.TheVariants.Unnumbered, pace.Pace.Pace, run.DispatchReport.DispatchReport, fault.DispatchFault.DispatchFault}
 use Rattle.fleet_dispatch.specs.Replay.{GoesOn, DispatchesAfter}
 use Rattle.fleet_args.specs.declared.commands.DispatchRequest.{DispatchRequest}
-use Rattle.fleet_cli.specs.declared.{files.FileTexts.FileTexts, fault.Fault.Fault}
+use Rattle.fleet_cli.specs.declared.{steps.Problem.Problem, fault.Fault.Fault}
 use Rattle.fleet_cli.specs.Files.{Store, AreUnchanged, IsOwnLog}
 use Rattle.fleet_cli.specs.Journal.{log_in, ChangesOnlyLog, IsKept, IsLogFault}
-use Rattle.fleet_cli.specs.Steps.{AcceptsTexts, IsTextsRefusal}
+use Rattle.fleet_cli.specs.Steps.{AcceptsProgram, IsAcceptRefusal}
+use Rattle.fleet_cli.specs.Output.{Around, Declines}
 use Rattle.fleet_cli.specs.declared.fault.Fault.TheVariants as f
 
 -- how the orders of a request are given
@@ -37,10 +38,9 @@ Leads files after r p past untold talks result =
     (IfSome (log_in files r.log) (IsOwnLog past) × (told : Result DispatchReport DispatchFault) × GoesOn (first_course p (pace_of r)) past (IsKept files after r.log talks (pace_of r).form) told × AnswersTold told result)
     ⊎ ((fault : Fault) × (result ≡ Err fault) × IsUntold files after r p past fault × untold)
 
--- What `dispatch` answers for the texts of its files. The texts and the bytes are refused, nothing was told or heard,
--- and every file is as before; or the program is accepted, and its agents are led, and every file but the log is as
--- before
-abbrev pub AnswersDispatch : (files after : Option Store) → DispatchRequest → FileTexts → (untold : Type 0) → ((log log' : SinkState) → ReportForm → Talk → Type 0) → Result ℕ Fault → Type 0
-AnswersDispatch files after r texts untold talks result =
-    AcceptsTexts texts r.subject.tasks.agents (λ g tasks p chain. Leads files after r p texts.log.items untold talks result × ChangesOnlyLog files after r.log)
-    ⊎ ((fault : Fault) × (result ≡ Err fault) × IsTextsRefusal texts r.subject.tasks.agents fault × AreUnchanged files after × untold)
+-- What `dispatch` answers. The program is accepted, and its agents are led, and every file but the log is as before; or
+-- it is refused, and nothing was told or heard
+abbrev pub AnswersDispatch : Around → DispatchRequest → Problem → (out out' : SinkState) → Result ℕ Fault → Type 0
+AnswersDispatch w r problem out out' result =
+    AcceptsProgram problem (λ p chain. Leads w.files w.after r p problem.texts.log.items (w.unread × w.unwritten) w.talks result × ChangesOnlyLog w.files w.after r.log)
+    ⊎ Declines w (IsAcceptRefusal problem) out out' result

@@ -11,6 +11,11 @@ IsRefusedAs refuses name f.Memory = refuses OutOfMemory
 IsRefusedAs refuses name (f.File n) = (name ≡ n.now) × refuses Failed
 IsRefusedAs refuses name _ = ⊥
 
+-- .. of the file that was named
+abbrev pub IsGivenAs : (refuses : List ℕ → FileFault → Type 0) → Option (Bor (List ℕ)) → Fault → Type 0
+IsGivenAs refuses None fault = ⊥
+IsGivenAs refuses (Some name) fault = IsRefusedAs (refuses name.now) name.now fault
+
 -- the named file was not read: memory ran out, or it cannot be read
 abbrev pub IsReadFault : Option Store → List ℕ → Fault → Type 0
 IsReadFault files name f.Memory = Unit {0}

@@ -9,6 +9,8 @@ use Rattle.std.specs.Borrow.{Bor}
 use Rattle.fleet_cli.specs.Files.{Store, AreUnchanged, ChangesOnly, Replaces}
 use Rattle.fleet_cli.specs.Named.{IsWriteFault}
 use Rattle.fleet_text.specs.Words.{line_text, count_line}
+use Rattle.fleet_dispatch.specs.Talk.{Talk}
+use Rattle.fleet_dispatch.specs.declared.form.ReportForm.{ReportForm}
 
 -- the refusal was reported: the sink took its line, or failed within it
 abbrev pub IsRefusalWritten : Fault → (err err' : SinkState) → Type 0
@@ -52,20 +54,37 @@ Prints text out out' (Err fault) = IsOutFault fault × FailsAfter out out' text
 abbrev pub Refuses : (Fault → Type 0) → (out out' : SinkState) → Result ℕ Fault → Type 0
 Refuses IsRefusal out out' result = (fault : Fault) × (result ≡ Err fault) × IsRefusal fault × IsUnwritten out out'
 
+-- what a request finds and leaves: the files before it and after it; that nothing was read of the input, and that nothing
+-- was written; and what robots were told, what they reported, and what was logged of that
+pub record Around : Type 1 where
+  pub files : Option Store
+  pub after : Option Store
+  pub unread : Type 0
+  pub unwritten : Type 0
+  pub talks : (log log' : SinkState) → ReportForm → Talk → Type 0
+
+-- .. these, as one
+abbrev pub around : (files after : Option Store) → (unread unwritten : Type 0) → ((log log' : SinkState) → ReportForm → Talk → Type 0) → Around
+around files after unread unwritten talks = record { files = files; after = after; unread = unread; unwritten = unwritten; talks = talks }
+
+-- such a refusal is answered, and nothing was read, written or changed
+abbrev pub Declines : Around → (Fault → Type 0) → (out out' : SinkState) → Result ℕ Fault → Type 0
+Declines w IsRefusal out out' result = Refuses IsRefusal out out' result × AreUnchanged w.files w.after × w.unread × w.unwritten
+
 -- the one was done, and this is what came of the other; or the one was refused
 abbrev pub Follow : (first second : (out out' : SinkState) → Result ℕ Fault → Type 0) → (out out' : SinkState) → Result ℕ Fault → Type 0
 Follow first second out out' result = ((mid : SinkState) × (status : ℕ) × first out mid (Ok status) × second mid out' result) ⊎ ((fault : Fault) × (result ≡ Err fault) × first out out' (Err fault))
 
 -- the file that is named was written or not, and every other one is as before; without a name nothing is done
 abbrev pub WritesGiven : (files after : Option Store) → Option (Bor (List ℕ)) → List ℕ → Result (Unit {0}) Fault → Type 0
-WritesGiven files after None bytes result = (after ≡ files) × (result ≡ Ok tt)
+WritesGiven files after None bytes result = AreUnchanged files after × (result ≡ Ok tt)
 WritesGiven files after (Some name) bytes (Ok _) = Replaces files after name.now bytes
 WritesGiven files after (Some name) bytes (Err fault) = IsWriteFault name.now fault × ChangesOnly files after name.now
 
 -- the files that are named were written one after another, and then the text was printed; or one could not be written,
 -- and nothing more was done
 abbrev pub WritesFiles : (files after : Option Store) → List (Option (Bor (List ℕ)) × List ℕ) → (text : List ℕ) → (out out' : SinkState) → Result ℕ Fault → Type 0
-WritesFiles files after [] text out out' result = (after ≡ files) × Prints text out out' result
+WritesFiles files after [] text out out' result = AreUnchanged files after × Prints text out out' result
 WritesFiles files after (one ∷ others) text out out' result =
     ((mid : Option Store) × WritesGiven files mid one.0 one.1 (Ok tt) × WritesFiles mid after others text out out' result)
     ⊎ ((fault : Fault) × (result ≡ Err fault) × WritesGiven files after one.0 one.1 (Err fault) × IsUnwritten out out')

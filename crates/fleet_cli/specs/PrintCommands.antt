@@ -1,13 +1,13 @@
 -- What the commands `instance`, `check`, `plan`, `verify` and `list` print.
-use Rattle.std.specs.Prelude.{◌≡◌, ℕ, List, [], ◌∷◌, ◌++◌, length, slice_get, option_map, unwrap_or, Option, codes, decimal, Result, Err, ◌≢◌, Bool, true, false, Some, None, ◌⊎◌}
+use Rattle.std.specs.Prelude.{◌≡◌, ℕ, List, [], ◌∷◌, ◌++◌, length, slice_get, option_map, unwrap_or, Option, codes, decimal, Result, Err, ◌≢◌, Bool, true, false, Some, None, ◌⊎◌, ⊤}
 use Rattle.fleet_model.specs.declared.{geometry.Cell.Cell, task.Task.Task, program.Visit.Visit}
 use Rattle.fleet_model.specs.Program.{origin, Program, total_moves, total_awaits}
 use Rattle.fleet_grid.specs.Ground.{Ground, passable_cells, is_passable}
-use Rattle.fleet_cli.specs.Steps.{AreTextsOf, ReadsTexts, IsProblemRefusal, IsPlannedFor, AcceptsTexts, IsLoadRefusal}
+use Rattle.fleet_cli.specs.Steps.{IsPlannedFor, AcceptsProgram, IsLoadRefusal}
 use Rattle.fleet_text.specs.Sink.{FailsAfter, SinkState, IsUnwritten, IsDelivered}
-use Rattle.fleet_args.specs.declared.{commands.Tasks.Tasks, commands.CheckRequest.CheckRequest, commands.Tries.Tries, commands.PlanRequest.PlanRequest, commands.ProgramFor.ProgramFor}
+use Rattle.fleet_args.specs.declared.{commands.CheckRequest.CheckRequest, commands.PlanRequest.PlanRequest}
 use Rattle.fleet_text.specs.Words.{pair_text, line_text, count_line}
-use Rattle.fleet_cli.specs.declared.{files.FileTexts.FileTexts, fault.Fault.Fault}
+use Rattle.fleet_cli.specs.declared.{files.FileTexts.FileTexts, fault.Fault.Fault, steps.Problem.Problem}
 use Rattle.fleet_cli.specs.declared.fault.Fault.TheVariants as f
 use Rattle.fleet_plan.specs.Plan.{Plan, steps, IsConflictFree}
 use Rattle.fleet_plan.specs.Numbers.{sum_of_costs, moves_in_plan, waits_in_plan}
@@ -50,11 +50,6 @@ unfoldable pub instance_text : Ground → List Task → List ℕ
 instance_text g tasks =
     map_line g ++ (count_line (codes "ground") (passable_cells g) ++ (count_line (codes "agents") (length tasks) ++ task_lines tasks))
 
--- what `instance` answers for the texts of its files
-abbrev pub AnswersInstance : Tasks → FileTexts → (out out' : SinkState) → Result ℕ Fault → Type 0
-AnswersInstance r texts out out' result =
-    ReadsTexts texts r.agents (λ g tasks. Prints (instance_text g tasks) out out' result) ⊎ Refuses (IsProblemRefusal texts r.agents) out out' result
-
 -- `conflict-free`, then the agents and the steps, each with its number; if the bound is given, then also the sum of
 -- costs, the bound, the moves and the waits
 abbrev pub check_text : Plan → Option ℕ → List ℕ
@@ -68,37 +63,36 @@ abbrev pub IsAskedBound : Ground → List Task → Bool → Option ℕ → Type 
 IsAskedBound g tasks numbers None = numbers ≡ false
 IsAskedBound g tasks numbers (Some bound) = (numbers ≡ true) × IsBound (is_passable g) tasks bound
 
--- the texts stand for this ground, these tasks and this plan
-pub record ArePlanTexts (texts : FileTexts) (asked : Option ℕ) (g : Ground) (tasks : List Task) (paths : Plan) : Type 0 where
-  pub instance : AreTextsOf texts.map.items texts.scen.items asked g tasks
-  pub plan_read : IsPlanText texts.subject.items paths
+-- the bytes of the problem stand for this plan, and it is free of conflict for it
+abbrev pub IsFreePlan : Problem → Plan → Type 0
+IsFreePlan problem paths = IsPlanText problem.texts.subject.items paths × IsConflictFree (is_passable problem.grid) problem.instance paths
 
--- the first fault of the texts, judged in this order: map, scenario, plan text, plan
-abbrev pub IsPlanRefusal : FileTexts → Option ℕ → Fault → Type 0
-IsPlanRefusal texts asked (f.Text fault) = ReadsTexts texts asked (λ g tasks. fault ≢ t.OutOfMemory → IsFirstTextFault texts.subject.items fault)
-IsPlanRefusal texts asked (f.Check fault) =
-    (g : Ground) × (tasks : List Task) × (paths : Plan) × ArePlanTexts texts asked g tasks paths × (fault ≢ p.OutOfMemory → IsFirstPlanFault (is_passable g) tasks paths fault)
-IsPlanRefusal texts asked fault = IsProblemRefusal texts asked fault
+-- the first fault of the plan's text, or of the plan for which it stands; or memory ran out
+abbrev pub IsPlanRefusal : Problem → Fault → Type 0
+IsPlanRefusal problem (f.Text fault) = fault ≢ t.OutOfMemory → IsFirstTextFault problem.texts.subject.items fault
+IsPlanRefusal problem (f.Check fault) =
+    (paths : Plan) × IsPlanText problem.texts.subject.items paths × (fault ≢ p.OutOfMemory → IsFirstPlanFault (is_passable problem.grid) problem.instance paths fault)
+IsPlanRefusal problem f.Memory = ⊤
+IsPlanRefusal problem _ = ⊥
 
--- What `check` answers for the texts of its files. The plan for which they stand is free of conflict; this is printed
--- with its numbers, and with its bound if that is asked for
-abbrev pub AnswersCheck : CheckRequest → FileTexts → (out out' : SinkState) → Result ℕ Fault → Type 0
-AnswersCheck r texts out out' result =
-    ((g : Ground) × (tasks : List Task) × (paths : Plan) × (bound : Option ℕ) × ArePlanTexts texts r.tasks.agents g tasks paths × IsConflictFree (is_passable g) tasks paths
-    × IsAskedBound g tasks r.numbers bound × Prints (check_text paths bound) out out' result)
-    ⊎ Refuses (IsPlanRefusal texts r.tasks.agents) out out' result
+-- What `check` answers. The plan is free of conflict; this is printed with its numbers, and with its bound if that is
+-- asked for
+abbrev pub AnswersCheck : CheckRequest → Problem → (out out' : SinkState) → Result ℕ Fault → Type 0
+AnswersCheck r problem out out' result =
+    ((paths : Plan) × (bound : Option ℕ) × IsFreePlan problem paths × IsAskedBound problem.grid problem.instance r.numbers bound × Prints (check_text paths bound) out out' result)
+    ⊎ Refuses (IsPlanRefusal problem) out out' result
 
--- the first fault of the map's text or of the scenario's; or an agent that is left without a path by those before it
-abbrev pub IsSearchRefusal : FileTexts → Option ℕ → ℕ → Tries → Fault → Type 0
-IsSearchRefusal texts asked horizon tries (f.Search stop) =
-    ReadsTexts texts asked (λ g tasks. (agent : ℕ) → stop ≡ s.NoPath agent → IsStuckInTries (is_passable g) tasks horizon tries.count agent)
-IsSearchRefusal texts asked horizon tries fault = IsProblemRefusal texts asked fault
+-- an agent is left without a path by those before it; or memory ran out
+abbrev pub IsSearchRefusal : Problem → PlanRequest → Fault → Type 0
+IsSearchRefusal problem r (f.Search stop) = (agent : ℕ) → stop ≡ s.NoPath agent → IsStuckInTries (is_passable problem.grid) problem.instance r.horizon r.tries.count agent
+IsSearchRefusal problem r f.Memory = ⊤
+IsSearchRefusal problem r _ = ⊥
 
--- what `plan` answers for the texts of its files: a plan that is made agent by agent and is free of conflict
-abbrev pub AnswersPlan : PlanRequest → FileTexts → (out out' : SinkState) → Result ℕ Fault → Type 0
-AnswersPlan r texts out out' result =
-    ReadsTexts texts r.tasks.agents (λ g tasks. (plan : Plan) × (tried : ℕ) × IsPlannedFor g tasks r.horizon r.tries tried plan × Prints (plan_text plan) out out' result)
-    ⊎ Refuses (IsSearchRefusal texts r.tasks.agents r.horizon r.tries) out out' result
+-- what `plan` answers: a plan that is made agent by agent and is free of conflict
+abbrev pub AnswersPlan : PlanRequest → Problem → (out out' : SinkState) → Result ℕ Fault → Type 0
+AnswersPlan r problem out out' result =
+    ((plan : Plan) × (tried : ℕ) × IsPlannedFor problem.grid problem.instance r.horizon r.tries tried plan × Prints (plan_text plan) out out' result)
+    ⊎ Refuses (IsSearchRefusal problem r) out out' result
 
 -- `accepted`, then the agents, the moves, the awaits and the longest chain, each with its number
 abbrev pub accepted_text : Program → ℕ → List ℕ
@@ -123,28 +117,20 @@ ReportsRefused p fault out out' (f.File name) =
     × (text : List ℕ) × SpellsBreakingHolds p first second text × FailsAfter out out' text
 ReportsRefused p fault out out' _ = ⊥
 
--- the texts stand for a map and for tasks, and the program that the bytes spell is refused, which is reported by this
--- refusal
-pub record RefusesProgram (texts : FileTexts) (asked : Option ℕ) (out out' : SinkState) (reported : Fault) : Type 0 where
-  pub ground : Ground
-  pub tasks : List Task
-  pub read : AreTextsOf texts.map.items texts.scen.items asked ground tasks
+-- the program that the bytes of the problem spell is refused, which is reported by this refusal
+pub record RefusesProgram (problem : Problem) (out out' : SinkState) (reported : Fault) : Type 0 where
   pub program : Program
-  pub spelled : Spells texts.subject.items program
+  pub spelled : Spells problem.texts.subject.items program
   pub fault : VerifyFault
-  pub refused : IsFault (is_passable ground) tasks program fault
+  pub refused : IsFault (is_passable problem.grid) problem.instance program fault
   pub broken : IsBrokenBy program fault
   pub reports : ReportsRefused program fault out out' reported
 
--- the first fault of the texts, or of the bytes of the program
-abbrev pub IsViewRefusal : FileTexts → Option ℕ → Fault → Type 0
-IsViewRefusal texts asked fault = IsProblemRefusal texts asked fault ⊎ ReadsTexts texts asked (λ g tasks. IsLoadRefusal texts.subject.items fault)
-
--- what `verify` answers for the texts of its files
-abbrev pub AnswersVerify : ProgramFor → FileTexts → (out out' : SinkState) → Result ℕ Fault → Type 0
-AnswersVerify r texts out out' result =
-    AcceptsTexts texts r.tasks.agents (λ g tasks p chain. Prints (accepted_text p chain) out out' result) ⊎ Refuses (IsViewRefusal texts r.tasks.agents) out out' result
-    ⊎ ((fault : Fault) × (result ≡ Err fault) × RefusesProgram texts r.tasks.agents out out' fault)
+-- what `verify` answers
+abbrev pub AnswersVerify : Problem → (out out' : SinkState) → Result ℕ Fault → Type 0
+AnswersVerify problem out out' result =
+    AcceptsProgram problem (λ p chain. Prints (accepted_text p chain) out out' result) ⊎ Refuses (IsLoadRefusal problem.texts.subject.items) out out' result
+    ⊎ ((fault : Fault) × (result ≡ Err fault) × RefusesProgram problem out out' fault)
 
 -- what `list` answers for the texts of its files
 abbrev pub AnswersList : FileTexts → (out out' : SinkState) → Result ℕ Fault → Type 0

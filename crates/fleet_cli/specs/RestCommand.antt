@@ -18,10 +18,10 @@ use Rattle.fleet_dispatch.specs.declared.{dead_robot.DeadRobot.DeadRobot, times_
 use Rattle.fleet_text.specs.Sink.{SinkState}
 use Rattle.fleet_args.specs.declared.commands.RestRequest.{RestRequest}
 use Rattle.fleet_cli.specs.Files.{Store}
-use Rattle.fleet_cli.specs.declared.{files.FileTexts.FileTexts, rest_command.Rest.Rest, fault.Fault.Fault}
+use Rattle.fleet_cli.specs.declared.{steps.Problem.Problem, rest_command.Rest.Rest, fault.Fault.Fault}
 use Rattle.fleet_cli.specs.Output.{AnswersOut}
 use Rattle.fleet_cli.specs.WriteCommands.{numbers_text}
-use Rattle.fleet_cli.specs.Steps.{AcceptsTexts, IsTextsRefusal}
+use Rattle.fleet_cli.specs.Steps.{AcceptsProgram, IsAcceptRefusal}
 use Rattle.fleet_cli.specs.declared.fault.Fault.TheVariants as f
 
 -- q is the rest of the program where the reports of the log have led its agents, and its runs are the rests of the
@@ -82,25 +82,25 @@ pub record LeavesRest (g : Ground) (p : Program) (log : List ℕ) (r : RestReque
   pub around : IsMapAround g robot r.map_out made.map.items
   pub rest_of_them : AreOthers g (tasks_of made.program) robot r.others_out made.others.items
 
--- so of the program that is accepted for the texts
-abbrev pub RestsTexts : FileTexts → RestRequest → Rest → Type 0
-RestsTexts texts r made = AcceptsTexts texts r.subject.tasks.agents (λ g tasks p chain. LeavesRest g p texts.log.items r made)
+-- so of the program that is accepted for the problem
+abbrev pub RestsAccepted : Problem → RestRequest → Rest → Type 0
+RestsAccepted problem r made = AcceptsProgram problem (λ p chain. LeavesRest problem.grid p problem.texts.log.items r made)
 
--- the texts and the bytes are refused; or the log is, for the program that is accepted, or what is named as dead, for
+-- the bytes of the problem are refused; or the log is, for the program that is accepted, or what is named as dead, for
 -- its rest; or memory ran out
-abbrev pub IsRestRefusal : FileTexts → RestRequest → Fault → Type 0
-IsRestRefusal texts r fault =
-    IsTextsRefusal texts r.subject.tasks.agents fault
-    ⊎ AcceptsTexts texts r.subject.tasks.agents
-    (λ g tasks p chain. IsRestFault p texts.log.items fault ⊎ ((q : Program) × IsRestOf p texts.log.items q × IsDeadRefusal g (length q) r.without fault))
+abbrev pub IsRestRefusal : Problem → RestRequest → Fault → Type 0
+IsRestRefusal problem r fault =
+    IsAcceptRefusal problem fault
+    ⊎ AcceptsProgram problem
+    (λ p chain. IsRestFault p problem.texts.log.items fault ⊎ ((q : Program) × IsRestOf p problem.texts.log.items q × IsDeadRefusal problem.grid (length q) r.without fault))
 
 -- the files that are written, in turn
 abbrev pub rest_files : RestRequest → Rest → List (Option (Bor (List ℕ)) × List ℕ)
 rest_files r made =
     (Some r.scen_out, made.scen.items) ∷ (r.map_out, made.map.items) ∷ (r.others_out, made.others.items) ∷ (Some r.program_out, made.bytes.items) ∷ []
 
--- What the command answers for the texts of its files. The rest was made, and the files were written so; or there was a
--- refusal before anything is written, and every file is as before
-abbrev pub AnswersRest : (files after : Option Store) → RestRequest → FileTexts → (out out' : SinkState) → Result ℕ Fault → Type 0
-AnswersRest files after r texts =
-    AnswersOut files after (RestsTexts texts r) (IsRestRefusal texts r) (rest_files r) (λ made. numbers_text made.program made.bytes.items)
+-- What `rest` answers. The rest was made, and the files were written so; or there was a refusal before anything is
+-- written, and every file is as before
+abbrev pub AnswersRest : (files after : Option Store) → RestRequest → Problem → (out out' : SinkState) → Result ℕ Fault → Type 0
+AnswersRest files after r problem =
+    AnswersOut files after (RestsAccepted problem r) (IsRestRefusal problem r) (rest_files r) (λ made. numbers_text made.program made.bytes.items)

@@ -7,9 +7,9 @@ use Rattle.fleet_run.specs.Source.{SourceState}
 use Rattle.fleet_run.specs.Rehearsal.{Rehearses}
 use Rattle.fleet_run.specs.declared.{run.RunFault.RunFault, run.RunFault.TheVariants.Write, trace.Report.Report}
 use Rattle.fleet_run.specs.Trace.{WritesTrace, Traces, StopsTrace, hold_source}
-use Rattle.fleet_args.specs.declared.{commands.RunRequest.RunRequest, commands.Tries.Tries, commands.AutoRequest.AutoRequest}
-use Rattle.fleet_cli.specs.declared.{files.FileTexts.FileTexts, fault.Fault.Fault, steps.PlanNumbers.PlanNumbers, fault.AutoFault.AutoFault, input.TheConstants.MAX_BYTES}
-use Rattle.fleet_cli.specs.Steps.{AcceptsTexts, AreTextsOf, ReadsTexts, IsTextsRefusal, IsProblemRefusal, IsMadeFor, IsMakingFault, IsLoadRefusal}
+use Rattle.fleet_args.specs.declared.{commands.Tries.Tries, commands.AutoRequest.AutoRequest}
+use Rattle.fleet_cli.specs.declared.{files.FileTexts.FileTexts, fault.Fault.Fault, steps.PlanNumbers.PlanNumbers, steps.Problem.Problem, fault.AutoFault.AutoFault, input.TheConstants.MAX_BYTES}
+use Rattle.fleet_cli.specs.Steps.{AcceptsProgram, AreTextsOf, IsAcceptRefusal, IsMadeFor, IsMakingFault, IsLoadRefusal}
 use Rattle.fleet_cli.specs.declared.fault.Fault.TheVariants as f
 use Rattle.fleet_model.specs.declared.{task.Task.Task, deps.Deps.Deps}
 use Rattle.fleet_grid.specs.Ground.{Ground}
@@ -40,50 +40,45 @@ Ends {T} Ran status out' result =
 abbrev pub Runs : Program → ℕ → (held : List ℕ) → (out out' : SinkState) → Result ℕ Fault → Type 0
 Runs p chain held out = Ends (Traces p chain held out) (λ report. 0)
 
--- what `run` answers for the texts of its files
-abbrev pub AnswersRun : RunRequest → FileTexts → (out out' : SinkState) → Result ℕ Fault → Type 0
-AnswersRun r texts out out' result =
-    AcceptsTexts texts r.subject.tasks.agents (λ g tasks p chain. Runs p chain texts.holds.items out out' result) ⊎ Refuses (IsTextsRefusal texts r.subject.tasks.agents) out out' result
+-- what `run` answers
+abbrev pub AnswersRun : Problem → (out out' : SinkState) → Result ℕ Fault → Type 0
+AnswersRun problem out out' result =
+    AcceptsProgram problem (λ p chain. Runs p chain problem.texts.holds.items out out' result) ⊎ Refuses (IsAcceptRefusal problem) out out' result
 
--- The texts stand for a map and for tasks. This is the program of the plan that is made for them, which has these
--- numbers; and the program is accepted for them, with a longest chain of so many actions
-pub record MakesProgram (map scen : List ℕ) (asked : Option ℕ) (horizon : ℕ) (tries : Tries) (deps : Deps) : Type 0 where
-  pub ground : Ground
-  pub tasks : List Task
-  pub texts : AreTextsOf map scen asked ground tasks
-  pub numbers : PlanNumbers
-  pub program : Program
-  pub made : IsMadeFor ground tasks horizon tries deps numbers program
-  pub chain : ℕ
-  pub accepted_for : IsAcceptedFor ground tasks program chain
+-- The program of the plan that is made for the ground and the tasks, which has these numbers, is accepted for them, with
+-- a longest chain of so many actions; and this holds of it
+abbrev pub MakesProgram : Ground → List Task → ℕ → Tries → Deps → (PlanNumbers → Program → ℕ → Type 0) → Type 0
+MakesProgram g tasks horizon tries deps Holds =
+    (numbers : PlanNumbers) × (program : Program) × (chain : ℕ) × IsMadeFor g tasks horizon tries deps numbers program × IsAcceptedFor g tasks program chain
+    × Holds numbers program chain
 
--- The refusal is that of the first step that refuses: the first fault of the map's text, or of the scenario's on that
--- map; or an agent is left without a path by those before it; or the agents of the plan make too many moves; or the run
--- of the program stops. Memory may run out in each step before the run, and until the run nothing is written
-abbrev pub IsAutoFault : (map scen : List ℕ) → Option ℕ → ℕ → Tries → Deps → List ℕ → (out out' : SinkState) → AutoFault → Type 0
-IsAutoFault map scen asked horizon tries deps held out out' a.OutOfMemory = IsUnwritten out out'
-IsAutoFault map scen asked horizon tries deps held out out' (a.Map fault) = IsFirstMapFault map fault × IsUnwritten out out'
-IsAutoFault map scen asked horizon tries deps held out out' (a.Scen fault) = (g : Ground) × IsMapText map g × IsFirstScenFault scen g asked fault × IsUnwritten out out'
-IsAutoFault map scen asked horizon tries deps held out out' (a.Run fault) =
-    (m : MakesProgram map scen asked horizon tries deps) × StopsTrace m.program m.chain held out out' fault
-IsAutoFault map scen asked horizon tries deps held out out' fault =
-    (g : Ground) × (tasks : List Task) × AreTextsOf map scen asked g tasks × IsMakingFault g tasks horizon tries deps fault × IsUnwritten out out'
+-- the texts stand for a map and for tasks, of which this holds
+abbrev pub ReadsTexts : (map scen : List ℕ) → Option ℕ → (Ground → List Task → Type 0) → Type 0
+ReadsTexts map scen asked Holds = (g : Ground) × (tasks : List Task) × AreTextsOf map scen asked g tasks × Holds g tasks
 
 -- one order is tried, that of the agents' numbers
 abbrev pub one_try : Tries
 one_try = record { count = 1; best = None }
 
--- the trace of the program that is made of the texts was written under the holds, with the plan of that order, and the
--- report has its numbers; or a refusal
+-- The trace of the program that is made of the texts was written under the holds, with the plan of that order, and the
+-- report has its numbers. Or the refusal is that of the first step that refuses: the first fault of the map's text, or of
+-- the scenario's on that map; or an agent is left without a path by those before it; or the agents of the plan make too
+-- many moves; or the run of the program stops. Memory may run out in each step before the run, and until the run nothing
+-- is written
 abbrev pub AutoRuns : (map scen : List ℕ) → Option ℕ → ℕ → Deps → List ℕ → (out out' : SinkState) → Result Report AutoFault → Type 0
-AutoRuns map scen asked horizon deps held out out' (Ok r) = (m : MakesProgram map scen asked horizon one_try deps) × WritesTrace m.program m.chain held out out' r
-AutoRuns map scen asked horizon deps held out out' (Err fault) = IsAutoFault map scen asked horizon one_try deps held out out' fault
+AutoRuns map scen asked horizon deps held out out' (Ok r) =
+    ReadsTexts map scen asked (λ g tasks. MakesProgram g tasks horizon one_try deps (λ numbers p chain. WritesTrace p chain held out out' r))
+AutoRuns map scen asked horizon deps held out out' (Err a.OutOfMemory) = IsUnwritten out out'
+AutoRuns map scen asked horizon deps held out out' (Err (a.Map fault)) = IsFirstMapFault map fault × IsUnwritten out out'
+AutoRuns map scen asked horizon deps held out out' (Err (a.Scen fault)) = (g : Ground) × IsMapText map g × IsFirstScenFault scen g asked fault × IsUnwritten out out'
+AutoRuns map scen asked horizon deps held out out' (Err (a.Run fault)) =
+    ReadsTexts map scen asked (λ g tasks. MakesProgram g tasks horizon one_try deps (λ numbers p chain. StopsTrace p chain held out out' fault))
+AutoRuns map scen asked horizon deps held out out' (Err fault) =
+    ReadsTexts map scen asked (λ g tasks. IsMakingFault g tasks horizon one_try deps fault × IsUnwritten out out')
 
--- the first fault of the map's text or of the scenario's; or no plan is made, or its agents make too many moves
-abbrev pub IsMakingRefusal : FileTexts → AutoRequest → Fault → Type 0
-IsMakingRefusal texts r fault =
-    IsProblemRefusal texts r.tasks.agents fault
-    ⊎ ReadsTexts texts r.tasks.agents (λ g tasks. (e : AutoFault) × (fault ≡ step_fault e) × IsMakingFault g tasks r.horizon r.tries r.deps e)
+-- no plan is made, or its agents make too many moves; or memory ran out
+abbrev pub IsMakingRefusal : Problem → AutoRequest → Fault → Type 0
+IsMakingRefusal problem r fault = (e : AutoFault) × (fault ≡ step_fault e) × IsMakingFault problem.grid problem.instance r.horizon r.tries r.deps e
 
 -- how many orders were tried for the plan, its steps and its sum of costs, each with its number
 abbrev pub plan_numbers_text : PlanNumbers → List ℕ
@@ -94,11 +89,12 @@ abbrev pub TellsNumbers : Bool → PlanNumbers → (out out' : SinkState) → Re
 TellsNumbers false numbers out out' result = (out' ≡ out) × (result ≡ Ok 0)
 TellsNumbers true numbers out out' result = Prints (plan_numbers_text numbers) out out' result
 
--- what `auto` answers for the texts of its files
-abbrev pub AnswersAuto : AutoRequest → FileTexts → (out out' : SinkState) → Result ℕ Fault → Type 0
-AnswersAuto r texts out out' result =
-    ((m : MakesProgram texts.map.items texts.scen.items r.tasks.agents r.horizon r.tries r.deps) × Follow (Runs m.program m.chain texts.holds.items) (TellsNumbers r.numbers m.numbers) out out' result)
-    ⊎ Refuses (IsMakingRefusal texts r) out out' result
+-- what `auto` answers
+abbrev pub AnswersAuto : AutoRequest → Problem → (out out' : SinkState) → Result ℕ Fault → Type 0
+AnswersAuto r problem out out' result =
+    MakesProgram problem.grid problem.instance r.horizon r.tries r.deps
+    (λ numbers p chain. Follow (Runs p chain problem.texts.holds.items) (TellsNumbers r.numbers numbers) out out' result)
+    ⊎ Refuses (IsMakingRefusal problem r) out out' result
 
 -- the program was rehearsed under the holds for which the bytes stand; the status says how it ended
 abbrev pub RehearsesProgram : Program → (held : List ℕ) → (out out' : SinkState) → Result ℕ Fault → Type 0

@@ -1,12 +1,12 @@
 -- What commands are made of: what the texts of a map, a scenario and a program stand for, and what is made for them.
-use Rattle.std.specs.Prelude.{ℕ, List, Option, ◌≡◌, ◌≢◌, ◌⊎◌, max, Bool, None, Some, Result, Ok, Err}
+use Rattle.std.specs.Prelude.{ℕ, List, Option, ◌≡◌, ◌≢◌, max, Bool, None, Some, Result, Ok, Err}
 use Rattle.fleet_model.specs.declared.{task.Task.Task, geometry.Place.Place, deps.Deps.Deps, deps.Deps.TheVariants.Last}
 use Rattle.fleet_grid.specs.Ground.{Ground, is_passable}
 use Rattle.fleet_grid.specs.MapText.{IsMapText, IsFirstMapFault}
 use Rattle.fleet_grid.specs.declared.fault.MapFault.TheVariants as m
 use Rattle.fleet_scen.specs.ScenText.{IsScenText, IsFirstScenFault}
 use Rattle.fleet_scen.specs.declared.fault.ScenFault.TheVariants as s
-use Rattle.fleet_cli.specs.declared.{files.FileTexts.FileTexts, fault.AutoFault.AutoFault, steps.TheConstants.NO_CHAIN, steps.PlanNumbers.PlanNumbers, fault.Fault.Fault}
+use Rattle.fleet_cli.specs.declared.{files.FileTexts.FileTexts, fault.AutoFault.AutoFault, steps.TheConstants.NO_CHAIN, steps.PlanNumbers.PlanNumbers, steps.Problem.Problem, fault.Fault.Fault}
 use Rattle.fleet_cli.specs.declared.fault.AutoFault.TheVariants as a
 use Rattle.fleet_args.specs.declared.{commands.Tries.Tries, commands.Best.Best}
 use Rattle.fleet_model.specs.Program.{Program}
@@ -93,13 +93,13 @@ pub record Accepts (bytes : List ℕ) (g : Ground) (tasks : List Task) (p : Prog
   pub spelled : Spells bytes p
   pub accepted_for : IsAcceptedFor g tasks p chain
 
--- the texts stand for a map and for tasks, of which this holds
-abbrev pub ReadsTexts : FileTexts → Option ℕ → (Ground → List Task → Type 0) → Type 0
-ReadsTexts texts asked Holds = (g : Ground) × (tasks : List Task) × AreTextsOf texts.map.items texts.scen.items asked g tasks × Holds g tasks
+-- the problem has these texts, which stand for its ground and its tasks
+abbrev pub IsProblemOf : FileTexts → Option ℕ → Problem → Type 0
+IsProblemOf texts asked problem = (problem.texts ≡ texts) × AreTextsOf texts.map.items texts.scen.items asked problem.grid problem.instance
 
--- .. and the bytes spell a program that is accepted for them, and this holds of it and of its longest chain
-abbrev pub AcceptsTexts : FileTexts → Option ℕ → (Ground → List Task → Program → ℕ → Type 0) → Type 0
-AcceptsTexts texts asked Holds = ReadsTexts texts asked (λ g tasks. (p : Program) × (chain : ℕ) × Accepts texts.subject.items g tasks p chain × Holds g tasks p chain)
+-- the bytes of the problem spell a program that is accepted for it, and this holds of it and of its longest chain
+abbrev pub AcceptsProgram : Problem → (Program → ℕ → Type 0) → Type 0
+AcceptsProgram problem Holds = (p : Program) × (chain : ℕ) × Accepts problem.texts.subject.items problem.grid problem.instance p chain × Holds p chain
 
 -- the texts of a map and a scenario are refused: the first fault of the map's text, or of the scenario's on that map.
 -- Memory may run out in any step, and stands in place of any fault
@@ -115,11 +115,7 @@ IsLoadRefusal bytes (f.Load fault) = fault ≢ l.OutOfMemory → IsFirstLoadFaul
 IsLoadRefusal bytes f.Memory = Unit {0}
 IsLoadRefusal bytes _ = ⊥
 
--- the bytes of a program are refused, or the program that they spell
-abbrev pub IsAcceptRefusal : List ℕ → Ground → List Task → Fault → Type 0
-IsAcceptRefusal bytes g tasks (f.Verify fault) = (p : Program) × Spells bytes p × IsFault (is_passable g) tasks p fault
-IsAcceptRefusal bytes g tasks fault = IsLoadRefusal bytes fault
-
--- the texts and the bytes are refused, judged in this order: map, scenario, program
-abbrev pub IsTextsRefusal : FileTexts → Option ℕ → Fault → Type 0
-IsTextsRefusal texts asked fault = IsProblemRefusal texts asked fault ⊎ ReadsTexts texts asked (λ g tasks. IsAcceptRefusal texts.subject.items g tasks fault)
+-- the bytes of the problem are refused, or the program that they spell
+abbrev pub IsAcceptRefusal : Problem → Fault → Type 0
+IsAcceptRefusal problem (f.Verify fault) = (p : Program) × Spells problem.texts.subject.items p × IsFault (is_passable problem.grid) problem.instance p fault
+IsAcceptRefusal problem fault = IsLoadRefusal problem.texts.subject.items fault

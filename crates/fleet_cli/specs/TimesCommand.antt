@@ -10,8 +10,8 @@ use Rattle.fleet_text.specs.Sink.{SinkState}
 use Rattle.fleet_dispatch.specs.Breaks.{AreBreaksOf, IsBreaksFault}
 use Rattle.fleet_dispatch.specs.Costs.{AreCostsOf, IsCostsFault}
 use Rattle.fleet_args.specs.declared.commands.TimesRequest.{TimesRequest}
-use Rattle.fleet_cli.specs.declared.{files.FileTexts.FileTexts, fault.Fault.Fault}
-use Rattle.fleet_cli.specs.Steps.{AcceptsTexts, IsTextsRefusal}
+use Rattle.fleet_cli.specs.declared.{steps.Problem.Problem, fault.Fault.Fault}
+use Rattle.fleet_cli.specs.Steps.{AcceptsProgram, IsAcceptRefusal}
 use Rattle.fleet_cli.specs.Output.{Refuses, Prints}
 use Rattle.fleet_cli.specs.declared.fault.Fault.TheVariants as f
 
@@ -68,7 +68,7 @@ abbrev pub Tells : TimesRequest → Program → (text : List ℕ) → Option (Bo
 Tells r p text None = TellsTimes p r.costs text
 Tells r p text (Some line) = TellsReached p line.now
 
--- what `times` answers for the texts of its files
-abbrev pub AnswersTimes : TimesRequest → FileTexts → (out out' : SinkState) → Result ℕ Fault → Type 0
-AnswersTimes r texts out out' result =
-    AcceptsTexts texts r.subject.tasks.agents (λ g tasks p chain. Tells r p texts.holds.items r.broken out out' result) ⊎ Refuses (IsTextsRefusal texts r.subject.tasks.agents) out out' result
+-- what `times` answers
+abbrev pub AnswersTimes : TimesRequest → Problem → (out out' : SinkState) → Result ℕ Fault → Type 0
+AnswersTimes r problem out out' result =
+    AcceptsProgram problem (λ p chain. Tells r p problem.texts.holds.items r.broken out out' result) ⊎ Refuses (IsAcceptRefusal problem) out out' result

@@ -3,7 +3,8 @@
 ghost use Rattle.std.specs.Prelude.{◌≡◌, map, string_bytes};
 ghost use Rattle.fleet_text.specs.Sink.{IsWorking};
 ghost use Rattle.fleet_dispatch.specs.Talk.{IsLogged};
-ghost use Rattle.fleet_cli.specs.Command.{names_for, names_of, names_of_program, around, AnswersRequest, RunsRequest, StopsAtWords, RunsCommand};
+ghost use Rattle.fleet_cli.specs.Output.{around};
+ghost use Rattle.fleet_cli.specs.Command.{names_for, names_of, names_of_program, AnswersRequest, RunsRequest, StopsAtWords, RunsCommand};
 
 use crate::dispatch_command::do_dispatch;
 use crate::fault::{Fault, finish, refuse};
@@ -11,6 +12,7 @@ use crate::files::{FileNames, FileTexts, Files, read_files};
 use crate::print_commands::{do_check, do_instance, do_list, do_plan, do_verify};
 use crate::rest_command::do_rest;
 use crate::run_commands::{do_auto, do_rehearse, do_run, run_hex};
+use crate::steps::problem_of;
 use crate::times_command::do_times;
 use crate::write_commands::{do_compile, do_migrate, do_thin};
 use fleet_args::{ProgramFor, Request, Tasks, WordStop, read_words};
@@ -91,20 +93,29 @@ fn answer_request<'a, R: ReportsTo<O>, F: Files, O: Flush>(
         (O.state out.old) (O.state out.new) result }
 {
     match request {
-        Request::Instance(request) => do_instance(alloc, request, &texts, out),
-        Request::Check(request) => do_check(alloc, request, &texts, out),
-        Request::Plan(request) => do_plan(alloc, request, texts, out),
-        Request::Compile(request) => do_compile(alloc, request, texts, files, out),
-        Request::Verify(request) => do_verify(alloc, request, &texts, out),
-        Request::Run(request) => do_run(alloc, request, &texts, out),
+        Request::Instance(tasks) => do_instance(&problem_of(alloc, texts, *tasks)?, out),
+        Request::Check(q) => do_check(alloc, q, &problem_of(alloc, texts, q.tasks)?, out),
+        Request::Plan(q) => do_plan(alloc, q, problem_of(alloc, texts, q.tasks)?, out),
+        Request::Compile(q) => do_compile(alloc, q, problem_of(alloc, texts, q.tasks)?, files, out),
+        Request::Verify(q) => do_verify(alloc, &problem_of(alloc, texts, q.tasks)?, out),
+        Request::Run(q) => do_run(alloc, &problem_of(alloc, texts, q.subject.tasks)?, out),
         Request::Rehearse(_) => do_rehearse(alloc, &texts, out),
-        Request::Auto(request) => do_auto(alloc, request, &texts, out),
-        Request::Thin(request) => do_thin(alloc, request, &texts, files, out),
-        Request::Migrate(request) => do_migrate(alloc, request, &texts, files, out),
+        Request::Auto(q) => do_auto(alloc, q, &problem_of(alloc, texts, q.tasks)?, out),
+        Request::Thin(q) => {
+            let problem = problem_of(alloc, texts, q.subject.tasks)?;
+            do_thin(alloc, q, &problem, files, out)
+        }
+        Request::Migrate(q) => do_migrate(alloc, q, &texts, files, out),
         Request::List(_) => do_list(alloc, &texts, out),
-        Request::Dispatch(request) => do_dispatch(alloc, request, &texts, input, files, out),
-        Request::Times(request) => do_times(alloc, request, &texts, out),
-        Request::Rest(request) => do_rest(alloc, request, &texts, files, out),
+        Request::Dispatch(q) => {
+            let problem = problem_of(alloc, texts, q.subject.tasks)?;
+            do_dispatch(alloc, q, &problem, input, files, out)
+        }
+        Request::Times(q) => do_times(alloc, q, &problem_of(alloc, texts, q.subject.tasks)?, out),
+        Request::Rest(q) => {
+            let problem = problem_of(alloc, texts, q.subject.tasks)?;
+            do_rest(alloc, q, &problem, files, out)
+        }
     }
 }
 

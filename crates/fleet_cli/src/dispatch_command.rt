@@ -6,13 +6,14 @@ ghost use Rattle.fleet_model.specs.Program.{IsWellFormed};
 ghost use Rattle.fleet_dispatch.specs.Talk.{IsLogged};
 ghost use Rattle.fleet_dispatch.specs.Dispatch.{Dispatches};
 ghost use Rattle.fleet_dispatch.specs.Session.{IsReady, course_in, left_in};
+ghost use Rattle.fleet_cli.specs.Output.{around};
 ghost use Rattle.fleet_cli.specs.Journal.{log_in, ChangesOnlyLog, IsKeptAfter};
 ghost use Rattle.fleet_cli.specs.DispatchCommand.{pace_of, AnswersTold, AnswersDispatch};
 
 use crate::fault::{Fault, or_refuse};
-use crate::files::{FileTexts, Files};
+use crate::files::Files;
 use crate::journal::{Journal, begin_log};
-use crate::steps::{accept, read_problem};
+use crate::steps::{Problem, accept};
 use fleet_args::DispatchRequest;
 use fleet_dispatch::{
     DispatchFault, DispatchReport, NoLog, Pace, ReportForm, ReportsTo, Session, dispatch_led,
@@ -90,22 +91,25 @@ fn answer_of<'a>(told: Result<DispatchReport, DispatchFault>) -> Result<u8, Faul
 pub(crate) fn do_dispatch<'a, R: ReportsTo<O>, F: Files, O: Flush>(
     alloc: Global,
     request: &DispatchRequest<'a>,
-    texts: &FileTexts,
+    problem: &Problem,
     input: &mut R,
     files: &mut F,
     out: &mut O,
 ) -> Result<u8, Fault<'a>>
     requires { IsWorking (O.state out.old) }
-    ensures { AnswersDispatch (F.contents files.old) (F.contents files.new) request.now texts.now
-        ((input.new ≡ input.old) × (out.new ≡ out.old))
-        (IsLogged R.talks input.old out.old input.new out.new) result }
+    ensures { AnswersDispatch (around (F.contents files.old) (F.contents files.new)
+        (input.new ≡ input.old) (out.new ≡ out.old)
+        (IsLogged R.talks input.old out.old input.new out.new)) request.now problem.now
+        (O.state out.old) (O.state out.new) result }
 {
-    let problem = read_problem(alloc, texts, request.subject.tasks.agents)?;
-    let accepted = accept(alloc, texts, &problem)?;
+    let accepted = accept(alloc, problem)?;
     let program = accepted.program();
     let pace = pace_of(request);
-    let mut session = or_refuse!(lead_on(alloc, program, pace, &texts.log), Fault::Dispatch);
-    begin_log(alloc, files, request.log, &texts.log)?;
+    let mut session = or_refuse!(
+        lead_on(alloc, program, pace, &problem.texts.log),
+        Fault::Dispatch
+    );
+    begin_log(alloc, files, request.log, &problem.texts.log)?;
     let kept = Kept {
         pace,
         log: request.log,

@@ -1,8 +1,9 @@
 //! Stores of files, the disk, and the files that a command names.
 
 ghost use Rattle.std.specs.Prelude.{◌≡◌, ◌≤◌, ◌↔◌, Err, IfOk, IfErr, IsTrue, OnOk, length, take};
-ghost use Rattle.fleet_cli.specs.Files.{Store, HoldsBytes, IsRead, IsUnreadable, AreUnchanged, ChangesOnly, Replaces, IsOwnLog, BeginsLog, PutsBehind, whole_lines};
-ghost use Rattle.fleet_cli.specs.Named.{IsRefusedAs, IsReadFault, IsWriteFault, IsUnread, IsGiven, given_name, given_names, AreTexts};
+ghost use Rattle.fleet_cli.specs.Files.{Store, HoldsBytes, IsUnreadable, AreUnchanged, ChangesOnly, Replaces, IsOwnLog, BeginsLog, PutsBehind, whole_lines};
+ghost use Rattle.fleet_cli.specs.Named.{IsGivenAs, IsUnread, IsGiven, given_name, given_names, AreTexts};
+ghost use Rattle.fleet_cli.specs.Output.{WritesGiven};
 
 use crate::fault::Fault;
 use crate::input::{CHUNK, FileFault, MAX_BYTES, read_whole};
@@ -202,19 +203,21 @@ pub(crate) struct FileTexts {
     pub(crate) log: Vec<u8>,
 }
 
-/// The bytes of the file. Want of memory is `Memory`, and a file that cannot be read is `File` with its name.
-pub fn read_file<'a, F: Files>(
+/// The bytes of the file, none if no file is named. Want of memory is `Memory`, and a file that cannot be read is `File`
+/// with its name.
+fn read_given<'a, F: Files>(
     alloc: Global,
     files: &mut F,
-    name: &'a str,
+    name: Option<&'a str>,
 ) -> Result<Vec<u8>, Fault<'a>>
-    ensures bytes { IfOk result
-        (λ bytes. IsRead (F.contents files.old) name.entry.now bytes.items) }
-    ensures refused { IfErr result
-        (IsRefusedAs (F.refuses_read files.old name.entry.now) name.entry.now) }
-    ensures fault { IfErr result (IsReadFault (F.contents files.old) name.entry.now) }
+    ensures bytes { IfOk result (λ bytes. IsGiven (F.contents files.old) name.entry bytes.items) }
+    ensures refused { IfErr result (IsGivenAs (F.refuses_read files.old) name.entry) }
+    ensures fault { IfErr result (IsUnread (F.contents files.old) (given_name name.entry)) }
     ensures kept { AreUnchanged (F.contents files.old) (F.contents files.new) }
 {
+    let Some(name) = name else {
+        return Ok(Vec::new(alloc));
+    };
     match files.read(alloc, name) {
         Ok(bytes) => Ok(bytes),
         Err(FileFault::OutOfMemory) => Err(Fault::Memory),
@@ -222,23 +225,7 @@ pub fn read_file<'a, F: Files>(
     }
 }
 
-/// The bytes of the file, none if no file is named.
-fn read_given<'a, F: Files>(
-    alloc: Global,
-    files: &mut F,
-    name: Option<&'a str>,
-) -> Result<Vec<u8>, Fault<'a>>
-    ensures bytes { IfOk result (λ bytes. IsGiven (F.contents files.old) name.entry bytes.items) }
-    ensures fault { IfErr result (IsUnread (F.contents files.old) (given_name name.entry)) }
-    ensures kept { AreUnchanged (F.contents files.old) (F.contents files.new) }
-{
-    match name {
-        None => Ok(Vec::new(alloc)),
-        Some(name) => read_file(alloc, files, name),
-    }
-}
-
-/// What the named files hold, read in the order of the fields, each as `read_file` reads it.
+/// What the named files hold, read in the order of the fields, each as `read_given` reads it.
 #[tactic(auto, using(crate::proofs::FileLemmas::unread_first, crate::proofs::FileLemmas::unread_later))]
 pub(crate) fn read_files<'a, F: Files>(
     alloc: Global,
@@ -263,15 +250,20 @@ pub(crate) fn read_files<'a, F: Files>(
     })
 }
 
-/// Writes the bytes to the file. Want of memory is `Memory`, and a write that failed is `File` with the file's name.
-pub fn write_file<'a, F: Files>(files: &mut F, name: &'a str, bytes: &[u8]) -> Result<(), Fault<'a>>
-    ensures written { OnOk result
-        (Replaces (F.contents files.old) (F.contents files.new) name.entry.now bytes.now) }
-    ensures refused { IfErr result
-        (IsRefusedAs (F.refuses_write files.old name.entry.now) name.entry.now) }
-    ensures fault { IfErr result (IsWriteFault name.entry.now) }
-    ensures others { ChangesOnly (F.contents files.old) (F.contents files.new) name.entry.now }
+/// Writes the bytes to the file, if one is named. Want of memory is `Memory`, and a write that failed is `File` with the
+/// file's name.
+pub(crate) fn write_given<'a, F: Files>(
+    files: &mut F,
+    name: Option<&'a str>,
+    bytes: &[u8],
+) -> Result<(), Fault<'a>>
+    ensures written { WritesGiven (F.contents files.old) (F.contents files.new) name.entry bytes.now
+        result }
+    ensures refused { IfErr result (IsGivenAs (F.refuses_write files.old) name.entry) }
 {
+    let Some(name) = name else {
+        return Ok(());
+    };
     match files.write(name, bytes) {
         Ok(()) => Ok(()),
         Err(FileFault::OutOfMemory) => Err(Fault::Memory),

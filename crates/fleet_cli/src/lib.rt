@@ -8,13 +8,14 @@
 //!
 //! `steps` has what commands are made of: from the texts of a map and of a scenario to an instance, from bytes to a
 //! program and to an accepted one, and from an instance to a plan, the first or the best of several, and to the bytes
-//! of its program, each by the contract of one crate below. A command is a function from its request and the texts of
-//! its files to a status or a refusal: those that print what they find are in `print_commands` and `times_command`,
-//! those that write files in `write_commands` and `rest_command`, those that run a program in `run_commands`, and the
-//! dispatch in `dispatch_command`, each with its meaning in the file of `specs/` of the same name; `output` has what
-//! several of them print. A run's sink hands on what it took before anything is reported. One module, `command`,
-//! executes them: `names_of` says which files a request names, `run_request` reads these, has the request answered, by
-//! an arm for each command in `answer_request`, and writes what is refused, and `run_command` is what `main` calls.
+//! of its program, each by the contract of one crate below. A command is a function from its request and its problem,
+//! or the texts of its files, to a status or a refusal: those that print what they find are in `print_commands` and
+//! `times_command`, those that write files in `write_commands` and `rest_command`, those that run a program in
+//! `run_commands`, and the dispatch in `dispatch_command`, each with its meaning in the file of `specs/` of the same
+//! name; `output` has what several of them print. A run's sink hands on what it took before anything is reported. One
+//! module, `command`, executes them: `names_of` says which files a request names, `run_request` reads these, has the
+//! request answered, by an arm for each command in `answer_request`, which has the texts of a map and a scenario read
+//! before, and writes what is refused, and `run_command` is what `main` calls.
 //!
 //! `auto_run` plans, compiles, encodes, loads, verifies and runs in one call. The next step takes whatever a step
 //! makes: a plan that is made is compiled, its program is loaded again from the bytes that spell it, and what is loaded

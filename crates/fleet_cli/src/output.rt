@@ -2,31 +2,15 @@
 
 ghost use Rattle.std.specs.Prelude.{ℕ, List, map};
 ghost use Rattle.fleet_text.specs.Sink.{IsWorking, SinkState, TakesAll};
-ghost use Rattle.fleet_text.specs.Row.{Gathers};
-ghost use Rattle.fleet_cli.specs.Output.{with_labels, count_lines, report, Prints, WritesGiven, WritesFiles};
+ghost use Rattle.fleet_cli.specs.Output.{with_labels, count_lines, report, Prints, WritesFiles};
 
 use crate::fault::Fault;
-use crate::files::{Files, write_file};
+use crate::files::{Files, write_given};
 use fleet_run::{Flush, OutFault, TraceOut};
-use fleet_text::{Row, Word, add_line};
-
-/// Adds a line for each count to the row: its label and its number.
-fn add_counts<O: TraceOut>(
-    row: &mut Row,
-    out: &mut O,
-    counts: &[(&'static str, u64)],
-) -> Result<(), OutFault>
-    requires { IsWorking (O.state out.old) }
-    ensures { Gathers (O.state out.old) (O.state out.new) result row.old row.new
-        (count_lines (with_labels counts.now)) }
-{
-    for (label, number) in counts {
-        add_line(row, out, &[Word::Text(label), Word::Number(*number)])?;
-    }
-    Ok(())
-}
+use fleet_text::{Word, put_count, put_line};
 
 /// Writes a line for each count: its label and its number.
+#[tactic(auto, using(crate::proofs::OutputLemmas::first_count, fleet_text::proofs::SinkLemmas::takes_err_then))]
 pub(crate) fn put_counts<O: TraceOut>(
     out: &mut O,
     counts: &[(&'static str, u64)],
@@ -35,12 +19,17 @@ pub(crate) fn put_counts<O: TraceOut>(
     ensures { TakesAll (O.state out.old) (O.state out.new) result
         (count_lines (with_labels counts.now)) }
 {
-    let mut row = Row::new();
-    add_counts(&mut row, out, counts)?;
-    row.hand_on(out)
+    match counts {
+        [] => Ok(()),
+        [(label, number), others @ ..] => {
+            put_count(out, label, *number)?;
+            put_counts(out, others)
+        }
+    }
 }
 
 /// Writes a word in a line of its own, and then a line for each count.
+#[tactic(auto, unfolding(crate::specs::Output::report), using(fleet_text::proofs::SinkLemmas::takes_then, fleet_text::proofs::SinkLemmas::takes_err_then))]
 pub(crate) fn put_report<O: TraceOut>(
     out: &mut O,
     title: &'static str,
@@ -50,10 +39,8 @@ pub(crate) fn put_report<O: TraceOut>(
     ensures { TakesAll (O.state out.old) (O.state out.new) result
         (report title.now (with_labels counts.now)) }
 {
-    let mut row = Row::new();
-    add_line(&mut row, out, &[Word::Text(title)])?;
-    add_counts(&mut row, out, counts)?;
-    row.hand_on(out)
+    put_line(out, &[Word::Text(title)])?;
+    put_counts(out, counts)
 }
 
 /// Has the sink hand on the text that was written. Answers 0, or the refusal of the standard output.
@@ -68,20 +55,6 @@ pub(crate) fn hand_on<'a, O: Flush>(
         return Err(Fault::File("-"));
     }
     Ok(0)
-}
-
-/// Writes the bytes to the file, if one is named.
-fn write_given<'a, F: Files>(
-    files: &mut F,
-    name: Option<&'a str>,
-    bytes: &[u8],
-) -> Result<(), Fault<'a>>
-    ensures { WritesGiven (F.contents files.old) (F.contents files.new) name.entry bytes.now result }
-{
-    match name {
-        Some(name) => write_file(files, name, bytes),
-        None => Ok(()),
-    }
 }
 
 /// Writes the bytes to the files that are named, one after another, and then prints the counts. Answers 0.

@@ -2,15 +2,16 @@
 
 ghost use Rattle.std.specs.Prelude.{IfOk};
 ghost use Rattle.fleet_text.specs.Sink.{IsWorking, TakesAll};
-ghost use Rattle.fleet_cli.specs.PrintCommands.{task_line, task_lines, map_line, instance_text, AnswersInstance, check_text, IsAskedBound, AnswersCheck, AnswersPlan, accepted_text, SpellsBreakingHolds, ReportsRefused, AnswersVerify, AnswersList};
+ghost use Rattle.fleet_cli.specs.Output.{Prints};
+ghost use Rattle.fleet_cli.specs.PrintCommands.{task_line, task_lines, map_line, instance_text, check_text, IsAskedBound, AnswersCheck, AnswersPlan, accepted_text, SpellsBreakingHolds, ReportsRefused, AnswersVerify, AnswersList};
 ghost use Rattle.fleet_model.specs.declared.geometry.Place.{Place};
 ghost use Rattle.fleet_verify.specs.Broken.{MeetUnordered, IsBrokenBy};
 
 use crate::fault::{Fault, or_refuse};
 use crate::files::FileTexts;
 use crate::output::{hand_on, put_report};
-use crate::steps::{Problem, plan_by, read_problem, view_subject};
-use fleet_args::{CheckRequest, PlanRequest, ProgramFor, Tasks};
+use crate::steps::{Problem, plan_by, view_subject};
+use fleet_args::{CheckRequest, PlanRequest};
 use fleet_grid::Grid;
 use fleet_model::{Cell, OutOfMemory, ProgramView, Visit, total_awaits, total_moves};
 use fleet_plan::{Checked, Plan, check, read_plan, write_plan};
@@ -70,16 +71,11 @@ fn put_instance<O: TraceOut>(out: &mut O, grid: &Grid, instance: &Instance) -> R
 /// The command `instance`: prints to `out` the sizes of the map, its passable cells, and the start and the goal of each
 /// agent. Answers 0.
 #[inline(never)]
-pub(crate) fn do_instance<'a, O: Flush>(
-    alloc: Global,
-    request: &Tasks<'a>,
-    texts: &FileTexts,
-    out: &mut O,
-) -> Result<u8, Fault<'a>>
+pub(crate) fn do_instance<'a, O: Flush>(problem: &Problem, out: &mut O) -> Result<u8, Fault<'a>>
     requires { IsWorking (O.state out.old) }
-    ensures { AnswersInstance request.now texts.now (O.state out.old) (O.state out.new) result }
+    ensures { Prints (instance_text problem.now.grid problem.now.instance)
+        (O.state out.old) (O.state out.new) result }
 {
-    let problem = read_problem(alloc, texts, request.agents)?;
     let printed = put_instance(out, &problem.grid, &problem.instance);
     hand_on(out, printed)
 }
@@ -136,14 +132,13 @@ fn asked_bound(
 pub(crate) fn do_check<'a, O: Flush>(
     alloc: Global,
     request: &CheckRequest<'a>,
-    texts: &FileTexts,
+    problem: &Problem,
     out: &mut O,
 ) -> Result<u8, Fault<'a>>
     requires { IsWorking (O.state out.old) }
-    ensures { AnswersCheck request.now texts.now (O.state out.old) (O.state out.new) result }
+    ensures { AnswersCheck request.now problem.now (O.state out.old) (O.state out.new) result }
 {
-    let problem = read_problem(alloc, texts, request.tasks.agents)?;
-    let plan = or_refuse!(read_plan(alloc, &texts.subject), Fault::Text);
+    let plan = or_refuse!(read_plan(alloc, &problem.texts.subject), Fault::Text);
     let checked = match check(alloc, plan, &problem.grid, &problem.instance) {
         Ok(checked) => checked,
         Err(refusal) => return Err(Fault::Check(refusal.fault)),
@@ -154,23 +149,25 @@ pub(crate) fn do_check<'a, O: Flush>(
 }
 
 /// The command `plan`: prints to `out` a plan in which each agent's path is the earliest against those of the agents
-/// before it, in one of the first orders of the agents, or the best of these plans. Answers 0. The texts are let go
-/// once they are read.
+/// before it, in one of the first orders of the agents, or the best of these plans. Answers 0. The texts are let go.
 #[inline(never)]
 pub(crate) fn do_plan<'a, O: Flush>(
     alloc: Global,
     request: &PlanRequest<'a>,
-    texts: FileTexts,
+    problem: Problem,
     out: &mut O,
 ) -> Result<u8, Fault<'a>>
     requires { IsWorking (O.state out.old) }
-    ensures { AnswersPlan request.now texts (O.state out.old) (O.state out.new) result }
+    ensures { AnswersPlan request.now problem (O.state out.old) (O.state out.new) result }
 {
-    let problem = read_problem(alloc, &texts, request.tasks.agents)?;
+    let Problem {
+        texts,
+        grid,
+        instance,
+    } = problem;
     drop(texts);
-    let Problem { grid, instance } = &problem;
     let found = or_refuse!(
-        plan_by(alloc, grid, instance, request.horizon, request.tries),
+        plan_by(alloc, &grid, &instance, request.horizon, request.tries),
         Fault::Search
     );
     let text = write_plan(alloc, found.checked.plan())?;
@@ -244,15 +241,13 @@ fn report_refused<'a, P: ProgramView + Drop, O: Flush>(
 #[inline(never)]
 pub(crate) fn do_verify<'a, O: Flush>(
     alloc: Global,
-    request: &ProgramFor<'a>,
-    texts: &FileTexts,
+    problem: &Problem,
     out: &mut O,
 ) -> Result<u8, Fault<'a>>
     requires { IsWorking (O.state out.old) }
-    ensures { AnswersVerify request.now texts.now (O.state out.old) (O.state out.new) result }
+    ensures { AnswersVerify problem.now (O.state out.old) (O.state out.new) result }
 {
-    let problem = read_problem(alloc, texts, request.tasks.agents)?;
-    let program = view_subject(alloc, texts)?;
+    let program = view_subject(alloc, &problem.texts)?;
     let accepted = match verify(alloc, program, &problem.grid, &problem.instance) {
         Ok(accepted) => accepted,
         Err(refused) => return Err(report_refused(alloc, refused, out)),

@@ -3,12 +3,12 @@
 ghost use Rattle.std.specs.Prelude.{◌≡◌, ◌<◌, IfOk, IfErr, IfSome, length};
 ghost use Rattle.fleet_scen.specs.ScenWriting.{scen_text};
 ghost use Rattle.fleet_text.specs.Sink.{IsWorking};
-ghost use Rattle.fleet_cli.specs.RestCommand.{IsRestOf, IsRestFault, IsDead, IsDeadRefusal, IsMapAround, AreOthers, RestsTexts, IsRestRefusal, AnswersRest};
+ghost use Rattle.fleet_cli.specs.RestCommand.{IsRestOf, IsRestFault, IsDead, IsDeadRefusal, IsMapAround, AreOthers, RestsAccepted, IsRestRefusal, AnswersRest};
 
 use crate::fault::{Fault, or_refuse};
-use crate::files::{FileTexts, Files};
+use crate::files::Files;
 use crate::output::write_out;
-use crate::steps::{accept, read_problem};
+use crate::steps::{Problem, accept};
 use fleet_adg::{accepted_tasks_are_an_instance, rest, tasks_of};
 use fleet_args::RestRequest;
 use fleet_code::encode_shortest;
@@ -123,21 +123,20 @@ fn others_around<'a>(
     scen_of(alloc, grid, &others)
 }
 
-/// What is left of the program for which the texts stand, and what is asked for around a dead robot.
-fn rest_texts<'a>(
+/// What is left of the problem's program, and what is asked for around a dead robot.
+fn rest_program<'a>(
     alloc: Global,
     request: &RestRequest<'_>,
-    texts: &FileTexts,
+    problem: &Problem,
 ) -> Result<Rest, Fault<'a>>
-    ensures made { IfOk result (RestsTexts texts.now request.now) }
-    ensures fault { IfErr result (IsRestRefusal texts.now request.now) }
+    ensures made { IfOk result (RestsAccepted problem.now request.now) }
+    ensures fault { IfErr result (IsRestRefusal problem.now request.now) }
 {
     rests_are_accepted();
     accepted_tasks_are_an_instance();
     a_written_scenario_is_read();
-    let problem = read_problem(alloc, texts, request.subject.tasks.agents)?;
-    let accepted = accept(alloc, texts, &problem)?;
-    let program = rest_of(alloc, &accepted, &texts.log)?;
+    let accepted = accept(alloc, problem)?;
+    let program = rest_of(alloc, &accepted, &problem.texts.log)?;
     // What is left has few agents, and a map that is read is no larger than one that can be written.
     let _agents = program.agents();
     let _width = problem.grid.width();
@@ -163,15 +162,15 @@ fn rest_texts<'a>(
 pub(crate) fn do_rest<'a, F: Files, O: Flush>(
     alloc: Global,
     request: &RestRequest<'a>,
-    texts: &FileTexts,
+    problem: &Problem,
     files: &mut F,
     out: &mut O,
 ) -> Result<u8, Fault<'a>>
     requires { IsWorking (O.state out.old) }
-    ensures { AnswersRest (F.contents files.old) (F.contents files.new) request.now texts.now
+    ensures { AnswersRest (F.contents files.old) (F.contents files.new) request.now problem.now
         (O.state out.old) (O.state out.new) result }
 {
-    let rest = rest_texts(alloc, request, texts)?;
+    let rest = rest_program(alloc, request, problem)?;
     write_out(
         files,
         &[

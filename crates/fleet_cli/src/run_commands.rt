@@ -12,12 +12,11 @@ use crate::files::FileTexts;
 use crate::input::{CHUNK, FileFault, read_whole};
 use crate::output::{hand_on, put_counts};
 use crate::steps::{
-    ONE_TRY, PlanNumbers, Problem, accept, accept_made, made_bytes, read_problem, view_program,
-    view_subject,
+    ONE_TRY, PlanNumbers, Problem, accept, accept_made, made_bytes, view_program, view_subject,
 };
 use fleet_adg::Deps;
-use fleet_args::{AutoRequest, RunRequest};
-use fleet_code::{each_spelling_has_one_program, read_hex};
+use fleet_args::AutoRequest;
+use fleet_code::read_hex;
 use fleet_grid::read_map;
 use fleet_model::ProgramView;
 use fleet_run::{
@@ -41,18 +40,19 @@ fn flush_run<T: Drop, O: Flush>(out: &mut O, ran: Result<T, RunFault>) -> Result
     }
 }
 
-/// Runs an accepted program under the holds of the texts, writes its trace, and has the sink hand it on. Answers 0.
+/// Runs an accepted program under the holds for which the bytes `held` stand, writes its trace, and has the sink hand it
+/// on. Answers 0.
 fn run_flushed<'a, P: ProgramView + Drop, O: Flush>(
     alloc: Global,
     accepted: Accepted<'_, P>,
-    texts: &FileTexts,
+    held: &[u8],
     out: &mut O,
 ) -> Result<u8, Fault<'a>>
     requires { IsWorking (O.state out.old) }
-    ensures { Runs (P.program accepted.entry.program) accepted.entry.chain texts.now.holds.items
+    ensures { Runs (P.program accepted.entry.program) accepted.entry.chain held.now
         (O.state out.old) (O.state out.new) result }
 {
-    let ran = run_accepted(alloc, accepted, &texts.holds, out);
+    let ran = run_accepted(alloc, accepted, held, out);
     match flush_run(out, ran) {
         Ok(_) => Ok(0),
         Err(fault) => Err(Fault::Run(fault)),
@@ -63,16 +63,14 @@ fn run_flushed<'a, P: ProgramView + Drop, O: Flush>(
 #[inline(never)]
 pub(crate) fn do_run<'a, O: Flush>(
     alloc: Global,
-    request: &RunRequest<'a>,
-    texts: &FileTexts,
+    problem: &Problem,
     out: &mut O,
 ) -> Result<u8, Fault<'a>>
     requires { IsWorking (O.state out.old) }
-    ensures { AnswersRun request.now texts.now (O.state out.old) (O.state out.new) result }
+    ensures { AnswersRun problem.now (O.state out.old) (O.state out.new) result }
 {
-    let problem = read_problem(alloc, texts, request.subject.tasks.agents)?;
-    let accepted = accept(alloc, texts, &problem)?;
-    run_flushed(alloc, accepted, texts, out)
+    let accepted = accept(alloc, problem)?;
+    run_flushed(alloc, accepted, &problem.texts.holds, out)
 }
 
 /// Plans for the map and the scenario (of whose agents the first `asked`, or all), with paths that arrive by the
@@ -95,7 +93,6 @@ pub fn auto_run<O: TraceOut>(
     ensures { AutoRuns map.now scen.now asked horizon deps holds.now
         (O.state out.old) (O.state out.new) result }
 {
-    each_spelling_has_one_program();
     let grid = match read_map(alloc, map) {
         Ok(grid) => grid,
         Err(fault) => return Err(in_step(AutoFault::Map(fault))),
@@ -141,15 +138,17 @@ fn tell_numbers<'a, O: Flush>(
 pub(crate) fn do_auto<'a, O: Flush>(
     alloc: Global,
     request: &AutoRequest<'a>,
-    texts: &FileTexts,
+    problem: &Problem,
     out: &mut O,
 ) -> Result<u8, Fault<'a>>
     requires { IsWorking (O.state out.old) }
-    ensures { AnswersAuto request.now texts.now (O.state out.old) (O.state out.new) result }
+    ensures { AnswersAuto request.now problem.now (O.state out.old) (O.state out.new) result }
 {
-    each_spelling_has_one_program();
-    let problem = read_problem(alloc, texts, request.tasks.agents)?;
-    let Problem { grid, instance } = &problem;
+    let Problem {
+        texts,
+        grid,
+        instance,
+    } = problem;
     let made = or_refuse!(
         made_bytes(
             alloc,
@@ -162,7 +161,7 @@ pub(crate) fn do_auto<'a, O: Flush>(
         step_fault
     );
     let accepted = accept_made(alloc, &made.bytes, grid, instance)?;
-    run_flushed(alloc, accepted, texts, out)?;
+    run_flushed(alloc, accepted, &texts.holds, out)?;
     tell_numbers(request.numbers, &made.numbers, out)
 }
 

@@ -3,7 +3,7 @@
 
 ghost use Rattle.std.specs.Prelude.{IfOk, IfErr, ◌≡◌, ℕ};
 ghost use Rattle.fleet_code.specs.Spelling.{Spells};
-ghost use Rattle.fleet_cli.specs.Steps.{AreTextsOf, Accepts, IsProblemRefusal, IsLoadRefusal, IsAcceptRefusal, AreNumbersOf, SpellsMade, IsMakingFault, IsMeasure, IsPlannedFor};
+ghost use Rattle.fleet_cli.specs.Steps.{IsProblemOf, Accepts, IsProblemRefusal, IsLoadRefusal, IsAcceptRefusal, AreNumbersOf, SpellsMade, IsMakingFault, IsMeasure, IsPlannedFor};
 ghost use Rattle.fleet_model.specs.Program.{Program};
 ghost use Rattle.fleet_model.specs.Accepted.{IsAccepted};
 ghost use Rattle.fleet_grid.specs.Ground.{is_passable};
@@ -15,8 +15,8 @@ ghost use Rattle.fleet_search.specs.Orders.{IsStuckInTries};
 use crate::fault::{AutoFault, Fault, in_step, or_refuse};
 use crate::files::FileTexts;
 use fleet_adg::{CompileFault, Deps, compile_bytes};
-use fleet_args::{Best, Tries};
-use fleet_code::{CodeView, LoadFault, each_spelling_has_one_program, view};
+use fleet_args::{Best, Tasks, Tries};
+use fleet_code::{CodeView, LoadFault, view};
 use fleet_grid::{Grid, read_map};
 use fleet_model::OutOfMemory;
 use fleet_plan::{Checked, Plan};
@@ -27,26 +27,33 @@ use fleet_search::{
 use fleet_verify::{Accepted, VerifyFault, verify};
 use std::alloc::Global;
 
-/// A map, and an instance on it.
+/// The texts of a command about tasks, and the map and the instance for which they stand.
 #[derive(Drop)]
-pub struct Problem {
-    pub grid: Grid,
-    pub instance: Instance,
+pub(crate) struct Problem {
+    pub(crate) texts: FileTexts,
+    pub(crate) grid: Grid,
+    pub(crate) instance: Instance,
 }
 
-/// The map and the instance for which the texts of a command stand: of the scenario's agents the first `asked`, or all.
-pub(crate) fn read_problem<'a>(
+/// The problem for which the texts of these tasks stand.
+pub(crate) fn problem_of<'a>(
     alloc: Global,
-    texts: &FileTexts,
-    asked: Option<u16>,
+    texts: FileTexts,
+    tasks: Tasks<'_>,
 ) -> Result<Problem, Fault<'a>>
-    ensures read { IfOk result (λ p. AreTextsOf texts.now.map.items texts.now.scen.items asked
-        p.grid p.instance) }
-    ensures fault { IfErr result (IsProblemRefusal texts.now asked) }
+    ensures read { IfOk result (IsProblemOf texts tasks.entry.agents) }
+    ensures fault { IfErr result (IsProblemRefusal texts tasks.entry.agents) }
 {
     let grid = or_refuse!(read_map(alloc, &texts.map), Fault::Map);
-    let instance = or_refuse!(read_scen(alloc, &texts.scen, &grid, asked), Fault::Scen);
-    Ok(Problem { grid, instance })
+    let instance = or_refuse!(
+        read_scen(alloc, &texts.scen, &grid, tasks.agents),
+        Fault::Scen
+    );
+    Ok(Problem {
+        texts,
+        grid,
+        instance,
+    })
 }
 
 /// The program that the bytes spell, read in place, or the refusal of the program.
@@ -71,19 +78,16 @@ pub(crate) fn view_subject<'g, 'a>(
     view_program(alloc, &texts.subject)
 }
 
-/// The program that the bytes of that file spell, read in place and accepted for the map and the instance, or the
-/// refusal of the program.
+/// The program of the problem, read in place and accepted for its map and its instance, or the refusal of the program.
 pub(crate) fn accept<'g, 'a>(
     alloc: Global,
-    texts: &'g FileTexts,
     problem: &'g Problem,
 ) -> Result<Accepted<'g, CodeView<'g>>, Fault<'a>>
-    ensures accepted { IfOk result (λ a. Accepts texts.now.subject.items
+    ensures accepted { IfOk result (λ a. Accepts problem.now.texts.subject.items
         problem.now.grid problem.now.instance a.program.program a.chain) }
-    ensures fault { IfErr result (IsAcceptRefusal texts.now.subject.items
-        problem.now.grid problem.now.instance) }
+    ensures fault { IfErr result (IsAcceptRefusal problem.now) }
 {
-    let program = view_subject(alloc, texts)?;
+    let program = view_subject(alloc, &problem.texts)?;
     match verify(alloc, program, &problem.grid, &problem.instance) {
         Ok(accepted) => Ok(accepted),
         Err(refused) => Err(Fault::Verify(refused.fault)),
@@ -163,7 +167,9 @@ pub fn accept_made<'g>(
 ) -> Result<Accepted<'g, CodeView<'g>>, OutOfMemory>
     requires { (p : Program) × Spells bytes.now p
         × IsAccepted (is_passable grid.now) instance.now p }
-    ensures { IfOk result (λ a. Accepts bytes.now grid.now instance.now a.program.program a.chain) }
+    ensures accepted { IfOk result (λ a.
+        Accepts bytes.now grid.now instance.now a.program.program a.chain) }
+    ensures only { IfOk result (λ a. (p : Program) → Spells bytes.now p → p ≡ a.program.program) }
 {
     let program = match view(alloc, bytes) {
         Ok(program) => program,
@@ -204,7 +210,6 @@ fn chain_of(
         × IsAccepted (is_passable grid.now) instance.now p }
     ensures { IfOk result (λ n. (p : Program) → Spells bytes.now p → IsLongestChain p n) }
 {
-    each_spelling_has_one_program();
     let accepted = accept_made(alloc, bytes, grid, instance)?;
     Ok(accepted.chain())
 }

@@ -7,9 +7,8 @@ ghost use Rattle.fleet_verify.specs.Stretch.{path_actions};
 ghost use Rattle.fleet_cli.specs.TimesCommand.{IsTimetable, HasTimetable, HasReached, IsCostsRefusal, IsBreaksRefusal, TellsTimes, TellsReached, AnswersTimes};
 
 use crate::fault::{Fault, or_refuse};
-use crate::files::FileTexts;
 use crate::output::hand_on;
-use crate::steps::{accept, read_problem};
+use crate::steps::{Problem, accept};
 use fleet_args::TimesRequest;
 use fleet_dispatch::{breaks_of, costs_of};
 use fleet_model::{OutOfMemory, ProgramView, total_moves};
@@ -123,16 +122,15 @@ fn tell_reached<'a, P: ProgramView, O: Flush>(
 pub(crate) fn do_times<'a, O: Flush>(
     alloc: Global,
     request: &TimesRequest<'a>,
-    texts: &FileTexts,
+    problem: &Problem,
     out: &mut O,
 ) -> Result<u8, Fault<'a>>
     requires { IsWorking (O.state out.old) }
-    ensures { AnswersTimes request.now texts.now (O.state out.old) (O.state out.new) result }
+    ensures { AnswersTimes request.now problem.now (O.state out.old) (O.state out.new) result }
 {
-    let problem = read_problem(alloc, texts, request.subject.tasks.agents)?;
-    let accepted = accept(alloc, texts, &problem)?;
+    let accepted = accept(alloc, problem)?;
     match request.broken {
-        None => tell_times(alloc, &accepted, request.costs, &texts.holds, out),
+        None => tell_times(alloc, &accepted, request.costs, &problem.texts.holds, out),
         Some(line) => tell_reached(alloc, &accepted, line.as_bytes(), out),
     }
 }

@@ -2,13 +2,13 @@
 
 ghost use Rattle.std.specs.Prelude.{IfOk, IfErr};
 ghost use Rattle.fleet_text.specs.Sink.{IsWorking};
-ghost use Rattle.fleet_cli.specs.WriteCommands.{CompilesBytes, IsCompileFault, AnswersCompile, ThinsTexts, AnswersThin, MigratesBytes, AnswersMigrate};
-ghost use Rattle.fleet_cli.specs.Steps.{IsTextsRefusal, IsLoadRefusal};
+ghost use Rattle.fleet_cli.specs.WriteCommands.{CompilesBytes, IsCompileFault, AnswersCompile, ThinsAccepted, AnswersThin, MigratesBytes, AnswersMigrate};
+ghost use Rattle.fleet_cli.specs.Steps.{IsAcceptRefusal, IsLoadRefusal};
 
 use crate::fault::{Fault, or_refuse};
 use crate::files::{FileTexts, Files};
 use crate::output::write_out;
-use crate::steps::{accept, read_problem};
+use crate::steps::{Problem, accept};
 use fleet_adg::{ProgramBytes, ThinFault, compile_bytes, thin_bytes};
 use fleet_args::{CompileRequest, MigrateRequest, ThinRequest};
 use fleet_code::{encode2, load};
@@ -17,20 +17,24 @@ use fleet_plan::{check, read_plan};
 use fleet_run::Flush;
 use std::alloc::Global;
 
-/// The bytes of the program, as it is asked for, of the plan for which the texts stand, and its numbers. The texts are
-/// let go once they are read.
-fn compile_texts<'a>(
+/// The bytes of the program, as it is asked for, of the problem's plan, and its numbers. The texts are let go once they
+/// are read.
+fn compile_plan<'a>(
     alloc: Global,
     request: &CompileRequest<'_>,
-    texts: FileTexts,
+    problem: Problem,
 ) -> Result<ProgramBytes, Fault<'a>>
-    ensures compiled { IfOk result (CompilesBytes texts request.now) }
-    ensures fault { IfErr result (IsCompileFault texts request.now) }
+    ensures compiled { IfOk result (CompilesBytes problem request.now) }
+    ensures fault { IfErr result (IsCompileFault problem request.now) }
 {
-    let problem = read_problem(alloc, &texts, request.tasks.agents)?;
+    let Problem {
+        texts,
+        grid,
+        instance,
+    } = problem;
     let read = or_refuse!(read_plan(alloc, &texts.subject), Fault::Text);
     drop(texts);
-    let checked = match check(alloc, read, &problem.grid, &problem.instance) {
+    let checked = match check(alloc, read, &grid, &instance) {
         Ok(checked) => checked,
         Err(refusal) => return Err(Fault::Check(refusal.fault)),
     };
@@ -46,15 +50,15 @@ fn compile_texts<'a>(
 pub(crate) fn do_compile<'a, F: Files, O: Flush>(
     alloc: Global,
     request: &CompileRequest<'a>,
-    texts: FileTexts,
+    problem: Problem,
     files: &mut F,
     out: &mut O,
 ) -> Result<u8, Fault<'a>>
     requires { IsWorking (O.state out.old) }
-    ensures { AnswersCompile (F.contents files.old) (F.contents files.new) request.now texts
+    ensures { AnswersCompile (F.contents files.old) (F.contents files.new) request.now problem
         (O.state out.old) (O.state out.new) result }
 {
-    let compiled = compile_texts(alloc, request, texts)?;
+    let compiled = compile_plan(alloc, request, problem)?;
     write_out(
         files,
         &[(Some(request.out), &compiled.bytes)],
@@ -75,19 +79,13 @@ struct Thinned {
     made: ProgramBytes,
 }
 
-/// The bytes of the program that the texts' bytes spell, accepted for the map and the instance for which the texts
-/// stand, and thinned; and how many awaits it had before.
-fn thin_texts<'a>(
-    alloc: Global,
-    request: &ThinRequest<'_>,
-    texts: &FileTexts,
-) -> Result<Thinned, Fault<'a>>
-    ensures thinned { IfOk result (λ t. ThinsTexts texts.now request.now
+/// The bytes of the problem's program, accepted for it and thinned; and how many awaits it had before.
+fn thin_program<'a>(alloc: Global, problem: &Problem) -> Result<Thinned, Fault<'a>>
+    ensures thinned { IfOk result (λ t. ThinsAccepted problem.now
         t.before t.made.awaits t.made.bytes.items) }
-    ensures fault { IfErr result (IsTextsRefusal texts.now request.now.subject.tasks.agents) }
+    ensures fault { IfErr result (IsAcceptRefusal problem.now) }
 {
-    let problem = read_problem(alloc, texts, request.subject.tasks.agents)?;
-    let accepted = accept(alloc, texts, &problem)?;
+    let accepted = accept(alloc, problem)?;
     let before = total_awaits(accepted.program());
     match thin_bytes(alloc, &accepted) {
         Ok(made) => Ok(Thinned { before, made }),
@@ -101,15 +99,15 @@ fn thin_texts<'a>(
 pub(crate) fn do_thin<'a, F: Files, O: Flush>(
     alloc: Global,
     request: &ThinRequest<'a>,
-    texts: &FileTexts,
+    problem: &Problem,
     files: &mut F,
     out: &mut O,
 ) -> Result<u8, Fault<'a>>
     requires { IsWorking (O.state out.old) }
-    ensures { AnswersThin (F.contents files.old) (F.contents files.new) request.now texts.now
+    ensures { AnswersThin (F.contents files.old) (F.contents files.new) request.now problem.now
         (O.state out.old) (O.state out.new) result }
 {
-    let thinned = thin_texts(alloc, request, texts)?;
+    let thinned = thin_program(alloc, problem)?;
     write_out(
         files,
         &[(Some(request.out), &thinned.made.bytes)],

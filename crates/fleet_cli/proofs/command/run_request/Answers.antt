@@ -11,4 +11,4 @@ returns-in-Ok g c =
 pub returns-in-Err : goal.returns-in-Err
 returns-in-Err g c =
     let fault = subst (λ (names : FileNames). IsUnread (g.F.Files.contents c.args.files.now) (given_names names) c.in-Err.fault) c.names_of.ensures c.in-Err.ensures.fault in
-    (Err c.in-Err.fault, inr (c.in-Err.fault, refl, fault, c.read_files.ensures.kept, nothing_written _ c.requires.out_working, refl, refl), (c.refuse.ensures.written, c.refuse.ensures.status))
+    (Err c.in-Err.fault, inr ((c.in-Err.fault, refl, fault, nothing_written _ c.requires.out_working), c.read_files.ensures.kept, refl, refl), (c.refuse.ensures.written, c.refuse.ensures.status))

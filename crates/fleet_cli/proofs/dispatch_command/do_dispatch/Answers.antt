@@ -14,16 +14,16 @@ returns-in-Err g c =
     let r = c.args.request.now in
     let p = c.program-program.result.now.program in
     let past = subst (λ (bytes : List ℕ). LeadsOn p c.pace_of-pace.result bytes (Err c.in-Err.fault)) c.deref.ensures.value c.in-Err.ensures in
-    let paced = subst (λ (pace : Pace). LeadsOn p pace c.args.texts.now.log.items (Err c.in-Err.fault)) c.pace_of-pace.ensures past in
-    let stopped = subst (λ (q : Program). LeadsOn q (pace_of r) c.args.texts.now.log.items (Err c.in-Err.fault)) (ap (λ (v : CodeView). v.program) c.program-program.ensures.program) paced in
-    let leads = unled files files files r _ c.args.texts.now.log.items _ talks c.in-Err.fault stopped refl (refl, refl) in
-    inl (_, _, c.in_ok-problem.ensures.read, (_, _, c.in_ok-accepted.ensures.accepted, (leads, others_self files r.log)))
+    let paced = subst (λ (pace : Pace). LeadsOn p pace c.args.problem.now.texts.log.items (Err c.in-Err.fault)) c.pace_of-pace.ensures past in
+    let stopped = subst (λ (q : Program). LeadsOn q (pace_of r) c.args.problem.now.texts.log.items (Err c.in-Err.fault)) (ap (λ (v : CodeView). v.program) c.program-program.ensures.program) paced in
+    let leads = unled files files files r _ c.args.problem.now.texts.log.items _ talks c.in-Err.fault stopped refl (refl, refl) in
+    inl (_, _, c.in_ok-accepted.ensures.accepted, (leads, others_self files r.log))
 
 pub returns-in_err-begin_log : goal.returns-in_err-begin_log
 returns-in_err-begin_log g c =
     let e = err_from_is_err_and c.from_residual-in_err-begin_log.result c.from_residual-in_err-begin_log.ensures.1 in
     let fault = rw c.deref-2.ensures.value at c.in_err-begin_log.ensures.fault in
-    rw (e.1, e.2) (inl (_, _, c.in_ok-problem.ensures.read, (_, _, c.in_ok-accepted.ensures.accepted, (inr (_, refl, inr fault, (refl, refl)), c.in_err-begin_log.ensures.others))))
+    rw (e.1, e.2) (inl (_, _, c.in_ok-accepted.ensures.accepted, (inr (_, refl, inr fault, (refl, refl)), c.in_err-begin_log.ensures.others)))
 
 pub returns : goal.returns
 returns g c =
@@ -35,5 +35,5 @@ returns g c =
     let on = rw (ap (λ (v : CodeView). v.program) c.program-program.ensures.program, c.deref.ensures.value, c.pace_of-pace.ensures) at c.in-Ok.ensures in
     let outcome = rw (ap (λ (v : CodeView). v.program) c.program-program.ensures.program, c.pace_of-pace.ensures) at c.dispatch_kept.ensures.outcome in
     let talks = IsLogged g.R.ReportsTo.talks c.args.input.now c.args.out.now c.dispatch_kept.new.input c.dispatch_kept.new.out in
-    let leads = led files mid after r _ c.args.texts.now.log.items _ talks c.dispatch_kept.result _ c.in-Ok.made c.dispatch_kept.new.session own c.in_ok-begin_log.ensures.lines on outcome c.answer_of.ensures in
-    inl (_, _, c.in_ok-problem.ensures.read, (_, _, c.in_ok-accepted.ensures.accepted, (leads, others_on files mid after r.log c.in_ok-begin_log.ensures.others c.dispatch_kept.ensures.others)))
+    let leads = led files mid after r _ c.args.problem.now.texts.log.items _ talks c.dispatch_kept.result _ c.in-Ok.made c.dispatch_kept.new.session own c.in_ok-begin_log.ensures.lines on outcome c.answer_of.ensures in
+    inl (_, _, c.in_ok-accepted.ensures.accepted, (leads, others_on files mid after r.log c.in_ok-begin_log.ensures.others c.dispatch_kept.ensures.others))

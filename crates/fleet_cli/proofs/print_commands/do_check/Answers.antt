@@ -3,21 +3,12 @@ use Rattle.fleet_cli.proofs.RunLemmas.{nothing_written}
 use Rattle.fleet_cli.proofs.print_commands.do_check.Goals as goal
 
 pub returns-in-Err-check : goal.returns-in-Err-check
-returns-in-Err-check g c =
-    inr (_, refl, (_, _, _, record { instance = c.in_ok-problem.ensures.read; plan_read = rw c.deref.ensures.value at c.in-Ok.ensures.found }, c.in-Err-check.ensures.fault), nothing_written _ c.requires)
+returns-in-Err-check g c = inr (_, refl, (_, rw c.deref.ensures.value at c.in-Ok.ensures.found, c.in-Err-check.ensures.fault), nothing_written _ c.requires)
 
 pub returns : goal.returns
 returns g c =
     let made = c.in-Ok-check.ensures.checked in
     let same = ap (λ k. k.plan) made in
     let bound = rw (ap (λ k. k.grid) made, ap (λ k. k.instance) made) at c.in_ok-bound.ensures in
-    inl (
-      _,
-      _,
-      c.in-Ok-check.checked.plan,
-      _,
-      record { instance = c.in_ok-problem.ensures.read; plan_read = rw same (rw c.deref.ensures.value at c.in-Ok.ensures.found) },
-      rw same c.in-Ok-check.ensures.right,
-      bound,
-      c.hand_on.ensures _ _ (rw c.plan.ensures.value at c.put_check-printed.ensures),
-    )
+    let text = rw c.deref.ensures.value at c.in-Ok.ensures.found in
+    inl (c.in-Ok-check.checked.plan, _, (rw same text, rw same c.in-Ok-check.ensures.right), bound, c.hand_on.ensures _ _ (rw c.plan.ensures.value at c.put_check-printed.ensures))

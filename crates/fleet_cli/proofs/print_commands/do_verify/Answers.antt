@@ -6,13 +6,8 @@ pub returns : goal.returns
 returns g c =
     let same = ap (λ (w : Viewed). w.program) c.in-Ok.ensures.kept.0 in
     inl (
+      c.in-Ok.accepted.program.program,
       _,
-      _,
-      c.in_ok-problem.ensures.read,
-      (
-        c.in-Ok.accepted.program.program,
-        _,
-        record { spelled = rw same c.in_ok-program.ensures.spelled; accepted_for = rw same c.in-Ok.ensures.accepted },
-        c.hand_on.ensures _ _ c.put_accepted-printed.ensures,
-      ),
+      record { spelled = rw same c.in_ok-program.ensures.spelled; accepted_for = rw same c.in-Ok.ensures.accepted },
+      c.hand_on.ensures _ _ c.put_accepted-printed.ensures,
     )

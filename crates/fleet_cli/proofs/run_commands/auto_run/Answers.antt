@@ -4,7 +4,7 @@ use Rattle.fleet_text.specs.Sink.{SinkState, IsUnwritten}
 use Rattle.fleet_grid.specs.{Ground.Ground, MapText.IsMapText}
 use Rattle.fleet_scen.specs.{ScenText.IsFirstScenFault, declared.fault.ScenFault.ScenFault}
 use Rattle.fleet_scen.specs.declared.fault.ScenFault.TheVariants as s
-use Rattle.fleet_cli.specs.{Faults.in_step, RunCommands.AutoRuns}
+use Rattle.fleet_cli.specs.{Faults.in_step, RunCommands.AutoRuns, Steps.AreTextsOf}
 use Rattle.fleet_cli.specs.declared.fault.AutoFault.TheVariants as a
 use Rattle.fleet_cli.proofs.RunLemmas.{auto_stops, made, nothing_written}
 use Rattle.fleet_cli.proofs.run_commands.auto_run.Goals as goal
@@ -21,9 +21,11 @@ returns-in-Err-read_scen g c =
 
 pub returns : goal.returns
 returns g c =
-    let m = made c.each_spelling_has_one_program.ensures.program (record { ground = c.in-Ok.ensures.found; tasks_read = c.in-Ok-read_scen.ensures.found }) c.in_ok-made.ensures.made (rw c.deref.ensures.value at c.in-Ok-accept_made.ensures) in
-    rw c.in_step-in-Err-run_accepted.ensures (auto_stops c.args.holds.now _ _ m c.in-Err-run_accepted.fault c.in-Err-run_accepted.ensures)
+    let m = made c.in_ok-made.ensures.made (rw c.deref.ensures.value at c.in-Ok-accept_made.ensures.only) in
+    let texts : AreTextsOf c.args.map.now c.args.scen.now c.args.asked c.in-Ok.grid c.in-Ok-read_scen.instance = record { ground = c.in-Ok.ensures.found; tasks_read = c.in-Ok-read_scen.ensures.found } in
+    rw c.in_step-in-Err-run_accepted.ensures (auto_stops c.args.holds.now _ _ _ _ _ c.in-Err-run_accepted.fault texts m c.in-Ok-accept_made.ensures.accepted.accepted_for c.in-Err-run_accepted.ensures)
 
 pub returns-in-Ok-run_accepted : goal.returns-in-Ok-run_accepted
 returns-in-Ok-run_accepted g c =
-    (made c.each_spelling_has_one_program.ensures.program (record { ground = c.in-Ok.ensures.found; tasks_read = c.in-Ok-read_scen.ensures.found }) c.in_ok-made.ensures.made (rw c.deref.ensures.value at c.in-Ok-accept_made.ensures), c.in-Ok-run_accepted.ensures)
+    let m = made c.in_ok-made.ensures.made (rw c.deref.ensures.value at c.in-Ok-accept_made.ensures.only) in
+    (_, _, record { ground = c.in-Ok.ensures.found; tasks_read = c.in-Ok-read_scen.ensures.found }, (_, _, _, m, c.in-Ok-accept_made.ensures.accepted.accepted_for, c.in-Ok-run_accepted.ensures))

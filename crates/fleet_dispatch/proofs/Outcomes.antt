@@ -1,5 +1,5 @@
 -- How a dispatch goes on, and how it ends.
-use Rattle.std.proofs.Common.{◌≡◌, ℕ, ◌+◌, ◌≤◌, ◌++◌, ◌∷◌, [], true, false, cond, List, length, take, Result, Ok, Err, refl, ap, sym, ◌∙◌, arith, subst, inl, inr, append_assoc}
+use Rattle.std.proofs.Common.{◌≡◌, ℕ, ◌+◌, ◌≤◌, ◌++◌, ◌∷◌, [], true, false, cond, List, length, take, Result, Ok, Err, refl, ap, sym, ◌∙◌, arith, subst, ◌⊎◌, inl, inr, append_assoc}
 use Rattle.std.specs.Prelude.{is_err}
 use Rattle.fleet_model.specs.Program.{Program, total_moves}
 use Rattle.fleet_dispatch.specs.declared.fault.DispatchFault.{DispatchFault}
@@ -7,6 +7,7 @@ use Rattle.fleet_dispatch.specs.declared.fault.DispatchFault.TheVariants as f
 use Rattle.fleet_dispatch.specs.declared.run.DispatchReport.{DispatchReport}
 use Rattle.fleet_dispatch.specs.declared.run.Session.{Session}
 use Rattle.fleet_dispatch.specs.declared.pace.Pace.{Pace}
+use Rattle.fleet_dispatch.specs.declared.run.TheConstants.{MAX_REPORTS}
 use Rattle.fleet_dispatch.specs.Report.{Words, IsRising, Counts, counts_after, is_repeat, Line, words_in, is_taken}
 use Rattle.fleet_dispatch.specs.Standings.{standings_text}
 use Rattle.fleet_dispatch.specs.Ahead.{told_at, AreOrdered, IsFirstUnordered, is_all_done}
@@ -41,6 +42,23 @@ pub record AreOrdersTold (d : Course) (talks : Talk → Type 0) (s : Session) (l
 -- what a session has carried out is what these reports have
 left_is : (d : Course) (s : Session) (reports : List Line) → s.progress.done ≡ counts_now d reports → s.taken ≡ taken_now d reports → left_in s ≡ left_by d reports
 left_is d s reports e f = cc
+
+-- as many lines as are heard came, or as many reports as are taken
+pub limit_stops : (d : Course) (talks : Talk → Type 0) (s : Session) (lines : ℕ) (reports : List Line) → AreOrdersTold d talks s lines reports → is_all_done d.program s.progress.done ≡ false
+    → (lines ≡ MAX_REPORTS) ⊎ ((lines ≡ MAX_REPORTS → ⊥) × (s.taken ≡ MAX_REPORTS)) → Dispatches d talks (left_in s) (Err f.ReportLimit)
+limit_stops d talks s lines reports told left either = (
+  reports,
+  record {
+    taken = told.taken;
+    left = ap (is_all_done d.program) (sym told.done) ∙ left;
+    talk = told.talk;
+    limit = elim either [
+      | inl e ↦ inl (sym told.count ∙ e)
+      | inr h ↦ inr (sym told.number ∙ h.1)
+    ];
+  },
+  left_is d s reports told.done told.number,
+)
 
 pub at_start : (p : Program) (pace : Pace) (talks : Talk → Type 0) (s : Session) → talks [] → s.progress.told ≡ s.progress.done → IsUnderWay (course_of p pace s) talks s 0 []
 at_start p pace talks s silent fresh = record {

@@ -6,7 +6,7 @@ use Rattle.fleet_dispatch.specs.declared.fault.DispatchFault.{DispatchFault}
 use Rattle.fleet_dispatch.specs.declared.run.DispatchReport.{DispatchReport}
 use Rattle.fleet_dispatch.proofs.Reports.{more}
 use Rattle.fleet_dispatch.specs.Session.{course_in as course_of}
-use Rattle.fleet_dispatch.proofs.Outcomes.{Joins, at_start, write_stops, now_told, concludes, line_stops, one_line_on}
+use Rattle.fleet_dispatch.proofs.Outcomes.{Joins, at_start, write_stops, now_told, concludes, limit_stops, line_stops, one_line_on}
 use Rattle.fleet_dispatch.proofs.run.run_session.Given
 use Rattle.fleet_dispatch.proofs.run.run_session.Goals as goal
 
@@ -42,6 +42,14 @@ returns-then-is_finished g c =
     c.tell_orders.ensures.done c.tell_orders.ensures.told _ c.tell_orders.result c.tell_orders.ensures.said (sym c.is_err.ensures.value ∙ c.if-is_err.false) c.tell_orders.ensures.taken in
     concludes d _ _ _ (joins g c.args.floor.now c.tell_orders.new.floor c.conclude.new.floor) c.tell_orders.new.session c.tell_orders.new.session c.lines.lines way.0 told.0
     c.agents.result c.total_moves.result c.tell_orders.new.session.taken c.conclude.result (sym c.is_finished.ensures ∙ c.if-is_finished.true) c.agents.ensures.count c.total_moves.ensures refl c.conclude.ensures
+
+pub returns-then-lines : goal.returns-then-lines
+returns-then-lines g c =
+    let d = course_of (g.P.ProgramView.program c.args.program.now) c.args.pace c.args.session.now in
+    let way = c.lines.invariant.under_way in
+    let told = now_told d _ _ _ (joins g c.args.floor.now c.lines.floor c.tell_orders.new.floor) c.lines.session c.tell_orders.new.session c.lines.lines way.0 way.1
+    c.tell_orders.ensures.done c.tell_orders.ensures.told _ c.tell_orders.result c.tell_orders.ensures.said (sym c.is_err.ensures.value ∙ c.if-is_err.false) c.tell_orders.ensures.taken in
+    limit_stops d _ c.tell_orders.new.session c.lines.lines way.0 told.0 (sym c.is_finished.ensures ∙ c.if-is_finished.false) c.then-lines.either
 
 pub returns-in_err-take_line : goal.returns-in_err-take_line
 returns-in_err-take_line g c =

@@ -1,10 +1,16 @@
 -- Squares of cells, and the visits that they keep.
-use Rattle.std.specs.Prelude.{◌≡◌, ◌≢◌, ℕ, ◌+◌, ◌-◌, ◌*◌, ◌/◌, ◌%◌, ◌^◌, ◌<◌, bit_and, bit_xor, nat_eq, List, length, get_or, slice_get, Option, Some, None, option_map, if◌then◌else◌}
+use Rattle.std.specs.Prelude.{◌≡◌, ◌≢◌, ℕ, ◌+◌, ◌-◌, ◌*◌, ◌/◌, ◌%◌, ◌^◌, ◌<◌, min, bit_and, bit_xor, nat_eq, List, length, get_or, slice_get, Option, Some, None, option_map, if◌then◌else◌}
+use Rattle.std.specs.Int.{div_ceil}
 use Rattle.indexmap.specs.IndexMap.{IndexMap, get}
 use Rattle.fleet_model.specs.declared.geometry.Cell.{Cell}
 use Rattle.fleet_model.specs.declared.limits.TheConstants.{MAX_AGENTS, MAX_COORDINATE}
 use Rattle.fleet_model.specs.declared.program.Visit.{Visit}
-use Rattle.fleet_verify.specs.declared.last_visits.TheConstants.{SIDE, CELLS, HINTS_ACROSS, NO_VISIT}
+use Rattle.fleet_verify.specs.declared.last_visits.TheConstants.{SIDE, CELLS, HINTS_ACROSS, MOST_ROOM, NO_VISIT}
+
+-- for how many squares there is room at first: for all of a map of these sizes, unless so many visits are likely to be
+-- in fewer, and for no more than the most
+abbrev pub room_for : (width height visits : ℕ) → ℕ
+room_for width height visits = min (min (div_ceil width SIDE * div_ceil height SIDE) (visits / SIDE)) MOST_ROOM
 
 -- the number of the square that the cell is in, which no other square has: that of its first cell
 abbrev pub square_of : Cell → ℕ

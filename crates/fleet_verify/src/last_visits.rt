@@ -5,7 +5,7 @@ ghost use Rattle.fleet_model.specs.declared.geometry.Cell.{Cell};
 ghost use Rattle.fleet_model.specs.declared.limits.TheConstants.{MAX_AGENTS, MAX_MOVES};
 ghost use Rattle.fleet_model.specs.Program.{IsCell};
 ghost use Rattle.fleet_verify.specs.declared.last_visits.TheConstants.{CELLS, MOST_ROOM, NO_SQUARE, NO_VISIT};
-ghost use Rattle.fleet_verify.specs.Squares.{square_of, place_in_square, place_of_hint, visit_kept, last_in, IsNoted, IsSquareAt, IsWritten};
+ghost use Rattle.fleet_verify.specs.Squares.{room_for, square_of, place_in_square, place_of_hint, visit_kept, last_in, IsNoted, IsSquareAt, IsWritten};
 
 use fleet_model::{Cell, MAX_AGENTS, MAX_COORDINATE, OutOfMemory, Visit};
 use indexmap::IndexMap;
@@ -53,6 +53,7 @@ pub struct LastVisits {
 }
 
 impl LastVisits {
+    ghost use Rattle.indexmap.specs.IndexMap.{spare};
     ghost use Rattle.fleet_verify.specs.LastVisits.{kept_at};
 
     /// No visits, and room for the squares that so many visits are likely to be in on a map of these sizes.
@@ -62,7 +63,8 @@ impl LastVisits {
         height: u16,
         visits: u32,
     ) -> Result<LastVisits, OutOfMemory>
-        ensures { IfOk result (λ made. (c : Cell) → kept_at made c ≡ None) }
+        ensures none { IfOk result (λ made. (c : Cell) → kept_at made c ≡ None) }
+        ensures room { IfOk result (λ made. room_for width height visits ≤ spare made.squares) }
     {
         Ok(LastVisits {
             squares: IndexMap::with_capacity(alloc, room_for(width, height, visits))?,
@@ -104,7 +106,8 @@ impl LastVisits {
 /// For how many squares there is room before the first of them: all of the map, unless so many visits are likely to be
 /// in fewer, but not many, since room grows later without a copy.
 fn room_for(width: u16, height: u16, visits: u32) -> usize
-    ensures { result ≤ MOST_ROOM }
+    ensures most { result ≤ MOST_ROOM }
+    ensures room { result ≡ room_for width height visits }
 {
     let across = u32::from(width).div_ceil(SIDE);
     let down = u32::from(height).div_ceil(SIDE);

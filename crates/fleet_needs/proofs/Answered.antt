@@ -1,7 +1,8 @@
 -- Answers of questions, one after another.
 use Rattle.std.proofs.Common.{◌≡◌, ◌≢◌, ℕ, ◌+◌, ◌-◌, ◌<◌, ◌≤◌, Bool, true, false, List, [], ◌∷◌, ◌++◌, length, get_or, set, Some, refl, sym, ap, subst, ◌∙◌, arith, inl, inr, ◌⊎◌}
 use Rattle.std.specs.Borrow.{Bor}
-use Rattle.std.specs.Prelude.{slice_get, slice_index, nat_lt, All, None}
+use Rattle.std.specs.Prelude.{slice_get, slice_index, nat_lt, All, None, Vec}
+use Rattle.std.specs.declared.alloc.Global.{Global}
 use Rattle.std.proofs.lemmas.List.{get_or-set_same, get_or-set_other, length-set, get_or_append_left, get_or_push}
 use Rattle.std.proofs.lemmas.Option.{slice_get_within, get_or_from_slice_get, same_Some}
 use Rattle.std.proofs.lemmas.Bool.{cases_lt, cases_eq, cases_order, ltb-true, lt-ltb, false≢true}
@@ -9,15 +10,15 @@ use Rattle.fleet_model.specs.declared.program.ActionId.{ActionId}
 use Rattle.fleet_model.specs.Program.{Program}
 use Rattle.fleet_model.specs.Chain.{Reaches}
 use Rattle.fleet_needs.specs.Rows.{IsColumn}
-use Rattle.fleet_needs.specs.Asked.{IsQuestion, AreAnswers}
-use Rattle.fleet_needs.specs.Block.{HasColumn, IsAnswer, AreAnswered, AreKnown}
-use Rattle.fleet_needs.specs.Columns.{AreColumns, column_of}
+use Rattle.fleet_needs.specs.Asked.{IsQuestion, AreAnswersIn, AreAskedTo}
+use Rattle.fleet_needs.specs.Block.{HasColumn, IsAnswer}
+use Rattle.fleet_needs.specs.Columns.{BlocksLeft, IsNextBlock, column_of}
 use Rattle.fleet_needs.specs.Counts.{counts_of}
 use Rattle.fleet_needs.specs.JoinPass.{IsJoinRow, HasWhole}
 use Rattle.fleet_needs.specs.Joins.{AreOwn, StandsFor, row_of}
 use Rattle.fleet_needs.specs.Schedule.{AreCounts, AreRowCounts, next_action}
 use Rattle.fleet_needs.specs.Order.{IsLastOf}
-use Rattle.fleet_needs.specs.Answering.{IsAnswering, IsAnsweringRow, AreOthersLeft}
+use Rattle.fleet_needs.specs.Answering.{AreAnsweredTo, IsAnswering, IsAnsweringRow, AreOthersLeft, others_joined, questions_in}
 use Rattle.fleet_needs.specs.declared.schedule.Columns.{Columns}
 use Rattle.fleet_needs.specs.declared.schedule.Schedule.{Schedule}
 use Rattle.fleet_needs.specs.declared.join_pass.JoinRow.{JoinRow}
@@ -48,36 +49,12 @@ pub near_answer : (p : Program) (q : Question) (flag : Bool) → flag ≡ false 
 near_answer p q flag e r = ((λ set none. false≢true (sym e ∙ set)), (λ none. absurd (none r)))
 
 -- if no agent's column is asked for, flags that are not set are the answers
-pub none_asked : (p : Program) (questions : List Question) (asked flags : List Bool) → ((k : ℕ) (q : Question) → slice_get questions k ≡ Some q → (get_or asked q.first.agent false ≡ true) ⊎ Reaches p q.first q.last)
-    → ((k : ℕ) → get_or asked k false ≡ false) → length flags ≡ length questions → ((k : ℕ) → get_or flags k false ≡ false) → AreAnswers p questions flags
+pub none_asked : (p : Program) (questions : List Question) (asked flags : Vec Bool Global) → AreAskedTo p questions (length questions) asked → ((k : ℕ) → get_or asked.items k false ≡ false) → length flags.items ≡ length questions
+    → ((k : ℕ) → get_or flags.items k false ≡ false) → AreAnswersIn p questions flags
 none_asked p questions asked flags h none long clear = record {
   all = long;
-  each = λ k q e. near_answer p q (get_or flags k false) (clear k) (elim (h k q e) [ inr r ↦ r | inl set ↦ absurd (false≢true (sym (none q.first.agent) ∙ set)) ]);
+  each = λ k q e. near_answer p q (get_or flags.items k false) (clear k) (elim (h.flagged k q (slice_get_within questions k q e) e) [ inr r ↦ r | inl set ↦ absurd (false≢true (sym (none q.first.agent) ∙ set)) ]);
 }
-
--- a question whose agent is not asked for stays answered
-pub known_on : (p : Program) (asked : List Bool) (columns : Columns) (questions : List Question) (old new : List Bool) → AreAnswered p columns questions old new → AreKnown p asked questions old
-    → AreKnown p asked questions new
-known_on p asked columns questions old new a known m q e = elim (known m q e) [
-  | inl set ↦ inl set
-  | inr before ↦ inr (elim (column_cases columns q.first.agent) [
-    | inl has ↦ a.answered m has.0 q e has.1
-    | inr none ↦ subst (λ (b : Bool). IsAnswer p q b) (sym (a.others m q e none)) before
-  ])
-]
-
--- the answers of one block more
-pub answered_to : (p : Program) (asked : List Bool) (from : ℕ) (columns : Columns) → AreColumns asked from columns → (questions : List Question) (old new : List Bool)
-    → AreAnswered p columns questions old new → AreKnown p asked questions old
-    → ((m : ℕ) (q : Question) → slice_get questions m ≡ Some q → q.first.agent < from → IsAnswer p q (get_or old m false))
-    → (m : ℕ) (q : Question) → slice_get questions m ≡ Some q → q.first.agent < columns.end → IsAnswer p q (get_or new m false)
-answered_to p asked from columns h questions old new a known before m q e l = elim (column_cases columns q.first.agent) [
-  | inl has ↦ a.answered m has.0 q e has.1
-  | inr none ↦ subst (λ (b : Bool). IsAnswer p q b) (sym (a.others m q e none)) (elim (cases_lt q.first.agent from) [
-    | inl low ↦ before m q e low
-    | inr high ↦ elim (known m q e) [ inl set ↦ absurd (h.chosen q.first.agent high l set none) | inr is ↦ is ]
-  ])
-]
 
 -- a question of a list of questions
 pub question_at : (p : Program) (questions : List Question) → All (IsQuestion p) questions → (k : ℕ) (q : Question) → slice_get questions k ≡ Some q → IsQuestion p q
@@ -175,16 +152,49 @@ row_has_counts p row is whole i n stands =
     counts_row p row.schedule.now row.columns.now (row.n + 1) i n stands (omega arith) (slice_index (counts_of row.counts.now))
     (subst (λ (a : ActionId). AreCounts p row.columns.now a.agent a.number (slice_index (counts_of row.counts.now))) of whole)
 
--- once all rows are used, all questions whose agents have a column are answered
-pub answered_all : (p : Program) (s : Schedule) (columns : Columns) (old new : Answering) → length old.flags.items ≡ length old.listed.now.questions.now → IsAnswering p s columns (length s.joins.items + 1) new → AreOthersLeft p columns old new
-    → AreAnswered p columns old.listed.now.questions.now old.flags.items new.flags.items
-answered_all p s columns old new long is left = record {
-  all = is.flags ∙ ap (λ l. length l.now.questions.now) left.listed ∙ sym long;
-  answered = λ m c q at has.
-      let there : slice_get new.listed.now.questions.now m ≡ Some q = ap (λ l. slice_get l.now.questions.now m) left.listed ∙ at in
-      is.answered m c q there (let l = is.linked.within m (slice_get_within new.listed.now.questions.now m q there) in omega arith) has;
-  others = left.flags;
+-- ---- blocks
+
+-- before the first row of a block none needs an answer by it
+pub answers_begun : (p : Program) (s : Schedule) (asked : List Bool) (from : ℕ) (columns : Columns) (qs : List Question) (m : Answering) → AreAnsweredTo p s asked from qs m → IsAnswering p s columns 0 m
+answers_begun p s asked from columns qs m h = record {
+  row = h.listed.0;
+  linked = h.listed.1;
+  questions = h.questions;
+  flags = h.flags;
+  answered = λ k c q at l. absurd (omega arith);
 }
+
+-- once all rows are used, all questions whose agents have a column are answered
+pub answered_after : (p : Program) (s : Schedule) (now after : BlocksLeft) (columns : Columns) → IsNextBlock now after columns → (qs : List Question) (old mid new : Answering) → AreAnsweredTo p s now.asked now.from qs old → AreOthersLeft p columns old mid
+    → AreOthersLeft p columns mid new → IsAnswering p s columns (length s.joins.items + 1) new → AreAnsweredTo p s after.asked after.from qs new
+answered_after p s now after columns next qs old mid new was begun on is =
+    let left = others_joined p columns old mid new begun on in
+    rw next.asked (rw next.from (record {
+      agents = was.agents;
+      of = ap (λ l. l.now.questions.now) left.listed ∙ was.of;
+      listed = (is.row, is.linked);
+      questions = is.questions;
+      flags = is.flags;
+      told = λ m q at. elim (column_cases columns q.first.agent) [
+        | inl has ↦ inr (is.answered m has.0 q at (let l = is.linked.within m (slice_get_within (questions_in new) m q at) in omega arith) has.1)
+        | inr none ↦
+            let there : slice_get (questions_in old) m ≡ Some q = ap (λ l. slice_get l.now.questions.now m) (sym left.listed) ∙ at in
+            subst (λ (flag : Bool). ((get_or now.asked q.first.agent false ≡ true) × (columns.end ≤ q.first.agent)) ⊎ IsAnswer p q flag) (sym (left.flags m q there none)) (elim (was.told m q there) [
+              | inr told ↦ inr told
+              | inl asks ↦ elim (cases_lt q.first.agent columns.end) [ inl low ↦ absurd (next.chosen.chosen q.first.agent asks.1 low asks.0 none) | inr high ↦ inl (asks.0, high) ]
+            ])
+      ];
+    }))
+
+-- after the last block
+pub answered_end : (p : Program) (s : Schedule) (asked : List Bool) (from : ℕ) (qs : List Question) (m : Answering) → length asked ≤ from → AreAnsweredTo p s asked from qs m → AreAnswersIn p qs m.flags
+answered_end p s asked from qs m end h = subst (λ (xs : List Question). AreAnswersIn p xs m.flags) h.of (record {
+  all = h.flags;
+  each = λ k q at. elim (h.told k q at) [
+    | inr told ↦ told
+    | inl asks ↦ absurd (let agent = (question_at p (questions_in m) h.questions k q at).agent in omega (arith, agent, end, h.agents, asks.1))
+  ];
+})
 
 -- ---- questions listed by their rows
 

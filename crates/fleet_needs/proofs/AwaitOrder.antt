@@ -1,5 +1,5 @@
 -- The order of awaits, among those of an action and among all.
-use Rattle.fleet_needs.proofs.Words.{◌≡◌, ◌≢◌, ℕ, ◌+◌, ◌-◌, ◌<◌, ◌≤◌, Bool, false, List, length, take, get_or, set, map, refl, sym, ap, subst, ◌∙◌, arith, inl, inr, ◌⊎◌, slice_get, Some, sum_by, cases_eq, cases_order, slice_get_within, get_or_from_slice_get, get_or-map, length-map, get_or-set_same, get_or-set_other, sum_by-take-le, ActionId, Action, Await, AgentProgram, Program, actions_of, awaits_of, agent_awaits, total_awaits, IsAction, awaits_more, actions_more, EachFlag, AreNoted, first_await}
+use Rattle.fleet_needs.proofs.Words.{◌≡◌, ◌≢◌, ℕ, ◌+◌, ◌-◌, ◌<◌, ◌≤◌, Bool, false, List, length, take, get_or, set, map, refl, sym, ap, subst, ◌∙◌, arith, inl, inr, ◌⊎◌, slice_get, Some, sum_by, cases_eq, cases_order, slice_get_within, get_or_from_slice_get, get_or-map, length-map, get_or-set_same, get_or-set_other, sum_by-take-le, ActionId, Action, Await, AgentProgram, Program, actions_of, awaits_of, agent_awaits, awaits_before, total_awaits, IsAction, awaits_more, actions_more, EachFlag, AreNoted, first_await}
 use Rattle.std.specs.List.Sorted.{IsStrictlyIncreasing}
 use Rattle.std.proofs.lemmas.List.Kept.{AllPairs-from_increasing}
 use Rattle.fleet_needs.proofs.Passing.{same_or_not}
@@ -26,21 +26,17 @@ other_agent awaits rising k m v w at there ne same = elim (cases_order k m) [
 
 -- ---- the awaits of one action stand beside those of another
 
--- the awaits of the first n actions of agent i
-abbrev pub own_awaits : Program → ℕ → ℕ → ℕ
-own_awaits p i n = sum_by (λ (s : Action). length s.awaits) (take n (actions_of p i))
-
 module _ (p : Program) where
   -- up to the awaits of the action, with them
-  own_with : (a : ActionId) → IsAction p a → own_awaits p a.agent (a.number - 1) + length (awaits_of p a.agent a.number) ≡ own_awaits p a.agent a.number
+  own_with : (a : ActionId) → IsAction p a → awaits_before p a.agent (a.number - 1) + length (awaits_of p a.agent a.number) ≡ awaits_before p a.agent a.number
   own_with a k =
       let f : 1 ≤ a.number = k.first in
       let e : a.number - 1 + 1 ≡ a.number = omega arith in
-      subst (λ (n : ℕ). own_awaits p a.agent (a.number - 1) + length (awaits_of p a.agent n) ≡ own_awaits p a.agent n) e (sym (actions_more p a.agent (a.number - 1)))
+      subst (λ (n : ℕ). awaits_before p a.agent (a.number - 1) + length (awaits_of p a.agent n) ≡ awaits_before p a.agent n) e (sym (actions_more p a.agent (a.number - 1)))
 
   agent_end : (a : ActionId) → IsAction p a → first_await p a + length (awaits_of p a.agent a.number) ≤ total_awaits (take (a.agent + 1) p)
   agent_end a k =
-      let all : own_awaits p a.agent a.number ≤ agent_awaits p a.agent = sum_by-take-le (λ (s : Action). length s.awaits) (actions_of p a.agent) a.number in
+      let all : awaits_before p a.agent a.number ≤ agent_awaits p a.agent = sum_by-take-le (λ (s : Action). length s.awaits) (actions_of p a.agent) a.number in
       omega (arith, own_with a k, all, awaits_more p a.agent)
 
   pub flag_within : (a : ActionId) → IsAction p a → first_await p a + length (awaits_of p a.agent a.number) ≤ total_awaits p
@@ -53,8 +49,8 @@ module _ (p : Program) where
       let up : total_awaits (take (a.agent + 1) p) ≤ total_awaits (take b.agent p) = sums_rise (λ (x : AgentProgram). sum_by (λ (s : Action). length s.awaits) x.actions) p (a.agent + 1) b.agent (omega arith) in
       omega (arith, agent_end a k, up)
   before a b k m (inr (e, l)) =
-      let up : own_awaits p a.agent a.number ≤ own_awaits p a.agent (b.number - 1) = sums_rise (λ (s : Action). length s.awaits) (actions_of p a.agent) a.number (b.number - 1) (omega arith) in
-      let same : own_awaits p a.agent (b.number - 1) ≡ own_awaits p b.agent (b.number - 1) = ap (λ (i : ℕ). own_awaits p i (b.number - 1)) e in
+      let up : awaits_before p a.agent a.number ≤ awaits_before p a.agent (b.number - 1) = sums_rise (λ (s : Action). length s.awaits) (actions_of p a.agent) a.number (b.number - 1) (omega arith) in
+      let same : awaits_before p a.agent (b.number - 1) ≡ awaits_before p b.agent (b.number - 1) = ap (λ (i : ℕ). awaits_before p i (b.number - 1)) e in
       let total : total_awaits (take a.agent p) ≡ total_awaits (take b.agent p) = ap (λ (i : ℕ). total_awaits (take i p)) e in
       omega (arith, own_with a k, up, same, total)
 

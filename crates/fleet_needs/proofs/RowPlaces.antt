@@ -1,5 +1,5 @@
 -- The places of the rows that stand for actions.
-use Rattle.std.proofs.Common.{◌≡◌, ◌≢◌, ℕ, zero, suc, ◌+◌, ◌-◌, ◌<◌, ◌≤◌, length, take, refl, sym, ap, subst, ◌∙◌, arith, inl, inr}
+use Rattle.std.proofs.Common.{◌≡◌, ◌≢◌, ℕ, zero, suc, ◌+◌, ◌-◌, ◌<◌, ◌≤◌, length, take, sym, ap, subst, ◌∙◌, arith, inl, inr}
 use Rattle.std.specs.Prelude.{sum_by}
 use Rattle.std.proofs.lemmas.Bool.{cases_lt, cases_order}
 use Rattle.std.proofs.lemmas.List.Sums.{sum_by-take-le}
@@ -9,12 +9,9 @@ use Rattle.fleet_model.specs.declared.program.AgentProgram.{AgentProgram}
 use Rattle.fleet_model.specs.Program.{Program, actions_of, agent_awaits, awaits_before, awaits_of, moves, total_awaits}
 use Rattle.fleet_model.proofs.Totals.{actions_more, awaits_more}
 use Rattle.fleet_needs.specs.Joins.{IsUpToLast}
-use Rattle.fleet_model.specs.Program.{IsWellFormed}
-use Rattle.fleet_model.proofs.Totals.{awaits_fit, few_awaits_of}
-use Rattle.fleet_needs.specs.Order.{IsAwaiting, IsAwaitingAt, IsItem, IsNextAwaiting, AreNoneTo, action_of}
+use Rattle.fleet_model.specs.Chain.{IsAction}
+use Rattle.fleet_needs.specs.Order.{IsAwaiting}
 use Rattle.fleet_needs.specs.Rows.{action_before}
-use Rattle.fleet_needs.specs.declared.level_order.Awaiting.{Awaiting}
-use Rattle.fleet_needs.specs.declared.level_order.Item.{Item}
 use Rattle.fleet_needs.specs.Places.{row_place}
 use Rattle.fleet_needs.proofs.Placed.{sums_rise}
 
@@ -79,71 +76,10 @@ module _ (p : Program) where
     pub row_same : a.number ≤ x.number → ((k : ℕ) → a.number < k → k ≤ x.number → length (awaits_of p a.agent k) ≡ 0) → row_place p x ≡ row_place p a
     row_same le none = omega (arith, agent_same, own_same x.number, before_same a.agent a.number x.number le none)
 
-  -- the places of an action that is listed, and of the one before it
-  module _ (x : Item) (is : IsItem p x) where
-    pub upto : IsUpToLast p (action_of x)
-    upto = record { agent = is.awaiting.action.agent; last = is.awaiting.action.last }
+  -- the places of an action, and of the one before it
+  module _ (a : ActionId) (is : IsAction p a) where
+    pub upto : IsUpToLast p a
+    upto = record { agent = is.agent; last = is.last }
 
-    pub item_place : x.end + x.agent ≡ row_place p (action_of x)
-    item_place = omega (arith, is.end)
-
-    pub item_within : row_place p (action_of x) < total_awaits p + length p
-    item_within = row_within (action_of x) upto
-
-    pub item_before : row_place p (action_before (action_of x)) + x.awaits ≡ row_place p (action_of x)
-    item_before = omega (arith, is.awaits, before_with x.agent x.number is.awaiting.action.first)
-
--- ---- the actions of an agent that await something, one after another
-
-module _ (p : Program) (well : IsWellFormed p) (i : ℕ) (w : Awaiting) (h : IsAwaitingAt p i w.finished w) (less : w.finished < w.moves) (b : ℕ) (is : b ≡ awaits_before p i (w.finished + 1)) where
-  abbrev count : ℕ
-  count = length (awaits_of p i (w.finished + 1))
-
-  more : b ≡ awaits_before p i w.finished + count
-  more = is ∙ actions_more p i w.finished
-
-  pub walk_fits : w.first + b < 4294967296
-  walk_fits =
-      let all : awaits_before p i (w.finished + 1) ≤ agent_awaits p i = sum_by-take-le (λ (s : Action). length s.awaits) (actions_of p i) (w.finished + 1) in
-      omega (arith, h.first, is, all, awaits_fit p i well)
-
-  pub walk_count : w.first + b ≡ w.end + count
-  walk_count = omega (arith, h.first, h.end, more)
-
-  pub walk_few : count ≤ 1023
-  walk_few = few_awaits_of p i (w.finished + 1) h.within well
-
-  pub walk_on : IsAwaitingAt p i (w.finished + 1) (record { agent = w.agent; moves = w.moves; finished = w.finished + 1; first = w.first; end = w.first + b })
-  walk_on = record {
-    agent = h.agent;
-    finished = refl;
-    within = h.within;
-    all = h.all;
-    upto = omega (arith, less, h.all);
-    first = h.first;
-    end = omega (arith, h.first, is);
-  }
-
-  pub walk_none : (n : ℕ) → count ≡ 0 → AreNoneTo p i n w.finished → AreNoneTo p i n (w.finished + 1)
-  walk_none n empty none k from to = elim (cases_lt w.finished k) [
-    | inr le ↦ none k from le
-    | inl later ↦ (let e : k ≡ w.finished + 1 = omega (arith, later, to) in ap (λ (m : ℕ). length (awaits_of p i m)) e ∙ empty)
-  ]
-
-  pub walk_next : (old : Awaiting) → old.agent ≡ i → old.finished ≤ w.finished → AreNoneTo p i old.finished w.finished → 1 ≤ count → (new : Awaiting) → IsAwaitingAt p i (w.finished + 1) new → (x : Item) → action_of x ≡ record { agent = i; number = w.finished + 1 } → x.awaits ≡ count → x.end ≡ w.first + b
-      → IsNextAwaiting p old new x
-  walk_next old own from none some new state x at awaits end =
-      let agent : x.agent ≡ i = ap (λ (a : ActionId). a.agent) at in
-      let number : x.number ≡ w.finished + 1 = ap (λ (a : ActionId). a.number) at in
-      let e : x.number - 1 ≡ w.finished = omega (arith, number) in
-      record {
-        item = record {
-          awaiting = subst (IsAwaiting p) (sym at) (record { action = record { agent = h.within; first = omega arith; last = omega (arith, less, h.all) }; some = some });
-          awaits = awaits ∙ sym (λ t. length (awaits_of p (agent t) (number t)));
-          end = end ∙ omega (arith, h.first, is) ∙ sym (λ t. total_awaits (take (agent t) p) + awaits_before p (agent t) (number t));
-        };
-        agent = agent ∙ sym own;
-        later = omega (arith, from, number);
-        none = subst (λ (n : ℕ). AreNoneTo p old.agent old.finished n) (sym e) (subst (λ (j : ℕ). AreNoneTo p j old.finished w.finished) (sym own) none);
-        state = subst (λ (j : ℕ). IsAwaitingAt p j x.number new) (sym own) (subst (λ (n : ℕ). IsAwaitingAt p i n new) (sym number) state);
-      }
+    pub place_before : row_place p (action_before a) + length (awaits_of p a.agent a.number) ≡ row_place p a
+    place_before = omega (arith, before_with a.agent a.number is.first)

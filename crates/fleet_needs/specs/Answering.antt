@@ -1,5 +1,5 @@
 -- Answers of questions by the rows of a block: the questions that are answered so far.
-use Rattle.std.specs.Prelude.{◌≡◌, ℕ, ◌+◌, ◌-◌, ◌<◌, ◌≤◌, false, All, List, length, get_or, slice_get, slice_index, Some, None}
+use Rattle.std.specs.Prelude.{◌≡◌, ◌⊎◌, ℕ, ◌+◌, ◌-◌, ◌<◌, ◌≤◌, Bool, true, false, All, List, length, get_or, slice_get, slice_index, Some, None}
 use Rattle.std.proofs.Common.{refl, ◌∙◌, ap}
 use Rattle.fleet_model.specs.Program.{Program}
 use Rattle.fleet_needs.specs.Asked.{IsQuestion}
@@ -26,6 +26,19 @@ pub record AreLinked (p : Program) (joins : List Join) (row : ℕ → ℕ) (l : 
 -- they are listed by some rows that do so
 abbrev pub AreListed : Program → List Join → ListedQuestions → Type 0
 AreListed p joins l = (row : ℕ → ℕ) × AreLinked p joins row l
+
+-- the questions
+abbrev pub questions_in : Answering → List Question
+questions_in m = m.listed.now.questions.now
+
+-- the flag of each of these questions is its answer, unless its first agent is asked for, and is not below this one
+pub record AreAnsweredTo (p : Program) (s : Schedule) (asked : List Bool) (from : ℕ) (these : List Question) (m : Answering) : Type 0 where
+  pub agents : length asked ≡ length p
+  pub of : questions_in m ≡ these
+  pub listed : AreListed p s.joins.items m.listed.now
+  pub questions : All (IsQuestion p) (questions_in m)
+  pub flags : length m.flags.items ≡ length (questions_in m)
+  pub told : (k : ℕ) (q : Question) → slice_get (questions_in m) k ≡ Some q → ((get_or asked q.first.agent false ≡ true) × (from ≤ q.first.agent)) ⊎ IsAnswer p q (get_or m.flags.items k false)
 
 -- the questions of the first n rows, from row 0 on, are answered if their agents have a column
 pub record IsAnswering (p : Program) (s : Schedule) (columns : Columns) (n : ℕ) (m : Answering) : Type 0 where

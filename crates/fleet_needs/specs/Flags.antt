@@ -1,7 +1,7 @@
 -- Flags of awaits: which of them say whether others imply their await.
 use Rattle.std.specs.Borrow.{Bor}
 use Rattle.std.proofs.Common.{refl, ◌∙◌}
-use Rattle.std.specs.Prelude.{◌≡◌, true, Option, IfSome, ℕ, ◌+◌, ◌<◌, ◌≤◌, Bool, false, List, length, get_or, set, slice_get, Some, None}
+use Rattle.std.specs.Prelude.{◌≡◌, true, Option, IfSome, ℕ, ◌+◌, ◌<◌, Bool, false, List, length, get_or, set, slice_get, Some, None}
 use Rattle.fleet_needs.specs.Words.{Await, ActionId, Program, awaits_of, total_awaits, IsAction}
 use Rattle.fleet_needs.specs.Block.{HasColumn}
 use Rattle.fleet_needs.specs.Columns.{column_of}
@@ -86,9 +86,9 @@ pub record IsFirstSet (p : Program) (implied : Option (Bor ImpliedAwaits)) (a : 
 abbrev pub IsPassed : Program → Option (Bor ImpliedAwaits) → ActionId → Type 0
 IsPassed p implied a = IfSome implied (λ m. AreSet p (flags_of m.now) a)
 
--- the action is to have a row: it awaits something, but not one await alone whose flag is set
+-- the action is to have a row: it has not one await alone whose flag is set
 abbrev pub NeedsRow : Program → Option (Bor ImpliedAwaits) → ActionId → Type 0
-NeedsRow p implied a = (1 ≤ length (awaits_of p a.agent a.number)) × (length (awaits_of p a.agent a.number) ≡ 1 → IsFirstSet p implied a → ⊥)
+NeedsRow p implied a = length (awaits_of p a.agent a.number) ≡ 1 → IsFirstSet p implied a → ⊥
 
 -- the flags of all awaits of the program say whether they are implied
 abbrev pub AreAllFlagged : Program → List Bool → Type 0

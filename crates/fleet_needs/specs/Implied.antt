@@ -1,6 +1,6 @@
 -- Awaits that others imply, and the places of their flags.
-use Rattle.std.specs.Prelude.{◌≡◌, ◌≢◌, ℕ, ◌+◌, ◌-◌, ◌<◌, ◌≤◌, ◌⊎◌, Bool, true, false, List, length, take, sum_by, slice_index, slice_get, get_or, Some, ◌↔◌}
-use Rattle.fleet_needs.specs.Words.{Await, ActionId, Program, actions_of, awaits_of, total_awaits, IsAction, DirectlyNeeds, Reaches, awaited}
+use Rattle.std.specs.Prelude.{◌≡◌, ◌≢◌, ℕ, ◌+◌, ◌-◌, ◌<◌, ◌≤◌, ◌⊎◌, Bool, true, false, List, length, take, slice_index, slice_get, get_or, Some, ◌↔◌}
+use Rattle.fleet_needs.specs.Words.{Await, ActionId, Program, awaits_before, awaits_of, total_awaits, IsAction, DirectlyNeeds, Reaches, awaited}
 
 -- the awaited action begins a chain that ends with another action that a directly needs
 abbrev pub IsImplied : Program → ActionId → Await → Type 0
@@ -12,7 +12,7 @@ IsImpliedFlag p a w flag = (flag ≡ true) ↔ IsImplied p a w
 
 -- how many awaits stand before those of the action, agent by agent
 abbrev pub first_await : Program → ActionId → ℕ
-first_await p a = total_awaits (take a.agent p) + sum_by (λ s. length s.awaits) (take (a.number - 1) (actions_of p a.agent))
+first_await p a = total_awaits (take a.agent p) + awaits_before p a.agent (a.number - 1)
 
 -- for each agent, how many awaits those before it have together
 pub record AreAwaitPlaces (p : Program) (firsts : List ℕ) : Type 0 where

@@ -5,7 +5,7 @@ use Rattle.fleet_model.specs.declared.program.Await.{Await}
 use Rattle.fleet_model.specs.declared.program.ActionId.{ActionId}
 use Rattle.fleet_model.specs.Program.{Program, awaits_of, moves, total_awaits}
 use Rattle.fleet_model.specs.Chain.{IsAction, Reaches, awaited}
-use Rattle.fleet_needs.specs.Order.{IsAwaiting, IsLevelOrder, listed}
+use Rattle.fleet_needs.specs.Order.{IsAwaiting, IsLevelOrder, items_of, listed}
 use Rattle.fleet_needs.specs.Places.{row_place}
 use Rattle.fleet_needs.specs.Rows.{action_before}
 use Rattle.fleet_needs.specs.declared.joins.Join.{Join}
@@ -191,13 +191,13 @@ pub record AreJoinsBelow (p : Program) (Passed : ActionId → Type 0) (o : Level
 -- the action awaits something, and has a level below l, or it is one of level l that is listed after k others or later
 abbrev pub HasCome : Program → (ActionId → ℕ) → LevelOrder → ℕ → ℕ → ActionId → Type 0
 HasCome p level o l k a =
-    IsAwaiting p a × ((level a < l) ⊎ ((level a ≡ l) × (m : ℕ) × (k ≤ m) × (m < length o.items.items) × (listed o.items.items m ≡ a)))
+    IsAwaiting p a × ((level a < l) ⊎ ((level a ≡ l) × (m : ℕ) × (k ≤ m) × (m < length (items_of o)) × (listed o m ≡ a)))
 
 -- .. and of those of level l from the action after `left` on, which is of level l too, or 0
 pub record AreJoinsFrom (p : Program) (Passed : ActionId → Type 0) (o : LevelOrder) (l left : ℕ) (m : Joins) : Type 0 where
   pub order : IsLevelOrder p o
-  pub upto : left ≤ length o.items.items
-  pub here : 1 ≤ left → order.level (listed o.items.items (left - 1)) ≡ l
+  pub upto : left ≤ length (items_of o)
+  pub here : 1 ≤ left → order.level (listed o (left - 1)) ≡ l
   pub joins : AreJoinsOf p Passed (HasCome p order.level o l left) m
 
 -- the action is the next to have a row: rows stand for all that it directly needs

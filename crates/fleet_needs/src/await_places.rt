@@ -39,14 +39,6 @@ impl AwaitPlaces {
         Ok(AwaitPlaces { firsts })
     }
 
-    /// How many awaits the agents before this one have together.
-    pub(crate) fn begin(&self, agent: u16) -> u32
-        requires { agent < length self.now }
-        ensures { result ≡ slice_index self.now agent }
-    {
-        self.firsts[usize::from(agent)]
-    }
-
     /// The place of the first await of an action. Places count from 0.
     pub fn first<P: ProgramView>(&self, program: &P, action: ActionId) -> usize
         requires places { AreAwaitPlaces (P.program program.now) self.now }

@@ -6,7 +6,7 @@ ghost use Rattle.fleet_model.specs.Program.{AreInRange, awaits_of, moves};
 ghost use Rattle.fleet_model.specs.Chain.{IsAction};
 ghost use Rattle.fleet_needs.specs.Implied.{AreAwaitPlaces};
 ghost use Rattle.fleet_needs.specs.Places.{row_place};
-ghost use Rattle.fleet_needs.specs.Order.{IsItem, IsLevelOrder, action_of, levels_in};
+ghost use Rattle.fleet_needs.specs.Order.{IsAwaiting, IsItem, IsLevelOrder, action_of, levels_in};
 ghost use Rattle.fleet_needs.specs.Flags.{AreSureIf, IsPassed, IsFirstSet, NeedsRow};
 ghost use Rattle.fleet_needs.specs.Joins.{AddsNone, AreNone, AreJoinsBelow, AreJoinsEnd, CanJoin, AreTaken, HasJoined, HasRoom, IsAdded, AreRaised, rows_made, lasts_known, last_of, lasts_in, standing_in, needs_begin, row_of, StandsIn};
 
@@ -151,38 +151,40 @@ impl Joins {
         ensures { OnOk result (IsAdded
             (P.program program.now) (action_of item.now) is_made self.old self.new) }
     {
-        let base = self.row_before(program, item);
+        let place = places.row_place(program, item.action());
+        let base = self.row_before(program, place, item);
         if !is_made {
-            self.note(program, item, base);
+            self.note(place, base);
             return Ok(());
         }
         let row = self.add_join(program, places, item.action(), item.awaits, base)?;
-        self.note(program, item, row);
+        self.note(place, row);
         Ok(())
     }
 
-    /// The row that stands for the agent's action before this one.
-    fn row_before<P: ProgramView>(&self, program: &P, item: &Item) -> u32
+    /// The row that stands for the agent's action before the one at this place.
+    fn row_before<P: ProgramView>(&self, program: &P, place: usize, item: &Item) -> u32
         requires item { IsItem (P.program program.now) item.now }
+        requires place { place ≡ row_place (P.program program.now) (action_of item.now) }
         requires can { CanJoin (P.program program.now) self.now (action_of item.now) }
         ensures within { result ≤ rows_made self.now }
         ensures stands { StandsIn (P.program program.now) self.now
             result item.now.agent (item.now.number - 1) }
     {
-        self.standing[item.place_before(program)]
+        // Of the program the contract alone speaks.
+        let _ = program;
+        self.standing[place - usize::from(item.awaits)]
     }
 
-    /// Notes the row that stands for the action.
-    fn note<P: ProgramView>(&mut self, program: &P, item: &Item, row: u32)
-        requires room { HasRoom (P.program program.now) self.old }
-        requires item { IsItem (P.program program.now) item.now }
+    /// Notes the row that stands for the action at this place.
+    fn note(&mut self, place: usize, row: u32)
+        requires { place < length (standing_in self.old) }
         ensures joins { self.new.joins ≡ self.old.joins }
         ensures needs { self.new.needs ≡ self.old.needs }
         ensures lasts { self.new.lasts ≡ self.old.lasts }
-        ensures noted { standing_in self.new ≡ set (standing_in self.old)
-            (row_place (P.program program.now) (action_of item.now)) row }
+        ensures noted { standing_in self.new ≡ set (standing_in self.old) place row }
     {
-        self.standing[item.place(program)] = row;
+        self.standing[place] = row;
     }
 
     /// The row that is noted for an action.
@@ -284,8 +286,8 @@ impl Joins {
     }
 }
 
-/// Whether the action, which has so many awaits, is to have a row: it awaits something. An action of one await that
-/// others imply needs no more than the agent's action before does.
+/// Whether the action, which has so many awaits, one or more, is to have a row. An action of one await that others imply
+/// needs no more than the agent's action before does.
 fn needs_row<P: ProgramView>(
     program: &P,
     implied: Option<&ImpliedAwaits>,
@@ -296,16 +298,12 @@ fn needs_row<P: ProgramView>(
     requires count { count ≡ length
         (awaits_of (P.program program.now) action.agent action.number) }
     requires sure { AreSureIf (P.program program.now) implied }
-    requires action { IsAction (P.program program.now) action }
+    requires awaiting { IsAwaiting (P.program program.now) action }
     ensures none { result ≡ false → AddsNone (P.program program.now) action.agent action.number }
     ensures passed { result ≡ false → IsPassed (P.program program.now) implied.entry action }
     ensures needed { (result ≡ true) ↔ NeedsRow (P.program program.now) implied.entry action }
 {
-    match count {
-        0 => false,
-        1 => !is_first_implied(program, implied, action),
-        _ => true,
-    }
+    count > 1 || !is_first_implied(program, implied, action)
 }
 
 /// Whether the first await of the action is known to be implied.

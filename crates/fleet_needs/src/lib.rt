@@ -65,5 +65,5 @@ pub use counts::join_rows;
 pub use critical::{ActionCosts, CriticalCosts, LevelsTo, MAX_COST, OneEach};
 pub use gather::Pieces;
 pub use implied::{ImpliedAwaits, implied_awaits};
-pub use level_order::{Awaiting, Item, LevelOrder, OrderSource};
+pub use level_order::{LevelOrder, OrderSource};
 pub use questions::{Question, answer_questions};

@@ -1,14 +1,14 @@
 //! Questions for chains: those that a look a few steps back answers, and the others, agent by agent, by the rows of a
 //! block.
 
-ghost use Rattle.std.specs.Prelude.{◌≡◌, ◌⊎◌, ◌↔◌, ◌+◌, ℕ, true, false, length, get_or, slice_get, Some, All, IfOk, ◌<◌, ◌≤◌, IsTrue, ◌≢◌, slice_index, None};
+ghost use Rattle.std.specs.Prelude.{◌≡◌, ◌↔◌, ◌+◌, ℕ, false, length, get_or, All, IfOk, ◌<◌, ◌≤◌, IsTrue, ◌≢◌, slice_index, None};
 ghost use Rattle.fleet_model.specs.Program.{AreInRange};
-ghost use Rattle.fleet_needs.specs.Asked.{AreAnswers, IsQuestion};
-ghost use Rattle.fleet_needs.specs.Block.{IsAnswer, HasColumn, AreAnswered, AreKnown};
-ghost use Rattle.fleet_needs.specs.Schedule.{IsSchedule, AreColumnsOf, AreCounts, AreRowCounts, joins_of, joins_in};
+ghost use Rattle.fleet_needs.specs.Asked.{AreAnswersIn, AreAskedTo, IsQuestion};
+ghost use Rattle.fleet_needs.specs.Block.{IsAnswer, HasColumn};
+ghost use Rattle.fleet_needs.specs.Schedule.{IsSchedule, AreColumnsOf, AreCounts, AreRowCounts, joins_in};
 ghost use Rattle.fleet_model.specs.Chain.{IsAction, Reaches};
 ghost use Rattle.fleet_needs.specs.Columns.{column_of};
-ghost use Rattle.fleet_needs.specs.Answering.{AreListed, IsAnswering, AreOthersLeft};
+ghost use Rattle.fleet_needs.specs.Answering.{AreAnsweredTo, AreListed, IsAnswering, AreOthersLeft, questions_in};
 ghost use Rattle.fleet_needs.specs.Counts.{counts_of};
 ghost use Rattle.fleet_needs.specs.Implied.{AreAwaitPlaces};
 ghost use Rattle.fleet_needs.specs.Joins.{AreOwn, AreStanding, joins_made};
@@ -41,7 +41,7 @@ pub fn answer_questions<P: ProgramView, S: OrderSource + Drop>(
     requires range { AreInRange (P.program program.now) }
     requires source { S.gives (P.program program.now) source }
     requires questions { All (IsQuestion (P.program program.now)) questions.now }
-    ensures { IfOk result (λ flags. AreAnswers (P.program program.now) questions.now flags.items) }
+    ensures { IfOk result (AreAnswersIn (P.program program.now) questions.now) }
 {
     let flags = vec![in alloc; false; questions.len()]?;
     let asked = asked_agents(alloc, program, questions)?;
@@ -50,7 +50,11 @@ pub fn answer_questions<P: ProgramView, S: OrderSource + Drop>(
     }
     let order = source.order(alloc, program)?;
     let (schedule, listed) = Schedule::for_questions(alloc, program, order, questions)?;
-    answer_all(alloc, program, &schedule, &listed, &asked, flags)
+    let answering = Answering {
+        listed: &listed,
+        flags,
+    };
+    answer_all(alloc, program, &schedule, &asked, answering)
 }
 
 /// Whether some agent is flagged.
@@ -65,27 +69,23 @@ fn answer_all<P: ProgramView>(
     alloc: Global,
     program: &P,
     schedule: &Schedule,
-    listed: &ListedQuestions<'_>,
     asked: &[bool],
-    flags: Vec<bool>,
+    answering: Answering<'_>,
 ) -> Result<Vec<bool>, OutOfMemory>
     requires range { AreInRange (P.program program.now) }
     requires schedule { IsSchedule (P.program program.now) schedule.now }
-    requires questions { All (IsQuestion (P.program program.now)) listed.now.questions.now }
-    requires listed { AreListed (P.program program.now) (joins_of schedule.now) listed.now }
-    requires asked { length asked.now ≡ length (P.program program.now) }
-    requires known { AreKnown (P.program program.now)
-        asked.now listed.now.questions.now flags.items }
-    requires flags { length flags.items ≡ length listed.now.questions.now }
-    ensures { IfOk result (λ flags. AreAnswers
-        (P.program program.now) listed.now.questions.now flags.items) }
+    requires answers { AreAnsweredTo (P.program program.now) schedule.now asked.now 0
+        (questions_in answering) answering }
+    ensures { IfOk result (AreAnswersIn (P.program program.now) (questions_in answering.entry)) }
 {
-    let mut flags = flags;
+    let mut answering = answering;
     let mut blocks = Blocks::of(program, schedule, asked);
     while let Some(columns) = blocks.next_block(alloc)? {
-        flags = answer(alloc, program, schedule, columns, listed, flags)?;
+        let none = Counts::zeros(alloc, usize::from(columns.width), schedule.is_narrow)?;
+        answering.answer_row(program, schedule, &columns, &none, 0);
+        use_joins(alloc, program, schedule, columns, &mut answering)?;
     }
-    Ok(flags)
+    Ok(answering.flags)
 }
 
 /// How many steps back from the end of a chain are looked at.
@@ -102,11 +102,8 @@ fn asked_agents<P: ProgramView>(
 ) -> Result<Vec<bool>, OutOfMemory>
     requires range { AreInRange (P.program program.now) }
     requires questions { All (IsQuestion (P.program program.now)) questions.now }
-    ensures all { IfOk result (λ asked. length asked.items ≡ length (P.program program.now)) }
-    ensures flagged { IfOk result (λ asked. (k : ℕ) (q : Question)
-        → slice_get questions.now k ≡ Some q
-        → (get_or asked.items q.first.agent false ≡ true)
-        ⊎ Reaches (P.program program.now) q.first q.last) }
+    ensures { IfOk result (AreAskedTo
+        (P.program program.now) questions.now (length questions.now)) }
 {
     let mut asked = vec![in alloc; false; usize::from(program.agents())]?;
     for question in questions {
@@ -196,32 +193,6 @@ impl<'a> ListedQuestions<'a> {
 pub(crate) struct Answering<'a> {
     listed: &'a ListedQuestions<'a>,
     flags: Vec<bool>,
-}
-
-/// The flags of the questions. Those of questions whose first agent has a column now say whether no chain leads from
-/// the first action to the last.
-fn answer<P: ProgramView>(
-    alloc: Global,
-    program: &P,
-    schedule: &Schedule,
-    columns: Columns,
-    listed: &ListedQuestions<'_>,
-    flags: Vec<bool>,
-) -> Result<Vec<bool>, OutOfMemory>
-    requires range { AreInRange (P.program program.now) }
-    requires schedule { IsSchedule (P.program program.now) schedule.now }
-    requires columns { AreColumnsOf (P.program program.now) columns }
-    requires questions { All (IsQuestion (P.program program.now)) listed.now.questions.now }
-    requires listed { AreListed (P.program program.now) (joins_of schedule.now) listed.now }
-    requires flags { length flags.items ≡ length listed.now.questions.now }
-    ensures { IfOk result (λ new. AreAnswered
-        (P.program program.now) columns listed.now.questions.now flags.items new.items) }
-{
-    let none = Counts::zeros(alloc, usize::from(columns.width), schedule.is_narrow)?;
-    let mut answering = Answering { listed, flags };
-    answering.answer_row(program, schedule, &columns, &none, 0);
-    use_joins(alloc, program, schedule, columns, &mut answering)?;
-    Ok(answering.flags)
 }
 
 impl<'a> JoinUse for Answering<'a> {

@@ -1,8 +1,8 @@
-use Rattle.std.proofs.Common.{◌≡◌, ◌-◌, get_or, sym, subst, ap, ◌∙◌, arith}
+use Rattle.std.proofs.Common.{◌≡◌, ◌-◌, sym, subst, ap, ◌∙◌, arith}
 use Rattle.fleet_model.specs.declared.program.ActionId.{ActionId}
 use Rattle.fleet_needs.specs.Flags.{IsPassed}
 use Rattle.fleet_needs.specs.Joins.{AddsNone, AreJoinsFrom, CanJoin, IsAdded}
-use Rattle.fleet_needs.specs.Order.{action_of, no_item}
+use Rattle.fleet_needs.specs.Order.{action_of, item_at}
 use Rattle.fleet_needs.specs.declared.level_order.Item.{Item}
 use Rattle.fleet_needs.proofs.JoinLevels.{joins_begun, joins_over, joins_next, can_join}
 use Rattle.fleet_needs.proofs.joins.add_level.Goals as goal
@@ -36,7 +36,7 @@ loop-left-preserved g c =
     let item = c.item-item.ensures in
     let made = c.needs_row-is_made.result in
     let new = c.add_action.new.self in
-    let is : c.action.result ≡ action_of (get_or o.items.items (left - 1) no_item) = c.action.ensures ∙ ap action_of item in
+    let is : c.action.result ≡ action_of (item_at o (left - 1)) = c.action.ensures ∙ ap action_of item in
     record {
       joins = subst (λ (x : Item). AreJoinsFrom p (IsPassed p c.args.implied) o c.args.level x.before new) (sym item)
           (joins_next p (IsPassed p c.args.implied) o c.args.level left (left - 1) c.loop-left.joins c.loop-left.invariant.joins (omega (arith, c.loop-left-test.true)) new made

@@ -1,31 +1,32 @@
-use Rattle.std.proofs.Common.{rules, ◌<◌, ◌≤◌, Bool, List, length, ap, subst, ◌∙◌, arith}
-use Rattle.fleet_needs.specs.Columns.{AreColumns}
-use Rattle.fleet_needs.proofs.Answered.{answered_to, known_on, question_at}
+use Rattle.std.proofs.Common.{rules, ◌≤◌, length}
+use Rattle.std.specs.Prelude.{slice_index}
+use Rattle.fleet_needs.specs.Counts.{counts_of}
+use Rattle.fleet_needs.proofs.Answered.{answers_begun, answered_after, answered_end, none_counts}
 use Rattle.fleet_needs.proofs.questions.answer_all.Goals as goal
 
-pub loop-columns-preserved : goal.loop-columns-preserved
-loop-columns-preserved g c =
-    let p = g.P.ProgramView.program c.args.program.now in
-    let was = c.loop-columns.invariant in
-    let next = rw c.in-Some.is at c.in_ok-columns.ensures in
-    let chosen : AreColumns c.args.asked.now c.loop-columns.blocks.from c.in-Some.columns = subst (λ (xs : List Bool). AreColumns xs c.loop-columns.blocks.from c.in-Some.columns) was.asked next.chosen in
-    record {
-      asked = next.asked ∙ was.asked;
-      answered = λ m q at l. answered_to p c.args.asked.now c.loop-columns.blocks.from c.in-Some.columns chosen c.args.listed.now.questions.now c.loop-columns.flags.items c.in_ok-flags.flags.items c.in_ok-flags.ensures was.known was.answered m q at
-          (omega (arith, l, next.from));
-      all_flags = c.in_ok-flags.ensures.all ∙ was.all_flags;
-      known = known_on p c.args.asked.now c.in-Some.columns c.args.listed.now.questions.now c.loop-columns.flags.items c.in_ok-flags.flags.items c.in_ok-flags.ensures was.known;
-    }
+pub loop-answering-init : goal.loop-answering-init
+loop-answering-init g c = rw c.of-blocks.ensures.asked (rw c.of-blocks.ensures.from c.requires.answers)
+
+pub answer_row-requires-clause-answers : goal.answer_row-requires-clause-answers
+answer_row-requires-clause-answers g c =
+    let blocks = c.loop-answering.blocks in
+    answers_begun (g.P.ProgramView.program c.args.program.now) c.args.schedule.now blocks.asked blocks.from c.in-Some.columns _ c.loop-answering.answering c.loop-answering.invariant
+
+pub answer_row-requires-clause-counts : goal.answer_row-requires-clause-counts
+answer_row-requires-clause-counts g c = none_counts (g.P.ProgramView.program c.args.program.now) c.args.schedule.now c.in-Some.columns (slice_index (counts_of c.in_ok-none.none)) c.in_ok-none.ensures.zeros
+
+pub loop-answering-preserved : goal.loop-answering-preserved
+loop-answering-preserved g c =
+    answered_after (g.P.ProgramView.program c.args.program.now) c.args.schedule.now c.loop-answering.blocks c.next_block.new.self c.in-Some.columns (rw c.in-Some.is at c.in_ok-columns.ensures) _ c.loop-answering.answering c.answer_row.new.self c.use_joins.new.uses
+    c.loop-answering.invariant c.answer_row.ensures.keeps c.in_ok-use_joins.ensures.keeps c.in_ok-use_joins.ensures.used
+
+pub loop-answering-preserved-in_ok-use_joins : goal.loop-answering-preserved-in_ok-use_joins
+loop-answering-preserved-in_ok-use_joins g c =
+    answered_after (g.P.ProgramView.program c.args.program.now) c.args.schedule.now c.loop-answering.blocks c.next_block.new.self c.in-Some.columns (rw c.in-Some.is at c.in_ok-columns.ensures) _ c.loop-answering.answering c.answer_row.new.self c.use_joins.new.uses
+    c.loop-answering.invariant c.answer_row.ensures.keeps c.in_ok-use_joins.ensures.keeps c.in_ok-use_joins.ensures.used
 
 pub returns : goal.returns
 returns g c =
-    let p = g.P.ProgramView.program c.args.program.now in
-    let was = c.loop-columns.invariant in
-    let blocks = c.loop-columns.blocks in
+    let blocks = c.loop-answering.blocks in
     let over : length blocks.asked ≤ blocks.from = search rules in
-    record {
-      all = was.all_flags;
-      each = λ k q e.
-          let agent : q.first.agent < length p = (question_at p c.args.listed.now.questions.now c.requires.questions k q e).agent in
-          was.answered k q e (omega (arith, agent, over, ap (λ (xs : List Bool). length xs) was.asked, c.requires.asked));
-    }
+    answered_end (g.P.ProgramView.program c.args.program.now) c.args.schedule.now blocks.asked blocks.from _ c.loop-answering.answering over c.loop-answering.invariant

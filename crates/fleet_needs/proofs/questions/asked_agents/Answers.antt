@@ -2,7 +2,7 @@ use Rattle.std.proofs.Common.{◌≡◌, ◌⊎◌, ℕ, ◌+◌, ◌<◌, Bool,
 use Rattle.std.specs.Prelude.{slice_get, Some}
 use Rattle.std.proofs.lemmas.Bool.{cases_lt}
 use Rattle.std.proofs.lemmas.List.{length-set, get_or-set_same}
-use Rattle.std.proofs.lemmas.Option.{slice_get_within, get_or_from_slice_get}
+use Rattle.std.proofs.lemmas.Option.{get_or_from_slice_get}
 use Rattle.fleet_model.specs.Program.{Program}
 use Rattle.fleet_model.specs.Chain.{Reaches}
 use Rattle.fleet_needs.specs.declared.questions.Question.{Question}
@@ -58,8 +58,11 @@ loop-question-preserved g c =
           })
     ]
 
-pub returns-clause-flagged : goal.returns-clause-flagged
-returns-clause-flagged g c = λ k q e. c.loop-question.invariant.flagged k q (let l = slice_get_within c.args.questions.now k q e in omega (arith, l, c.loop-question-test.false)) e
+pub returns : goal.returns
+returns g c = record {
+  all = c.loop-question.invariant.all;
+  flagged = λ k q l. c.loop-question.invariant.flagged k q (omega (arith, l, c.loop-question-test.false));
+}
 
 pub index_mut-requires : goal.index_mut-requires
 index_mut-requires g c =

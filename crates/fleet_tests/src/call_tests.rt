@@ -41,7 +41,7 @@ fn auto_answer(alloc: Global) -> Option<Vec<u8>> {
 
 /// The rehearsal of the pair under a list that holds agent 0, and one that is not there, in the first tick.
 fn list_answer(alloc: Global) -> Option<Vec<u8>> {
-    let program = load(alloc, &read_hex(alloc, PAIR_HEX).ok()?).ok()?;
+    let program = load(alloc, PAIR_BYTES).ok()?;
     let rows = vec![in alloc; vec![in alloc; 0, 9].ok()?].ok()?;
     let mut out = VecOut::new(alloc);
     match rehearse(alloc, &program, &mut HoldList::new(rows), &mut out) {

@@ -2,7 +2,7 @@
 //! written.
 
 use crate::due::{due_bytes, due_numbers};
-use crate::fleets::{PAIR_BYTES, pair};
+use crate::fleets::PAIR_BYTES;
 use fleet_adg::tasks_of;
 use fleet_code::view;
 use fleet_dispatch::{
@@ -28,11 +28,9 @@ const TASKS: &[u8] = b"version 1\n0\tmap\t4\t1\t1\t0\t3\t0\t0\n0\tmap\t4\t1\t0\t
 #[test]
 fn maps_and_scenarios_are_written(rt: HostRuntime) -> Result<(), Fail> {
     let alloc = rt.alloc();
-    let grid = read_map(alloc, GLYPHS)?;
-    let text = write_map(alloc, &grid, &[Cell { x: 1, y: 0 }])?;
+    let text = write_map(alloc, &read_map(alloc, GLYPHS)?, &[Cell { x: 1, y: 0 }])?;
     due_bytes(&rt, &text, WITHOUT);
-    let (_, _, program) = pair(alloc)?;
-    let tasks = tasks_of(alloc, &program)?;
+    let tasks = tasks_of(alloc, &view(alloc, PAIR_BYTES)?)?;
     due_bytes(&rt, &write_scen(alloc, 4, 1, &tasks)?, TASKS);
     Ok(())
 }

@@ -50,35 +50,42 @@ fn steps_of(
 /// there is one.
 type Row = (&'static [u8], &'static [u8], Cell, Cell, u16, Option<u32>);
 
+const WEST: Cell = Cell { x: 0, y: 0 };
+
+const MIDDLE: Cell = Cell { x: 1, y: 0 };
+
+const EAST: Cell = Cell { x: 2, y: 0 };
+
+const SOUTH: Cell = Cell { x: 1, y: 1 };
+
+/// Cells beside and below the row.
+const BESIDE: Cell = Cell { x: 3, y: 0 };
+
+const BELOW: Cell = Cell { x: 0, y: 1 };
+
+const ROWS: [Row; 9] = [
+    (ROOM, b"0,0 0,0 1,0 2,0", SOUTH, MIDDLE, 3, Some(3)),
+    (ROOM, b"0,0 0,0 1,0 2,0", SOUTH, MIDDLE, 2, None),
+    (ROOM, b"1,0 2,0", MIDDLE, WEST, 1024, None),
+    (ROOM, b"1,0 2,0", WEST, MIDDLE, 1024, Some(1)),
+    (
+        ROOM,
+        b"2,0 2,0 2,1\n2,1 2,1 1,1 0,1\n1,1 1,1 1,0 1,0 1,1",
+        WEST,
+        EAST,
+        1024,
+        Some(5),
+    ),
+    (WALL, b"", MIDDLE, MIDDLE, 1024, None),
+    (WALL, b"", BESIDE, BESIDE, 1024, None),
+    (WALL, b"", BELOW, BELOW, 1024, None),
+    (WALL, b"", EAST, EAST, 1024, Some(0)),
+];
+
 #[test]
 fn earliest_paths_are_found(rt: HostRuntime) -> Result<(), Fail> {
-    let (west, middle, east) = (
-        Cell { x: 0, y: 0 },
-        Cell { x: 1, y: 0 },
-        Cell { x: 2, y: 0 },
-    );
-    let south = Cell { x: 1, y: 1 };
-    let outside = Cell { x: 3, y: 0 };
-    let below = Cell { x: 0, y: 1 };
-    let rows: [Row; 9] = [
-        (ROOM, b"0,0 0,0 1,0 2,0", south, middle, 3, Some(3)),
-        (ROOM, b"0,0 0,0 1,0 2,0", south, middle, 2, None),
-        (ROOM, b"1,0 2,0", middle, west, 1024, None),
-        (ROOM, b"1,0 2,0", west, middle, 1024, Some(1)),
-        (
-            ROOM,
-            b"2,0 2,0 2,1\n2,1 2,1 1,1 0,1\n1,1 1,1 1,0 1,0 1,1",
-            west,
-            east,
-            1024,
-            Some(5),
-        ),
-        (WALL, b"", middle, middle, 1024, None),
-        (WALL, b"", outside, outside, 1024, None),
-        (WALL, b"", below, below, 1024, None),
-        (WALL, b"", east, east, 1024, Some(0)),
-    ];
-    for (map, reserved, start, goal, horizon, due) in rows {
+    for row in &ROWS {
+        let (map, reserved, start, goal, horizon, due) = *row;
         assert!(rt;
             steps_of(rt.alloc(), map, reserved, (start, goal), horizon)? == due,
             "{due:?}"

@@ -252,14 +252,6 @@ fn compile_answer(
     program_bytes(alloc, &checked, deps, dwell)
 }
 
-/// Whether the program of the pair's plan with so many stays is too long.
-fn is_too_long(alloc: Global, dwell: u32) -> Result<bool, Fail> {
-    let (grid, instance) = problem(alloc, PAIR_MAP, PAIR_SCEN)?;
-    let checked = checked_of(alloc, PAIR_PLAN, &grid, &instance)?;
-    let fault = compile_dwell(alloc, &checked, Deps::Last, dwell).err();
-    Ok(matches!(fault, Some(CompileFault::TooLong)))
-}
-
 const PAIR: Problem = (PAIR_MAP, PAIR_SCEN, PAIR_PLAN);
 
 const ROW: Problem = (ROW_MAP, ROW_SCEN, ROW_PLAN);
@@ -270,7 +262,7 @@ type Numbers = (u16, u32, u64);
 /// A plan, which awaits and how many stays its program is to have, and the bytes and the numbers that are due.
 type Compiled = (Problem, Deps, u32, &'static [u8], Numbers);
 
-const PROGRAMS: [Compiled; 5] = [
+const PROGRAMS: &[Compiled] = &[
     (PAIR, Deps::All, 0, PAIR_BYTES, (2, 4, 2)),
     (PAIR, Deps::Last, 0, PAIR_BYTES, (2, 4, 2)),
     (PAIR, Deps::Last, 2, STAYING_BYTES, (2, 8, 2)),
@@ -292,12 +284,16 @@ fn due_program(rt: &impl Abort, alloc: Global, row: &Compiled) -> Result<(), Fai
     Ok(())
 }
 
+/// The programs, by a function of its own, as the requests of `cli_calls`.
+fn programs() -> &'static [Compiled] {
+    PROGRAMS
+}
+
 #[test]
 fn plans_are_compiled(rt: HostRuntime) -> Result<(), Fail> {
-    for row in &PROGRAMS {
+    for row in programs() {
         due_program(&rt, rt.alloc(), row)?;
     }
-    assert!(rt; is_too_long(rt.alloc(), 999_999)?);
     Ok(())
 }
 

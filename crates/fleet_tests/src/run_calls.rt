@@ -2,13 +2,11 @@
 
 ghost use Rattle.std.specs.Prelude.{◌≡◌, All, IfOk, length};
 ghost use Rattle.std.specs.List.Sorted.{IsStrictlyIncreasing};
-ghost use Rattle.fleet_run.specs.Source.{HasNotFailed};
 
 use crate::due::due_bytes;
 use crate::ends::Counter;
 use crate::fleets::{
-    DEADLOCK_BYTES, HELD_TRACE, PAIR_BYTES, PAIR_TEXT, PAIR_TRACE, TWO_MAP, accepted_of, pair,
-    pair_fleet, problem, started,
+    DEADLOCK_BYTES, PAIR_BYTES, PAIR_TEXT, TWO_MAP, accepted_of, pair, pair_fleet, problem, started,
 };
 use fleet_adg::rest;
 use fleet_code::{encode, view};
@@ -16,7 +14,7 @@ use fleet_grid::Grid;
 use fleet_model::{Place, ProgramView};
 use fleet_run::{
     End, Fleet, HoldList, HoldSource, HoldText, OutFault, Rehearsal, Report, RunFault, SourceFault,
-    Tick, TraceOut, VecOut, WriteOut, drive, rehearse, write_holds,
+    Tick, TraceOut, VecOut, WriteOut, drive, rehearse,
 };
 use fleet_scen::Instance;
 use std::alloc::{AllocError, Global};
@@ -181,29 +179,6 @@ fn what_is_left_is_a_program(rt: HostRuntime) -> Result<(), Fail> {
     due_rests(&rt, rt.alloc(), &mut fleet)
 }
 
-/// A line that is no tick's stops a run, and the fleet may be ticked further.
-fn go_on<P: ProgramView>(rt: &impl Abort, alloc: Global, fleet: &mut Fleet<'_, P>)
-    requires agents { length (P.program fleet.old.accepted.program) ≡ 2 }
-    requires counts { All (λ s. s.count ≡ 0) fleet.old.configuration }
-{
-    let mut out = VecOut::new(alloc);
-    let fault = drive(fleet, &mut HoldText::new(b"-\n1 0\n", 2), &mut out).err();
-    assert!(*rt; matches!(fault, Some(RunFault::Hold { line: 2 })));
-    due_bytes(rt, out.bytes(), b"0: 1,0 0,0\n1: 2,0 0,0\n");
-    assert!(*rt; stands(fleet, [2, 0], [1, 0], [true, true]));
-    let _ = fleet.tick(&[false, false]);
-    let _ = fleet.tick(&[false, false]);
-    assert!(*rt; stands(fleet, [3, 2], [2, 2], [false, false]));
-}
-
-#[test]
-fn fleets_go_on_after_a_refusal(rt: HostRuntime) -> Result<(), Fail> {
-    let (grid, instance, program) = pair(rt.alloc())?;
-    let mut fleet = pair_fleet(rt.alloc(), program, &grid, &instance)?;
-    go_on(&rt, rt.alloc(), &mut fleet);
-    Ok(())
-}
-
 /// A run into a writer that counts its bytes: its report or why it stopped, how many agents were looked at, how many
 /// actions agent 0 has finished, and how many bytes were written.
 type Counted = (Result<Report, RunFault>, u64, u32, u64);
@@ -334,52 +309,11 @@ fn standing_agents_are_not_looked_at(rt: HostRuntime) -> Result<(), Fail> {
     Ok(())
 }
 
-/// What a fleet's run writes under these holds.
-fn written<P: ProgramView, S: HoldSource>(
-    alloc: Global,
-    fleet: &mut Fleet<'_, P>,
-    source: &mut S,
-) -> Result<VecOut, Fail>
-    requires counts { All (λ s. s.count ≡ 0) fleet.old.configuration }
-    requires source { HasNotFailed (S.state source.old) }
-{
-    let mut out = VecOut::new(alloc);
-    drive(fleet, source, &mut out)?;
-    Ok(out)
-}
-
-/// .. of the pair.
-fn driven<S: HoldSource>(alloc: Global, source: &mut S) -> Result<VecOut, Fail>
-    requires { HasNotFailed (S.state source.old) }
-{
-    let (grid, instance, program) = pair(alloc)?;
-    let mut fleet = pair_fleet(alloc, program, &grid, &instance)?;
-    written(alloc, &mut fleet, source)
-}
-
 /// A list that holds agents 0 and 9 in its first tick, and nobody in its second.
 fn some_holds(alloc: Global) -> Result<Vec<Vec<u16>>, AllocError>
     ensures { IfOk result (λ rows. All (λ row. IsStrictlyIncreasing row.items) rows.items) }
 {
     Ok(vec![in alloc; vec![in alloc; 0, 9]?, Vec::new(alloc)]?)
-}
-
-/// This is due of the pair under these holds.
-fn due_driven(rt: &impl Abort, alloc: Global, rows: Vec<Vec<u16>>, due: &[u8]) -> Result<(), Fail>
-    requires { All (λ row. IsStrictlyIncreasing row.items) rows.items }
-{
-    let out = driven(alloc, &mut HoldList::new(rows))?;
-    due_bytes(rt, out.bytes(), due);
-    Ok(())
-}
-
-#[test]
-fn lists_hold_agents(rt: HostRuntime) -> Result<(), Fail> {
-    due_driven(&rt, rt.alloc(), some_holds(rt.alloc())?, HELD_TRACE)?;
-    due_driven(&rt, rt.alloc(), Vec::new(rt.alloc()), PAIR_TRACE)?;
-    let text = write_holds(rt.alloc(), &some_holds(rt.alloc())?)?;
-    due_bytes(&rt, &text, b"0 9\n-\n");
-    Ok(())
 }
 
 /// The next tick that a source gives to three agents, if it gives one.
@@ -424,56 +358,54 @@ fn sinks_take_bytes(rt: HostRuntime) -> Result<(), Fail> {
     Ok(())
 }
 
-/// What a rehearsal writes, and its numbers.
-fn rehearse_answer(
-    alloc: Global,
-    bytes: &[u8],
-    holds: &[u8],
-) -> Result<(VecOut, Option<Rehearsal>, Option<RunFault>), Fail> {
+/// How many agents a rehearsal has, how many ticks it took and how many of them were held, and whether it is stuck; none
+/// of that, if the first line of its holds is no tick's.
+type Numbers = Option<(u16, u32, u32, bool)>;
+
+fn rehearse_answer(alloc: Global, bytes: &[u8], holds: &[u8]) -> Result<(VecOut, Numbers), Fail> {
     let program = view(alloc, bytes)?;
     let agents = program.agents();
     let mut out = VecOut::new(alloc);
     match rehearse(alloc, &program, &mut HoldText::new(holds, agents), &mut out) {
-        Ok(rehearsal) => Ok((out, Some(rehearsal), None)),
-        Err(fault) => Ok((out, None, Some(fault))),
+        Ok(
+            Rehearsal {
+                agents,
+                ticks,
+                held,
+                end,
+            },
+        ) => Ok((out, Some((agents, ticks, held, matches!(end, End::Stuck))))),
+        Err(RunFault::Hold { line: 1 }) => Ok((out, None)),
+        Err(fault) => Err(Fail::from(fault)),
     }
+}
+
+/// A program and its holds, and the text and the numbers that are due.
+type Rehearsed = (&'static [u8], &'static [u8], &'static [u8], Numbers);
+
+const REHEARSALS: [Rehearsed; 3] = [
+    (PAIR_BYTES, b"", PAIR_TEXT, Some((2, 3, 0, false))),
+    (
+        DEADLOCK_BYTES,
+        b"0 1\n",
+        b"0: 1,0 0,0\nagents 2\nticks 0\nheld 0\nstuck\n",
+        Some((2, 0, 0, true)),
+    ),
+    (PAIR_BYTES, b"x", b"0: 1,0 0,0\n", None),
+];
+
+fn due_rehearsed(rt: &impl Abort, alloc: Global, row: &Rehearsed) -> Result<(), Fail> {
+    let (bytes, holds, text, numbers) = *row;
+    let (out, found) = rehearse_answer(alloc, bytes, holds)?;
+    due_bytes(rt, out.bytes(), text);
+    assert!(*rt; found == numbers);
+    Ok(())
 }
 
 #[test]
 fn programs_are_rehearsed(rt: HostRuntime) -> Result<(), Fail> {
-    let alloc = rt.alloc();
-    let (out, rehearsal, _) = rehearse_answer(alloc, PAIR_BYTES, b"")?;
-    due_bytes(&rt, out.bytes(), PAIR_TEXT);
-    assert!(rt;
-        matches!(
-            rehearsal,
-            Some(Rehearsal {
-                agents: 2,
-                ticks: 3,
-                held: 0,
-                end: End::Finished
-            })
-        )
-    );
-    let (out, rehearsal, _) = rehearse_answer(alloc, DEADLOCK_BYTES, b"0 1\n")?;
-    due_bytes(
-        &rt,
-        out.bytes(),
-        b"0: 1,0 0,0\nagents 2\nticks 0\nheld 0\nstuck\n",
-    );
-    assert!(rt;
-        matches!(
-            rehearsal,
-            Some(Rehearsal {
-                agents: 2,
-                ticks: 0,
-                held: 0,
-                end: End::Stuck
-            })
-        )
-    );
-    let (out, _, fault) = rehearse_answer(alloc, PAIR_BYTES, b"x")?;
-    due_bytes(&rt, out.bytes(), b"0: 1,0 0,0\n");
-    assert!(rt; matches!(fault, Some(RunFault::Hold { line: 1 })));
+    for row in &REHEARSALS {
+        due_rehearsed(&rt, rt.alloc(), row)?;
+    }
     Ok(())
 }

@@ -9,66 +9,91 @@ use fleet_plan::{
 };
 use fleet_scen::{Instance, ScenFault, read_scen};
 use std::alloc::Global;
+use std::process::Abort;
 use std::test::Fail;
 
 /// One row with each glyph, in lines that end in CR LF, the last one in nothing.
 const GLYPHS: &[u8] = b"type octile\r\nheight 1\r\nwidth 7\r\nmap\r\n.G@OTSW";
 
-#[test]
-fn maps_are_read(rt: HostRuntime) -> Result<(), Fail> {
-    let grid: Grid = read_map(rt.alloc(), GLYPHS)?;
-    assert!(rt; grid.width() == 7 && grid.height() == 1 && grid.ground() == 3);
+/// The row's cells, and those beyond it: ground is at 0, 1 and 5.
+fn due_ground(rt: &impl Abort, grid: &Grid) {
+    assert!(*rt; grid.width() == 7 && grid.height() == 1 && grid.ground() == 3);
     for x in 0..9 {
         let is_due = x == 0 || x == 1 || x == 5;
-        assert!(rt; grid.passable(Cell { x, y: 0 }) == is_due, "{x}");
-        assert!(rt; !grid.passable(Cell { x, y: 1 }));
+        let is_ground = grid.passable(Cell { x, y: 0 });
+        assert!(*rt;
+            is_ground == is_due && !grid.passable(Cell { x, y: 1 }),
+            "{x}"
+        );
     }
+}
+
+/// The second cell has a neighbour in the west alone.
+fn due_neighbours(rt: &impl Abort, grid: &Grid) {
     let second = Cell { x: 1, y: 0 };
-    assert!(rt; matches!(grid.neighbour(second, Dir::West), Some(Cell { x: 0, y: 0 })));
+    assert!(*rt; matches!(grid.neighbour(second, Dir::West), Some(Cell { x: 0, y: 0 })));
     for dir in [Dir::North, Dir::East, Dir::South] {
-        assert!(rt; grid.neighbour(second, dir).is_none());
+        assert!(*rt; grid.neighbour(second, dir).is_none());
     }
+}
+
+#[test]
+fn maps_are_read(rt: HostRuntime) -> Result<(), Fail> {
     let fault = read_map(rt.alloc(), b"type t\nheight 2\nwidth 3\nmap\n...\n.x.\n").err();
     assert!(rt; matches!(fault, Some(MapFault::Glyph { row: 1, column: 1 })));
+    let grid: Grid = read_map(rt.alloc(), GLYPHS)?;
+    due_ground(&rt, &grid);
+    due_neighbours(&rt, &grid);
+    Ok(())
+}
+
+/// Adds an item to the key's list.
+fn add(lists: &mut Lists<u8>, key: Key, item: u8) -> Result<(), Fail> {
+    lists.change(key, |list| list.push(item))??;
+    Ok(())
+}
+
+/// Each of two keys has what was added to its list, and then what was kept of it.
+fn due_lists(rt: &impl Abort, lists: &mut Lists<u8>) -> Result<(), Fail> {
+    let cell = Key::of_cell(Cell { x: 3, y: 2 });
+    let number = Key::of_number(2 * 1_024 + 4);
+    add(lists, cell, 7)?;
+    add(lists, number, 8)?;
+    add(lists, cell, 9)?;
+    due_bytes(rt, lists.list(cell), &[7, 9]);
+    due_bytes(rt, lists.list(number), &[8]);
+    lists.retain(|item| *item != 7);
+    due_bytes(rt, lists.list(Key::of_number(2 * 1_024 + 3)), &[9]);
+    assert!(*rt; lists.list(Key::of_number(5)).is_empty());
     Ok(())
 }
 
 #[test]
 fn keys_have_lists(rt: HostRuntime) -> Result<(), Fail> {
-    let mut lists: Lists<u8> = Lists::new(rt.alloc());
-    let (cell, number) = (
-        Key::of_cell(Cell { x: 3, y: 2 }),
-        Key::of_number(2 * 1_024 + 4),
-    );
-    lists.change(cell, |list| list.push(7))??;
-    lists.change(number, |list| list.push(8))??;
-    lists.change(cell, |list| list.push(9))??;
-    due_bytes(&rt, lists.list(cell), &[7, 9]);
-    due_bytes(&rt, lists.list(number), &[8]);
-    lists.retain(|item| *item != 7);
-    due_bytes(&rt, lists.list(Key::of_number(2 * 1_024 + 3)), &[9]);
-    assert!(rt; lists.list(Key::of_number(5)).is_empty());
+    due_lists(&rt, &mut Lists::new(rt.alloc()))
+}
+
+/// Whether the agent goes from one column to another, in the row of the map.
+fn goes(instance: &Instance, agent: u16, from: u16, to: u16) -> bool {
+    agent < instance.agents()
+        && instance.start(agent) == Cell { x: from, y: 0 }
+        && instance.goal(agent) == Cell { x: to, y: 0 }
+}
+
+/// The pair's agents, all of them, one or three.
+fn due_agents(rt: &impl Abort, alloc: Global, grid: &Grid) -> Result<(), Fail> {
+    let fault = read_scen(alloc, PAIR_SCEN, grid, Some(3)).err();
+    assert!(*rt; matches!(fault, Some(ScenFault::Fewer)));
+    assert!(*rt; read_scen(alloc, PAIR_SCEN, grid, Some(1))?.agents() == 1);
+    let pair: Instance = read_scen(alloc, PAIR_SCEN, grid, None)?;
+    assert!(*rt; pair.agents() == 2 && goes(&pair, 0, 1, 3) && goes(&pair, 1, 0, 2));
     Ok(())
 }
 
 #[test]
 fn scenarios_are_read(rt: HostRuntime) -> Result<(), Fail> {
     let grid = read_map(rt.alloc(), PAIR_MAP)?;
-    let instance: Instance = read_scen(rt.alloc(), PAIR_SCEN, &grid, None)?;
-    assert!(rt; instance.agents() == 2);
-    let ends = [(1, 3), (0, 2)];
-    for i in 0..instance.agents() {
-        let (from, to) = ends.get(usize::from(i)).copied().unwrap_or((9, 9));
-        let tasks = (instance.start(i), instance.goal(i));
-        assert!(rt;
-            tasks == (Cell { x: from, y: 0 }, Cell { x: to, y: 0 }),
-            "{i}"
-        );
-    }
-    assert!(rt; read_scen(rt.alloc(), PAIR_SCEN, &grid, Some(1))?.agents() == 1);
-    let fault = read_scen(rt.alloc(), PAIR_SCEN, &grid, Some(3)).err();
-    assert!(rt; matches!(fault, Some(ScenFault::Fewer)));
-    Ok(())
+    due_agents(&rt, rt.alloc(), &grid)
 }
 
 /// Two agents, of which one goes two steps east, and the other waits and then goes one step east.
@@ -93,35 +118,45 @@ fn plans_are_made_and_written(rt: HostRuntime) -> Result<(), Fail> {
     Ok(())
 }
 
+/// An agent of a plan, how many steps its path has, and the columns in which it stands at times 0, 1 and 2.
+type Goes = (u16, u32, [u16; 3]);
+
+/// Whether it does, in row 0.
+fn is_due_path(plan: &Plan, row: &Goes) -> bool {
+    let (agent, steps, columns) = *row;
+    if agent >= plan.agents() || plan.path(agent).steps() != steps {
+        return false;
+    }
+    for (t, x) in (0..3).zip(columns) {
+        let due = Cell { x, y: 0 };
+        if plan.cell(agent, t) != due || plan.path(agent).cell(t) != due {
+            return false;
+        }
+    }
+    true
+}
+
 #[test]
 fn plans_are_read(rt: HostRuntime) -> Result<(), Fail> {
-    let alloc = rt.alloc();
-    let plan = read_plan(alloc, b"2,0 1,0\n0,0")?;
-    let due = [[2, 1, 1], [0, 0, 0]];
-    for i in 0..plan.agents() {
-        let row = due.get(usize::from(i)).copied().unwrap_or([9; 3]);
-        for (t, x) in (0..3).zip(row) {
-            let due = Cell { x, y: 0 };
-            assert!(rt;
-                plan.cell(i, t) == due && plan.path(i).cell(t) == due,
-                "{i} {t}"
-            );
-        }
-        assert!(rt; plan.path(i).steps() == if i == 0 { 1 } else { 0 });
-    }
-    let fault = read_plan(alloc, b"1,0 2,0 3,0\n\n").err();
+    let fault = read_plan(rt.alloc(), b"1,0 2,0 3,0\n\n").err();
     assert!(rt; matches!(fault, Some(TextFault::Form { line: 2 })));
+    let plan = read_plan(rt.alloc(), b"2,0 1,0\n0,0")?;
+    assert!(rt; is_due_path(&plan, &(0, 1, [2, 1, 1])) && is_due_path(&plan, &(1, 0, [0; 3])));
+    Ok(())
+}
+
+/// What is kept of the pair's plan.
+fn due_checked(rt: &impl Abort, alloc: Global, checked: &Checked<'_>) -> Result<(), Fail> {
+    assert!(*rt; checked.grid().ground() == 4 && checked.instance().agents() == 2);
+    due_bytes(rt, &write_plan(alloc, checked.plan())?, PAIR_PLAN);
     Ok(())
 }
 
 #[test]
 fn plans_are_checked(rt: HostRuntime) -> Result<(), Fail> {
-    let alloc = rt.alloc();
-    let (grid, instance) = problem(alloc, PAIR_MAP, PAIR_SCEN)?;
-    let checked: Checked<'_> = checked_of(alloc, PAIR_PLAN, &grid, &instance)?;
-    due_bytes(&rt, &write_plan(alloc, checked.plan())?, PAIR_PLAN);
-    assert!(rt; checked.grid().ground() == 4 && checked.instance().agents() == 2);
-    Ok(())
+    let (grid, instance) = problem(rt.alloc(), PAIR_MAP, PAIR_SCEN)?;
+    let checked = checked_of(rt.alloc(), PAIR_PLAN, &grid, &instance)?;
+    due_checked(&rt, rt.alloc(), &checked)
 }
 
 /// Why a plan is refused. The plan is handed back.

@@ -200,17 +200,6 @@ fn due_ends<P: ProgramView>(rt: &impl Abort, times: &Times<'_, P, SlowFirst>)
     }
 }
 
-/// The same arrivals as a list.
-fn due_arrivals<P: ProgramView>(
-    rt: &impl Abort,
-    alloc: Global,
-    times: &Times<'_, P, SlowFirst>,
-) -> Result<(), Fail> {
-    let arrivals = times.arrivals(alloc)?;
-    assert!(*rt; arrivals.as_slice() == [10, 12].as_slice());
-    Ok(())
-}
-
 /// The stretches of the critical path, each as its agent, its first number and how many actions it has.
 fn path_stretches<P: ProgramView>(
     alloc: Global,
@@ -228,18 +217,14 @@ fn path_stretches<P: ProgramView>(
     Ok(stretches)
 }
 
-/// The times of the pair, if the actions of agent 0 are slow.
-fn due_times<P: ProgramView>(
+/// The same arrivals as a list, and the critical path.
+fn due_lists<P: ProgramView>(
     rt: &impl Abort,
     alloc: Global,
-    accepted: &Accepted<'_, P>,
-) -> Result<(), Fail>
-    requires { length (P.program accepted.now.program) ≡ 2 }
-{
-    let times = Times::of(alloc, accepted, &SlowFirst)?;
-    due_ends(rt, &times);
-    due_arrivals(rt, alloc, &times)?;
-    let path = path_stretches(alloc, &times)?;
+    times: &Times<'_, P, SlowFirst>,
+) -> Result<(), Fail> {
+    assert!(*rt; times.arrivals(alloc)?.as_slice() == [10, 12].as_slice());
+    let path = path_stretches(alloc, times)?;
     assert!(*rt; path.as_slice() == [(0, 1, 2), (1, 2, 1)].as_slice());
     Ok(())
 }
@@ -250,13 +235,25 @@ fn last_arrival<P: ProgramView>(alloc: Global, accepted: &Accepted<'_, P>) -> Re
     Ok(times.last_arrival())
 }
 
+/// The times of the pair, if each action costs one, and if the actions of agent 0 are slow.
+fn due_times<P: ProgramView>(
+    rt: &impl Abort,
+    alloc: Global,
+    accepted: &Accepted<'_, P>,
+) -> Result<(), Fail>
+    requires { length (P.program accepted.now.program) ≡ 2 }
+{
+    assert!(*rt; last_arrival(alloc, accepted)? == 3);
+    let times = Times::of(alloc, accepted, &SlowFirst)?;
+    due_ends(rt, &times);
+    due_lists(rt, alloc, &times)
+}
+
 #[test]
 fn critical_paths_are_found(rt: HostRuntime) -> Result<(), Fail> {
     let (grid, instance, program) = pair(rt.alloc())?;
     let accepted = accepted_pair(rt.alloc(), program, &grid, &instance)?;
-    due_times(&rt, rt.alloc(), &accepted)?;
-    assert!(rt; last_arrival(rt.alloc(), &accepted)? == 3);
-    Ok(())
+    due_times(&rt, rt.alloc(), &accepted)
 }
 
 /// The action that each agent never ends, or 0; how many each still ends; and how many agents are stopped.

@@ -61,6 +61,7 @@ pub fn reached_counts<P: ProgramView>(
 {
     schedules_end_in_time();
     let costs = Breaks { numbers: breaks };
+    // By the contract of this call what is accepted is in range and numbered.
     let _ = accepted.chain();
     let times = Times::of(alloc, accepted, &costs)?;
     times.free_counts(alloc)

@@ -3,8 +3,8 @@
 PREFIX ?= /usr/local
 BUILT = crates/fleet/out/fleet
 LOG = crates/fleet/out/build.log
-# How many processes check a crate: one for each processor, if each has 3 GB. Two crates are checked side by side,
-# neither of which uses the other, so most have half as many (tools/checks.awk).
+# How many processes check a crate: one for each processor, if each has 3 GB. Two crates are checked side by side, of
+# which one has half as many (tools/checks.awk).
 JOBS ?= $(shell awk -v n="$$(getconf _NPROCESSORS_ONLN)" '/^MemAvailable/ { m = int($$2 / 3e6) } END { if (m > n) m = n; print m < 1 ? 1 : m }' /proc/meminfo)
 CHECKED = $(call SIDE_BY_SIDE,tools/apart.sh,fleet_cli) && (cd crates/fleet && rt run -- --help)
 PROVED = $(call SIDE_BY_SIDE,tools/prove.sh,fleet)

@@ -37,6 +37,8 @@ pub mod Beginning
 pub mod PieceLaws
 pub mod LevelOrder
 pub mod Climbing
+pub mod FewerLeft
+pub mod FoundUnless
 pub mod Rows
 pub mod Looking
 pub mod SameChains

@@ -148,6 +148,23 @@ abbrev pub IsStopped : Program → List (List ℕ) → ℕ → Option Await → 
 IsStopped p rows i None = count_in rows i ≡ moves p i
 IsStopped p rows i (Some w) = IsKeptBack p rows i (count_in rows i + 1) w
 
+-- nobody can go on: each agent has finished all its actions, or is kept back
+abbrev pub NobodyGoesOn : Program → List (List ℕ) → Type 0
+NobodyGoesOn p rows = (i : ℕ) → i < length p → (w : Option Await) × IsStopped p rows i w
+
+-- agent i can go on: it is not stopped by any await, nor at its end
+abbrev pub CanGoOn : Program → List (List ℕ) → ℕ → Type 0
+CanGoOn p rows i = (w : Option Await) → ¬ IsStopped p rows i w
+
+-- the rows of all but agent i are as they were
+abbrev pub KeepsOthers : List (List ℕ) → List (List ℕ) → ℕ → Type 0
+KeepsOthers old new i = (j : ℕ) → j ≢ i → get_or new j [] ≡ get_or old j []
+
+-- agent i alone has run on: it has finished more actions, or no row has changed
+pub record IsRunOn (old new : List (List ℕ)) (i : ℕ) : Type 0 where
+  pub own : (count_in old i < count_in new i) ⊎ (new ≡ old)
+  pub others : KeepsOthers old new i
+
 -- the agent has come to its end, or to an action that awaits something, or its level with all its moves is too high
 abbrev pub IsBareNoMore : Program → (i count level : ℕ) → Type 0
 IsBareNoMore p i count level = (count ≡ moves p i) ⊎ ((1 ≤ length (awaits_of p i (count + 1))) ⊎ (2 ^ 32 ≤ level + moves p i))

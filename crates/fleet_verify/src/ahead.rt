@@ -10,13 +10,14 @@ ghost use Rattle.fleet_model.specs.Program.{Program, start_of, moves, awaits_of,
 ghost use Rattle.fleet_model.specs.Visit.{IsVisit, ComesAfterByAwait, leaving};
 ghost use Rattle.fleet_grid.specs.Ground.{is_passable};
 ghost use Rattle.fleet_model.specs.Chain.{awaited};
-ghost use Rattle.fleet_verify.specs.Ahead.{IsRanked, IsAhead, IsNext, IsRunner, AreNeeds, AddsLevel, AreDone, AreKeptOnGround, AreEarlier, IsAwaitOrOwn, IsLatest, IsKeptBack, IsStopped, IsBareNoMore, HaveFinished, count_in, stand, level_in, climbed_in};
+ghost use Rattle.fleet_model.specs.declared.limits.TheConstants.{MAX_MOVES_IN_ALL};
+ghost use Rattle.fleet_verify.specs.Ahead.{IsRanked, IsAhead, IsNext, IsRunner, AreNeeds, AddsLevel, AreDone, AreKeptOnGround, AreEarlier, IsAwaitOrOwn, IsLatest, IsKeptBack, IsStopped, IsBareNoMore, HaveFinished, IsRunOn, KeepsOthers, NobodyGoesOn, count_in, stand, level_in, climbed_in};
 ghost use Rattle.fleet_verify.specs.Rising.{climbed, last_level};
 ghost use Rattle.fleet_verify.specs.Faults.{HasStarts};
 ghost use Rattle.fleet_verify.specs.LastVisits.{kept_at};
 ghost use Rattle.fleet_verify.specs.Walk.{IsStop, IsStopAt};
 ghost use Rattle.fleet_verify.specs.Chained.{IsChained};
-ghost use Rattle.fleet_verify.specs.Outlook.{IsFound, IsOutlook};
+ghost use Rattle.fleet_verify.specs.Outlook.{IsFound, IsFoundUnless, IsOutlook};
 
 use crate::agents::ends_right;
 use crate::chained::{Answers, unless_chained};
@@ -26,7 +27,7 @@ use crate::level_order::AllLevels;
 use crate::level_row::{LevelRow, row_of};
 use crate::order::{OpenPair, PlacedVisit, add_visit, is_left_by, number_of, open_unless_after};
 use crate::path::{next_number, numbered_cell};
-use crate::queue::Queue;
+use crate::still::run_ahead;
 use crate::unheld_run::Stop;
 use fleet_grid::Grid;
 use fleet_model::{
@@ -98,7 +99,7 @@ const MOST_LEVEL: u64 = MAX_MOVES_IN_ALL as u64;
 
 /// What the agent's next action says, or an await of it that is not met.
 #[inline(always)]
-fn needs_of<P: ProgramView>(
+pub fn needs_of<P: ProgramView>(
     program: &P,
     rows: &Vec<LevelRow>,
     agent: u16,
@@ -112,6 +113,7 @@ fn needs_of<P: ProgramView>(
     ensures latest { IfOk result (λ n. IsLatest (P.program program.now) agent (runner.finished + 1)
         (length (awaits_of (P.program program.now) agent (runner.finished + 1))) n.latest) }
     ensures agent { IfErr result (λ w. w.agent < length (P.program program.now)) }
+    ensures level { IfOk result (λ n. n.level ≤ MAX_MOVES_IN_ALL) }
     ensures waits { IfErr result (IsKeptBack (P.program program.now)
         (climbed_in rows.now.items agent runner.finished) agent (runner.finished + 1)) }
 {
@@ -175,6 +177,7 @@ fn finish_next<P: ProgramView>(
         (P.offset program.now) ahead.new agent) }
     ensures finished { IfOk result (λ r. r.finished ≡ runner.finished + 1) }
     ensures level { IfOk result (λ r. r.level ≡ needs.level) }
+    ensures others { OnOk result (KeepsOthers ahead.old.rows.items ahead.new.rows.items agent) }
     ensures stop { IfErr result (IsStop (is_passable grid.now) (P.program program.now)) }
 {
     let _agents = program.agents();
@@ -207,6 +210,7 @@ fn raise(
     ensures begun { OnOk result (count_in rows.new.items agent ≤ runner.finished + 1) }
     ensures raised { OnOk result (AddsLevel (climbed_in rows.old.items agent runner.finished)
         (climbed_in rows.new.items agent (runner.finished + 1)) agent level) }
+    ensures others { OnOk result (KeepsOthers rows.old.items rows.new.items agent) }
 {
     let climbs = level - 1 == runner.level;
     if climbs {
@@ -532,6 +536,7 @@ fn run_bare<P: ProgramView>(
     ensures finished { IfOk result (λ r. runner.finished ≤ r.finished) }
     ensures rest { IfOk result (λ r. IsBareNoMore (P.program program.now)
         agent r.finished runner.level) }
+    ensures others { OnOk result (KeepsOthers ahead.old.rows.items ahead.new.rows.items agent) }
     ensures stop { IfErr result (IsStop (is_passable grid.now) (P.program program.now)) }
 {
     let moves = program.moves(agent);
@@ -551,7 +556,7 @@ fn run_bare<P: ProgramView>(
 
 /// Lets an agent run on as far as its awaits allow, and answers the await that it then waits for, if any.
 #[inline(never)]
-fn run_agent<P: ProgramView>(
+pub fn run_agent<P: ProgramView>(
     program: &P,
     grid: &Grid,
     ahead: &mut Ahead,
@@ -564,6 +569,7 @@ fn run_agent<P: ProgramView>(
         (λ a. a.agent < length (P.program program.now))) }
     ensures stopped { IfOk result (IsStopped (P.program program.now)
         ahead.new.rows.items agent) }
+    ensures run_on { OnOk result (IsRunOn ahead.old.rows.items ahead.new.rows.items agent) }
     ensures stop { IfErr result (IsStop (is_passable grid.now) (P.program program.now)) }
 {
     let _agents = program.agents();
@@ -589,7 +595,7 @@ fn run_agent<P: ProgramView>(
 }
 
 /// How far the agent has come.
-fn runner_of<P: ProgramView>(program: &P, ahead: &Ahead, agent: u16) -> Runner
+pub fn runner_of<P: ProgramView>(program: &P, ahead: &Ahead, agent: u16) -> Runner
     requires rows { length ahead.now.rows.items ≡ length (P.program program.now) }
     requires cells { length ahead.now.cells.items ≡ length (P.program program.now) }
     requires agent { agent < length (P.program program.now) }
@@ -632,55 +638,8 @@ fn stop_at(ahead: &mut Ahead, agent: u16, runner: Runner)
     ahead.rows[usize::from(agent)].climb(finished, level);
 }
 
-/// Lets the agents run on until nobody can, or so many looks at an agent are made.
-fn run_ahead<P: ProgramView>(
-    alloc: Global,
-    program: &P,
-    grid: &Grid,
-    ahead: &mut Ahead,
-) -> Result<(), Stop>
-    requires { IsAhead (is_passable grid.now) (P.program program.now) ahead.old }
-    ensures ahead { OnOk result (IsAhead (is_passable grid.now) (P.program program.now) ahead.new) }
-    ensures stop { IfErr result (IsStop (is_passable grid.now) (P.program program.now)) }
-{
-    let agents = program.agents();
-    let most = 2 * total_moves(program) + u32::from(agents);
-    let mut queue = Queue::new(alloc, agents)?;
-    for _ in 0..most {
-        let Some(agent) = queue.pop() else {
-            return Ok(());
-        };
-        look_at(program, grid, ahead, &mut queue, agent)?;
-    }
-    Ok(())
-}
-
-/// Lets an agent run on, and those that it has kept waiting.
-fn look_at<P: ProgramView>(
-    program: &P,
-    grid: &Grid,
-    ahead: &mut Ahead,
-    queue: &mut Queue,
-    agent: u16,
-) -> Result<(), Stop>
-    requires ahead { IsAhead (is_passable grid.now) (P.program program.now) ahead.old }
-    requires queue { queue.old ≡ length (P.program program.now) }
-    requires agent { agent < length (P.program program.now) }
-    ensures ahead { OnOk result (IsAhead (is_passable grid.now) (P.program program.now) ahead.new) }
-    ensures queue { OnOk result (queue.new ≡ queue.old) }
-    ensures stopped { OnOk result ((w : Option Await)
-        × IsStopped (P.program program.now) ahead.new.rows.items agent w) }
-    ensures stop { IfErr result (IsStop (is_passable grid.now) (P.program program.now)) }
-{
-    if let Some(awaited) = run_agent(program, grid, ahead, agent)? {
-        queue.wait(agent, awaited);
-    }
-    queue.wake(agent, row_of(&ahead.rows, agent).count())?;
-    Ok(())
-}
-
 /// Whether the agent has finished all its actions.
-fn has_finished<P: ProgramView>(program: &P, ahead: &Ahead, agent: u16) -> bool
+pub fn has_finished<P: ProgramView>(program: &P, ahead: &Ahead, agent: u16) -> bool
     requires rows { length ahead.now.rows.items ≡ length (P.program program.now) }
     requires agent { agent < length (P.program program.now) }
     ensures { IsTrue result
@@ -768,6 +727,7 @@ fn judge_ahead<P: ProgramView>(
 /// All agents, run on as far as their awaits allow.
 fn run_all<P: ProgramView>(alloc: Global, program: &P, grid: &Grid) -> Result<Ahead, Stop>
     ensures ahead { IfOk result (IsAhead (is_passable grid.now) (P.program program.now)) }
+    ensures still { IfOk result (λ a. NobodyGoesOn (P.program program.now) a.rows.items) }
     ensures stop { IfErr result (IsStop (is_passable grid.now) (P.program program.now)) }
 {
     let mut ahead = begin(alloc, program, grid)?;
@@ -784,7 +744,9 @@ pub fn look_ahead<P: ProgramView>(
     instance: &Instance,
 ) -> Result<Outlook, OutOfMemory>
     requires { HasStarts instance.now (P.program program.now) }
-    ensures { IfOk result (IsOutlook grid.now instance.now (P.program program.now)) }
+    ensures outlook { IfOk result (IsOutlook grid.now instance.now (P.program program.now)) }
+    ensures unknown { IfOk result (IsFoundUnless (is_passable grid.now) instance.now
+        (P.program program.now)) }
 {
     match run_all(alloc, program, grid) {
         Ok(ahead) => judge_ahead(alloc, program, grid, instance, ahead),

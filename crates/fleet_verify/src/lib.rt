@@ -6,8 +6,9 @@
 //! long (Hönig et al. 2019).
 //!
 //! `verifier` passes over a right program once. `agents` judges the fleet and its starts; `ahead` lets each agent run
-//! on as far as its awaits allow, and reads it instruction by instruction; whom it looks at next says `queue`. It keeps
-//! the levels of its actions (`level_row`), of each cell the last visit (`last_visits`) and the open pairs, which
+//! on as far as its awaits allow, and reads it instruction by instruction. `still` does so with all of them until nobody
+//! can go on: whom it looks at next says `queue`, and at the end it looks at each once more. `ahead` keeps the levels of
+//! the actions (`level_row`), of each cell the last visit (`last_visits`) and the open pairs, which
 //! mostly the last await of an action spares, and says yes if all arrive on passable ground and chains order those
 //! pairs, which `chained` asks for: `level_order` lists the actions that await something by their levels, and chains
 //! are found in that order. If it does not, `unheld_run` runs the program with nobody held, looks whether each place
@@ -57,6 +58,7 @@ mod rest;
 mod ring;
 mod runs;
 mod schedules;
+mod still;
 mod stopped;
 mod stretch;
 mod times;

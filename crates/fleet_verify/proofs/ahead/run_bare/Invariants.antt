@@ -1,11 +1,12 @@
 use Rattle.fleet_verify.proofs.Words.{◌≤◌, ◌+◌, ◌-◌, is_passable}
-use Rattle.fleet_verify.specs.Ahead.{IsRunner}
+use Rattle.fleet_verify.specs.Ahead.{IsRunner, KeepsOthers}
 use Rattle.fleet_verify.proofs.ahead.run_bare.Given as goal
 
 abbrev pub invariant-loop-runner : goal.invariant-loop-runner
 invariant-loop-runner g l = record {
   runner : IsRunner (is_passable l.grid) (g.P.ProgramView.program l.program) (g.P.ProgramView.offset l.program) l.ahead l.agent l.runner;
   finished : l.initial.runner.finished ≤ l.runner.finished;
+  others : KeepsOthers l.initial.ahead.rows.items l.ahead.rows.items l.agent;
   fits : l.runner.level + l.moves ≤ 4294967295 + l.runner.finished;
 }
 

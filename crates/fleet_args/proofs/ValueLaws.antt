@@ -1,13 +1,15 @@
--- Each text that an option takes is one that stands for something: a value that is refused has no text here.
+-- Each text that an option takes stands for something: it spells a number of its range, or is one of its names.
 use Rattle.std.proofs.Common.{◌≡◌, ◌∙◌, ◌<◌, ◌≤◌, ◌^◌, ◌||◌, ℕ, Bool, cond, true, false, List, map, Option, Some, None, codes, is_some, unwrap_or, refl, sym, ap, subst}
-use Rattle.std.specs.Prelude.{pos}
-use Rattle.std.specs.{Borrow.Bor, List.list_any, Str.bytes_eq, Str.Parse.ParsesUnsigned}
+use Rattle.std.specs.Prelude.{nat_lt, pos}
+use Rattle.std.specs.{Borrow.Bor, List.list_all, List.list_any, Str.bytes_eq, Str.Parse.ParsesUnsigned}
 use Rattle.std.proofs.lemmas.Slice.Eq.{bytes_eq-Decides}
 use Rattle.clap.specs.Words.{Text, ReadsOne, without_minus}
 use Rattle.clap.specs.ValueTests.{accepts}
 use Rattle.clap.specs.declared.builder.ValueParser.TheVariants as parser
 use Rattle.clap.proofs.{CallerReads.signed_reads, ValueTestLemmas.accepts-Accepts, WalkLemmas.list_any-map}
-use Rattle.fleet_args.specs.{Arguments.AreNames, declared.arguments.OptionNames.OptionNames}
+use Rattle.fleet_args.specs.{Arguments.AreNames, Arguments.described, Commands.commands, declared.arguments.OptionNames.OptionNames, declared.arguments.Argument.Argument, declared.arguments.Form.Form}
+use Rattle.fleet_args.specs.declared.arguments.Argument.TheVariants as a
+use Rattle.fleet_args.specs.declared.arguments.Form.TheVariants as form
 use Rattle.fleet_args.specs.Values.{IsSpelled, SpellsNumber, best_in, deps_in}
 
 -- a text that passes as a number of a range spells a number of that range, if it has so few bits
@@ -19,6 +21,20 @@ number_spelled bits low high text n fits pass is =
     read : (n : Option ℕ) → IsSpelled (SpellsNumber bits) (Some (without_minus text)) n → ReadsOne {T = ℕ} {E = Unit {0}} (ParsesUnsigned bits 10) (without_minus text) n
     read None is = (tt, λ h. is (without_minus text) _ refl (h, refl))
     read (Some m) is = subst (λ t. SpellsNumber bits t m) (ap (λ o. unwrap_or o is.0) (sym is.1)) is.2
+
+-- the bits of the number of an argument, as it is read
+abbrev pub bits_of : Argument → ℕ
+bits_of a.TryCount = 32
+bits_of a.Dwell = 32
+bits_of _ = 16
+
+abbrev pub fits : Form → ℕ → Bool
+fits (form.Numbers low high) bits = nat_lt high (2 ^ bits)
+fits _ bits = true
+
+-- no command takes a number with more bits than those with which it is read
+pub numbers_fit : list_all (λ c. list_all (λ x. fits (described x).1 (bits_of x)) c.1) commands ≡ true
+numbers_fit = refl
 
 turned : (a b : Text) → bytes_eq a b ≡ true → bytes_eq b a ≡ true
 turned a b h = (bytes_eq-Decides b a).1 (sym ((bytes_eq-Decides a b).0 h))

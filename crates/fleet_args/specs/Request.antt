@@ -21,7 +21,7 @@ IsStopOf k stop.OutOfMemory = ⊤
 IsStopOf k (stop.Usage text) = (is_help k ≡ false) × (k ≢ kind.OutOfMemory)
 IsStopOf k (stop.Help text) = is_help k ≡ true
 
--- help comes only if the first fault that is found in the words asks for it, and usage only if it is another fault
+-- help comes only if the first fault of the words may be one that asks for it, and usage only if it may be another
 abbrev pub StopsFor : App → List Text → WordStop → Type 0
 StopsFor app words stop.OutOfMemory = ⊤
 StopsFor app words (stop.Usage text) = list_any (λ k. not (is_help k)) (fault_of app words) ≡ true

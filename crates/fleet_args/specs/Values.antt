@@ -42,8 +42,9 @@ abbrev pub IsSpelled : {A : Type 0} → (Text → A → Type 0) → Option Text 
 IsSpelled spells text (Some a) = (t : Text) × (text ≡ Some t) × spells t a
 IsSpelled {A} spells text None = (t : Text) (a : A) → text ≡ Some t → spells t a → ⊥
 
--- ---- The value of an argument. Words that lack a text which a command needs have a fault, as have those in which an
--- option has a text that it does not take; so a text that is lacking may be empty here, and such an option be as unused
+-- ---- The value of an argument. By `clap`'s definition words that lack a text which a command needs have a fault, as
+-- have those in which an option has a text that it does not take; so a text that is lacking may be empty here, and such
+-- an option be as unused
 
 -- a text that the command needs
 abbrev pub IsText : Values → Text → Bor Text → Type 0

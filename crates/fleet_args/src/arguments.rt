@@ -240,7 +240,7 @@ pub(crate) fn command_of<'a>(
     )
 }
 
-/// The text of an argument that the command needs: words without it are refused.
+/// The text of an argument that the command needs; empty if it is lacking, and such words are refused.
 pub(crate) fn text<'a>(matches: &ArgMatches<'a>, id: &str) -> &'a str
     ensures { IsText (values_in matches.now) id.now result }
 {

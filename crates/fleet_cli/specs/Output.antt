@@ -1,4 +1,4 @@
--- What commands write, and what several of them print or write in the same way.
+-- What commands write, what several of them print or write in the same way, and what a request finds and leaves.
 use Rattle.std.specs.Prelude.{◌≡◌, ℕ, Result, Ok, Err, codes, List, [], ◌∷◌, ◌++◌, ◌⊎◌, Option, None, Some, map}
 use Rattle.fleet_text.specs.Sink.{SinkState, Receives, IsDelivered, IsUnwritten, FailsAfter}
 use Rattle.fleet_cli.specs.Faults.{refusal_line, status_of}
@@ -67,7 +67,7 @@ pub record Around : Type 1 where
 abbrev pub around : (files after : Option Store) → (unread unwritten : Type 0) → ((log log' : SinkState) → ReportForm → Talk → Type 0) → Around
 around files after unread unwritten talks = record { files = files; after = after; unread = unread; unwritten = unwritten; talks = talks }
 
--- such a refusal is answered, and nothing was read, written or changed
+-- such a refusal is answered; the input was not read, nothing was written, and every file is as before
 abbrev pub Declines : Around → (Fault → Type 0) → (out out' : SinkState) → Result ℕ Fault → Type 0
 Declines w IsRefusal out out' result = Refuses IsRefusal out out' result × AreUnchanged w.files w.after × w.unread × w.unwritten
 

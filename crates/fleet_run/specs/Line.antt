@@ -99,7 +99,7 @@ pub record LacksRoom (k : ℕ) (text row row' begins begins' : List ℕ) : Type 
   pub same_row : row' ≡ row
   pub same_begins : begins' ≡ begins
 
--- .. for one of the numerals of agent i, if it stands there
+-- .. for one of the numerals of agent i, if the agent stands on q
 abbrev pub LacksPlace : (i : ℕ) → Place → (row row' begins begins' : List ℕ) → Type 0
 LacksPlace i q row row' begins begins' =
     LacksRoom (2 * i) (numeral_text (numeral 32 q.x)) row row' begins begins' ⊎ LacksRoom (2 * i + 1) (numeral_text (numeral 44 q.y)) row row' begins begins'

@@ -47,6 +47,21 @@ names_of (r.Dispatch q) = names_of_program q.subject None q.resume
 names_of (r.Times q) = names_of_program q.subject q.costs None
 names_of (r.Rest q) = names_of_program q.subject None (Some q.reports)
 
+-- the tasks that a command is about, if there are some
+abbrev pub tasks_of : Request → Option Tasks
+tasks_of (r.Instance q) = Some q
+tasks_of (r.Check q) = Some q.tasks
+tasks_of (r.Plan q) = Some q.tasks
+tasks_of (r.Compile q) = Some q.tasks
+tasks_of (r.Verify q) = Some q.tasks
+tasks_of (r.Run q) = Some q.subject.tasks
+tasks_of (r.Auto q) = Some q.tasks
+tasks_of (r.Thin q) = Some q.subject.tasks
+tasks_of (r.Dispatch q) = Some q.subject.tasks
+tasks_of (r.Times q) = Some q.subject.tasks
+tasks_of (r.Rest q) = Some q.subject.tasks
+tasks_of _ = None
+
 -- a command answers so, and leaves every file as before and the input unread
 abbrev pub Looks : Around → ((out out' : SinkState) → Result ℕ Fault → Type 0) → (out out' : SinkState) → Result ℕ Fault → Type 0
 Looks w Answers out out' result = Answers out out' result × AreUnchanged w.files w.after × w.unread
@@ -55,28 +70,40 @@ Looks w Answers out out' result = Answers out out' result × AreUnchanged w.file
 abbrev pub Writes : Around → ((files after : Option Store) → (out out' : SinkState) → Result ℕ Fault → Type 0) → (out out' : SinkState) → Result ℕ Fault → Type 0
 Writes w Answers out out' result = Answers w.files w.after out out' result × w.unread
 
--- a command about tasks: the texts stand for a problem, and it answers so for it; or they are refused
-abbrev pub Reads : Around → Tasks → FileTexts → (Problem → (out out' : SinkState) → Result ℕ Fault → Type 0) → (out out' : SinkState) → Result ℕ Fault → Type 0
-Reads w tasks texts Answers out out' result =
-    ((problem : Problem) × IsProblemOf texts tasks.agents problem × Answers problem out out' result) ⊎ Declines w (IsProblemRefusal texts tasks.agents) out out' result
+-- what each command about tasks answers for the problem for which their texts stand; `dispatch` tells robots over the
+-- output, hears them by the input, and logs what they report
+abbrev pub AnswersProblem : Around → Request → Problem → (out out' : SinkState) → Result ℕ Fault → Type 0
+AnswersProblem w (r.Instance q) problem out out' result = Looks w (Prints (instance_text problem.grid problem.instance)) out out' result
+AnswersProblem w (r.Check q) problem out out' result = Looks w (AnswersCheck q problem) out out' result
+AnswersProblem w (r.Plan q) problem out out' result = Looks w (AnswersPlan q problem) out out' result
+AnswersProblem w (r.Compile q) problem out out' result = Writes w (λ files after. AnswersCompile files after q problem) out out' result
+AnswersProblem w (r.Verify q) problem out out' result = Looks w (AnswersVerify problem) out out' result
+AnswersProblem w (r.Run q) problem out out' result = Looks w (AnswersRun problem) out out' result
+AnswersProblem w (r.Auto q) problem out out' result = Looks w (AnswersAuto q problem) out out' result
+AnswersProblem w (r.Thin q) problem out out' result = Writes w (λ files after. AnswersThin files after q problem) out out' result
+AnswersProblem w (r.Dispatch q) problem out out' result = AnswersDispatch w q problem out out' result
+AnswersProblem w (r.Times q) problem out out' result = Looks w (AnswersTimes q problem) out out' result
+AnswersProblem w (r.Rest q) problem out out' result = Writes w (λ files after. AnswersRest files after q problem) out out' result
+AnswersProblem w _ problem out out' result = ⊥
 
--- what each command answers for the texts of its files; `dispatch` tells robots over the output, hears them by the
--- input, and logs what they report
+-- what each command about no tasks answers for the texts of its files
+abbrev pub AnswersTexts : (files after : Option Store) → Request → FileTexts → (out out' : SinkState) → Result ℕ Fault → Type 0
+AnswersTexts files after (r.Rehearse q) texts out out' result = AnswersRehearse texts out out' result × AreUnchanged files after
+AnswersTexts files after (r.Migrate q) texts out out' result = AnswersMigrate files after q texts out out' result
+AnswersTexts files after (r.List q) texts out out' result = AnswersList texts out out' result × AreUnchanged files after
+AnswersTexts files after _ texts out out' result = ⊥
+
+-- the texts of the tasks stand for a problem, and this is the answer for it, or they are refused; or the command is about
+-- no tasks, and leaves the input unread
+abbrev pub AnswersBy : Around → Request → FileTexts → Option Tasks → (out out' : SinkState) → Result ℕ Fault → Type 0
+AnswersBy w request texts None out out' result = AnswersTexts w.files w.after request texts out out' result × w.unread
+AnswersBy w request texts (Some tasks) out out' result =
+    ((problem : Problem) × IsProblemOf texts tasks.agents problem × AnswersProblem w request problem out out' result)
+    ⊎ Declines w (IsProblemRefusal texts tasks.agents) out out' result
+
+-- what a command answers for the texts of its files
 abbrev pub AnswersRequest : Around → Request → FileTexts → (out out' : SinkState) → Result ℕ Fault → Type 0
-AnswersRequest w (r.Instance q) texts = Reads w q texts (λ problem. Looks w (Prints (instance_text problem.grid problem.instance)))
-AnswersRequest w (r.Check q) texts = Reads w q.tasks texts (λ problem. Looks w (AnswersCheck q problem))
-AnswersRequest w (r.Plan q) texts = Reads w q.tasks texts (λ problem. Looks w (AnswersPlan q problem))
-AnswersRequest w (r.Compile q) texts = Reads w q.tasks texts (λ problem. Writes w (λ files after. AnswersCompile files after q problem))
-AnswersRequest w (r.Verify q) texts = Reads w q.tasks texts (λ problem. Looks w (AnswersVerify problem))
-AnswersRequest w (r.Run q) texts = Reads w q.subject.tasks texts (λ problem. Looks w (AnswersRun problem))
-AnswersRequest w (r.Rehearse q) texts = Looks w (AnswersRehearse texts)
-AnswersRequest w (r.Auto q) texts = Reads w q.tasks texts (λ problem. Looks w (AnswersAuto q problem))
-AnswersRequest w (r.Thin q) texts = Reads w q.subject.tasks texts (λ problem. Writes w (λ files after. AnswersThin files after q problem))
-AnswersRequest w (r.Migrate q) texts = Writes w (λ files after. AnswersMigrate files after q texts)
-AnswersRequest w (r.List q) texts = Looks w (AnswersList texts)
-AnswersRequest w (r.Dispatch q) texts = Reads w q.subject.tasks texts (AnswersDispatch w q)
-AnswersRequest w (r.Times q) texts = Reads w q.subject.tasks texts (λ problem. Looks w (AnswersTimes q problem))
-AnswersRequest w (r.Rest q) texts = Reads w q.subject.tasks texts (λ problem. Writes w (λ files after. AnswersRest files after q problem))
+AnswersRequest w request texts out out' result = AnswersBy w request texts (tasks_of request) out out' result
 
 -- What a request is answered. Its files were read, which leaves every file as before, and this is the answer for their
 -- texts; or one of them was not read, which is the refusal

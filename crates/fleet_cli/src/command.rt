@@ -1,10 +1,10 @@
 //! The program's words, and what it does for them.
 
-ghost use Rattle.std.specs.Prelude.{◌≡◌, map, string_bytes};
+ghost use Rattle.std.specs.Prelude.{◌≡◌, ◌≢◌, None, map, string_bytes};
 ghost use Rattle.fleet_text.specs.Sink.{IsWorking};
 ghost use Rattle.fleet_dispatch.specs.Talk.{IsLogged};
 ghost use Rattle.fleet_cli.specs.Output.{around};
-ghost use Rattle.fleet_cli.specs.Command.{names_for, names_of, names_of_program, AnswersRequest, RunsRequest, StopsAtWords, RunsCommand};
+ghost use Rattle.fleet_cli.specs.Command.{names_for, names_of, names_of_program, tasks_of, AnswersProblem, AnswersTexts, AnswersRequest, RunsRequest, StopsAtWords, RunsCommand};
 
 use crate::dispatch_command::do_dispatch;
 use crate::fault::{Fault, finish, refuse};
@@ -12,7 +12,7 @@ use crate::files::{FileNames, FileTexts, Files, read_files};
 use crate::print_commands::{do_check, do_instance, do_list, do_plan, do_verify};
 use crate::rest_command::do_rest;
 use crate::run_commands::{do_auto, do_rehearse, do_run, run_hex};
-use crate::steps::problem_of;
+use crate::steps::{Problem, problem_of};
 use crate::times_command::do_times;
 use crate::write_commands::{do_compile, do_migrate, do_thin};
 use fleet_args::{ProgramFor, Request, Tasks, WordStop, read_words};
@@ -76,6 +76,82 @@ fn names_of<'a>(request: &Request<'a>) -> FileNames<'a>
     }
 }
 
+/// The tasks that the request's command is about, if there are some.
+fn tasks_of<'a>(request: &Request<'a>) -> Option<Tasks<'a>>
+    ensures { result ≡ tasks_of request.now }
+{
+    match request {
+        Request::Instance(q) => Some(*q),
+        Request::Check(q) => Some(q.tasks),
+        Request::Plan(q) => Some(q.tasks),
+        Request::Compile(q) => Some(q.tasks),
+        Request::Verify(q) => Some(q.tasks),
+        Request::Run(q) => Some(q.subject.tasks),
+        Request::Rehearse(_) | Request::Migrate(_) | Request::List(_) => None,
+        Request::Auto(q) => Some(q.tasks),
+        Request::Thin(q) => Some(q.subject.tasks),
+        Request::Dispatch(q) => Some(q.subject.tasks),
+        Request::Times(q) => Some(q.subject.tasks),
+        Request::Rest(q) => Some(q.subject.tasks),
+    }
+}
+
+/// What the request's command, which is about tasks, answers for the problem for which their texts stand. Of these
+/// commands `dispatch` alone reads `input`.
+fn answer_problem<'a, R: ReportsTo<O>, F: Files, O: Flush>(
+    alloc: Global,
+    request: &Request<'a>,
+    problem: Problem,
+    input: &mut R,
+    files: &mut F,
+    out: &mut O,
+) -> Result<u8, Fault<'a>>
+    requires about { tasks_of request.now ≢ None }
+    requires working { IsWorking (O.state out.old) }
+    ensures { AnswersProblem (around (F.contents files.old) (F.contents files.new)
+        (input.new ≡ input.old) (out.new ≡ out.old)
+        (IsLogged R.talks input.old out.old input.new out.new)) request.now problem
+        (O.state out.old) (O.state out.new) result }
+{
+    match request {
+        Request::Instance(_) => do_instance(&problem, out),
+        Request::Check(q) => do_check(alloc, q, &problem, out),
+        Request::Plan(q) => do_plan(alloc, q, problem, out),
+        Request::Compile(q) => do_compile(alloc, q, problem, files, out),
+        Request::Verify(_) => do_verify(alloc, &problem, out),
+        Request::Run(_) => do_run(alloc, &problem, out),
+        Request::Auto(q) => do_auto(alloc, q, &problem, out),
+        Request::Thin(q) => do_thin(alloc, q, &problem, files, out),
+        Request::Dispatch(q) => do_dispatch(alloc, q, &problem, input, files, out),
+        Request::Times(q) => do_times(alloc, q, &problem, out),
+        Request::Rest(q) => do_rest(alloc, q, &problem, files, out),
+        // The request is about tasks.
+        Request::Rehearse(_) | Request::Migrate(_) | Request::List(_) => unreachable!(),
+    }
+}
+
+/// What the request's command, which is about no tasks, answers for the texts of its files.
+fn answer_texts<'a, F: Files, O: Flush>(
+    alloc: Global,
+    request: &Request<'a>,
+    texts: &FileTexts,
+    files: &mut F,
+    out: &mut O,
+) -> Result<u8, Fault<'a>>
+    requires about { tasks_of request.now ≡ None }
+    requires working { IsWorking (O.state out.old) }
+    ensures { AnswersTexts (F.contents files.old) (F.contents files.new) request.now texts.now
+        (O.state out.old) (O.state out.new) result }
+{
+    match request {
+        Request::Rehearse(_) => do_rehearse(alloc, texts, out),
+        Request::Migrate(q) => do_migrate(alloc, q, texts, files, out),
+        Request::List(_) => do_list(alloc, texts, out),
+        // The request is about no tasks.
+        _ => unreachable!(),
+    }
+}
+
 /// What the request's command answers for the texts of its files: the status, or the refusal that is to be written. Its
 /// output goes to `out`, and of the commands `dispatch` alone reads `input`.
 fn answer_request<'a, R: ReportsTo<O>, F: Files, O: Flush>(
@@ -92,29 +168,11 @@ fn answer_request<'a, R: ReportsTo<O>, F: Files, O: Flush>(
         (IsLogged R.talks input.old out.old input.new out.new)) request.now texts
         (O.state out.old) (O.state out.new) result }
 {
-    match request {
-        Request::Instance(tasks) => do_instance(&problem_of(alloc, texts, *tasks)?, out),
-        Request::Check(q) => do_check(alloc, q, &problem_of(alloc, texts, q.tasks)?, out),
-        Request::Plan(q) => do_plan(alloc, q, problem_of(alloc, texts, q.tasks)?, out),
-        Request::Compile(q) => do_compile(alloc, q, problem_of(alloc, texts, q.tasks)?, files, out),
-        Request::Verify(q) => do_verify(alloc, &problem_of(alloc, texts, q.tasks)?, out),
-        Request::Run(q) => do_run(alloc, &problem_of(alloc, texts, q.subject.tasks)?, out),
-        Request::Rehearse(_) => do_rehearse(alloc, &texts, out),
-        Request::Auto(q) => do_auto(alloc, q, &problem_of(alloc, texts, q.tasks)?, out),
-        Request::Thin(q) => {
-            let problem = problem_of(alloc, texts, q.subject.tasks)?;
-            do_thin(alloc, q, &problem, files, out)
-        }
-        Request::Migrate(q) => do_migrate(alloc, q, &texts, files, out),
-        Request::List(_) => do_list(alloc, &texts, out),
-        Request::Dispatch(q) => {
-            let problem = problem_of(alloc, texts, q.subject.tasks)?;
-            do_dispatch(alloc, q, &problem, input, files, out)
-        }
-        Request::Times(q) => do_times(alloc, q, &problem_of(alloc, texts, q.subject.tasks)?, out),
-        Request::Rest(q) => {
-            let problem = problem_of(alloc, texts, q.subject.tasks)?;
-            do_rest(alloc, q, &problem, files, out)
+    match tasks_of(request) {
+        None => answer_texts(alloc, request, &texts, files, out),
+        Some(tasks) => {
+            let problem = problem_of(alloc, texts, tasks)?;
+            answer_problem(alloc, request, problem, input, files, out)
         }
     }
 }

@@ -14,8 +14,8 @@
 //! `run_commands`, and the dispatch in `dispatch_command`, each with its meaning in the file of `specs/` of the same
 //! name; `output` has what several of them print. A run's sink hands on what it took before anything is reported. One
 //! module, `command`, executes them: `names_of` says which files a request names, `run_request` reads these, has the
-//! request answered, by an arm for each command in `answer_request`, which has the texts of a map and a scenario read
-//! before, and writes what is refused, and `run_command` is what `main` calls.
+//! request answered by `answer_request`, and writes what is refused, and `run_command` is what `main` calls. An arm for
+//! each command is in `answer_problem`, before which the texts of a map and a scenario are read, or in `answer_texts`.
 //!
 //! `auto_run` plans, compiles, encodes, loads, verifies and runs in one call. The next step takes whatever a step
 //! makes: a plan that is made is compiled, its program is loaded again from the bytes that spell it, and what is loaded

@@ -15,7 +15,8 @@ use fleet_grid::Grid;
 use fleet_model::{ProgramView, total_moves};
 use std::alloc::Global;
 
-/// Lets the agents run on until nobody can.
+/// Lets the agents run on until nobody can: each as it is woken, until nobody is left to be looked at, or so many looks
+/// are made, and then the rest.
 pub fn run_ahead<P: ProgramView>(
     alloc: Global,
     program: &P,
@@ -27,31 +28,16 @@ pub fn run_ahead<P: ProgramView>(
     ensures still { OnOk result (NobodyGoesOn (P.program program.now) ahead.new.rows.items) }
     ensures stop { IfErr result (IsStop (is_passable grid.now) (P.program program.now)) }
 {
-    run_by_queue(alloc, program, grid, ahead)?;
-    run_rest(program, grid, ahead)
-}
-
-/// Lets the agents run on, each as it is woken, until nobody is left to be looked at, or so many looks are made.
-fn run_by_queue<P: ProgramView>(
-    alloc: Global,
-    program: &P,
-    grid: &Grid,
-    ahead: &mut Ahead,
-) -> Result<(), Stop>
-    requires { IsAhead (is_passable grid.now) (P.program program.now) ahead.old }
-    ensures ahead { OnOk result (IsAhead (is_passable grid.now) (P.program program.now) ahead.new) }
-    ensures stop { IfErr result (IsStop (is_passable grid.now) (P.program program.now)) }
-{
     let agents = program.agents();
     let most = 2 * total_moves(program) + u32::from(agents);
     let mut queue = Queue::new(alloc, agents)?;
     for _ in 0..most {
         let Some(agent) = queue.pop() else {
-            return Ok(());
+            break;
         };
         look_at(program, grid, ahead, &mut queue, agent)?;
     }
-    Ok(())
+    run_rest(program, grid, ahead)
 }
 
 /// Lets an agent run on, and those that it has kept waiting.

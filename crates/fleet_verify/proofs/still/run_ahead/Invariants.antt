@@ -1,6 +1,6 @@
 use Rattle.fleet_verify.proofs.Words.{◌≡◌, length, is_passable}
 use Rattle.fleet_verify.specs.Ahead.{IsAhead}
-use Rattle.fleet_verify.proofs.still.run_by_queue.Given as goal
+use Rattle.fleet_verify.proofs.still.run_ahead.Given as goal
 
 abbrev pub invariant-loop : goal.invariant-loop
 invariant-loop g l = record {

@@ -1,9 +1,11 @@
 # Changes a text in one byte: each byte is left out, comes twice, or is another one. Says of each changed text what the
 # program answers to it of the pair of examples/:
 #     od -An -v -t u1 TEXT | awk -v kind=KIND -f tests/changed.awk
-# A TEXT of the kind `reports` is read by `dispatch`, and one of the kind `costs` by `times --costs`. Each line has a
-# changed text in octal, a `|`, and the status with the refusal's line, or with the number of reports or when both
-# agents arrive. It is another reader of these texts, and takes nothing from the program.
+# A TEXT of the kind `reports` is read by `dispatch`, one of the kind `log` by `dispatch --resume`, one of the kind
+# `rest` by `rest`, and one of the kind `costs` by `times --costs`. Each line has a changed text in octal, a `|`, and the
+# status with the refusal's line, and with the number of reports, the orders that are open after a log, how many moves
+# and awaits are left, or when both agents arrive. It is another reader of these texts, and takes nothing from the
+# program.
 
 { for (k = 1; k <= NF; k++) codes[++size] = $k }
 
@@ -29,10 +31,10 @@ function split_lines(bytes, count,    k, c) {
     if (lines > ended && line[lines] == "") lines--
 }
 
-# Up to which action agent i may be told to go, one at a time: agent 1 follows agent 0.
-function told_to(i) {
-    if (done[i] >= 2 || (i == 1 && done[0] <= done[1])) return done[i]
-    return done[i] + 1
+# Up to which action agent i may be told to go, one at a time, or for `rest` all: agent 1 follows agent 0.
+function told_to(i,    most) {
+    most = i == 0 ? 2 : done[0]
+    return kind != "rest" && most > done[i] + 1 ? done[i] + 1 : most
 }
 
 function report(l,    n, k, words, pair, before, is_new) {
@@ -59,14 +61,18 @@ function report(l,    n, k, words, pair, before, is_new) {
     return ""
 }
 
-function answer_reports(    l, fault) {
+function answer_reports(    l, fault, i, open) {
     done[0] = done[1] = reports = 0
-    for (l = 1; l <= ended; l++) {
+    for (l = 1; l <= ended && done[0] + done[1] < 4; l++) {
         fault = report(l)
-        if (fault != "") return "1 " fault
-        if (done[0] == 2 && done[1] == 2) return "0 reports " reports
+        if (fault != "") return "1 " (kind == "reports" ? fault : "dispatch 7 Log line " l)
     }
-    return "1 dispatch 4 Ended line " (ended + 1)
+    if (kind == "rest")
+        return "0 moves " (4 - done[0] - done[1]) " awaits " (done[0] > done[1] ? 2 - done[0] : 2 - done[1])
+    if (done[0] + done[1] == 4) return "0 reports " reports
+    for (i = 0; i < 2 && kind == "log"; i++)
+        if (told_to(i) > done[i]) open = open " go " i ":" (done[i] + 1)
+    return "1 dispatch 4 Ended line " (kind == "log" ? 1 : ended + 1) open
 }
 
 function answer_costs(    l, words, pair, n, i, p, cost, end) {
@@ -98,7 +104,7 @@ function change(at, byte,    k, count, bytes, octal) {
     }
     for (k = 1; k <= count; k++) octal = octal sprintf("\\%03o", bytes[k])
     split_lines(bytes, count)
-    print octal "|" (kind == "reports" ? answer_reports() : answer_costs())
+    print octal "|" (kind == "costs" ? answer_costs() : answer_reports())
 }
 
 END {

@@ -18,6 +18,7 @@ done < "$room/missing"
 check 'OUT stays as it was where a file is missing' 0 'old\n' '' 'cat kept'
 check 'the first of two missing files is reported' 3 '' 'file a\n' 'fleet check a b c'
 check 'files are read before any is judged' 3 '' 'file nowhere\n' "fleet auto $S $S --holds nowhere"
+check 'missing costs' 3 '' 'file nowhere\n' "fleet times examples/pair.map examples/pair.scen examples/pair.program --costs nowhere"
 check 'no OUT where a file is missing' 3 '' 'file nowhere\n' "fleet compile $M $S nowhere out"
 check 'so there is none' 1 '' '' 'ls | grep out'
 
@@ -94,8 +95,9 @@ fleet plan $W > plan && fleet compile $W plan whole --deps all > said || exit
 for after in $(awk 'BEGIN { s = 271; for (k = 0; k < 40; k++) { s = s * 16807 % 2147483647; printf "0.%05d\n", s % 4000 } }'); do
     echo old > out
     timeout -s KILL "$after" fleet compile $W plan out --deps all > /dev/null 2>&1
+    [ "$?" -lt 128 ] || was=killed
     [ "$(cat out | tr -d '\0')" = old ] || head -c "$(wc -c < out)" whole | cmp - out || exit
 done
-fleet compile $W plan out --deps all | cmp - said && cmp out whole
+fleet compile $W plan out --deps all | cmp - said && cmp out whole && echo $was
 EOF
-check 'OUT of a process that is killed' 0 '' '' kill_writers
+check 'OUT of a process that is killed' 0 'killed\n' '' 'kill_writers 2> told'

@@ -127,6 +127,8 @@ check 'a program that holds break' 0 '' '' "{ head -c 28 examples/pair.program; 
 check 'a program with implied awaits' 0 '' '' "fleet compile examples/corridor.map examples/corridor.scen examples/corridor.plan all --deps all > numbers"
 check 'agents that find paths in the second order' 0 '' '' "printf 'type t\\nheight 2\\nwidth 3\\nmap\\n...\\n@.@\\n' > mouth.map && printf 'version 1\\n0 m 3 2 1 1 1 0 1\\n0 m 3 2 0 0 2 0 2\\n' > mouth.scen"
 check 'agents of which the last finds no path' 0 '' '' "printf 'type t\\nheight 2\\nwidth 2\\nmap\\n..\\n..\\n' > square.map && printf 'version 1\\n0 m 2 2 0 0 1 0 1\\n0 m 2 2 1 0 1 1 1\\n0 m 2 2 1 1 0 1 1\\n0 m 2 2 0 1 0 0 1\\n' > square.scen"
+check 'agents of a plan that go round in a ring, or exchange their cells' 0 '' '' "printf '0,0 1,0\n1,0 1,1\n1,1 0,1\n0,1 0,0\n' > ring.plan && printf '1,0 0,0\n0,0 1,0\n' > swap.plan && printf 'version 1\n0 m 4 1 1 0 0 0 1\n0 m 4 1 0 0 1 0 1\n' > swap.scen"
+check 'a program that nobody begins' 0 '' '' "bytes 4D504631 0002 0001 0000 0003 0000 0002 10 0001 0001 01 01 0000 0000 0002 0000 0002 10 0000 0001 01 01 > deadlock"
 check 'a program in version 2' 0 'bytes 48\n' '' 'fleet migrate examples/pair.program pair2'
 check 'costs, and a log' 0 '' '' "printf '0 2\n1:2 3\n' > costs && printf '0:1\n' > log"
 if has "${cc%% *}"; then
@@ -137,6 +139,8 @@ if has "${cc%% *}"; then
     done <<EOF
 $("$work/bin/listed" $on examples/pair.plan examples/pair.program)
 check $on examples/pair.plan --numbers
+check square.map square.scen ring.plan
+check examples/pair.map swap.scen swap.plan
 plan $on --horizon 1
 plan square.map square.scen
 plan mouth.map mouth.scen --tries 2
@@ -145,6 +149,7 @@ plan mouth.map mouth.scen --tries 3 --best chain
 compile $on examples/pair.plan out --deps all
 compile $on examples/pair.plan out --dwell 2
 verify $on unordered
+verify $on deadlock
 run $on examples/pair.program --holds examples/corridor.holds
 rehearse examples/pair.program --holds examples/corridor.holds
 rehearse examples/pair.map
@@ -159,11 +164,14 @@ times $on examples/pair.program --costs costs
 times $on examples/pair.program --broken 0:1
 times $on examples/pair.program --broken 0:3
 instance $on --agents 3
+rest $on examples/pair.program log tasks out --without 1:0,0 --map-out map.left --others-out tasks.left
 verify examples/corridor.map examples/corridor.scen examples/pair.program
 EOF
     check 'each growth refused: no words' 0 'each\n' '' 'input=examples/pair.hex growths fleet'
     check 'each growth refused: dispatch' 0 'each\n' '' "printf '%s\n' 0:1 '0:2 1:1' 1:2 > reports && input=reports spare=4 growths fleet dispatch $on examples/pair.program"
     check '.. which keeps a log' 0 'each\n' '' "held=0:1 input=reports spare=4 growths fleet dispatch $on examples/pair.program --resume log --log out"
+    check '.. with two orders ahead' 0 'each\n' '' "input=reports spare=4 growths fleet dispatch $on examples/pair.program --ahead 2"
+    check '.. without numbers' 0 'each\n' '' "printf '%s\n' 0 '0 1' 1 > counts && input=counts spare=4 growths fleet dispatch $on examples/pair.program --unnumbered"
     check '.. which stops at a report' 0 'each\n' '' "printf '%s\n' 0:1 1:1 1:3 > reports && input=reports spare=4 growths fleet dispatch $on examples/pair.program"
     # The verifier says yes to most programs from a run ahead, for which it makes no machine, and goes through all
     # others again. No contract says which.

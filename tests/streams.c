@@ -1,17 +1,28 @@
 // Lets the streams and the files of a program fail. With LD_PRELOAD naming this library, standard output takes as many
 // bytes as the variable ROOM says, one at a time, and standard input gives as many as REST says; the files that the
 // program opens take TAKES bytes and give GIVES, all together, and they and the folder FOLDER are put on the disk SYNCS
-// times. Then each answers the error whose number is in WAY, or, if that is 0, takes or gives nothing. The file named by
-// WRITES, if any, gets how often standard error was written to.
+// times. Then each answers the error whose number is in WAY, or, if that is 0, takes or gives nothing. With KILL the
+// program is killed as it writes to a file, or puts one on the disk, for the time of that number, counted from 1. The
+// file named by WRITES, if any, gets how often standard error was written to.
 #define _GNU_SOURCE
 #include "counts.h"
 #include <dlfcn.h>
 #include <errno.h>
+#include <signal.h>
 #include <sys/stat.h>
 
 // How many bytes standard output took and standard input gave, how many the other files took and gave, how often
 // standard error was written to, and how often a file or the folder was put on the disk.
 static long written, given, stored, fetched, told, synced;
+
+// Ends the program by a signal, if it is time to.
+static void kill_in_turn(void)
+{
+    static long turns;
+    const char *number = getenv("KILL");
+    if (number && ++turns == atol(number))
+        raise(SIGKILL);
+}
 
 // How many bytes of so many the stream or the file takes or gives: all if the variable is not set; else one, if there
 // are fewer so far than it says, and otherwise none.
@@ -38,6 +49,8 @@ ssize_t write(int file, const void *bytes, size_t count)
         next = (ssize_t (*)(int, const void *, size_t))dlsym(RTLD_NEXT, "write");
     if (file == 2)
         told++;
+    if (file > 2)
+        kill_in_turn();
     const char *limit = file == 1 ? "ROOM" : file > 2 ? "TAKES" : "";
     long *so_far = file == 1 ? &written : &stored;
     if (part(limit, *so_far, count) < count) {
@@ -83,6 +96,7 @@ static int is_elsewhere(int file)
 static int put_on_disk(const char *call, int file)
 {
     const char *times = getenv("SYNCS");
+    kill_in_turn();
     if (!is_elsewhere(file) && times && synced++ >= atol(times))
         return failure();
     return ((int (*)(int))dlsym(RTLD_NEXT, call))(file);

@@ -93,10 +93,11 @@ for after in $(awk 'BEGIN { s = 271; for (k = 0; k < 12; k++) { s = s * 16807 % 
     tail -n "+$(($(wc -l < many.log) + 1))" all |
         timeout -s KILL "$after" fleet dispatch $W many --resume many.log --log many.log 2> /dev/null | grep '^go .* .*,.* .*,' >> many.orders
     head -c "$(wc -c < many.log)" all | cmp - many.log || exit
+    cmp -s all many.log || was=killed
 done
-cmp all many.log && sort -u many.orders | cmp - many.due && wc -l < many.due
+cmp all many.log && sort -u many.orders | cmp - many.due && echo $was "$(wc -l < many.due)"
 EOF
-check 'a log of a process that is killed' 0 "3900\n" '' 'kill_loggers 2> killed'
+check 'a log of a process that is killed' 0 'killed 3900\n' '' 'kill_loggers 2> told'
 check 'a log that is a folder' 3 '' 'file examples\n' "fleet dispatch $pair --log examples < each"
 check 'a log that goes to a pipe' 0 '0:1\n0:2\n1:1\n1:2\n' '' "fleet dispatch $pair --log /dev/stderr < each 2>&1 > told | cat"
 check 'reports are closed' 3 'go 0:1 1,0 2,0\n' 'file -\n' "fleet dispatch $pair <&-"
@@ -129,7 +130,7 @@ script output_cut <<'EOF'
 WAY=$1 line=$2
 export WAY
 shift 2
-"$@" > whole < "$input"
+"$@" > whole 2> told < "$input"
 bytes=$(wc -c < whole) wrong= room=0
 while [ "$room" -lt "$bytes" ]; do
     env ROOM="$room" LD_PRELOAD="$STREAMS" "$@" > got 2> told < "$input"
@@ -170,10 +171,54 @@ while [ "$status" -ne 0 ] && [ "$bytes" -lt 1000 ]; do
     bytes=$((bytes + 1))
 done | uniq -c | sed 's/^ *//'
 EOF
+
+# killed OUTS COMMAND..: the program is killed before it writes its first byte to a file, or the next one each time,
+# until it is done. Each of the files OUTS then has a front of what is due. Prints how often it was killed, and before
+# that after how many bytes it was not so.
+script killed <<'EOF'
+#!/bin/sh
+outs=$1 turn=1 status=137
+shift
+exec 2> died
+"$@" > whole || exit
+for out in $outs; do mv "$out" "due.$out"; done
+echo old > old
+while [ "$status" -eq 137 ]; do
+    for out in $outs; do echo old > "$out"; done
+    env KILL="$turn" TAKES=1000000 LD_PRELOAD="$STREAMS" "$@" > got
+    status=$?
+    for out in $outs; do
+        cmp -s old "$out" || head -c "$(wc -c < "$out")" "due.$out" | cmp -s - "$out" || echo "$turn: $out"
+    done
+    turn=$((turn + 1))
+done
+for out in $outs; do cmp "due.$out" "$out" || exit; done
+cmp whole got && echo $((turn - 2))
+EOF
+
+# killed_log COMMAND..: the same of the log of a dispatch, which is put on the disk too. The next dispatch goes on after
+# it: in the end each report is in the log, and each order was given.
+script killed_log <<'EOF'
+#!/bin/sh
+turn=1 status=137
+exec 2> died
+"$@" < lines | grep '^go ' | sort > due
+while [ "$status" -eq 137 ]; do
+    rm -f cut.log
+    env KILL="$turn" TAKES=1000000 LD_PRELOAD="$STREAMS" "$@" --log cut.log < lines > got
+    status=$?
+    head -c "$(wc -c < cut.log)" lines | cmp -s - cut.log || echo "$turn: not a front"
+    tail -n "+$(($(wc -l < cut.log) + 1))" lines | "$@" --resume cut.log --log cut.log > rest || echo "$turn: status $?"
+    cmp -s lines cut.log && cat got rest | grep '^go ' | sort -u | cmp -s due - || echo "$turn: not all"
+    turn=$((turn + 1))
+done
+echo $((turn - 2))
+EOF
 check 'a report without an end is heard up to a length' 1 'go 0:1 1,0 2,0\n' 'dispatch 2 Form line 1\n' "head -c 20000 /dev/zero | tr '\\0' 0 | fleet dispatch $pair"
 if has "${cc%% *}"; then
     $cc -shared -fPIC -o "$STREAMS" "$root/tests/streams.c" -ldl || failed=$((failed + 1))
     printf '%s\n' 0:1 '0:2 1:1' 1:2 > "$room/lines"
+    check 'a program that holds break' 0 '' '' "{ head -c 28 examples/pair.program; printf '\\1\\20\\0\\0\\0\\2\\1'; } > unordered"
     # 32 is a broken pipe; in the way 0 nothing is taken, and no error answered.
     while IFS='|' read -r way line input words; do
         check "standard output is cut ($way): ${words:-no words}" 0 'each\n' '' "input=$input output_cut $way '$line' fleet $words"
@@ -182,6 +227,7 @@ if has "${cc%% *}"; then
 $(sed '/|dispatch/d; s#|#|/dev/null|#; s/OUT OUT/tasks anew/; s/OUT/anew/; s/^/32|/; s/corridor/pair/g; s/pair.holds/corridor.holds/; s/examples.pair.log/lines/' "$room/commands")
 0|run 4 Write|/dev/null|rehearse examples/pair.program
 0|file -|/dev/null|list examples/pair.program
+32|file -|/dev/null|verify examples/pair.map examples/pair.scen unordered
 32|dispatch 5 Write|lines|dispatch $pair
 0|dispatch 5 Write|lines|dispatch $pair
 EOF
@@ -201,11 +247,8 @@ EOF
         check "the files are cut ($way): $words" 0 "${due}1 0 \n" '' "files_cut $way GIVES fleet $words"
     done <<EOF
 4 verify $pair
-5 verify $pair
-5 check examples/pair.map examples/pair.scen examples/pair.plan
-5 rehearse examples/pair.program --holds examples/corridor.holds
+$(sed '/|dispatch/d; s/.*|/5 /; s/OUT OUT/tasks anew/; s/OUT/anew/; s/corridor/pair/g; s/pair.holds/corridor.holds/; s/examples.pair.log/lines/' "$room/commands")
 5 times $pair --costs costs
-5 rest $pair lines tasks anew
 5 dispatch $pair --resume lines
 EOF
     # 28 is a full disk.
@@ -220,6 +263,20 @@ EOF
     check 'a scenario and a program are left' 0 'agents 2\nmoves 3\nawaits 1\nbytes 34\n' '' "echo 0:1 > one && fleet rest $pair one tasks anew"
     check 'each of two OUTs is cut (28): rest' 0 "$(wc -c < "$room/tasks" | tr -d ' ') 3 file tasks\n34 3 file anew\n1 0 \n" '' \
         "files_cut 28 TAKES fleet rest $pair one tasks anew"
+    dead='--without 1:0,0 --map-out left --others-out others'
+    check '.. and two more around a dead robot' 0 'agents 2\nmoves 3\nawaits 1\nbytes 34\n' '' "fleet rest $pair one tasks anew $dead"
+    due=$(cd "$room" && for out in tasks left others anew; do echo "$(wc -c < $out) 3 file $out"; done | awk '{ printf "%s\\n", $0 }')
+    check 'each of four OUTs is cut (28): rest' 0 "${due}1 0 \n" '' "files_cut 28 TAKES fleet rest $pair one tasks anew $dead"
+    while IFS='|' read -r outs words; do
+        turns=$(cd "$room" && fleet $words > got && cat $outs | wc -c | tr -d ' ')
+        check "OUT of a process that is killed at each byte: $words" 0 "$turns\n" '' "killed '$outs' fleet $words"
+    done <<EOF
+anew|migrate examples/pair.program anew
+anew|compile examples/pair.map examples/pair.scen examples/pair.plan anew
+anew|thin $pair anew
+tasks anew left others|rest $pair one tasks anew $dead
+EOF
+    check 'a log of a process that is killed at each byte, and each time that it is put on the disk' 0 '20\n' '' "killed_log fleet dispatch $pair"
     check 'a log is cut (28)' 0 '4 3 dispatch 8 LogWrite line 1\n8 3 dispatch 8 LogWrite line 2\n4 3 dispatch 8 LogWrite line 3\n1 0 \n' '' \
         "files_cut 28 TAKES sh -c 'rm -f cut.log; fleet dispatch $pair --log cut.log < lines'"
 

@@ -329,25 +329,37 @@ x|run 3 Hold line 1
 \055\n1 0|run 3 Hold line 2
 EOF
 
-# Reports and costs that are changed in one byte, and what changed.awk says of each, which reads them by itself.
+# Reports, logs and costs that are changed in one byte, and what changed.awk says of each, which reads them by itself.
 CHANGED=$root/tests/changed.awk
 export CHANGED
 
-# changes KIND TEXT COMMAND..: prints `each`, and before it each changed text to which the command answers otherwise. It
-# reads the text as the file `changed`, or from standard input.
+# changes KIND TEXT SHOWN COMMAND..: prints `each`, and before it each changed text to which the command answers
+# otherwise. It reads the text as the file `changed`, or reports from standard input. SHOWN takes lines of its output.
 script changes <<'EOF'
 #!/bin/sh
 od -An -v -t u1 "$2" | awk -v kind="$1" -f "$CHANGED" > dues
-shift 2
+[ "$1" = reports ] && input=changed || input=/dev/null
+shown=$3
+shift 3
 while IFS='|' read -r octal due; do
     printf "$octal" > changed
-    "$@" > got 2> told < changed
-    answer="$? $(cat told)$(sed -n '/^reports/p; /^[01]: /p' got | tr '\n' ' ')"
-    [ "${answer% }" = "$due" ] || echo "$octal: $answer, due $due"
+    "$@" > got 2> told < $input
+    answer=$(echo $? $(cat told) $(sed -n "$shown" got))
+    [ "$answer" = "$due" ] || echo "$octal: $answer, due $due"
 done < dues
 [ "$(wc -l < dues)" -gt 200 ] && echo each
 EOF
+on='pair.map pair.scen pair.program'
 check 'reports are changed in a byte' 0 'each\n' '' \
-    "printf '0:1\n0:2 1:1\n1:2\n' > reports && changes reports reports fleet dispatch pair.map pair.scen pair.program"
+    "printf '0:1\n0:2 1:1\n1:2\n' > reports && changes reports reports /^reports/p fleet dispatch $on"
+check 'a log is changed in a byte' 0 'each\n' '' "changes log reports 's/^\(go [0-9:]*\) .*/\1/p; /^reports/p' fleet dispatch $on --resume changed"
+check '.. of which the rest is written' 0 'each\n' '' "changes rest reports '/^moves/p; /^awaits/p' fleet rest $on changed tasks out"
 check 'costs are changed in a byte' 0 'each\n' '' \
-    "printf '1:2 7\n1 5\n0:1 3\n' > costs && changes costs costs fleet times pair.map pair.scen pair.program --costs changed"
+    "printf '1:2 7\n1 5\n0:1 3\n' > costs && changes costs costs '/^[01]: /p' fleet times $on --costs changed"
+
+# Maps, scenarios, plans, holds, programs and hexadecimal that are changed in some places.
+if has python3; then
+    check 'texts and programs are changed at random' 0 'mutated: 2000 cases compared, 35 refusals\n' '' "python3 '$root/tests/mutated.py' '$fleet' 2000"
+else
+    skip 'texts and programs are changed at random: no python3'
+fi

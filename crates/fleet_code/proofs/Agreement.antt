@@ -1,11 +1,5 @@
 -- What is read of the same bytes agrees.
-use Rattle.std.proofs.Common.{◌≢◌, ℕ, List, Result, Ok, Err, IfOk, IfErr}
-use Rattle.fleet_model.specs.Program.{Program}
-use Rattle.fleet_code.specs.declared.fault.LoadFault.{LoadFault}
-use Rattle.fleet_code.specs.declared.fault.LoadFault.TheVariants.{OutOfMemory}
-use Rattle.fleet_code.specs.Spelling.{Spells}
-use Rattle.fleet_code.specs.Offsets.{Viewed}
-use Rattle.fleet_code.specs.LoadFaults.{IsFirstLoadFault}
+use Rattle.fleet_code.proofs.Words.{◌≢◌, ℕ, List, Result, Ok, Err, IfOk, IfErr, Program, LoadFault, OutOfMemory, Spells, Viewed, IsFirstLoadFault}
 use Rattle.fleet_code.specs.Laws.{Agree}
 use Rattle.fleet_code.proofs.Versions.{one_program_each, not_both, one_fault}
 

@@ -1,9 +1,5 @@
 -- The awaits that an action has so far, and the first agent that it may await next.
-use Rattle.std.proofs.Common.{◌≡◌, ℕ, suc, ◌+◌, ◌≤◌, ◌<◌, List, [], ◌∷◌, ◌++◌, All, refl, arith, inl, inr, ◌⊎◌}
-use Rattle.std.specs.List.{Any}
-use Rattle.std.proofs.lemmas.List.Elements.{All-nil, All-cons, All-head, All-tail}
-use Rattle.fleet_model.specs.declared.program.Await.{Await}
-use Rattle.fleet_model.proofs.OnePass.{IsNextAwait, AwaitsFrom}
+use Rattle.fleet_code.proofs.Words.{◌≡◌, ℕ, suc, ◌+◌, ◌≤◌, ◌<◌, List, [], ◌∷◌, ◌++◌, All, refl, arith, inl, inr, ◌⊎◌, Any, All-nil, All-cons, All-head, All-tail, Await, IsNextAwait, AwaitsFrom}
 
 abbrev pub least_after : ℕ → List Await → ℕ
 least_after least [] = least

@@ -1,19 +1,7 @@
 -- Actions of one byte each.
-use Rattle.std.proofs.Common.{◌≡◌, ℕ, zero, suc, ◌+◌, ◌≤◌, ◌↔◌, true, false, ltb, List, [], ◌∷◌, length, get_or, take, drop, All, Option, Some, None, Ok, refl, sym, ap, subst, arith, inl, inr}
-use Rattle.std.specs.Prelude.{IsTrue, is_none, position}
-use Rattle.std.specs.List.{range_with_len, position_or_len}
-use Rattle.std.proofs.lemmas.Bool.{cases_Bool, ltb-true, ltb-false}
-use Rattle.std.proofs.lemmas.List.Elements.{All-nil, All-cons, All-get_or, All-head, All-tail}
+use Rattle.fleet_code.proofs.Words.{◌≡◌, ℕ, zero, suc, ◌+◌, ◌≤◌, ◌↔◌, true, false, ltb, List, [], ◌∷◌, length, get_or, take, drop, All, Option, Some, None, Ok, refl, sym, ap, subst, arith, inl, inr, IsTrue, is_none, position, range_with_len, position_or_len, cases_Bool, ltb-true, ltb-false, All-nil, All-cons, All-get_or, All-head, All-tail, Step, Go, Dwell, North, East, South, West, Action, Version, One, Two, stay_in, step_at, action_at, actions_at, last_step, opcodes, ends_of}
 use Rattle.std.proofs.lemmas.List.Quantifiers.{position-Some}
 use Rattle.fleet_text.proofs.TextLaws.{found_nowhere}
-use Rattle.fleet_model.specs.declared.geometry.Step.{Step}
-use Rattle.fleet_model.specs.declared.geometry.Step.TheVariants.{Go, Dwell}
-use Rattle.fleet_model.specs.declared.geometry.Dir.TheVariants.{North, East, South, West}
-use Rattle.fleet_model.specs.declared.program.Action.{Action}
-use Rattle.fleet_code.specs.declared.format.Version.{Version}
-use Rattle.fleet_code.specs.declared.format.Version.TheVariants.{One, Two}
-use Rattle.fleet_code.specs.Reading.{stay_in, step_at, action_at, actions_at}
-use Rattle.fleet_code.specs.Offsets.{last_step, opcodes, ends_of}
 
 stay_there : (v : Version) → 4 ≤ last_step v → (s : Step) × (stay_in v ≡ Some s)
 stay_there One le = absurd (omega (arith, le))

@@ -1,21 +1,7 @@
 -- A spelling is bytes, and so is each beginning of it.
-use Rattle.std.proofs.Common.{ℕ, ◌<◌, List, [], ◌∷◌, ◌++◌, length, take, All, sym, refl, arith}
-use Rattle.std.specs.Int.{byte_at}
-use Rattle.std.specs.List.{flat_map}
-use Rattle.std.proofs.lemmas.List.{take_at}
-use Rattle.std.proofs.lemmas.List.Elements.{All-nil, All-cons, All-append, All-take, All-same}
-use Rattle.std.proofs.lemmas.List.Concat.{flat_map-cons}
+use Rattle.fleet_code.proofs.Words.{ℕ, ◌<◌, List, [], ◌∷◌, ◌++◌, length, take, All, sym, refl, arith, byte_at, flat_map, take_at, All-nil, All-cons, All-append, All-take, All-same, flat_map-cons, North, East, South, West, Step, Go, Dwell, Await, Action, AgentProgram, Program, Version, One, Two, magic, two_bytes, cell, opcode, agent, spelling}
 use Rattle.fleet_model.specs.declared.geometry.Cell.{Cell}
-use Rattle.fleet_model.specs.declared.geometry.Dir.TheVariants.{North, East, South, West}
-use Rattle.fleet_model.specs.declared.geometry.Step.{Step}
-use Rattle.fleet_model.specs.declared.geometry.Step.TheVariants.{Go, Dwell}
-use Rattle.fleet_model.specs.declared.program.Await.{Await}
-use Rattle.fleet_model.specs.declared.program.Action.{Action}
-use Rattle.fleet_model.specs.declared.program.AgentProgram.{AgentProgram}
-use Rattle.fleet_model.specs.Program.{Program}
-use Rattle.fleet_code.specs.declared.format.Version.{Version}
-use Rattle.fleet_code.specs.declared.format.Version.TheVariants.{One, Two}
-use Rattle.fleet_code.specs.Spelling.{magic, two_bytes, count as count_of, cell, opcode, await, action, agent, spelling}
+use Rattle.fleet_code.specs.Spelling.{count as count_of, await, action}
 
 -- ---- a spelling is bytes
 

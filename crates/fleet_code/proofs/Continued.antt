@@ -1,14 +1,7 @@
 -- Bytes that go on: what was reached is reached again, and a fault other than missing bytes stays.
-use Rattle.std.proofs.Common.{◌≡◌, ◌≢◌, ℕ, List, ◌∷◌, ◌++◌, length, refl, sym, ap, ◌∙◌, append_assoc, arith}
-use Rattle.std.specs.List.{flat_map}
-use Rattle.std.proofs.lemmas.List.{length-append, get_or_append_left}
-use Rattle.fleet_model.specs.declared.program.Await.{Await}
-use Rattle.fleet_model.specs.Program.{Program}
-use Rattle.fleet_code.specs.declared.format.Version.{Version}
-use Rattle.fleet_code.specs.declared.fault.LoadFault.{LoadFault}
-use Rattle.fleet_code.specs.declared.fault.LoadFault.TheVariants.{OutOfMemory, Magic, Truncated, AgentCount, Total, Opcode, AwaitAgent, AwaitOrder, AwaitCount, Trailing}
-use Rattle.fleet_code.specs.Spelling.{magic, two_bytes, count as count_of, cell, await, action, agent}
-use Rattle.fleet_code.specs.LoadFaults.{BeginsWithNumber, BeginsWithCount, HasHead, IsOffset, ReachesAgent, ReachesAction, ReachesOpcode, ReachesAwait, ReachesOrder, ReachesCount, IsFirstFaultIn}
+use Rattle.fleet_code.proofs.Words.{◌≡◌, ◌≢◌, ℕ, List, ◌∷◌, ◌++◌, length, refl, sym, ap, ◌∙◌, append_assoc, arith, flat_map, length-append, get_or_append_left, Await, Program, Version, LoadFault, OutOfMemory, Truncated, AgentCount, Total, AwaitAgent, AwaitOrder, AwaitCount, Trailing, magic, two_bytes, cell, agent, BeginsWithNumber, BeginsWithCount, HasHead, IsOffset, ReachesAgent, ReachesAction, ReachesOpcode, ReachesAwait, ReachesOrder, ReachesCount, IsFirstFaultIn}
+use Rattle.fleet_code.specs.declared.fault.LoadFault.TheVariants.{Magic, Opcode}
+use Rattle.fleet_code.specs.Spelling.{count as count_of, await, action}
 
 module _ (v : Version) (more : List ℕ) where
   goes_on : (bytes front rest : List ℕ) → bytes ≡ front ++ rest → bytes ++ more ≡ front ++ (rest ++ more)

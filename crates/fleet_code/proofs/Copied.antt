@@ -1,13 +1,8 @@
 -- A program that is copied item by item.
-use Rattle.std.proofs.Common.{◌≡◌, ℕ, suc, ◌+◌, ◌<◌, List, [], ◌∷◌, ◌++◌, length, take, slice_get, Option, Some, None, sym, refl, ap, ◌∙◌, arith}
-use Rattle.fleet_model.specs.Program.{Program, start_of, goal_of, action_of, actions_of}
-use Rattle.std.specs.Option.{option_map, option_map_or}
-use Rattle.fleet_model.specs.declared.geometry.Step.{Step}
-use Rattle.fleet_model.specs.declared.program.Action.{Action}
-use Rattle.fleet_model.specs.declared.program.Await.{Await}
+use Rattle.fleet_code.proofs.Words.{◌≡◌, ℕ, suc, ◌+◌, ◌<◌, List, [], ◌∷◌, ◌++◌, length, take, slice_get, Option, Some, None, sym, refl, ap, ◌∙◌, arith, Program, start_of, goal_of, action_of, actions_of, option_map_or, Step, Action, Await, slice_get_within, get_or_from_slice_get}
+use Rattle.std.specs.Option.{option_map}
 use Rattle.fleet_code.proofs.InPlace.{agent_there}
 use Rattle.std.proofs.Math.Seq.{take-suc}
-use Rattle.std.proofs.lemmas.Option.{slice_get_within, get_or_from_slice_get}
 
 copied_more : {A : Type 0} (items : List A) (k : ℕ) (x : A) → slice_get items k ≡ Some x → take k items ++ x ∷ [] ≡ take (k + 1) items
 copied_more items k x e =

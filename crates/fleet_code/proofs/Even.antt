@@ -1,13 +1,7 @@
 -- Offsets of which those after one are as far from each other.
-use Rattle.std.proofs.Common.{◌≡◌, ℕ, zero, suc, refl, ◌+◌, ◌-◌, ◌*◌, ◌^◌, ◌≤◌, ◌<◌, List, [], ◌∷◌, length, map, min, take, slice_index_or, get_or, ap, sym, ◌∙◌, arith, inl, inr}
-use Rattle.std.specs.List.{range_with_len}
+use Rattle.fleet_code.proofs.Words.{◌≡◌, ℕ, zero, suc, refl, ◌+◌, ◌-◌, ◌*◌, ◌^◌, ◌≤◌, ◌<◌, List, [], ◌∷◌, length, map, min, take, slice_index_or, get_or, ap, sym, ◌∙◌, arith, inl, inr, range_with_len, cases_eq, cases_lt, same_number_lists, get_or_append_left, length-append, length-take, get_or-take, get_or-range_with_len, length-range_with_len, get_or-map-range_with_len, length-map-range_with_len, further, offsets_of, AreOffsets, IsEvenFrom}
 use Rattle.std.proofs.Math.Nat.{suc-mul}
 use Rattle.std.proofs.Math.Seq.{get_or-append_right}
-use Rattle.std.proofs.lemmas.Bool.{cases_eq, cases_lt}
-use Rattle.std.proofs.lemmas.Grind.{same_number_lists}
-use Rattle.std.proofs.lemmas.List.{get_or_append_left, length-append, length-take, get_or-take}
-use Rattle.std.proofs.lemmas.List.FromFn.{get_or-range_with_len, length-range_with_len, get_or-map-range_with_len, length-map-range_with_len}
-use Rattle.fleet_code.specs.Offsets.{further, offsets_of, AreOffsets, IsEvenFrom}
 
 -- ---- where offsets are even
 

@@ -1,34 +1,12 @@
 -- What reading refuses is the first fault.
-use Rattle.std.proofs.Common.{◌≡◌, ◌≢◌, ℕ, zero, suc, ◌+◌, ◌-◌, ◌≤◌, ◌<◌, ◌||◌, Bool, true, false, cond, not, ltb, leb, eqb, List, [], ◌∷◌, ◌++◌, length, get_or, take, drop, All, Option, Some, None, Result, Ok, Err, refl, sym, ap, subst, ◌∙◌, append_assoc, arith, inl, inr, ◌⊎◌}
-use Rattle.std.specs.Prelude.{nat_eq, IsTrue, slice_get}
-use Rattle.std.specs.Int.{w16, w32, from_be_bytes}
-use Rattle.std.specs.List.{Any, flat_map, starts_with}
-use Rattle.std.proofs.lemmas.Bool.{or_cases, or_parts, ltb-true, ltb-false, leb-true, leb-false, eqb-true, eqb-false, not-true, not-false, false_from_ne_true}
-use Rattle.std.proofs.lemmas.Bool.Decides.{Decides-eqb}
-use Rattle.std.proofs.lemmas.Slice.Eq.{starts_is}
-use Rattle.std.proofs.lemmas.List.{length-append, get_or_append_left}
-use Rattle.std.proofs.lemmas.List.Elements.{All-nil, All-cons, All-append}
+use Rattle.fleet_code.proofs.Words.{◌≡◌, ◌≢◌, ℕ, zero, suc, ◌+◌, ◌-◌, ◌≤◌, ◌<◌, ◌||◌, Bool, true, false, cond, not, ltb, leb, eqb, List, [], ◌∷◌, ◌++◌, length, get_or, take, drop, All, Option, Some, None, Result, Ok, Err, refl, sym, ap, subst, ◌∙◌, append_assoc, arith, inl, inr, ◌⊎◌, nat_eq, IsTrue, slice_get, w16, w32, from_be_bytes, Any, flat_map, starts_with, or_cases, or_parts, ltb-true, ltb-false, leb-true, leb-false, eqb-true, eqb-false, not-true, not-false, false_from_ne_true, Decides-eqb, starts_is, length-append, get_or_append_left, All-nil, All-cons, All-append, Step, Await, Action, AgentProgram, Program, AreAwaits, IsAgent, total_moves, AwaitsFrom, awaits_are, ◌>>=◌, ◌>>◌, fault_if, bind_err, test_err, err_is, Version, One, Two, LoadFault, Truncated, AgentCount, Total, AwaitAgent, AwaitOrder, AwaitCount, Trailing, magic, two_bytes, count_len, most_count, most_moves, cell, opcode, has_opcode, agent, IsSpellable, AreSpellable, IsSpellableAgent, CanSpell, Field, magic_at, number_at, long_number_at, count_from, cell_from, await_at, step_at, step_or, action_at, actions_at, agent_at, agents_at, program_as, BeginsWithNumber, BeginsWithCount, HasHead, IsOffset, ReachesAgent, ReachesAction, ReachesOpcode, ReachesAwait, ReachesOrder, ReachesCount, IsWithoutMagic, EndsWithin, IsFirstFaultIn, MAX_AGENTS, MAX_MOVES_IN_ALL}
 use Rattle.fleet_model.specs.declared.geometry.Cell.{Cell}
-use Rattle.fleet_model.specs.declared.geometry.Step.{Step}
-use Rattle.fleet_model.specs.declared.program.Await.{Await}
-use Rattle.fleet_model.specs.declared.program.Action.{Action}
-use Rattle.fleet_model.specs.declared.program.AgentProgram.{AgentProgram}
-use Rattle.fleet_model.specs.Program.{Program, AreAwaits, IsAgent, total_moves}
-use Rattle.fleet_model.proofs.OnePass.{AwaitsFrom, awaits_are}
-use Rattle.fleet_text.specs.Steps.{◌>>=◌, ◌>>◌, fault_if}
-use Rattle.fleet_text.proofs.StepLaws.{bind_err, test_err, err_is}
-use Rattle.fleet_code.specs.declared.format.Version.{Version}
-use Rattle.fleet_code.specs.declared.format.Version.TheVariants.{One, Two}
-use Rattle.fleet_code.specs.declared.fault.LoadFault.{LoadFault}
-use Rattle.fleet_code.specs.declared.fault.LoadFault.TheVariants.{Magic, Truncated, AgentCount, Total, Opcode, AwaitAgent, AwaitOrder, AwaitCount, Trailing}
-use Rattle.fleet_code.specs.Spelling.{magic, two_bytes, count as count_of, count_len, most_count, most_moves, cell, opcode, has_opcode, await, action, agent, IsSpellable, AreSpellable, IsSpellableAgent, CanSpell}
-use Rattle.fleet_code.specs.Reading.{Field, magic_at, number_at, long_number_at, count_from, cell_from, await_at, step_at, step_or, action_at, actions_at, agent_at, agents_at, program_as}
-use Rattle.fleet_code.specs.LoadFaults.{BeginsWithNumber, BeginsWithCount, HasHead, IsOffset, ReachesAgent, ReachesAction, ReachesOpcode, ReachesAwait, ReachesOrder, ReachesCount, IsWithoutMagic, EndsWithin, IsFirstFaultIn}
+use Rattle.fleet_code.specs.declared.fault.LoadFault.TheVariants.{Magic, Opcode}
+use Rattle.fleet_code.specs.Spelling.{count as count_of, await, action}
 use Rattle.fleet_code.proofs.Parts.{IsBytes, TakesFront, number_takes, count_takes, cell_takes, await_takes}
 use Rattle.fleet_code.proofs.RoundTrip.{with_await, magic_long, step_again, action_takes, agent_takes, agents_take, after_count, after_start, after_agents, after_agent_count}
 use Rattle.fleet_code.proofs.Awaited.{least_after, after_more, from_more, all_below, some_above}
 use Rattle.fleet_code.proofs.Reached.{each_from, to_first, total_from, total_more, parts_more, agent_reached, opcode_left, agent_left}
-use Rattle.fleet_model.specs.declared.limits.TheConstants.{MAX_AGENTS, MAX_MOVES_IN_ALL}
 
 -- ---- steps that fail
 

@@ -1,19 +1,7 @@
 -- A program is read after its head, and an agent's actions after the agent's.
-use Rattle.std.proofs.Common.{◌≡◌, ◌≢◌, ℕ, ◌+◌, ◌-◌, ◌≤◌, Bool, true, false, not, ◌||◌, eqb, ltb, List, length, Result, Ok, Err, refl, ◌∙◌, arith}
-use Rattle.std.proofs.lemmas.Bool.{ne_eqb}
+use Rattle.fleet_code.proofs.Words.{◌≡◌, ◌≢◌, ℕ, ◌+◌, ◌-◌, ◌≤◌, Bool, true, false, not, ◌||◌, eqb, ltb, List, length, Result, Ok, Err, refl, ◌∙◌, arith, ne_eqb, Action, AgentProgram, Program, ◌>>=◌, ◌>>◌, fault_if, LoadFault, AgentCount, Total, Trailing, Version, One, Two, most_moves, Field, magic_at, number_at, count_from, cell_from, actions_at, agent_at, agents_at, program_as, MAX_AGENTS, MAX_MOVES_IN_ALL}
 use Rattle.fleet_model.specs.declared.geometry.Cell.{Cell}
-use Rattle.fleet_model.specs.declared.program.Action.{Action}
-use Rattle.fleet_model.specs.declared.program.AgentProgram.{AgentProgram}
-use Rattle.fleet_model.specs.Program.{Program}
-use Rattle.fleet_text.specs.Steps.{◌>>=◌, ◌>>◌, fault_if}
-use Rattle.fleet_code.specs.declared.fault.LoadFault.{LoadFault}
-use Rattle.fleet_code.specs.declared.fault.LoadFault.TheVariants.{AgentCount, Total, Trailing}
-use Rattle.fleet_code.specs.declared.format.Version.{Version}
-use Rattle.fleet_code.specs.declared.format.Version.TheVariants.{One, Two}
-use Rattle.fleet_code.specs.Spelling.{most_moves}
-use Rattle.fleet_code.specs.Reading.{Field, magic_at, number_at, count_from, cell_from, actions_at, agent_at, agents_at, program_as}
 use Rattle.fleet_code.specs.Heads.{head_at, agent_head_at}
-use Rattle.fleet_model.specs.declared.limits.TheConstants.{MAX_AGENTS, MAX_MOVES_IN_ALL}
 
 -- ---- steps and a test, of which the value goes to the next
 

@@ -1,28 +1,8 @@
 -- Where the parts of a program stand in its bytes.
-use Rattle.std.proofs.Common.{◌≡◌, ℕ, zero, suc, ◌-◌, ◌+◌, ◌*◌, ◌/◌, ◌%◌, get_or, ◌≤◌, ◌<◌, Bool, List, [], ◌∷◌, ◌++◌, length, take, drop, slice_get, slice_index_or, Option, Some, Result, Ok, refl, sym, ap, subst, ◌∙◌, append_assoc, arith, inl, inr, All, ◌⊎◌}
-use Rattle.std.specs.List.{flat_map}
-use Rattle.std.specs.Int.{w32, to_be_bytes}
-use Rattle.std.proofs.lemmas.Nat.{be_bytes_4}
-use Rattle.std.proofs.lemmas.List.{append-nil, length-append, drop-drop, length-drop, length-take-le, drop_at, get_or-drop}
-use Rattle.std.proofs.lemmas.Option.{slice_get_cases, slice_get_past, slice_get_within, get_or_from_slice_get, same_Some, none-some}
-use Rattle.std.proofs.lemmas.List.Elements.{All-get_or}
-use Rattle.std.specs.Option.{option_map_or}
-use Rattle.std.specs.Prelude.{sum_by, option_map}
-use Rattle.std.proofs.lemmas.Bool.{cases_order}
-use Rattle.std.proofs.lemmas.List.Sums.{sum_by-cons}
+use Rattle.fleet_code.proofs.Words.{◌≡◌, ℕ, zero, suc, ◌-◌, ◌+◌, ◌*◌, ◌/◌, ◌%◌, get_or, ◌≤◌, ◌<◌, Bool, List, [], ◌∷◌, ◌++◌, length, take, drop, slice_get, slice_index_or, Option, Some, Result, Ok, refl, sym, ap, subst, ◌∙◌, append_assoc, arith, inl, inr, All, ◌⊎◌, flat_map, w32, to_be_bytes, be_bytes_4, append-nil, length-append, drop-drop, length-drop, length-take-le, drop_at, get_or-drop, slice_get_cases, slice_get_past, slice_get_within, get_or_from_slice_get, same_Some, none-some, All-get_or, option_map_or, sum_by, option_map, cases_order, sum_by-cons, Step, Await, Action, AgentProgram, Program, actions_of, action_of, moves, start_of, goal_of, awaits_of, awaits_before, step_of, Version, One, Two, magic, two_bytes, most_count, cell, opcode, agent, spelling, IsSpellable, IsSpellableAgent, SpellsIn, PartOffsets, Viewed, program_in, StandsAt, IsViewOf, opcodes, head_len, await_len, after_opcodes, ends_of, part_of, parts_of, part_at, begin_of, end_of, LoadFault, step_at, program_at}
 use Rattle.std.proofs.Math.Nat.{add-zero, mul-add, mul-le-mul_left}
-use Rattle.fleet_model.specs.declared.geometry.Step.{Step}
-use Rattle.fleet_model.specs.declared.program.Await.{Await}
-use Rattle.fleet_model.specs.declared.program.Action.{Action}
-use Rattle.fleet_model.specs.declared.program.AgentProgram.{AgentProgram}
-use Rattle.fleet_model.specs.Program.{Program, actions_of, action_of, moves, start_of, goal_of, awaits_of, awaits_before, step_of}
-use Rattle.fleet_code.specs.declared.format.Version.{Version}
-use Rattle.fleet_code.specs.declared.format.Version.TheVariants.{One, Two}
-use Rattle.fleet_code.specs.Spelling.{magic, two_bytes, count as count_of, most_count, cell, opcode, await, action, agent, spelling, IsSpellable, IsSpellableAgent, SpellsIn}
-use Rattle.fleet_code.specs.Offsets.{PartOffsets, Viewed, program_in, StandsAt, IsViewOf, opcodes, head_len, await_len, after_opcodes, ends_of, part_of, parts_of, part_at, begin_of, end_of}
+use Rattle.fleet_code.specs.Spelling.{count as count_of, await, action}
 use Rattle.std.specs.Result.{result_unwrap_or}
-use Rattle.fleet_code.specs.declared.fault.LoadFault.{LoadFault}
-use Rattle.fleet_code.specs.Reading.{step_at, program_at}
 use Rattle.fleet_model.proofs.Totals.{actions_more as awaits_more}
 use Rattle.fleet_code.proofs.Parts.{count_long}
 use Rattle.fleet_code.proofs.Written.{awaits_len, actions_len}

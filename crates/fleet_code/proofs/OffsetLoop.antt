@@ -1,17 +1,6 @@
 -- What the pass over the bytes finds, action by action and agent by agent.
-use Rattle.std.proofs.Common.{◌≡◌, ℕ, suc, ◌-◌, ◌+◌, ◌≤◌, ◌<◌, List, [], ◌∷◌, ◌++◌, length, take, set, replicate, Option, Some, None, Ok, Err, refl, sym, ap, ◌∙◌, append_assoc, arith}
-use Rattle.std.proofs.lemmas.List.{append-nil, length-append, take_more_set}
-use Rattle.fleet_model.specs.declared.geometry.Step.{Step}
-use Rattle.fleet_model.specs.declared.program.Action.{Action}
-use Rattle.fleet_model.specs.declared.program.AgentProgram.{AgentProgram}
-use Rattle.fleet_model.specs.Program.{Program}
-use Rattle.fleet_text.specs.Steps.{◌>>=◌}
-use Rattle.fleet_text.proofs.StepLaws.{ok_is}
-use Rattle.fleet_code.specs.declared.format.Version.{Version}
-use Rattle.fleet_code.specs.declared.fault.LoadFault.{LoadFault}
-use Rattle.fleet_code.specs.Spelling.{action, agent}
-use Rattle.fleet_code.specs.Reading.{Field, action_at, actions_at, agent_at, agents_at}
-use Rattle.fleet_code.specs.Offsets.{PartOffsets, opcodes, ends_of, part_of, parts_of, with_ends, with_parts}
+use Rattle.fleet_code.proofs.Words.{◌≡◌, ℕ, suc, ◌-◌, ◌+◌, ◌≤◌, ◌<◌, List, [], ◌∷◌, ◌++◌, length, take, set, replicate, Option, Some, None, Ok, Err, refl, sym, ap, ◌∙◌, append_assoc, arith, append-nil, length-append, take_more_set, Step, Action, AgentProgram, Program, ◌>>=◌, ok_is, Version, LoadFault, agent, Field, action_at, actions_at, agent_at, agents_at, PartOffsets, opcodes, ends_of, part_of, parts_of, with_ends, with_parts}
+use Rattle.fleet_code.specs.Spelling.{action}
 use Rattle.fleet_code.proofs.Parts.{IsBytes}
 use Rattle.fleet_code.proofs.RoundTrip.{action_takes, agent_takes}
 

@@ -1,21 +1,6 @@
 -- Fronts of a spelling: what is known of the agents that were read, and how many bytes are left.
-use Rattle.std.proofs.Common.{◌≡◌, ℕ, zero, suc, ◌+◌, ◌≤◌, List, [], ◌∷◌, ◌++◌, length, Some, refl, sym, ap, subst, ◌∙◌, append_assoc, arith, add-zero}
-use Rattle.std.specs.Prelude.{slice_get}
-use Rattle.std.specs.List.{flat_map}
-use Rattle.std.proofs.lemmas.List.{length-append, append-nil}
-use Rattle.std.proofs.lemmas.List.Sums.{sum_by-cons, sum_by-append}
-use Rattle.std.proofs.lemmas.List.Elements.{All-nil, All-cons, All-append}
-use Rattle.std.proofs.lemmas.List.Concat.{flat_map-cons}
-use Rattle.std.proofs.lemmas.Grind.{flat_map-append}
-use Rattle.std.proofs.lemmas.Option.{same_Some}
-use Rattle.fleet_model.specs.declared.program.Await.{Await}
-use Rattle.fleet_model.specs.declared.program.AgentProgram.{AgentProgram}
-use Rattle.fleet_model.specs.Program.{Program, IsAgent, total_moves}
-use Rattle.fleet_model.proofs.OnePass.{AgentsFrom, total_within}
-use Rattle.fleet_code.specs.declared.format.Version.{Version}
-use Rattle.fleet_code.specs.Spelling.{magic, two_bytes, count as count_of, cell, await, action, agent, IsSpellableAgent}
-use Rattle.fleet_code.specs.LoadFaults.{ReachesAgent, ReachesAction, ReachesOpcode}
-use Rattle.fleet_model.specs.declared.limits.TheConstants.{MAX_MOVES_IN_ALL}
+use Rattle.fleet_code.proofs.Words.{◌≡◌, ℕ, zero, suc, ◌+◌, ◌≤◌, List, [], ◌∷◌, ◌++◌, length, Some, refl, sym, ap, subst, ◌∙◌, append_assoc, arith, add-zero, slice_get, flat_map, length-append, append-nil, sum_by-cons, sum_by-append, All-nil, All-cons, All-append, flat_map-cons, flat_map-append, same_Some, Await, AgentProgram, Program, IsAgent, total_moves, AgentsFrom, total_within, Version, magic, two_bytes, cell, agent, IsSpellableAgent, ReachesAgent, ReachesAction, ReachesOpcode, MAX_MOVES_IN_ALL}
+use Rattle.fleet_code.specs.Spelling.{count as count_of, await, action}
 
 -- ---- the agents before
 

@@ -1,20 +1,6 @@
 -- An action of version 1 that has one await, and then a move, seen at one look.
-use Rattle.std.proofs.Common.{◌≡◌, ◌≢◌, ℕ, ◌+◌, ◌-◌, ◌≤◌, ◌<◌, true, false, ltb, List, [], ◌∷◌, ◌++◌, length, get_or, drop, None, Ok, refl, sym, ap, arith}
-use Rattle.std.specs.Prelude.{IsTrue}
-use Rattle.std.specs.Int.{w16, from_be_bytes}
-use Rattle.std.proofs.lemmas.Bool.{ne_eqb, le-ltb, lt-leb}
-use Rattle.std.proofs.lemmas.Nat.{from_be_bytes-to_be_bytes_2}
-use Rattle.std.proofs.lemmas.List.Elements.{All-head}
-use Rattle.fleet_model.specs.declared.geometry.Dir.TheVariants.{North, East, South, West}
-use Rattle.fleet_model.specs.declared.geometry.Step.{Step}
-use Rattle.fleet_model.specs.declared.geometry.Step.TheVariants.{Go, Dwell}
-use Rattle.fleet_model.specs.declared.program.Await.{Await}
-use Rattle.fleet_model.specs.declared.program.Action.{Action}
-use Rattle.fleet_model.proofs.OnePass.{AwaitsFrom}
-use Rattle.fleet_code.specs.declared.format.Version.TheVariants.{One}
-use Rattle.fleet_code.specs.Spelling.{most_count, opcode, has_opcode, action, IsSpellable}
-use Rattle.fleet_code.specs.Reading.{await_at, step_at, action_at}
-use Rattle.fleet_code.specs.Offsets.{opcodes}
+use Rattle.fleet_code.proofs.Words.{◌≡◌, ◌≢◌, ℕ, ◌+◌, ◌-◌, ◌≤◌, ◌<◌, true, false, ltb, List, [], ◌∷◌, ◌++◌, length, get_or, drop, None, Ok, refl, sym, ap, arith, IsTrue, w16, from_be_bytes, ne_eqb, le-ltb, lt-leb, from_be_bytes-to_be_bytes_2, All-head, North, East, South, West, Step, Go, Dwell, Await, Action, AwaitsFrom, One, most_count, opcode, has_opcode, IsSpellable, await_at, step_at, action_at, opcodes}
+use Rattle.fleet_code.specs.Spelling.{action}
 use Rattle.fleet_code.proofs.ActionLoop.{action_begins, await_goes_on, step_ends}
 use Rattle.fleet_code.proofs.Bare.{step_there}
 use Rattle.fleet_code.proofs.Parts.{IsBytes}

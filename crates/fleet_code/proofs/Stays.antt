@@ -1,16 +1,5 @@
 -- Programs that never stay, action by action.
-use Rattle.std.proofs.Common.{◌≡◌, ℕ, zero, suc, ◌<◌, ◌≤◌, ◌∙◌, [], length, get_or, sym, ap, subst, inl, inr, ◌↔◌}
-use Rattle.std.specs.Prelude.{Option, Some, None, slice_get, option_map, IsTrue}
-use Rattle.std.specs.Option.{option_map_or}
-use Rattle.std.proofs.lemmas.Bool.{cases_lt}
-use Rattle.std.proofs.lemmas.Option.{slice_get-get_or, slice_get_past, same_Some, none-some}
-use Rattle.fleet_model.specs.declared.geometry.Step.{Step}
-use Rattle.fleet_model.specs.declared.geometry.Step.TheVariants.{Dwell}
-use Rattle.fleet_model.specs.declared.program.Action.{Action}
-use Rattle.fleet_model.specs.declared.program.AgentProgram.{AgentProgram}
-use Rattle.fleet_model.specs.Geometry.{is_move}
-use Rattle.fleet_model.specs.Program.{Program, origin, step_of, NeverStays}
-use Rattle.fleet_code.specs.Stays.{MovesAlways}
+use Rattle.fleet_code.proofs.Words.{◌≡◌, ℕ, zero, suc, ◌<◌, ◌≤◌, ◌∙◌, [], length, get_or, sym, ap, subst, inl, inr, ◌↔◌, Option, Some, None, slice_get, option_map, IsTrue, option_map_or, cases_lt, slice_get-get_or, slice_get_past, same_Some, none-some, Step, Dwell, Action, AgentProgram, is_move, Program, origin, step_of, NeverStays, MovesAlways}
 
 -- the step of an action that is there
 step_there : (p : Program) (i m : ℕ) (d : AgentProgram) (x : Action) → i < length p → m < length (get_or p i d).actions → step_of p i (suc m) ≡ Some (get_or (get_or p i d).actions m x).step

@@ -1,34 +1,12 @@
 -- The first fault is what reading refuses. So there is one at most, and none if the bytes spell a program.
-use Rattle.std.proofs.Common.{◌≡◌, ◌≢◌, ℕ, zero, suc, ◌+◌, ◌-◌, ◌≤◌, ◌<◌, ◌||◌, Bool, true, false, ltb, leb, eqb, List, [], ◌∷◌, ◌++◌, length, All, None, Result, Ok, Err, refl, ap, ◌∙◌, append_assoc, arith, inl, inr, ◌⊎◌}
-use Rattle.std.specs.Prelude.{IsTrue}
-use Rattle.std.specs.List.{flat_map}
-use Rattle.std.proofs.lemmas.Bool.{or_left, or_right, or_from, lt-ltb, le-ltb, le-leb, lt-leb, ne_eqb, eq-eqb}
-use Rattle.std.proofs.lemmas.List.{length-append}
-use Rattle.std.proofs.lemmas.List.Elements.{All-head, All-tail}
-use Rattle.std.proofs.lemmas.List.Concat.{flat_map-cons}
-use Rattle.std.proofs.lemmas.List.Sums.{sum_by-cons}
-use Rattle.fleet_model.specs.declared.geometry.Dir.TheVariants.{North, East, South, West}
-use Rattle.fleet_model.specs.declared.geometry.Step.{Step}
-use Rattle.fleet_model.specs.declared.geometry.Step.TheVariants.{Go, Dwell}
-use Rattle.fleet_model.specs.declared.program.Await.{Await}
-use Rattle.fleet_model.specs.declared.program.Action.{Action}
-use Rattle.fleet_model.specs.declared.program.AgentProgram.{AgentProgram}
-use Rattle.fleet_model.specs.Program.{Program, AreAwaits, total_moves}
-use Rattle.fleet_model.proofs.OnePass.{AwaitsFrom, AgentsFrom, awaits_from, any_begins}
-use Rattle.fleet_text.specs.Steps.{◌>>=◌, ◌>>◌, fault_if}
-use Rattle.fleet_code.specs.declared.format.Version.{Version}
-use Rattle.fleet_code.specs.declared.format.Version.TheVariants.{One, Two}
-use Rattle.fleet_code.specs.declared.fault.LoadFault.{LoadFault}
-use Rattle.fleet_code.specs.declared.fault.LoadFault.TheVariants.{OutOfMemory, Magic, Truncated, AgentCount, Total, Opcode, AwaitAgent, AwaitOrder, AwaitCount, Trailing}
-use Rattle.fleet_code.specs.Spelling.{magic, two_bytes, count as count_of, count_len, most_count, most_moves, cell, opcode, has_opcode, await, action, agent, IsSpellable, AreSpellable, IsSpellableAgent, CanSpell}
-use Rattle.fleet_code.specs.Reading.{Field, magic_at, number_at, count_from, cell_from, await_at, stay_in, step_at, action_at, actions_at, agent_at, agents_at, program_as}
-use Rattle.fleet_code.specs.LoadFaults.{HasHead, IsOffset, ReachesAgent, ReachesAction, ReachesOpcode, ReachesAwait, ReachesOrder, ReachesCount, EndsWithin, IsFirstFaultIn}
+use Rattle.fleet_code.proofs.Words.{◌≡◌, ◌≢◌, ℕ, zero, suc, ◌+◌, ◌-◌, ◌≤◌, ◌<◌, ◌||◌, Bool, true, false, ltb, leb, eqb, List, [], ◌∷◌, ◌++◌, length, All, None, Result, Ok, Err, refl, ap, ◌∙◌, append_assoc, arith, inl, inr, ◌⊎◌, IsTrue, flat_map, or_left, or_right, or_from, lt-ltb, le-ltb, le-leb, lt-leb, ne_eqb, eq-eqb, length-append, All-head, All-tail, flat_map-cons, sum_by-cons, North, East, South, West, Step, Go, Dwell, Await, Action, AgentProgram, Program, AreAwaits, total_moves, AwaitsFrom, AgentsFrom, awaits_from, any_begins, ◌>>=◌, ◌>>◌, fault_if, Version, One, Two, LoadFault, OutOfMemory, Truncated, AgentCount, Total, AwaitAgent, AwaitOrder, AwaitCount, Trailing, magic, two_bytes, count_len, most_count, most_moves, cell, opcode, has_opcode, agent, IsSpellable, AreSpellable, IsSpellableAgent, CanSpell, Field, magic_at, number_at, count_from, cell_from, await_at, stay_in, step_at, action_at, actions_at, agent_at, agents_at, program_as, HasHead, IsOffset, ReachesAgent, ReachesAction, ReachesOpcode, ReachesAwait, ReachesOrder, ReachesCount, EndsWithin, IsFirstFaultIn, MAX_AGENTS, MAX_MOVES_IN_ALL}
+use Rattle.fleet_code.specs.declared.fault.LoadFault.TheVariants.{Magic, Opcode}
+use Rattle.fleet_code.specs.Spelling.{count as count_of, await, action}
 use Rattle.fleet_code.proofs.Parts.{number_again, count_again, cell_again, await_again}
 use Rattle.fleet_code.proofs.RoundTrip.{with_await, move_has, action_again, agent_again, agents_again, regroup_three, after_count, after_start, after_agents, after_agent_count}
 use Rattle.fleet_code.proofs.Awaited.{least_after, from_below, below_some}
 use Rattle.fleet_code.proofs.Reached.{from_first, from_each}
 use Rattle.fleet_code.proofs.FirstFaults.{magic_read, magic_ends, magic_differs}
-use Rattle.fleet_model.specs.declared.limits.TheConstants.{MAX_AGENTS, MAX_MOVES_IN_ALL}
 
 -- a step that fails fails what it begins
 pub fails_with : {A B : Type 0} (r : Result A LoadFault) (g : A → Result B LoadFault) (f : LoadFault) → r ≡ Err f → (r >>= g) ≡ Err f

@@ -1,20 +1,6 @@
 -- What holds of both versions: bytes have the magic of one at most, and so what is known of each is known of both.
-use Rattle.std.proofs.Common.{◌≡◌, ◌≢◌, ℕ, ◌<◌, Bool, true, false, List, [], ◌∷◌, ◌++◌, length, get_or, All, ◌⊎◌, Ok, Err, refl, sym, ap, subst, ◌∙◌, arith, inl, inr}
-use Rattle.std.specs.Prelude.{nat_eq}
-use Rattle.std.specs.List.{starts_with}
-use Rattle.std.proofs.lemmas.List.{append-nil, get_or_append_left}
-use Rattle.fleet_model.specs.Program.{Program, IsWellFormed}
-use Rattle.fleet_text.proofs.StepLaws.{err_is, ok_err, ok_is, result_cases}
-use Rattle.fleet_code.specs.declared.fault.LoadFault.{LoadFault}
-use Rattle.fleet_code.specs.declared.fault.LoadFault.TheVariants.{OutOfMemory, Magic, Truncated, AgentCount, Total, Opcode, AwaitAgent, AwaitOrder, AwaitCount, Trailing}
-use Rattle.fleet_code.specs.declared.format.Version.{Version}
-use Rattle.fleet_code.specs.declared.format.Version.TheVariants.{One, Two}
-use Rattle.fleet_code.specs.Spelling.{magic, spelling, CanSpell, SpellsIn, Spells, SpellsNothing}
-use Rattle.fleet_text.specs.Steps.{◌>>=◌}
-use Rattle.std.proofs.lemmas.Bool.Decides.{Decides-eqb}
-use Rattle.std.proofs.lemmas.Slice.Eq.{starts_is}
-use Rattle.fleet_code.specs.Reading.{number_at, magic_at, program_as, version_in, program_at}
-use Rattle.fleet_code.specs.LoadFaults.{IsWithoutMagic, IsFirstFaultIn, IsFirstLoadFault}
+use Rattle.fleet_code.proofs.Words.{◌≡◌, ◌≢◌, ℕ, ◌<◌, Bool, true, false, List, [], ◌∷◌, ◌++◌, length, get_or, All, ◌⊎◌, Ok, Err, refl, sym, ap, subst, ◌∙◌, arith, inl, inr, nat_eq, starts_with, append-nil, get_or_append_left, Program, IsWellFormed, err_is, ok_err, ok_is, result_cases, LoadFault, OutOfMemory, Truncated, AgentCount, Total, AwaitAgent, AwaitOrder, AwaitCount, Trailing, Version, One, Two, magic, spelling, CanSpell, SpellsIn, Spells, SpellsNothing, ◌>>=◌, Decides-eqb, starts_is, number_at, magic_at, program_as, version_in, program_at, IsWithoutMagic, IsFirstFaultIn, IsFirstLoadFault}
+use Rattle.fleet_code.specs.declared.fault.LoadFault.TheVariants.{Magic, Opcode}
 use Rattle.fleet_code.specs.Laws.{NoneBeginsAnother, OneSpellingEach, OneProgramEach, BeginningsAreTruncated, FaultsStay}
 use Rattle.fleet_code.proofs.Parts.{IsBytes, IsBytes-from_All}
 use Rattle.fleet_code.proofs.RoundTrip.{after_agent_count, program_takes, program_again, none_begins_in, one_spelling_each, spells_own}

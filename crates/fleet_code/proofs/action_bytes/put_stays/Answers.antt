@@ -1,7 +1,4 @@
-use Rattle.std.proofs.Common.{◌++◌, ◌∷◌, [], replicate, sym, ap, ◌∙◌, append_assoc}
-use Rattle.std.proofs.lemmas.Grind.{replicate_next}
-use Rattle.fleet_model.specs.declared.geometry.Step.TheVariants.{Dwell}
-use Rattle.fleet_code.specs.Spelling.{opcode}
+use Rattle.fleet_code.proofs.Words.{◌++◌, ◌∷◌, [], replicate, sym, ap, ◌∙◌, append_assoc, replicate_next, Dwell, opcode}
 use Rattle.fleet_code.proofs.action_bytes.put_stays.Goals as goal
 
 pub loop-preserved : goal.loop-preserved

@@ -1,7 +1,4 @@
-use Rattle.std.proofs.Common.{◌+◌, ◌∷◌, [], ◌++◌, refl, arith}
-use Rattle.fleet_code.specs.declared.format.Version.TheVariants.{Two}
-use Rattle.fleet_code.specs.Spelling.{two_bytes, count}
-use Rattle.fleet_code.specs.Offsets.{StandsAt}
+use Rattle.fleet_code.proofs.Words.{◌+◌, ◌∷◌, [], ◌++◌, refl, arith, Two, two_bytes, count, StandsAt}
 use Rattle.fleet_code.proofs.InPlace.{front_stands, back_stands}
 use Rattle.fleet_code.proofs.code_view.await_in.Goals as goal
 

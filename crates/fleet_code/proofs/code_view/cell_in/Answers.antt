@@ -1,5 +1,4 @@
-use Rattle.std.proofs.Common.{arith, refl}
-use Rattle.fleet_code.specs.Spelling.{two_bytes}
+use Rattle.fleet_code.proofs.Words.{arith, refl, two_bytes}
 use Rattle.fleet_code.proofs.InPlace.{front_stands, back_stands}
 use Rattle.fleet_code.proofs.code_view.cell_in.Goals as goal
 

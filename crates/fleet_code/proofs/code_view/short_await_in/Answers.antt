@@ -1,5 +1,4 @@
-use Rattle.std.proofs.Common.{◌+◌, ◌*◌, sym, subst, arith, List, ℕ}
-use Rattle.fleet_code.specs.Offsets.{StandsAt}
+use Rattle.fleet_code.proofs.Words.{◌+◌, ◌*◌, sym, subst, arith, List, ℕ, StandsAt}
 use Rattle.fleet_code.proofs.InPlace.{both_numbers, both_parts}
 use Rattle.fleet_code.proofs.code_view.short_await_in.Goals as goal
 

@@ -1,10 +1,5 @@
-use Rattle.std.proofs.Common.{◌≡◌, ◌∙◌, ◌↔◌, IsTrue, ap, subst, sym, arith, Ok}
-use Rattle.fleet_model.specs.Program.{Program, NeverStays}
+use Rattle.fleet_code.proofs.Words.{◌≡◌, ◌∙◌, ◌↔◌, IsTrue, ap, subst, sym, arith, Ok, Program, NeverStays, err_from_is_err_and, SpellsIn, program_in, program_at}
 use Rattle.fleet_code.proofs.InPlace.{view_is, program_found}
-use Rattle.std.proofs.lemmas.Result.{err_from_is_err_and}
-use Rattle.fleet_code.specs.Spelling.{SpellsIn}
-use Rattle.fleet_code.specs.Offsets.{program_in}
-use Rattle.fleet_code.specs.Reading.{program_at}
 use Rattle.fleet_code.proofs.Versions.{program_takes_at, program_again_at, refused_spells_nothing, is_first_at}
 use Rattle.fleet_code.proofs.code_view.view.Goals as goal
 

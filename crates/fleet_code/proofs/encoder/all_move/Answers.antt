@@ -1,6 +1,4 @@
-use Rattle.std.proofs.Common.{◌<◌, ◌≡◌, ◌∙◌, length, refl, sym, subst, arith, inl, inr}
-use Rattle.std.proofs.lemmas.Bool.{cases_lt, false≢true}
-use Rattle.fleet_code.specs.Stays.{MovesAlways}
+use Rattle.fleet_code.proofs.Words.{◌<◌, ◌≡◌, ◌∙◌, length, refl, sym, subst, arith, inl, inr, cases_lt, false≢true, MovesAlways}
 use Rattle.fleet_code.proofs.Stays.{none_stays}
 use Rattle.fleet_code.proofs.encoder.all_move.Goals as goal
 

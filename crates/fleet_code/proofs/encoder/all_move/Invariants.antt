@@ -1,5 +1,4 @@
-use Rattle.std.proofs.Common.{◌<◌, ℕ}
-use Rattle.fleet_code.specs.Stays.{MovesAlways}
+use Rattle.fleet_code.proofs.Words.{◌<◌, ℕ, MovesAlways}
 use Rattle.fleet_code.proofs.encoder.all_move.Given as goal
 
 abbrev pub invariant-loop-i : goal.invariant-loop-i

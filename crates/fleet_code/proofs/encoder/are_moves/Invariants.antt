@@ -1,8 +1,4 @@
-use Rattle.std.proofs.Common.{◌≡◌, ◌≤◌, ℕ}
-use Rattle.std.specs.Prelude.{Some, IsTrue}
-use Rattle.fleet_model.specs.declared.geometry.Step.{Step}
-use Rattle.fleet_model.specs.Geometry.{is_move}
-use Rattle.fleet_model.specs.Program.{step_of}
+use Rattle.fleet_code.proofs.Words.{◌≡◌, ◌≤◌, ℕ, Some, IsTrue, Step, is_move, step_of}
 use Rattle.fleet_code.proofs.encoder.are_moves.Given as goal
 
 abbrev pub invariant-loop-finished : goal.invariant-loop-finished

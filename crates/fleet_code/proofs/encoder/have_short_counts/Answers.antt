@@ -1,10 +1,5 @@
-use Rattle.std.proofs.Common.{◌<◌, ◌≤◌, ◌∙◌, List, All, length, refl, sym, arith}
-use Rattle.std.proofs.lemmas.Bool.{false≢true}
-use Rattle.std.proofs.lemmas.List.{take_all}
-use Rattle.fleet_model.specs.declared.program.Action.{Action}
-use Rattle.fleet_model.specs.declared.program.Await.{Await}
+use Rattle.fleet_code.proofs.Words.{◌<◌, ◌≤◌, ◌∙◌, List, All, length, refl, sym, arith, false≢true, take_all, Action, Await, MAX_AWAIT_V1}
 use Rattle.fleet_model.proofs.ActionRows.{all_at, all_more}
-use Rattle.fleet_model.specs.declared.limits.TheConstants.{MAX_AWAIT_V1}
 use Rattle.fleet_code.proofs.encoder.have_short_counts.Goals as goal
 
 -- the counts fit version 1

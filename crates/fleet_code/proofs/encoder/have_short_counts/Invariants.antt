@@ -1,5 +1,4 @@
-use Rattle.std.proofs.Common.{◌≤◌, All, take}
-use Rattle.fleet_model.specs.declared.limits.TheConstants.{MAX_AWAIT_V1}
+use Rattle.fleet_code.proofs.Words.{◌≤◌, All, take, MAX_AWAIT_V1}
 use Rattle.fleet_code.proofs.encoder.have_short_counts.Given as goal
 
 abbrev pub invariant-loop-k : goal.invariant-loop-k

@@ -1,7 +1,4 @@
-use Rattle.std.proofs.Common.{◌+◌, arith}
-use Rattle.std.proofs.lemmas.Option.{slice_get_within}
-use Rattle.fleet_model.specs.Program.{awaits_of}
-use Rattle.fleet_model.proofs.Totals.{few_awaits_of}
+use Rattle.fleet_code.proofs.Words.{◌+◌, arith, slice_get_within, awaits_of, few_awaits_of}
 use Rattle.fleet_code.proofs.encoder.next_step.Goals as goal
 
 pub instructions-preserved : goal.instructions-preserved

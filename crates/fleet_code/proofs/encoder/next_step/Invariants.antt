@@ -1,5 +1,4 @@
-use Rattle.std.proofs.Common.{◌≡◌, ◌≤◌, ◌+◌, ◌-◌, length}
-use Rattle.fleet_model.specs.Program.{awaits_of}
+use Rattle.fleet_code.proofs.Words.{◌≡◌, ◌≤◌, ◌+◌, ◌-◌, length, awaits_of}
 use Rattle.fleet_code.proofs.encoder.next_step.Given as goal
 
 abbrev pub invariant-instructions : goal.invariant-instructions

@@ -1,7 +1,5 @@
-use Rattle.std.proofs.Common.{◌++◌, ◌∷◌, [], ◌∙◌, List, ℕ, ap, append_assoc}
-use Rattle.std.specs.List.{flat_map}
-use Rattle.std.proofs.lemmas.Result.{on_ok_weaker}
-use Rattle.fleet_code.specs.Spelling.{opcode, await}
+use Rattle.fleet_code.proofs.Words.{◌++◌, ◌∷◌, [], ◌∙◌, List, ℕ, ap, append_assoc, flat_map, on_ok_weaker, opcode}
+use Rattle.fleet_code.specs.Spelling.{await}
 use Rattle.fleet_code.proofs.encoder.put_action.Goals as goal
 
 pub returns : goal.returns

@@ -1,9 +1,6 @@
-use Rattle.std.proofs.Common.{◌<◌, ◌∙◌, length, sym, subst, arith}
-use Rattle.std.proofs.lemmas.List.Elements.{All-get_or}
-use Rattle.std.proofs.lemmas.Option.{get_or_from_slice_get}
-use Rattle.fleet_model.specs.declared.program.Action.{Action}
+use Rattle.fleet_code.proofs.Words.{◌<◌, ◌∙◌, length, sym, subst, arith, All-get_or, get_or_from_slice_get, Action, IsSpellable}
 use Rattle.fleet_model.proofs.ActionRows.{action_is}
-use Rattle.fleet_code.specs.Spelling.{IsSpellable, action}
+use Rattle.fleet_code.specs.Spelling.{action}
 use Rattle.fleet_code.proofs.Written.{written_more, written_all}
 use Rattle.fleet_code.proofs.encoder.put_actions.Goals as goal
 

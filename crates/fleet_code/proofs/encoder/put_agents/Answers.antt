@@ -1,5 +1,4 @@
-use Rattle.std.proofs.Common.{◌∙◌, sym, subst}
-use Rattle.fleet_code.specs.Spelling.{agent, IsSpellableAgent}
+use Rattle.fleet_code.proofs.Words.{◌∙◌, sym, subst, agent, IsSpellableAgent}
 use Rattle.fleet_code.proofs.Written.{written_more, written_all}
 use Rattle.fleet_code.proofs.encoder.put_agents.Goals as goal
 

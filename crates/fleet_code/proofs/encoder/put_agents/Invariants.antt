@@ -1,6 +1,4 @@
-use Rattle.std.proofs.Common.{◌≡◌, ◌++◌, take}
-use Rattle.std.specs.List.{flat_map}
-use Rattle.fleet_code.specs.Spelling.{agent}
+use Rattle.fleet_code.proofs.Words.{◌≡◌, ◌++◌, take, flat_map, agent}
 use Rattle.fleet_code.proofs.encoder.put_agents.Given as goal
 
 abbrev pub invariant-loop-agent : goal.invariant-loop-agent

@@ -1,6 +1,4 @@
-use Rattle.std.proofs.Common.{◌∙◌, get_or}
-use Rattle.std.proofs.lemmas.List.{get_or_default}
-use Rattle.fleet_model.specs.declared.program.Await.{Await}
+use Rattle.fleet_code.proofs.Words.{◌∙◌, get_or, get_or_default, Await}
 use Rattle.fleet_code.specs.Spelling.{await}
 use Rattle.fleet_code.proofs.Written.{written_more, written_all}
 use Rattle.fleet_code.proofs.encoder.put_awaits.Goals as goal

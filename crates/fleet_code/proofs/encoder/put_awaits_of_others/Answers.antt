@@ -1,9 +1,5 @@
-use Rattle.std.proofs.Common.{◌≤◌, ◌==◌, ◌++◌, ◌∙◌, not, filter, get_or, ap, sym}
-use Rattle.std.proofs.lemmas.Bool.{ne_eqb, eq-eqb}
-use Rattle.std.proofs.lemmas.List.{get_or_default, take_all, append-nil}
-use Rattle.std.specs.List.{flat_map}
-use Rattle.fleet_model.specs.declared.program.Await.{Await}
-use Rattle.fleet_code.specs.Spelling.{most_count, await}
+use Rattle.fleet_code.proofs.Words.{◌≤◌, ◌==◌, ◌++◌, ◌∙◌, not, filter, get_or, ap, sym, ne_eqb, eq-eqb, get_or_default, take_all, append-nil, flat_map, Await, most_count}
+use Rattle.fleet_code.specs.Spelling.{await}
 use Rattle.fleet_code.proofs.Written.{passing_holds, passed_more}
 use Rattle.fleet_code.proofs.encoder.put_awaits_of_others.Goals as goal
 use Rattle.fleet_code.proofs.encoder.put_awaits_of_others.Goals.{then-one-own+in_ok-put_await, else-one-own}

@@ -1,5 +1,4 @@
-use Rattle.std.proofs.Common.{◌≡◌, ◌++◌, ◌==◌, not, filter, take}
-use Rattle.std.specs.List.{flat_map}
+use Rattle.fleet_code.proofs.Words.{◌≡◌, ◌++◌, ◌==◌, not, filter, take, flat_map}
 use Rattle.fleet_code.specs.Spelling.{await}
 use Rattle.fleet_code.proofs.encoder.put_awaits_of_others.Given as goal
 

@@ -1,8 +1,4 @@
-use Rattle.std.proofs.Common.{◌≡◌, ◌∷◌, [], ◌+◌, ◌∙◌, ℕ, List, length, vec_len, take, sym, ap, subst, arith, rules}
-use Rattle.std.proofs.lemmas.List.{take_all}
-use Rattle.std.proofs.lemmas.Result.{err_from_is_err_and}
-use Rattle.fleet_code.specs.Reading.{actions_at}
-use Rattle.fleet_code.specs.Offsets.{with_ends}
+use Rattle.fleet_code.proofs.Words.{◌≡◌, ◌∷◌, [], ◌+◌, ◌∙◌, ℕ, List, length, vec_len, take, sym, ap, subst, arith, rules, take_all, err_from_is_err_and, actions_at, with_ends}
 use Rattle.fleet_code.proofs.OffsetLoop.{EndsGoOn, ends_found, ends_failed, end_goes_on, end_fails, ends_done, ends_begin, one_filled}
 use Rattle.fleet_code.proofs.offsets.actions_after.Goals as goal
 

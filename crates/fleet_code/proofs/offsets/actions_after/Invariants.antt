@@ -1,6 +1,4 @@
-use Rattle.std.proofs.Common.{◌≡◌, ◌≤◌, ◌+◌, ◌*◌, [], ◌∷◌, length, vec_len, min, take}
-use Rattle.fleet_code.specs.Reading.{actions_at}
-use Rattle.fleet_code.specs.Offsets.{with_ends}
+use Rattle.fleet_code.proofs.Words.{◌≡◌, ◌≤◌, ◌+◌, ◌*◌, [], ◌∷◌, length, vec_len, min, take, actions_at, with_ends}
 use Rattle.fleet_code.proofs.OffsetLoop.{EndsGoOn}
 use Rattle.fleet_code.proofs.offsets.actions_after.Given as goal
 

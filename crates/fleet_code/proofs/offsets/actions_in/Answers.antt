@@ -1,5 +1,4 @@
-use Rattle.std.proofs.Common.{◌+◌, drop, ◌∙◌, refl}
-use Rattle.std.proofs.lemmas.List.FromFn.{length-range_with_len}
+use Rattle.fleet_code.proofs.Words.{◌+◌, drop, ◌∙◌, refl, length-range_with_len}
 use Rattle.fleet_code.proofs.Bare.{bare_actions, bare_offsets}
 use Rattle.fleet_code.proofs.offsets.actions_in.Goals as goal
 

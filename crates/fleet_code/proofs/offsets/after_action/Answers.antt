@@ -1,6 +1,4 @@
-use Rattle.std.proofs.Common.{◌++◌, ◌∷◌, [], sym, ◌∙◌, arith, refl, length, length-append, ℕ, List}
-use Rattle.fleet_model.specs.declared.program.Action.{Action}
-use Rattle.std.proofs.lemmas.Result.{err_from_is_err_and}
+use Rattle.fleet_code.proofs.Words.{◌++◌, ◌∷◌, [], sym, ◌∙◌, arith, refl, length, length-append, ℕ, List, Action, err_from_is_err_and}
 use Rattle.fleet_code.proofs.ActionLoop.{action_begins, step_ends, other_opcode, await_goes_on, await_fails, action_lacks}
 use Rattle.fleet_code.proofs.OffsetLoop.{no_step, action_length}
 use Rattle.fleet_code.proofs.offsets.after_action.Goals as goal

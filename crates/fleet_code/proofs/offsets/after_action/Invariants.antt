@@ -1,6 +1,4 @@
-use Rattle.std.proofs.Common.{◌≡◌, ◌≤◌, ◌+◌, List, length}
-use Rattle.fleet_model.specs.declared.program.Await.{Await}
-use Rattle.fleet_code.specs.Reading.{action_at}
+use Rattle.fleet_code.proofs.Words.{◌≡◌, ◌≤◌, ◌+◌, List, length, Await, action_at}
 use Rattle.fleet_code.proofs.ActionLoop.{ActionGoesOn}
 use Rattle.fleet_code.proofs.offsets.after_action.Given as goal
 

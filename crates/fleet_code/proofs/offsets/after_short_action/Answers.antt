@@ -1,5 +1,4 @@
-use Rattle.std.proofs.Common.{arith}
-use Rattle.std.proofs.lemmas.List.{take_rest}
+use Rattle.fleet_code.proofs.Words.{arith, take_rest}
 use Rattle.fleet_code.proofs.ShortAction.{short_action, reads_one_await}
 use Rattle.fleet_code.proofs.offsets.after_short_action.Goals.{then-opcode-ne-AWAIT-via-then-opcode-ne-AWAIT, then-opcode-ne-AWAIT-via-else-opcode-ne-AWAIT+then-step-gt-LAST_MOVE, else-agent-head-via-then-agent-head+then-agent-own+else-count-ne0, else-agent-head-via-then-agent-head+else-agent-own, else-agent-head-via-else-agent-head}
 use Rattle.fleet_code.proofs.offsets.after_short_action.Goals as goal

@@ -1,7 +1,4 @@
-use Rattle.std.proofs.Common.{◌≡◌, ◌+◌, ◌-◌, ℕ, List, length, arith, refl}
-use Rattle.std.proofs.lemmas.Result.{err_from_is_err_and}
-use Rattle.fleet_model.specs.declared.program.AgentProgram.{AgentProgram}
-use Rattle.fleet_code.specs.Offsets.{head_len}
+use Rattle.fleet_code.proofs.Words.{◌≡◌, ◌+◌, ◌-◌, ℕ, List, length, arith, refl, err_from_is_err_and, AgentProgram, head_len}
 use Rattle.fleet_code.proofs.Heads.{agent_head_fails, actions_fail, agent_is}
 use Rattle.fleet_code.proofs.OffsetLoop.{agent_length}
 use Rattle.fleet_code.proofs.offsets.agent_after.Goals as goal

@@ -1,7 +1,5 @@
-use Rattle.std.proofs.Common.{◌++◌, ◌∷◌, [], ◌≡◌, length, ap, arith, rules}
-use Rattle.std.proofs.lemmas.Result.{err_from_is_err_and}
+use Rattle.fleet_code.proofs.Words.{◌++◌, ◌∷◌, [], ◌≡◌, length, ap, arith, rules, err_from_is_err_and, PartOffsets}
 use Rattle.fleet_code.proofs.OffsetLoop.{parts_found, parts_failed, part_goes_on, part_fails, parts_done, ends_length}
-use Rattle.fleet_code.specs.Offsets.{PartOffsets}
 use Rattle.fleet_code.proofs.offsets.agents_after.Goals as goal
 
 pub returns-in_err-part-clause-value : goal.returns-in_err-part-clause-value

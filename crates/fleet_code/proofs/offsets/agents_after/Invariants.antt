@@ -1,6 +1,4 @@
-use Rattle.std.proofs.Common.{◌≤◌, ◌-◌, [], length}
-use Rattle.fleet_code.specs.Reading.{agents_at}
-use Rattle.fleet_code.specs.Offsets.{with_parts}
+use Rattle.fleet_code.proofs.Words.{◌≤◌, ◌-◌, [], length, agents_at, with_parts}
 use Rattle.fleet_code.proofs.OffsetLoop.{PartsGoOn}
 use Rattle.fleet_code.proofs.offsets.agents_after.Given as goal
 

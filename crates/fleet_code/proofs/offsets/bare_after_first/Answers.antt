@@ -1,8 +1,4 @@
-use Rattle.std.proofs.Common.{◌≡◌, ◌-◌, ◌∷◌, ℕ, suc, List, Ok, sym, ap, ◌∙◌, subst, arith}
-use Rattle.std.specs.List.{range_with_len}
-use Rattle.std.proofs.lemmas.List.FromFn.{length-range_with_len}
-use Rattle.fleet_code.specs.Reading.{actions_at}
-use Rattle.fleet_code.specs.Offsets.{opcodes}
+use Rattle.fleet_code.proofs.Words.{◌≡◌, ◌-◌, ◌∷◌, ℕ, suc, List, Ok, sym, ap, ◌∙◌, subst, arith, range_with_len, length-range_with_len, actions_at, opcodes}
 use Rattle.fleet_code.proofs.Bare.{bare_later}
 use Rattle.fleet_code.proofs.offsets.bare_after_first.Goals as goal
 

@@ -1,5 +1,4 @@
-use Rattle.std.proofs.Common.{arith}
-use Rattle.std.proofs.lemmas.List.{get_or_default}
+use Rattle.fleet_code.proofs.Words.{arith, get_or_default}
 use Rattle.fleet_code.proofs.offsets.even_from.Goals as goal
 
 pub returns-then-is_first-clause-fit : goal.returns-then-is_first-clause-fit

@@ -1,5 +1,4 @@
-use Rattle.std.proofs.Common.{◌≡◌, ◌+◌, ◌-◌, ℕ, length, slice_index_or, ap, subst, arith}
-use Rattle.fleet_code.specs.Offsets.{IsEvenFrom}
+use Rattle.fleet_code.proofs.Words.{◌≡◌, ◌+◌, ◌-◌, ℕ, length, slice_index_or, ap, subst, arith, IsEvenFrom}
 use Rattle.fleet_code.proofs.Even.{even_more}
 use Rattle.fleet_code.proofs.offsets.first_even.Goals as goal
 

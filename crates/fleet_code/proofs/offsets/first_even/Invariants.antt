@@ -1,5 +1,4 @@
-use Rattle.std.proofs.Common.{◌-◌, length}
-use Rattle.fleet_code.specs.Offsets.{IsEvenFrom}
+use Rattle.fleet_code.proofs.Words.{◌-◌, length, IsEvenFrom}
 use Rattle.fleet_code.proofs.offsets.first_even.Given as goal
 
 abbrev pub invariant-loop-back : goal.invariant-loop-back

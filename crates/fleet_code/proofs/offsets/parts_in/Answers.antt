@@ -1,6 +1,4 @@
-use Rattle.std.proofs.Common.{◌≡◌, ◌≢◌, ◌-◌, arith, ap, length, sym, ◌∙◌}
-use Rattle.std.proofs.lemmas.Bool.{eqb-true, eqb-false}
-use Rattle.std.proofs.lemmas.Result.{err_from_is_err_and}
+use Rattle.fleet_code.proofs.Words.{◌≡◌, ◌≢◌, ◌-◌, arith, ap, length, sym, ◌∙◌, eqb-true, eqb-false, err_from_is_err_and}
 use Rattle.fleet_code.proofs.Heads.{head_fails, agents_fail, program_is, bytes_follow}
 use Rattle.fleet_code.proofs.offsets.parts_in.Goals as goal
 

@@ -1,7 +1,4 @@
-use Rattle.std.proofs.Common.{◌∙◌, ◌++◌, ap, List, ℕ, replicate}
-use Rattle.std.proofs.lemmas.Result.{on_ok_weaker}
-use Rattle.fleet_model.specs.declared.geometry.Step.TheVariants.{Dwell}
-use Rattle.fleet_code.specs.Spelling.{opcode}
+use Rattle.fleet_code.proofs.Words.{◌∙◌, ◌++◌, ap, List, ℕ, replicate, on_ok_weaker, Dwell, opcode}
 use Rattle.fleet_code.proofs.Written.{part_written}
 use Rattle.fleet_code.proofs.action_bytes.ActionBytes.put_agent.Goals as goal
 

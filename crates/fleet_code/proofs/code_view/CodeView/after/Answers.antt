@@ -1,5 +1,4 @@
-use Rattle.std.proofs.Common.{◌≡◌, ◌*◌, ◌∙◌, ap, arith, ℕ}
-use Rattle.fleet_code.specs.Offsets.{Viewed, await_len}
+use Rattle.fleet_code.proofs.Words.{◌≡◌, ◌*◌, ◌∙◌, ap, arith, ℕ, Viewed, await_len}
 use Rattle.fleet_code.proofs.InPlace.{after_is}
 use Rattle.fleet_code.proofs.code_view.CodeView.after.Goals as goal
 

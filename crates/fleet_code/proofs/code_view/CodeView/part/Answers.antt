@@ -1,6 +1,4 @@
-use Rattle.std.proofs.Common.{◌∙◌, arith}
-use Rattle.std.proofs.lemmas.Option.{get_or_from_slice_get}
-use Rattle.fleet_code.specs.Offsets.{part_at}
+use Rattle.fleet_code.proofs.Words.{◌∙◌, arith, get_or_from_slice_get, part_at}
 use Rattle.fleet_code.proofs.InPlace.{viewed, part_is, as_many_parts, end_within}
 use Rattle.fleet_code.proofs.code_view.CodeView.part.Goals as goal
 

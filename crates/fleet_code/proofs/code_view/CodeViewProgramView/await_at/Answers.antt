@@ -1,8 +1,5 @@
-use Rattle.std.proofs.Common.{◌+◌, ◌-◌, ◌*◌, ◌≡◌, ◌≤◌, ◌∙◌, sym, subst, ap, arith, Some, ℕ}
-use Rattle.fleet_model.specs.declared.program.Await.{Await}
-use Rattle.fleet_code.specs.declared.format.Version.{Version}
-use Rattle.fleet_code.specs.Spelling.{await, most_count}
-use Rattle.fleet_code.specs.Offsets.{Viewed, StandsAt, await_len, end_of}
+use Rattle.fleet_code.proofs.Words.{◌+◌, ◌-◌, ◌*◌, ◌≡◌, ◌≤◌, ◌∙◌, sym, subst, ap, arith, Some, ℕ, Await, Version, most_count, Viewed, StandsAt, await_len, end_of}
+use Rattle.fleet_code.specs.Spelling.{await}
 use Rattle.fleet_code.proofs.InPlace.{viewed, await_read, await_long, stands_within}
 use Rattle.fleet_code.proofs.code_view.CodeViewProgramView.await_at.Goals as goal
 

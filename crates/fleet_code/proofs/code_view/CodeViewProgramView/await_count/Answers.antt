@@ -1,5 +1,4 @@
-use Rattle.std.proofs.Common.{arith}
-use Rattle.fleet_model.proofs.Totals.{few_awaits_of}
+use Rattle.fleet_code.proofs.Words.{arith, few_awaits_of}
 use Rattle.fleet_code.proofs.InPlace.{own_awaits}
 use Rattle.fleet_code.proofs.code_view.CodeViewProgramView.await_count.Goals as goal
 

@@ -1,5 +1,4 @@
-use Rattle.std.proofs.Common.{◌+◌, ap, arith, ℕ}
-use Rattle.fleet_code.specs.Offsets.{after_opcodes}
+use Rattle.fleet_code.proofs.Words.{◌+◌, ap, arith, ℕ, after_opcodes}
 use Rattle.fleet_code.proofs.InPlace.{instruction_within}
 use Rattle.fleet_code.proofs.code_view.CodeViewProgramView.instruction.Goals as goal
 

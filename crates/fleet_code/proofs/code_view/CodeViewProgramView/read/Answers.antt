@@ -1,12 +1,5 @@
-use Rattle.std.proofs.Common.{◌≡◌, ◌≤◌, ◌∙◌, sym, subst, ap, refl, arith, inl, inr, Some, ℕ}
-use Rattle.std.specs.Prelude.{slice_index_or}
-use Rattle.std.proofs.lemmas.Option.{none-some}
-use Rattle.fleet_model.specs.declared.program.Await.{Await}
-use Rattle.fleet_model.specs.Program.{awaits_before}
-use Rattle.fleet_code.specs.declared.format.Version.{Version}
-use Rattle.fleet_code.specs.Spelling.{await, most_count}
-use Rattle.fleet_code.specs.Reading.{step_at}
-use Rattle.fleet_code.specs.Offsets.{Viewed, StandsAt, await_len}
+use Rattle.fleet_code.proofs.Words.{◌≡◌, ◌≤◌, ◌∙◌, sym, subst, ap, refl, arith, inl, inr, Some, ℕ, slice_index_or, none-some, Await, awaits_before, Version, most_count, step_at, Viewed, StandsAt, await_len}
+use Rattle.fleet_code.specs.Spelling.{await}
 use Rattle.fleet_code.proofs.InPlace.{viewed, instruction_read, step_after, step_no_await}
 use Rattle.fleet_code.proofs.code_view.CodeViewProgramView.read.Goals as goal
 

@@ -1,7 +1,4 @@
-use Rattle.std.proofs.Common.{arith}
-use Rattle.fleet_model.specs.Program.{start_of}
-use Rattle.fleet_code.specs.Spelling.{cell}
-use Rattle.fleet_code.specs.Offsets.{begin_of}
+use Rattle.fleet_code.proofs.Words.{arith, start_of, cell, begin_of}
 use Rattle.fleet_code.proofs.InPlace.{viewed, start_stands, stands_within}
 use Rattle.fleet_code.proofs.code_view.CodeViewProgramView.start.Goals as goal
 

@@ -1,11 +1,4 @@
-use Rattle.std.proofs.Common.{◌-◌, ◌∷◌, [], ◌∙◌, ◌≡◌, ap, sym, subst, arith, ℕ, Option}
-use Rattle.fleet_model.specs.declared.program.Action.{Action}
-use Rattle.std.specs.Prelude.{option_map, slice_index_or}
-use Rattle.std.proofs.lemmas.Option.{none-some}
-use Rattle.fleet_code.specs.Spelling.{opcode}
-use Rattle.fleet_code.specs.declared.format.Version.{Version}
-use Rattle.fleet_code.specs.Reading.{step_at}
-use Rattle.fleet_code.specs.Offsets.{Viewed, end_of}
+use Rattle.fleet_code.proofs.Words.{◌-◌, ◌∷◌, [], ◌∙◌, ◌≡◌, ap, sym, subst, arith, ℕ, Option, Action, option_map, slice_index_or, none-some, opcode, Version, step_at, Viewed, end_of}
 use Rattle.fleet_code.proofs.InPlace.{viewed, action_read, opcode_read, stands_within}
 use Rattle.fleet_code.proofs.code_view.CodeViewProgramView.step.Goals as goal
 

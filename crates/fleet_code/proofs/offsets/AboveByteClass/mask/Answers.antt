@@ -1,5 +1,4 @@
-use Rattle.std.proofs.Common.{◌%◌, ◌^◌, ltb, replicate, map, List, Bool, w8, ap, ◌∙◌, arith}
-use Rattle.std.proofs.lemmas.List.{length-map}
+use Rattle.fleet_code.proofs.Words.{◌%◌, ◌^◌, ltb, replicate, map, List, Bool, w8, ap, ◌∙◌, arith, length-map}
 use Rattle.std.proofs.lemmas.Simd.{zip2_splat_left, tops_compared, mask_l-mod}
 use Rattle.std.specs.Simd.Lanes.{mask_l}
 use Rattle.fleet_code.proofs.offsets.AboveByteClass.mask.Goals as goal

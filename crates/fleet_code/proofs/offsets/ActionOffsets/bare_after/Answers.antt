@@ -1,5 +1,4 @@
-use Rattle.std.proofs.Common.{◌≡◌, ◌++◌, ◌∷◌, [], ℕ, List, sym, ap, ◌∙◌, subst}
-use Rattle.fleet_code.specs.Offsets.{offsets_of, AreOffsets}
+use Rattle.fleet_code.proofs.Words.{◌≡◌, ◌++◌, ◌∷◌, [], ℕ, List, sym, ap, ◌∙◌, subst, offsets_of, AreOffsets}
 use Rattle.fleet_code.proofs.Even.{later_offsets, are_later_offsets}
 use Rattle.fleet_code.proofs.offsets.ActionOffsets.bare_after.Goals as goal
 

@@ -1,6 +1,4 @@
-use Rattle.std.proofs.Common.{◌≡◌, ◌+◌, ◌-◌, ◌*◌, ◌^◌, ◌<◌, ◌≤◌, ℕ, List, length, slice_index_or, ap, sym, ◌∙◌, arith}
-use Rattle.std.proofs.lemmas.List.{get_or_default}
-use Rattle.fleet_code.specs.Offsets.{offsets_of}
+use Rattle.fleet_code.proofs.Words.{◌≡◌, ◌+◌, ◌-◌, ◌*◌, ◌^◌, ◌<◌, ◌≤◌, ℕ, List, length, slice_index_or, ap, sym, ◌∙◌, arith, get_or_default, offsets_of}
 use Rattle.fleet_code.proofs.Even.{kept_at, further_at, none_kept}
 use Rattle.fleet_code.proofs.offsets.ActionOffsets.get.Goals as goal
 

@@ -1,5 +1,4 @@
-use Rattle.std.proofs.Common.{◌≡◌, ◌+◌, List, ℕ, ◌^◌, ◌<◌, length, take, ap, sym, ◌∙◌, subst}
-use Rattle.fleet_code.specs.Offsets.{offsets_of, AreOffsets, IsEvenFrom}
+use Rattle.fleet_code.proofs.Words.{◌≡◌, ◌+◌, List, ℕ, ◌^◌, ◌<◌, length, take, ap, sym, ◌∙◌, subst, offsets_of, AreOffsets, IsEvenFrom}
 use Rattle.fleet_code.proofs.Even.{offsets_are}
 use Rattle.fleet_code.proofs.offsets.ActionOffsets.of.Goals as goal
 

@@ -219,7 +219,7 @@ if has "${cc%% *}"; then
     $cc -shared -fPIC -o "$STREAMS" "$root/tests/streams.c" -ldl || failed=$((failed + 1))
     printf '%s\n' 0:1 '0:2 1:1' 1:2 > "$room/lines"
     check 'a program that holds break' 0 '' '' "{ head -c 28 examples/pair.program; printf '\\1\\20\\0\\0\\0\\2\\1'; } > unordered"
-    # 32 is a broken pipe; in the way 0 nothing is taken, and no error answered.
+    # 32 is a broken pipe, and 11 a write that would have to wait; in the way 0 nothing is taken, and no error answered.
     while IFS='|' read -r way line input words; do
         check "standard output is cut ($way): ${words:-no words}" 0 'each\n' '' "input=$input output_cut $way '$line' fleet $words"
     done <<EOF
@@ -230,10 +230,12 @@ $(sed '/|dispatch/d; s#|#|/dev/null|#; s/OUT OUT/tasks anew/; s/OUT/anew/; s/^/3
 32|file -|/dev/null|verify examples/pair.map examples/pair.scen unordered
 32|dispatch 5 Write|lines|dispatch $pair
 0|dispatch 5 Write|lines|dispatch $pair
+11|dispatch 5 Write|lines|dispatch $pair
 EOF
-    # 4 is an interrupted read, and 5 a failed one. The last report ends a dispatch, so nothing is read after it.
+    # 4 is an interrupted read, 5 a failed one, and 11 one that would have to wait. The last report ends a dispatch, so
+    # nothing is read after it.
     bytes=$(wc -c < "$room/examples/pair.hex" | tr -d ' ')
-    for way in 4 5; do
+    for way in 4 5 11; do
         check "standard input is cut ($way): no words" 0 "$bytes:\n" '' "input=examples/pair.hex input_cut $way fleet"
         check "standard input is cut ($way): dispatch" 0 '16: 16\n' '' "input=lines input_cut $way fleet dispatch $pair"
     done
@@ -263,6 +265,7 @@ EOF
     check 'a scenario and a program are left' 0 'agents 2\nmoves 3\nawaits 1\nbytes 34\n' '' "echo 0:1 > one && fleet rest $pair one tasks anew"
     check 'each of two OUTs is cut (28): rest' 0 "$(wc -c < "$room/tasks" | tr -d ' ') 3 file tasks\n34 3 file anew\n1 0 \n" '' \
         "files_cut 28 TAKES fleet rest $pair one tasks anew"
+    check '.. of two OUTs of one name the last one' 0 'agents 2\nmoves 3\nawaits 1\nbytes 34\n' '' "cp anew left && fleet rest $pair one same same && cmp same left"
     dead='--without 1:0,0 --map-out left --others-out others'
     check '.. and two more around a dead robot' 0 'agents 2\nmoves 3\nawaits 1\nbytes 34\n' '' "fleet rest $pair one tasks anew $dead"
     due=$(cd "$room" && for out in tasks left others anew; do echo "$(wc -c < $out) 3 file $out"; done | awk '{ printf "%s\\n", $0 }')

@@ -2,8 +2,8 @@
 // bytes as the variable ROOM says, one at a time, and standard input gives as many as REST says; the files that the
 // program opens take TAKES bytes and give GIVES, all together, and they and the folder FOLDER are put on the disk SYNCS
 // times. Then each answers the error whose number is in WAY, or, if that is 0, takes or gives nothing. With KILL the
-// program is killed as it writes to a file, or puts one on the disk, for the time of that number, counted from 1. The
-// file named by WRITES, if any, gets how often standard error was written to.
+// program is killed as it writes to a file, makes one shorter or puts one on the disk, for the time of that number,
+// counted from 1. The file named by WRITES, if any, gets how often standard error was written to.
 #define _GNU_SOURCE
 #include "counts.h"
 #include <dlfcn.h>
@@ -100,6 +100,16 @@ static int put_on_disk(const char *call, int file)
     if (!is_elsewhere(file) && times && synced++ >= atol(times))
         return failure();
     return ((int (*)(int))dlsym(RTLD_NEXT, call))(file);
+}
+
+// A file that may not be made shorter if SHRINKS is 0.
+int ftruncate(int file, off_t length)
+{
+    const char *times = getenv("SHRINKS");
+    kill_in_turn();
+    if (times && atol(times) == 0)
+        return failure();
+    return ((int (*)(int, off_t))dlsym(RTLD_NEXT, "ftruncate"))(file, length);
 }
 
 int fsync(int file)

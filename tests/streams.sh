@@ -196,16 +196,16 @@ for out in $outs; do cmp "due.$out" "$out" || exit; done
 cmp whole got && echo $((turn - 2))
 EOF
 
-# killed_log COMMAND..: the same of the log of a dispatch, which is put on the disk too. The next dispatch goes on after
-# it: in the end each report is in the log, and each order was given.
+# killed_log COMMAND..: the same of the log of a dispatch, which begins with a report without an end, and is put on the
+# disk too. The next dispatch goes on after it: in the end each report is in the log, and each order was given.
 script killed_log <<'EOF'
 #!/bin/sh
 turn=1 status=137
 exec 2> died
 "$@" < lines | grep '^go ' | sort > due
 while [ "$status" -eq 137 ]; do
-    rm -f cut.log
-    env KILL="$turn" TAKES=1000000 LD_PRELOAD="$STREAMS" "$@" --log cut.log < lines > got
+    printf 0: > cut.log
+    env KILL="$turn" TAKES=1000000 LD_PRELOAD="$STREAMS" "$@" --resume cut.log --log cut.log < lines > got
     status=$?
     head -c "$(wc -c < cut.log)" lines | cmp -s - cut.log || echo "$turn: not a front"
     tail -n "+$(($(wc -l < cut.log) + 1))" lines | "$@" --resume cut.log --log cut.log > rest || echo "$turn: status $?"
@@ -279,9 +279,12 @@ anew|compile examples/pair.map examples/pair.scen examples/pair.plan anew
 anew|thin $pair anew
 tasks anew left others|rest $pair one tasks anew $dead
 EOF
-    check 'a log of a process that is killed at each byte, and each time that it is put on the disk' 0 '20\n' '' "killed_log fleet dispatch $pair"
+    check 'a log of a process that is killed at each byte, and each time that it is cut or put on the disk' 0 '21\n' '' "killed_log fleet dispatch $pair"
     check 'a log is cut (28)' 0 '4 3 dispatch 8 LogWrite line 1\n8 3 dispatch 8 LogWrite line 2\n4 3 dispatch 8 LogWrite line 3\n1 0 \n' '' \
         "files_cut 28 TAKES sh -c 'rm -f cut.log; fleet dispatch $pair --log cut.log < lines'"
+
+    check 'a log without an end cannot be made shorter' 3 '' 'file log\n' \
+        "printf '0:1\n0:2' > log && cp log past && SHRINKS=0 WAY=5 LD_PRELOAD=$STREAMS fleet dispatch $pair --resume log --log log < /dev/null; status=\$?; cmp log past; exit \$status"
 
     # The folder of a log is put on the disk when the log is begun, which may fail, and then each report. 5 is an error
     # of the disk.

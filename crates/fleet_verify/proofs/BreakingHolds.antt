@@ -1,5 +1,5 @@
 -- Holds that bring two agents onto one cell: that there are such, and how they are found by counts.
-use Rattle.fleet_verify.proofs.Words.{◌≡◌, ℕ, suc, ◌+◌, ◌<◌, ◌≤◌, Bool, true, List, [], ◌∷◌, length, get_or, refl, ap₂, ◌∙◌, subst, arith, inl, inr, zero, false, ◌-◌, ◌++◌, sym, ap, slice_index, add-one, map, Contains, filter, ◌⊎◌, ◌==◌, ◌↔◌, nat_lt, nat_le, range_with_len, list_any, IsStrictlyIncreasing, AllPairs-from_increasing, IsStrictlyIncreasing-filter, length-range_with_len, get_or-range_with_len, cases_lt, cases_eq, eqb-true, eq-eqb, or_cases, or_left, or_right, cases_order, le-leb, leb-true, ltb-true, lt-ltb, and_parts, and_from, Place, ActionId, Visit, Program, moves, awaits_of, AreInRange, total_moves, count_at, place_at, Holds, is_held, is_among, opening, indices, run, Configuration, tick, IsDone, IsAction, Reaches, IsNumbering, DirectlyNeeds, awaited, next_move, IsVisitOf, entering, leaving, AreUnordered, IsVisit, IsNeededFor, IsHeldBack, AreBreakingHolds, MeetOn, IsPrepared, tick_agree, stays_to, Reaches-refl, Reaches-rises, Reaches-need, indices-more, filter-append, append-nil, map-append, get_or_past, get_or_append_left, get_or_push, length_push, ext_get_or, Await}
+use Rattle.fleet_verify.proofs.Words.{◌≡◌, ℕ, suc, ◌+◌, ◌<◌, ◌≤◌, Bool, true, List, [], ◌∷◌, length, get_or, refl, ap₂, ◌∙◌, subst, arith, inl, inr, zero, false, ◌-◌, ◌++◌, sym, ap, slice_index, add-one, map, Contains, filter, ◌⊎◌, ◌==◌, ◌↔◌, nat_lt, nat_le, range_with_len, list_any, IsStrictlyIncreasing, AllPairs-from_increasing, IsStrictlyIncreasing-filter, length-range_with_len, get_or-range_with_len, cases_lt, cases_eq, eqb-true, eq-eqb, or_cases, or_left, or_right, cases_order, le-leb, leb-true, ltb-true, lt-ltb, and_parts, and_from, Place, ActionId, Visit, Program, moves, awaits_of, AreInRange, total_moves, count_at, place_at, Holds, is_held, is_among, opening, indices, run, Configuration, tick, IsDone, IsAction, Reaches, IsNumbering, DirectlyNeeds, awaited, next_move, IsVisitOf, entering, leaving, AreUnordered, IsVisit, IsNeededFor, IsHeldBack, AreBreakingHolds, MeetOn, IsPrepared, tick_agree, stays_to, Reaches-refl, Reaches-rises, Reaches-need, indices-more, filter-append, append-nil, map-append, get_or_past, get_or_append_left, get_or_push, length_push, ext_get_or, Await, ◌≢◌, set, get_or-set_same, get_or-set_other}
 use Rattle.std.specs.Cmp.{both_ways}
 use Rattle.fleet_verify.proofs.Members.{filter_has, filter_from, contains_head, contains_later, contains_cases, contains_none}
 use Rattle.fleet_verify.proofs.Waiting.{Moves, step, IsReadyTo}
@@ -85,8 +85,11 @@ those_more test row i e b is passes = let t : test i ≡ true = sym is ∙ passe
 pub those_same : (test : ℕ → Bool) (row : List ℕ) (i : ℕ) → row ≡ those_below test i → (b : Bool) → b ≡ test i → b ≡ false → row ≡ those_below test (i + 1)
 those_same test row i e b is fails = let t : test i ≡ false = sym is ∙ fails in rw (indices-more i, filter-append, t) (e ∙ sym (append-nil (those_below test i)))
 
-pub tests_more : (test : ℕ → Bool) (flags : List Bool) (i : ℕ) → flags ≡ map test (indices i) → (b : Bool) → b ≡ test i → flags ++ b ∷ [] ≡ map test (indices (i + 1))
-tests_more test flags i e b is = rw (indices-more i, map-append, e, is) refl
+pub tested_more : (test : ℕ → Bool) (flags : List Bool) (i : ℕ) (b : Bool) → i < length flags → b ≡ test i → ((j : ℕ) → j < i → get_or flags j false ≡ test j) → (j : ℕ) → j < i + 1 → get_or (set flags i b) j false ≡ test j
+tested_more test flags i b within is each j l = elim (cases_lt j i) [
+  | inl less ↦ (let other : j ≢ i = omega (arith, less) in get_or-set_other flags i j b false other ∙ each j less)
+  | inr high ↦ let e : j ≡ i = omega (arith, l, high) in subst (λ (k : ℕ). get_or (set flags i b) k false ≡ test k) (sym e) (get_or-set_same flags i b false within ∙ is)
+]
 
 -- ---- holds that bring two agents onto one cell
 

@@ -127,8 +127,8 @@ abbrev pub IsAwaitOrOwn : Program → (i n : ℕ) → Await → Type 0
 IsAwaitOrOwn p i n w = (w.agent ≡ i) ⊎ Contains (awaits_of p i n) w
 
 -- the last of the first k awaits of action n of agent i, or for none of them one of agent i itself
-abbrev pub IsLatest : Program → (i n k : ℕ) → Await → Type 0
-IsLatest p i n k w = ((k ≡ 0) × (w ≡ record { agent = i; count = 0 })) ⊎ (slice_get (awaits_of p i n) (k - 1) ≡ Some w)
+abbrev pub IsLastAwait : Program → (i n k : ℕ) → Await → Type 0
+IsLastAwait p i n k w = ((k ≡ 0) × (w ≡ record { agent = i; count = 0 })) ⊎ (slice_get (awaits_of p i n) (k - 1) ≡ Some w)
 
 -- what the action of agent i after so many says, all of whose awaits are met, and where the next action stands
 pub record AreNeeds (p : Program) (offset : (i finished k : ℕ) → ℕ) (rows : List (List ℕ)) (i finished : ℕ) (needs : Needs) : Type 0 where

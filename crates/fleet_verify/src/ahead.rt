@@ -11,7 +11,7 @@ ghost use Rattle.fleet_model.specs.Visit.{IsVisit, ComesAfterByAwait, leaving};
 ghost use Rattle.fleet_grid.specs.Ground.{is_passable};
 ghost use Rattle.fleet_model.specs.Chain.{awaited};
 ghost use Rattle.fleet_model.specs.declared.limits.TheConstants.{MAX_MOVES_IN_ALL};
-ghost use Rattle.fleet_verify.specs.Ahead.{IsRanked, IsAhead, IsNext, IsRunner, AreNeeds, AddsLevel, AreDone, AreKeptOnGround, AreEarlier, IsAwaitOrOwn, IsLatest, IsKeptBack, IsStopped, IsBareNoMore, HaveFinished, IsRunOn, KeepsOthers, NobodyGoesOn, count_in, stand, level_in, climbed_in};
+ghost use Rattle.fleet_verify.specs.Ahead.{IsRanked, IsAhead, IsNext, IsRunner, AreNeeds, AddsLevel, AreDone, AreKeptOnGround, AreEarlier, IsAwaitOrOwn, IsLastAwait, IsKeptBack, IsStopped, IsBareNoMore, HaveFinished, IsRunOn, KeepsOthers, NobodyGoesOn, count_in, stand, level_in, climbed_in};
 ghost use Rattle.fleet_verify.specs.Rising.{climbed, last_level};
 ghost use Rattle.fleet_verify.specs.Faults.{HasStarts};
 ghost use Rattle.fleet_verify.specs.LastVisits.{kept_at};
@@ -110,7 +110,7 @@ pub fn needs_of<P: ProgramView>(
         runner }
     ensures needs { IfOk result (AreNeeds (P.program program.now) (P.offset program.now)
         (climbed_in rows.now.items agent runner.finished) agent runner.finished) }
-    ensures latest { IfOk result (λ n. IsLatest (P.program program.now) agent (runner.finished + 1)
+    ensures latest { IfOk result (λ n. IsLastAwait (P.program program.now) agent (runner.finished + 1)
         (length (awaits_of (P.program program.now) agent (runner.finished + 1))) n.latest) }
     ensures agent { IfErr result (λ w. w.agent < length (P.program program.now)) }
     ensures level { IfOk result (λ n. n.level ≤ MAX_MOVES_IN_ALL) }
@@ -481,7 +481,7 @@ fn bare_needs<P: ProgramView>(
     requires fits { runner.level < u32.MAX }
     ensures needs { IfSome result (AreNeeds (P.program program.now) (P.offset program.now)
         (climbed_in rows.now.items agent runner.finished) agent runner.finished) }
-    ensures latest { IfSome result (λ n. IsLatest (P.program program.now) agent (runner.finished + 1)
+    ensures latest { IfSome result (λ n. IsLastAwait (P.program program.now) agent (runner.finished + 1)
         (length (awaits_of (P.program program.now) agent (runner.finished + 1))) n.latest) }
     ensures level { IfSome result (λ n. n.level ≡ runner.level + 1) }
     ensures none { IfNone result

@@ -1,13 +1,13 @@
 //! Holds that bring two agents onto one cell, if their visits of it have no order.
 
-ghost use Rattle.std.specs.Prelude.{◌≡◌, ℕ, ◌<◌, ◌≤◌, ◌↔◌, IsTrue, IfOk, OnOk, All, length, slice_index, map};
+ghost use Rattle.std.specs.Prelude.{◌≡◌, ℕ, ◌<◌, ◌≤◌, ◌↔◌, IsTrue, IfOk, OnOk, All, false, get_or, length, slice_index, map};
 ghost use Rattle.std.specs.List.Sorted.{IsStrictlyIncreasing};
 ghost use Rattle.fleet_model.specs.declared.geometry.Place.{Place};
 ghost use Rattle.fleet_model.specs.declared.program.ActionId.{ActionId};
 ghost use Rattle.fleet_model.specs.Program.{AreInRange};
 ghost use Rattle.fleet_model.specs.Chain.{IsNumbering};
 ghost use Rattle.fleet_model.specs.Visit.{IsVisit};
-ghost use Rattle.fleet_model.specs.Machine.{count_at, indices, opening, tick};
+ghost use Rattle.fleet_model.specs.Machine.{count_at, opening, tick};
 ghost use Rattle.fleet_machine.specs.Machine.{Runs};
 ghost use Rattle.fleet_model.specs.Visit.{AreUnordered};
 ghost use Rattle.fleet_verify.specs.Breaking.{is_held_by, held_row};
@@ -16,7 +16,7 @@ ghost use Rattle.fleet_verify.specs.Needed.{AreNeeded};
 
 use crate::needed::needed_for;
 use fleet_machine::Machine;
-use fleet_model::{OutOfMemory, ProgramView, Visit, total_moves};
+use fleet_model::{MAX_AGENTS, OutOfMemory, ProgramView, Visit, total_moves};
 use std::alloc::Global;
 
 /// The holds that bring the agents of two visits, which have no order either way, onto their cell: a row for each tick,
@@ -92,36 +92,40 @@ fn run_tick<P: ProgramView>(
         (is_held_by (P.program program.now) machine.old.configuration needed.now)
         machine.old.configuration) }
 {
-    let (row, flags) = held_agents(alloc, program, machine, needed)?;
-    machine.tick(program, &flags);
+    let mut flags = [false; MAX_AGENTS];
+    let flags = &mut flags[..usize::from(program.agents())];
+    let row = held_agents(alloc, program, machine, needed, flags)?;
+    machine.tick(program, flags);
     Ok(row)
 }
 
-/// The agents that are held, in rising order, and for each agent whether it is one of them.
+/// The agents that are held, in rising order. The flag of each agent says then whether it is one of them.
 fn held_agents<P: ProgramView>(
     alloc: Global,
     program: &P,
     machine: &Machine,
     needed: &[u32],
-) -> Result<(Vec<u16>, Vec<bool>), OutOfMemory>
+    flags: &mut [bool],
+) -> Result<Vec<u16>, OutOfMemory>
     requires runs { Runs (P.program program.now) machine.now }
     requires needed { length needed.now ≡ length (P.program program.now) }
-    ensures row { IfOk result (λ held. held.0.items
+    requires flags { length flags.old ≡ length (P.program program.now) }
+    ensures row { IfOk result (λ row. row.items
         ≡ held_row (P.program program.now) machine.now.configuration needed.now) }
-    ensures flags { IfOk result (λ held. held.1.items
-        ≡ map (is_held_by (P.program program.now) machine.now.configuration needed.now)
-        (indices (length (P.program program.now)))) }
+    ensures all { OnOk result (length flags.new ≡ length (P.program program.now)) }
+    ensures flags { OnOk result ((i : ℕ) → i < length (P.program program.now)
+        → get_or flags.new i false
+        ≡ is_held_by (P.program program.now) machine.now.configuration needed.now i) }
 {
     let mut row = Vec::new(alloc);
-    let mut flags = Vec::new(alloc);
     for i in 0..program.agents() {
         let is_held = is_held(program, machine, needed, i);
-        flags.push(is_held)?;
+        flags[i as usize] = is_held;
         if is_held {
             row.push(i)?;
         }
     }
-    Ok((row, flags))
+    Ok(row)
 }
 
 /// Whether an agent has an action left, and the next one is not needed.

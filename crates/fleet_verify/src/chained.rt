@@ -80,7 +80,8 @@ impl Answers {
         questions: &[Question],
     ) -> Result<Option<Vec<bool>>, OutOfMemory>
         ensures some { IfOk result (λ found. IfSome found (λ flags. (p : Program)
-            → AreKnown p self.now → AreAnswers p questions.now flags.items)) }
+            → AreAnswers p self.now.questions.items self.now.flags.items
+            → AreAnswers p questions.now flags.items)) }
         ensures none { IfOk result (λ found. IfNone found ((p : Program) → AreKnown p self.now
             → AreAmong self.now.questions.items questions.now → ⊥)) }
     {

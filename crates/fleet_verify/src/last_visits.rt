@@ -56,6 +56,18 @@ impl LastVisits {
     ghost use Rattle.indexmap.specs.IndexMap.{spare};
     ghost use Rattle.fleet_verify.specs.LastVisits.{kept_at};
 
+    /// No visits, and no room for squares yet. Takes no memory.
+    pub fn new(alloc: Global) -> LastVisits
+        ensures { (c : Cell) → kept_at result c ≡ None }
+    {
+        LastVisits {
+            squares: IndexMap::new(alloc),
+            recent: NO_SQUARE,
+            slot: 0,
+            hints: Vec::new(alloc),
+        }
+    }
+
     /// No visits, and room for the squares that so many visits are likely to be in on a map of these sizes.
     pub fn with_room(
         alloc: Global,

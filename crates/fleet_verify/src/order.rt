@@ -57,9 +57,6 @@ pub fn check_order<P: ProgramView>(
     // The contract of this call says that no two starts are the same.
     let _agents = instance.agents();
     let violations = find_violations(alloc, program, run.ticks, pairs, known)?;
-    if violations.is_empty() {
-        return Ok(());
-    }
     check_cells(program, grid, instance, &violations)
 }
 
@@ -77,6 +74,9 @@ fn check_cells<P: ProgramView>(
     ensures err { IfErr result (λ f. IsFault (is_passable grid.now) instance.now
         (P.program program.now) f) }
 {
+    if violations.is_empty() {
+        return Ok(());
+    }
     for agent in 0..program.agents() {
         check_path(program, grid, instance, agent, violations)?;
     }
@@ -291,19 +291,17 @@ pub fn number_of(cell: Cell) -> u32
 }
 
 impl VisitOrder {
-    ghost use Rattle.std.specs.Prelude.{IfOk};
     ghost use Rattle.fleet_model.specs.Program.{Program};
     ghost use Rattle.fleet_verify.specs.Order.{AreAdded};
 
-    /// No visits.
-    pub fn new(alloc: Global) -> Result<Self, OutOfMemory>
-        ensures { IfOk result (λ order. (p : Program) → AreAdded p [] order) }
+    /// No visits. Takes no memory.
+    pub fn new(alloc: Global) -> Self
+        ensures { (p : Program) → AreAdded p [] result }
     {
-        let last = LastVisits::with_room(alloc, 0, 0, 0)?;
-        Ok(VisitOrder {
-            last,
+        VisitOrder {
+            last: LastVisits::new(alloc),
             pairs: Vec::new(alloc),
-        })
+        }
     }
 }
 

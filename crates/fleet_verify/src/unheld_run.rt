@@ -53,10 +53,9 @@ impl UnheldRun {
         ensures { IfOk result (IsAtStart (P.program program.now)) }
     {
         let machine = Machine::start(alloc, program)?;
-        let visits = VisitOrder::new(alloc)?;
         Ok(UnheldRun {
             machine,
-            visits,
+            visits: VisitOrder::new(alloc),
             ticks: 0,
         })
     }

@@ -6,7 +6,7 @@ ghost use Rattle.fleet_model.specs.Program.{IsWellFormed};
 ghost use Rattle.fleet_grid.specs.Ground.{is_passable};
 ghost use Rattle.fleet_verify.specs.Chained.{AreKnown};
 ghost use Rattle.fleet_verify.specs.Faults.{HasStarts, IsFault};
-ghost use Rattle.fleet_verify.specs.Walk.{LeavesGround, IsRunOnGround, HasArrived};
+ghost use Rattle.fleet_verify.specs.Walk.{IsAtStart, IsStop, IsRunOnGround, HasArrived};
 ghost use Rattle.fleet_verify.specs.LevelRows.{HasLevels};
 ghost use Rattle.fleet_verify.specs.Parts.{IsAcceptedFor};
 ghost use Rattle.fleet_verify.specs.Promises.{Promises, IsRefusedRightly};
@@ -91,73 +91,81 @@ fn judge<P: ProgramView>(
     check_starts(program, instance)?;
     match look_ahead(alloc, program, grid, instance)? {
         Outlook::Accepted(chain, levels) => Ok(Judged { chain, levels }),
-        Outlook::Unknown(known) => {
-            let chain = judge_unheld(alloc, program, grid, instance, &known)?;
-            Ok(Judged {
-                chain,
-                levels: None,
-            })
-        }
+        Outlook::Unknown(known) => judge_unheld(alloc, program, grid, instance, &known),
     }
 }
 
-/// The number of actions of the longest chain, by the run in which nobody is held.
+/// What is known of the program by the run in which nobody is held: its longest chain has as many actions as that has
+/// ticks.
 fn judge_unheld<P: ProgramView>(
     alloc: Global,
     program: &P,
     grid: &Grid,
     instance: &Instance,
     known: &Answers,
-) -> Result<u32, VerifyFault>
+) -> Result<Judged, VerifyFault>
     requires starts { HasStarts instance.now (P.program program.now) }
     requires known { AreKnown (P.program program.now) known.now }
-    ensures ok { IfOk result (λ chain. IsAcceptedFor grid.now instance.now
-        (P.program program.now) chain) }
+    ensures ok { IfOk result (λ j. IsAcceptedFor grid.now instance.now
+        (P.program program.now) j.chain) }
+    ensures levels { IfOk result (λ j. IfSome j.levels (HasLevels (P.program program.now))) }
     ensures err { IfErr result (λ f. IsFault (is_passable grid.now) instance.now
         (P.program program.now) f) }
 {
     let mut run = UnheldRun::start(alloc, program)?;
-    match run_unheld(program, grid, &mut run) {
-        Ok(()) => judge_run(alloc, program, grid, instance, &run, known),
-        Err(Stop::OffGround) => Err(path_fault(program, grid, instance)),
-        Err(Stop::OutOfMemory) => Err(VerifyFault::OutOfMemory),
-    }
+    judge_run(alloc, program, grid, instance, &mut run, known)
 }
 
-/// The first fault of the paths, one of which leaves passable ground.
-fn path_fault<P: ProgramView>(program: &P, grid: &Grid, instance: &Instance) -> VerifyFault
-    requires starts { HasStarts instance.now (P.program program.now) }
-    requires off_ground { LeavesGround (is_passable grid.now) (P.program program.now) }
-    ensures { IsFault (is_passable grid.now) instance.now (P.program program.now) result }
-{
-    match check_paths(program, grid, instance) {
-        Ok(()) => unreachable!(),
-        Err(fault) => fault,
-    }
-}
-
-/// The same, from the end of that run, which stayed on passable ground.
+/// The same, by that run, which is at its start.
 fn judge_run<P: ProgramView>(
     alloc: Global,
     program: &P,
     grid: &Grid,
     instance: &Instance,
-    run: &UnheldRun,
+    run: &mut UnheldRun,
     known: &Answers,
-) -> Result<u32, VerifyFault>
+) -> Result<Judged, VerifyFault>
     requires starts { HasStarts instance.now (P.program program.now) }
-    requires run { IsRunOnGround (is_passable grid.now) (P.program program.now) run.now }
+    requires run { IsAtStart (P.program program.now) run.old }
     requires known { AreKnown (P.program program.now) known.now }
-    ensures ok { IfOk result (λ chain. IsAcceptedFor grid.now instance.now
-        (P.program program.now) chain) }
+    ensures ok { IfOk result (λ j. IsAcceptedFor grid.now instance.now
+        (P.program program.now) j.chain) }
+    ensures levels { IfOk result (λ j. IfSome j.levels (HasLevels (P.program program.now))) }
     ensures err { IfErr result (λ f. IsFault (is_passable grid.now) instance.now
         (P.program program.now) f) }
 {
+    if let Err(stop) = run_unheld(program, grid, run) {
+        return Err(stop_fault(program, grid, instance, stop));
+    }
     if has_arrived(program, instance, &run.machine) {
         check_order(alloc, program, grid, instance, run, known)?;
-        Ok(run.ticks)
+        Ok(Judged {
+            chain: run.ticks,
+            levels: None,
+        })
     } else {
         Err(fault_if_stuck(alloc, program, grid, instance, run))
+    }
+}
+
+/// The fault of a program whose run with nobody held was stopped: if a path leaves passable ground, the first one of the
+/// paths.
+fn stop_fault<P: ProgramView>(
+    program: &P,
+    grid: &Grid,
+    instance: &Instance,
+    stop: Stop,
+) -> VerifyFault
+    requires starts { HasStarts instance.now (P.program program.now) }
+    requires stop { IsStop (is_passable grid.now) (P.program program.now) stop }
+    ensures { IsFault (is_passable grid.now) instance.now (P.program program.now) result }
+{
+    match stop {
+        Stop::OutOfMemory => VerifyFault::OutOfMemory,
+        Stop::OffGround => match check_paths(program, grid, instance) {
+            Ok(()) => unreachable!(),
+            Err(fault) => fault,
+        },
     }
 }
 

@@ -1,5 +1,5 @@
 use Rattle.fleet_verify.proofs.Words.{◌≡◌, ◌-◌, ◌+◌, ◌<◌, ◌∙◌, ℕ, List, length, slice_index, refl, sym, ap, arith, inl, inr, slice_get_within, get_or_from_slice_get, awaited, awaits_of, few_awaits_of, slice_get, subst}
-use Rattle.fleet_verify.specs.Ahead.{IsLatest, level_in, count_in, climbed_in}
+use Rattle.fleet_verify.specs.Ahead.{IsLastAwait, level_in, count_in, climbed_in}
 use Rattle.fleet_verify.specs.Rising.{last_level}
 use Rattle.fleet_verify.proofs.Waiting.{await_agent, await_count, await_other}
 use Rattle.fleet_verify.proofs.NextLevel.{least_begins, least_max, least_ends}
@@ -110,4 +110,4 @@ pub returns-in-Step-clause-latest : goal.returns-in-Step-clause-latest
 returns-in-Step-clause-latest g c =
     let p = g.P.ProgramView.program c.args.program.now in
     let said = rw c.in-Step.is at c.read-reading.ensures.instruction in
-    subst (λ (k : ℕ). IsLatest p c.args.agent (c.args.runner.finished + 1) k c.instructions.latest) said.0 c.instructions.invariant.last
+    subst (λ (k : ℕ). IsLastAwait p c.args.agent (c.args.runner.finished + 1) k c.instructions.latest) said.0 c.instructions.invariant.last

@@ -1,7 +1,17 @@
-use Rattle.fleet_verify.proofs.Words.{below_more, arith, ComesAfter}
-use Rattle.fleet_verify.specs.Order.{IsPathOrderly}
-use Rattle.fleet_verify.proofs.Judged.{all_in_turn}
+use Rattle.fleet_verify.proofs.Words.{below_more, arith, refl, ComesAfter}
+use Rattle.std.specs.Prelude.{nat_eq}
+use Rattle.indexmap.specs.IndexMap.{get}
+use Rattle.fleet_verify.specs.Order.{number_of, IsPathOrderly}
+use Rattle.fleet_verify.proofs.Judged.{all_in_turn, none_broken}
+use Rattle.fleet_verify.proofs.Ordered.{no_entries}
 use Rattle.fleet_verify.proofs.order.check_cells.Goals as goal
+
+pub returns-then-is_empty-clause-ok : goal.returns-then-is_empty-clause-ok
+returns-then-is_empty-clause-ok g c =
+    let found = c.args.violations.now in
+    let before = c.requires.violations in
+    none_broken (g.P.ProgramView.program c.args.program.now) before.placed (λ d. get nat_eq found (number_of d)) before.all before.each before.violations
+    (λ d. rw (no_entries found.entries (c.is_empty.ensures.0 c.if-is_empty.true)) refl)
 
 pub loop-agent-preserved : goal.loop-agent-preserved
 loop-agent-preserved g c =

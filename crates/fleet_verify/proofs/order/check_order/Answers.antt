@@ -41,16 +41,6 @@ returns-in_err-violations-clause-err g c =
     let e = err_from_is_err_and c.from_residual.result c.from_residual.ensures.1 in
     rw (e.1, e.2) tt
 
-pub returns-then-is_empty-2-clause-ok : goal.returns-then-is_empty-2-clause-ok
-returns-then-is_empty-2-clause-ok g c =
-    let p = g.P.ProgramView.program c.args.program.now in
-    let added = c.requires.added in
-    let found = c.in_ok-violations.violations in
-    let tells = subst (λ (ps : List OpenPair). (n : ℕ) → AnswersFirstBad (λ _ o. HasNoChain p o) ps (length ps) n (get nat_eq found n)) c.deref.ensures.value c.in_ok-violations.ensures in
-    none_broken p added.placed (λ d. get nat_eq found (number_of d)) added.all added.each
-    (violations_are p c.args.run.now.visits added.placed added.all added.grouped (ranges_all p c.requires.before.ranges) (λ n. get nat_eq found n) tells)
-    (λ d. rw (no_entries found.entries (c.is_empty-2.ensures.0 c.if-is_empty-2.true)) refl)
-
 pub check_cells-requires-clause-violations : goal.check_cells-requires-clause-violations
 check_cells-requires-clause-violations g c =
     let p = g.P.ProgramView.program c.args.program.now in

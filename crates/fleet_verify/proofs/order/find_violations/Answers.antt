@@ -17,7 +17,7 @@ pub first_flagged-requires : goal.first_flagged-requires
 first_flagged-requires g c =
     let p = g.P.ProgramView.program c.args.program.now in
     let told = rw c.in-Some.is at c.in_ok-flags.ensures.some in
-    ap (λ (fs : List Bool). length fs) c.deref-in-Some.ensures.value ∙ (told p c.requires.known).all ∙ ap (λ (qs : List Question). length qs) (c.deref.ensures.value ∙ c.in_ok-questions.ensures) ∙ length-map c.args.pairs.now (question_of p)
+    ap (λ (fs : List Bool). length fs) c.deref-in-Some.ensures.value ∙ (told p c.requires.known.answers).all ∙ ap (λ (qs : List Question). length qs) (c.deref.ensures.value ∙ c.in_ok-questions.ensures) ∙ length-map c.args.pairs.now (question_of p)
 
 pub returns-in-Some : goal.returns-in-Some
 returns-in-Some g c =
@@ -26,7 +26,7 @@ returns-in-Some g c =
     let flags = c.deref-in-Some.result.now in
     let told = rw c.in-Some.is at c.in_ok-flags.ensures.some in
     let answers : AreAnswers p (map (question_of p) pairs) flags =
-    subst (λ (qs : List Question). AreAnswers p qs flags) (c.deref.ensures.value ∙ c.in_ok-questions.ensures) (subst (λ (fs : List Bool). AreAnswers p c.deref.result.now fs) (sym c.deref-in-Some.ensures.value) (told p c.requires.known)) in
+    subst (λ (qs : List Question). AreAnswers p qs flags) (c.deref.ensures.value ∙ c.in_ok-questions.ensures) (subst (λ (fs : List Bool). AreAnswers p c.deref.result.now fs) (sym c.deref-in-Some.ensures.value) (told p c.requires.known.answers)) in
     on_ok (λ found. (n : ℕ) → AnswersFirstBad (IsFlagged flags) pairs (length pairs) n (get nat_eq found n)) (λ found. (n : ℕ) → AnswersFirstBad (λ _ o. HasNoChain p o) pairs (length pairs) n (get nat_eq found n))
     (λ found h n. flags_tell p pairs flags answers n (get nat_eq found n) (h n)) c.first_flagged.result c.first_flagged.ensures
 

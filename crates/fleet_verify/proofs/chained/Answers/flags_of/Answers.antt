@@ -7,13 +7,13 @@ use Rattle.fleet_verify.proofs.Asked.{flag_more, flag_there}
 use Rattle.fleet_verify.proofs.chained.Answers.flags_of.Goals as goal
 
 pub returns-clause-some : goal.returns-clause-some
-returns-clause-some c = λ p known. record {
+returns-clause-some c = λ p answers. record {
   all = omega (arith, c.loop-k.invariant.all, c.loop-k-test.false);
   each = λ k q at.
       let questions = c.args.questions.now in
       let is = c.loop-k.invariant.each k q (omega (arith, slice_get_within questions k q at, c.loop-k-test.false)) in
       let of = subst (λ (x : Question). IsFlagOf c.args.self.now x (get_or c.loop-k.flags.items k false)) (get_or_from_slice_get questions k q q at) is in
-      subst (λ (b : Bool). (b ≡ true) ↔ (Reaches p q.first q.last → ⊥)) (sym of.flag) (known.answers.each of.place q of.asked);
+      subst (λ (b : Bool). (b ≡ true) ↔ (Reaches p q.first q.last → ⊥)) (sym of.flag) (answers.each of.place q of.asked);
 }
 
 pub loop-k-preserved : goal.loop-k-preserved

@@ -3,4 +3,4 @@ use Rattle.fleet_verify.proofs.Ordered.{added_none}
 use Rattle.fleet_verify.proofs.order.VisitOrder.new.Goals as goal
 
 pub returns : goal.returns
-returns c = λ p. added_none p (kept_at c.in_ok-last.last) c.new.result.items c.in_ok-last.ensures.none c.new.ensures.items
+returns c = λ p. added_none p (kept_at c.new.result) c.new-2.result.items c.new.ensures c.new-2.ensures.items

@@ -1,9 +1,9 @@
 -- The order of awaits, among those of an action and among all.
-use Rattle.fleet_needs.proofs.Words.{◌≡◌, ◌≢◌, ℕ, ◌+◌, ◌-◌, ◌<◌, ◌≤◌, Bool, false, List, length, take, get_or, set, map, refl, sym, ap, subst, ◌∙◌, arith, inl, inr, ◌⊎◌, slice_get, Some, sum_by, cases_eq, cases_order, slice_get_within, get_or_from_slice_get, get_or-map, length-map, get_or-set_same, get_or-set_other, sum_by-take-le, ActionId, Action, Await, AgentProgram, Program, actions_of, awaits_of, agent_awaits, awaits_before, total_awaits, IsAction, awaits_more, actions_more, EachFlag, AreNoted, first_await}
+use Rattle.fleet_needs.proofs.Words.{◌≡◌, ◌≢◌, ℕ, ◌+◌, ◌-◌, ◌<◌, ◌≤◌, Bool, false, List, length, take, get_or, set, map, refl, sym, ap, subst, ◌∙◌, arith, inl, inr, ◌⊎◌, slice_get, Some, sum_by, cases_eq, cases_order, slice_get_within, get_or_from_slice_get, get_or-map, length-map, get_or-set_same, get_or-set_other, sum_by-take-le, ActionId, Action, Await, AgentProgram, Program, actions_of, awaits_of, agent_awaits, awaits_before, total_awaits, IsAction, awaits_more, EachFlag, AreNoted, first_await}
 use Rattle.std.specs.List.Sorted.{IsStrictlyIncreasing}
 use Rattle.std.proofs.lemmas.List.Kept.{AllPairs-from_increasing}
-use Rattle.fleet_needs.proofs.Passing.{same_or_not}
 use Rattle.fleet_needs.proofs.Placed.{sums_rise}
+use Rattle.fleet_needs.proofs.RowPlaces.{before_with}
 
 -- in a list in strictly rising order of agent each await is of a lower agent than all later ones
 pub await_below : (awaits : List Await) → IsStrictlyIncreasing (map (λ w. w.agent) awaits) → (k m : ℕ) (v w : Await) → slice_get awaits k ≡ Some v → slice_get awaits m ≡ Some w → k < m → v.agent < w.agent
@@ -27,17 +27,10 @@ other_agent awaits rising k m v w at there ne same = elim (cases_order k m) [
 -- ---- the awaits of one action stand beside those of another
 
 module _ (p : Program) where
-  -- up to the awaits of the action, with them
-  own_with : (a : ActionId) → IsAction p a → awaits_before p a.agent (a.number - 1) + length (awaits_of p a.agent a.number) ≡ awaits_before p a.agent a.number
-  own_with a k =
-      let f : 1 ≤ a.number = k.first in
-      let e : a.number - 1 + 1 ≡ a.number = omega arith in
-      subst (λ (n : ℕ). awaits_before p a.agent (a.number - 1) + length (awaits_of p a.agent n) ≡ awaits_before p a.agent n) e (sym (actions_more p a.agent (a.number - 1)))
-
   agent_end : (a : ActionId) → IsAction p a → first_await p a + length (awaits_of p a.agent a.number) ≤ total_awaits (take (a.agent + 1) p)
   agent_end a k =
       let all : awaits_before p a.agent a.number ≤ agent_awaits p a.agent = sum_by-take-le (λ (s : Action). length s.awaits) (actions_of p a.agent) a.number in
-      omega (arith, own_with a k, all, awaits_more p a.agent)
+      omega (arith, before_with p a.agent a.number k.first, all, awaits_more p a.agent)
 
   pub flag_within : (a : ActionId) → IsAction p a → first_await p a + length (awaits_of p a.agent a.number) ≤ total_awaits p
   flag_within a k =
@@ -52,7 +45,7 @@ module _ (p : Program) where
       let up : awaits_before p a.agent a.number ≤ awaits_before p a.agent (b.number - 1) = sums_rise (λ (s : Action). length s.awaits) (actions_of p a.agent) a.number (b.number - 1) (omega arith) in
       let same : awaits_before p a.agent (b.number - 1) ≡ awaits_before p b.agent (b.number - 1) = ap (λ (i : ℕ). awaits_before p i (b.number - 1)) e in
       let total : total_awaits (take a.agent p) ≡ total_awaits (take b.agent p) = ap (λ (i : ℕ). total_awaits (take i p)) e in
-      omega (arith, own_with a k, up, same, total)
+      omega (arith, before_with p a.agent a.number k.first, up, same, total)
 
   -- no await of one action stands among those of another
   pub flag_apart : (a b : ActionId) → IsAction p a → IsAction p b → a ≢ b → (k : ℕ) → k < length (awaits_of p a.agent a.number)
@@ -88,6 +81,16 @@ noted_next p a Was Is k flag old mid new within put still here h = record {
 
     own : get_or new (first_await p a + k) false ≡ flag
     own = ap (λ (xs : List Bool). get_or xs (first_await p a + k) false) put ∙ get_or-set_same mid (first_await p a + k) flag false within
+
+-- two actions are the same or not
+same_or_not : (a b : ActionId) → (a ≡ b) ⊎ (a ≢ b)
+same_or_not a b = elim (cases_eq a.agent b.agent) [
+  | inr ne ↦ inr (λ e. ne (ap (λ x. x.agent) e))
+  | inl e ↦ elim (cases_eq a.number b.number) [
+    | inr ne ↦ inr (λ g. ne (ap (λ x. x.number) g))
+    | inl f ↦ inl (λ t. record { agent = e t; number = f t })
+  ]
+]
 
 -- one action more
 pub noted_on : (p : Program) (a : ActionId) (Here : ℕ → Await → Bool → Type 0) (old new : List Bool) → IsAction p a → AreNoted p a Here (length (awaits_of p a.agent a.number)) old new

@@ -2,11 +2,9 @@ pub mod Words
 pub mod Lanes
 pub mod Joining
 pub mod Placed
-mod Firsts
 pub mod Counting
 pub mod NextBlock
 pub mod Answered
-pub mod Passing
 pub mod OthersJoined
 mod Pushed
 pub mod PiecePairs

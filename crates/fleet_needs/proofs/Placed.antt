@@ -1,5 +1,5 @@
 -- The places of actions, and of the counts of their rows.
-use Rattle.fleet_needs.proofs.Words.{◌≡◌, ◌≢◌, ℕ, ◌+◌, ◌*◌, ◌<◌, ◌≤◌, List, length, take, slice_index, ap, subst, arith, inl, inr, ◌⊎◌, cases_order, mul-le, sum_by, take-take, sum_by-take-le, ActionId, AgentProgram, Program, moves, total_moves, IsAction, moves_more, ArePlaces, action_place}
+use Rattle.fleet_needs.proofs.Words.{◌≡◌, ◌≢◌, ℕ, ◌+◌, ◌*◌, ◌<◌, ◌≤◌, List, length, take, slice_index, ap, subst, arith, inl, inr, ◌⊎◌, cases_order, mul-le, sum_by, take-take, sum_by-take-le, ActionId, AgentProgram, Program, moves, total_moves, IsAction, moves_more, ArePlaces, action_place, ◌∷◌, ◌++◌, [], sym, ◌∙◌, cases_lt, get_or_append_left, get_or_push, length_push}
 
 -- more of a list have as much together, or more
 pub sums_rise : {X : Type 0} (f : X → ℕ) (xs : List X) (i j : ℕ) → i ≤ j → sum_by f (take i xs) ≤ sum_by f (take j xs)
@@ -55,3 +55,16 @@ outside w x y k n l = elim (cases_order x y) [
   | inr (inl less) ↦ (let r : x * w + w ≤ y * w = row_ends w x y less in inl (omega arith))
   | inr (inr more) ↦ (let r : y * w + w ≤ x * w = row_ends w y x more in inr (omega arith))
 ]
+
+-- for each agent, how much those before it have together: one agent more
+pub first_more : (before : ℕ → ℕ) (i total : ℕ) (old new : List ℕ) → length old ≡ i → total ≡ before i → new ≡ old ++ total ∷ [] → ((k : ℕ) → k < i → slice_index old k ≡ before k)
+    → (length new ≡ i + 1) × ((k : ℕ) → k < i + 1 → slice_index new k ≡ before k)
+first_more before i total old new all is items each = (
+  ap (λ (xs : List ℕ). length xs) items ∙ length_push old total ∙ ap (λ (n : ℕ). n + 1) all,
+  (λ k l. elim (cases_lt k i) [
+    | inl low ↦ ap (λ (xs : List ℕ). slice_index xs k) items ∙ get_or_append_left old (total ∷ []) 0 k (omega (arith, low, all)) ∙ each k low
+    | inr high ↦
+        let here : k ≡ i = omega (arith, l, high) in
+        ap (λ (xs : List ℕ). slice_index xs k) items ∙ get_or_push old total 0 k (all ∙ sym here) ∙ is ∙ ap before (sym here)
+  ]),
+)

@@ -18,7 +18,7 @@ pub use Rattle.fleet_model.proofs.Chains.{but_last, need_action, ends_alone, end
 pub use Rattle.fleet_needs.specs.Block.{HasColumn}
 pub use Rattle.fleet_needs.specs.Columns.{AreColumns, BlocksLeft, IsNextBlock, column_of}
 pub use Rattle.fleet_needs.specs.CostTable.{costs_of, is_narrow}
-pub use Rattle.fleet_needs.specs.CostWalk.{Walked, after, next_in, IsGreatestTo, IsStage, IsReadyStage, HasAll, IsCostWalk, HaveGrown, IsUnmet, HasFirstPlace, stage_in, no_stage, gone_on, rested, IsOpen}
+pub use Rattle.fleet_needs.specs.CostWalk.{Walked, after, IsGreatestTo, IsStage, IsReadyStage, IsFinished, HasAll, IsCostWalk, HaveGrown, IsUnmet, IsOpen, stage_in, finished_in, no_stage, gone_on}
 pub use Rattle.fleet_needs.specs.Counts.{counts_of, are_narrow, CanHold, AreAlike}
 pub use Rattle.fleet_needs.specs.Critical.{IsNumberedTo, IsNotedCost, AreNotedCosts, CostsByPlace, AreCriticalCosts, AreLevels, critical_cost, value_at}
 pub use Rattle.fleet_needs.specs.Flags.{AreSure, AreSureIf, IsFirstSet, IsPassed, AreSet, AreFlags, IsFlagged, IsFlaggedAt, AreFlagged, AreFlaggedFor, IsLeft, AreLeft, AreAllFlagged, AreAwaitFlags, AreFlaggedTo, AreImplied, flags_of}
@@ -37,7 +37,6 @@ pub use Rattle.fleet_needs.specs.declared.gather.Link.{Link}
 pub use Rattle.fleet_needs.specs.declared.gather.Gathering.{Gathering}
 pub use Rattle.fleet_needs.specs.declared.gather.TheConstants.{AGENTS, NUMBERS}
 pub use Rattle.fleet_needs.specs.declared.cost_walk.Stage.{Stage}
-pub use Rattle.fleet_needs.specs.declared.cost_walk.Standing.{Standing}
 pub use Rattle.fleet_needs.specs.declared.critical.TheConstants.{MAX_COST, MAX_LEVEL}
 pub use Rattle.fleet_needs.specs.declared.await_places.ActionPlaces.{ActionPlaces}
 pub use Rattle.fleet_needs.specs.declared.join_pass.JoinRow.{JoinRow}

@@ -97,7 +97,7 @@ impl ActionPlaces {
     }
 
     /// The place of an action. Places count from 0.
-    pub fn place(&self, agent: u16, number: u32) -> usize
+    fn place(&self, agent: u16, number: u32) -> usize
         requires agent { agent < length self.now }
         requires number { 1 ≤ number }
         ensures { result + 1 ≡ slice_index self.now agent + number }

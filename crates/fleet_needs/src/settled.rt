@@ -306,11 +306,11 @@ fn reaches<P: ProgramView>(
 
 /// What an action directly needs: the action before, and what all of its awaits but one name.
 #[derive(Clone, Copy)]
-pub struct Needs {
-    pub action: ActionId,
+struct Needs {
+    action: ActionId,
     /// How many awaits the action has.
-    pub awaits: u16,
-    pub but: u16,
+    awaits: u16,
+    but: u16,
 }
 
 /// Whether a chain of needs begins with the first action and ends with one of these, if so many steps back from them

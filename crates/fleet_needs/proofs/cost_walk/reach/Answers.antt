@@ -1,88 +1,105 @@
-use Rattle.fleet_needs.proofs.Words.{rules, ◌≡◌, ◌<◌, ◌∙◌, List, Await, length, sym, subst, ap, arith, inl, inr, length_push}
-use Rattle.fleet_needs.proofs.Walking.{IsDeep, AreDeep, deep_next, deep_more, deep_less, less_waiting, less_reached, to_go}
+use Rattle.fleet_needs.proofs.Words.{rules, ◌≡◌, ◌<◌, ◌≤◌, ◌+◌, ◌∙◌, ◌∷◌, [], List, Await, length, get_or, sym, subst, ap, arith, length_push, get_or_push, get_or_append_left, IsCostWalk, HaveGrown, gone_on, finished_in}
+use Rattle.fleet_needs.proofs.Walking.{IsDeep, AreDeep, kept, stopped, deep_next, deep_more, deep_less, less_more, less_waiting, less_reached, to_go}
 use Rattle.fleet_needs.proofs.cost_walk.reach.Goals as goal
 
-pub loop-alloc-init : goal.loop-alloc-init
-loop-alloc-init g c = record {
+pub loop-walk-init : goal.loop-walk-init
+loop-walk-init g c = record {
   walk = c.requires.walk;
   grown = λ i. omega arith;
   numbered = c.requires.walk.numbered;
   goals = λ k d l. absurd (omega (arith, l));
+  agent = c.requires.agent;
   last = λ still. record { action = c.requires.goal still; deep = omega (arith, c.requires.walk.numbered.upto _ (c.requires.goal still)) };
+  first = get_or_push c.new-goals.result.items c.args.goal c.args.goal 0 (omega arith);
 }
 
-pub run_agent-requires-clause-goal : goal.run_agent-requires-clause-goal
-run_agent-requires-clause-goal g c = (c.loop-alloc.invariant.last (c.is_open.ensures.0 c.loop-alloc-test.true)).action
+pub loop-walk-smaller-in-Continue-1 : goal.loop-walk-smaller-in-Continue-1
+loop-walk-smaller-in-Continue-1 g c =
+    let last = c.loop-walk.invariant.last (c.is_open-is_left.ensures.open c.if-is_left.true) in
+    let after = c.in_ok-finish-in-Ok.ensures in
+    less_more (g.P.ProgramView.program c.args.program.now) c.loop-walk.last (length c.loop-walk.goals.items) (omega (arith, last.deep)) c.loop-walk.walk c.finish.new.walk after.grown c.loop-walk.last.agent after.more (after.walk.each c.loop-walk.last.agent last.action.agent).finished
 
-pub loop-alloc-smaller-in_ok-push-in-Some : goal.loop-alloc-smaller-in_ok-push-in-Some
-loop-alloc-smaller-in_ok-push-in-Some g c =
-    let p = g.P.ProgramView.program c.args.program.now in
-    let was = c.loop-alloc.invariant in
-    let last = was.last (c.is_open.ensures.0 c.loop-alloc-test.true) in
-    let after = c.in_ok-awaited.ensures in
-    let still = rw c.in-Some.is at after.still in
-    let unmet = rw c.in-Some.is at after.waits in
-    let goals = c.loop-alloc.goals.items in
-    let new = c.run_agent.new.walk.counts in
-    let less = less_waiting p c.loop-alloc.walk.counts new after.grown c.loop-alloc.last (length goals) (omega (arith, last.deep, was.numbered.rising.positive _ last.action)) still c.in-Some.awaited unmet.unfinished in
-    subst (λ n. to_go p new c.in-Some.awaited n < to_go p c.loop-alloc.walk.counts c.loop-alloc.last (length goals)) (sym (ap (λ (xs : List Await). length xs) c.in_ok-push-in-Some.ensures.items ∙ length_push goals c.loop-alloc.last)) less
-
-pub loop-alloc-preserved-in_ok-push-in-Some : goal.loop-alloc-preserved-in_ok-push-in-Some
-loop-alloc-preserved-in_ok-push-in-Some g c =
-    let p = g.P.ProgramView.program c.args.program.now in
-    let was = c.loop-alloc.invariant in
-    let last = was.last (c.is_open.ensures.0 c.loop-alloc-test.true) in
-    let after = c.in_ok-awaited.ensures in
-    let still = rw c.in-Some.is at after.still in
-    let unmet = rw c.in-Some.is at after.waits in
-    let goals = c.loop-alloc.goals.items in
-    let items = c.in_ok-push-in-Some.ensures.items in
+pub loop-walk-preserved-in-Continue-1 : goal.loop-walk-preserved-in-Continue-1
+loop-walk-preserved-in-Continue-1 g c =
+    let was = c.loop-walk.invariant in
+    let after = c.in_ok-finish-in-Ok.ensures in
     record {
       walk = after.walk;
       grown = λ i. omega (arith, was.grown i, after.grown i);
       numbered = was.numbered;
-      goals = subst (AreDeep p was.numbered.number) (sym items) (deep_more p was.numbered goals c.loop-alloc.last was.goals last);
-      last = λ _. subst (λ n. IsDeep p was.numbered.number n c.in-Some.awaited) (sym (ap (λ (xs : List Await). length xs) items ∙ length_push goals c.loop-alloc.last))
-          (deep_next p was.numbered c.run_agent.new.walk.counts (length goals) c.loop-alloc.last c.in-Some.awaited last still unmet);
+      goals = was.goals;
+      agent = was.agent;
+      last = λ _. was.last (c.is_open-is_left.ensures.open c.if-is_left.true);
+      first = was.first;
     }
 
-pub loop-alloc-smaller-in-Some-pop : goal.loop-alloc-smaller-in-Some-pop
-loop-alloc-smaller-in-Some-pop g c =
-    let last = c.loop-alloc.invariant.last (c.is_open.ensures.0 c.loop-alloc-test.true) in
-    let after = c.in_ok-awaited.ensures in
+pub loop-walk-smaller-in-Err : goal.loop-walk-smaller-in-Err
+loop-walk-smaller-in-Err g c =
+    let p = g.P.ProgramView.program c.args.program.now in
+    let w = c.loop-walk.walk in
+    let was = c.loop-walk.invariant in
+    let still = c.is_open-is_left.ensures.open c.if-is_left.true in
+    let last = was.last still in
+    let block = c.in-Err.block in
+    let goals = c.loop-walk.goals.items in
+    let same = kept p (g.C.ActionCosts.cost c.args.costs.now) (g.P.ProgramView.offset c.args.program.now) w was.walk c.loop-walk.last.agent last.action.agent block.stage c.in-Err.ensures.same in
+    let there = gone_on w c.loop-walk.last.agent block.stage w.costs in
+    let less = less_waiting p c.loop-walk.last (length goals) (omega (arith, last.deep, was.numbered.rising.positive _ last.action)) w there (λ j. omega (arith, same j)) still block.awaited
+    (omega (arith, c.in-Err.ensures.unmet.unfinished, same block.awaited.agent)) in
+    let count = ap (λ (xs : List Await). length xs) c.in_ok-push-in-Err.ensures.items ∙ length_push goals c.loop-walk.last in
+    subst (λ n. to_go p c.go_on.new.self block.awaited n < to_go p w c.loop-walk.last (length goals)) (sym count) (subst (λ v. to_go p v block.awaited (length goals + 1) < to_go p w c.loop-walk.last (length goals)) (sym c.go_on.ensures) less)
+
+pub loop-walk-preserved-in-Err : goal.loop-walk-preserved-in-Err
+loop-walk-preserved-in-Err g c =
+    let p = g.P.ProgramView.program c.args.program.now in
+    let cost = g.C.ActionCosts.cost c.args.costs.now in
+    let offset = g.P.ProgramView.offset c.args.program.now in
+    let w = c.loop-walk.walk in
+    let was = c.loop-walk.invariant in
+    let still = c.is_open-is_left.ensures.open c.if-is_left.true in
+    let last = was.last still in
+    let i = c.loop-walk.last.agent in
+    let block = c.in-Err.block in
+    let goals = c.loop-walk.goals.items in
+    let items = c.in_ok-push-in-Err.ensures.items in
+    let same = kept p cost offset w was.walk i last.action.agent block.stage c.in-Err.ensures.same in
+    let count = ap (λ (xs : List Await). length xs) items ∙ length_push goals c.loop-walk.last in
+    let next = deep_next p was.numbered w (length goals) c.loop-walk.last block.awaited last still c.in-Err.ensures.unmet in
+    record {
+      walk = subst (IsCostWalk p cost offset) (sym c.go_on.ensures) (stopped p cost offset w was.walk i last.action.agent block.stage c.in-Err.ensures.same c.in-Err.ensures.stage);
+      grown = subst (HaveGrown c.args.walk.now) (sym c.go_on.ensures) (λ j. omega (arith, was.grown j, same j));
+      numbered = was.numbered;
+      goals = subst (AreDeep p was.numbered.number) (sym items) (deep_more p was.numbered goals c.loop-walk.last was.goals last);
+      agent = next.action.agent;
+      last = λ _. subst (λ n. IsDeep p was.numbered.number n block.awaited) (sym count) next;
+      first = get_or_append_left c.push.new.self.items (block.awaited ∷ []) c.args.goal 0 (omega (arith, count)) ∙ ap (λ (xs : List Await). get_or xs 0 c.args.goal) items ∙ was.first;
+    }
+
+pub loop-walk-smaller : goal.loop-walk-smaller
+loop-walk-smaller g c =
     let goals = c.pop.new.self.items in
-    let fewer = ap (λ (xs : List Await). length xs) c.in-Some-pop.ensures.items ∙ length_push goals c.in-Some-pop.before in
-    less_reached (g.P.ProgramView.program c.args.program.now) c.loop-alloc.walk.counts c.run_agent.new.walk.counts after.grown c.loop-alloc.last (length c.loop-alloc.goals.items) (omega (arith, last.deep)) after.walk.within last.action.agent
-    (rw c.in-None.is at after.reached) c.in-Some-pop.before (length goals) (inl fewer)
+    let fewer = ap (λ (xs : List Await). length xs) c.in-Some.ensures.items ∙ length_push goals c.in-Some.before in
+    less_reached (g.P.ProgramView.program c.args.program.now) c.loop-walk.last (length c.loop-walk.goals.items) c.loop-walk.walk (c.is_open-is_left.ensures.over c.if-is_left.false) c.in-Some.before (length goals) fewer
 
-pub loop-alloc-preserved-in-Some-pop : goal.loop-alloc-preserved-in-Some-pop
-loop-alloc-preserved-in-Some-pop g c =
+pub loop-walk-preserved : goal.loop-walk-preserved
+loop-walk-preserved g c =
     let p = g.P.ProgramView.program c.args.program.now in
-    let was = c.loop-alloc.invariant in
-    let after = c.in_ok-awaited.ensures in
-    let deep = deep_less p was.numbered c.pop.new.self.items c.in-Some-pop.before (subst (AreDeep p was.numbered.number) c.in-Some-pop.ensures.items was.goals) in
-    record { walk = after.walk; grown = λ i. omega (arith, was.grown i, after.grown i); numbered = was.numbered; goals = deep.0; last = λ _. deep.1 }
-
-pub loop-alloc-smaller : goal.loop-alloc-smaller
-loop-alloc-smaller g c =
-    let still = c.is_open.ensures.0 c.loop-alloc-test.true in
-    let last = c.loop-alloc.invariant.last still in
-    let after = c.in_ok-awaited.ensures in
-    let none : length c.pop.new.self.items ≡ length c.loop-alloc.goals.items = search rules in
-    less_reached (g.P.ProgramView.program c.args.program.now) c.loop-alloc.walk.counts c.run_agent.new.walk.counts after.grown c.loop-alloc.last (length c.loop-alloc.goals.items) (omega (arith, last.deep)) after.walk.within last.action.agent
-    (rw c.in-None.is at after.reached) c.args.goal (length c.pop.new.self.items) (inr (none, still, c.requires.agent))
-
-pub loop-alloc-preserved : goal.loop-alloc-preserved
-loop-alloc-preserved g c =
-    let was = c.loop-alloc.invariant in
-    let after = c.in_ok-awaited.ensures in
-    let none : length c.pop.new.self.items ≡ 0 = search rules in
+    let was = c.loop-walk.invariant in
+    let items = c.in-Some.ensures.items in
+    let fewer = ap (λ (xs : List Await). length xs) items ∙ length_push c.pop.new.self.items c.in-Some.before in
+    let deep = deep_less p was.numbered c.pop.new.self.items c.in-Some.before (subst (AreDeep p was.numbered.number) items was.goals) in
     record {
-      walk = after.walk;
-      grown = λ i. omega (arith, was.grown i, after.grown i);
+      walk = was.walk;
+      grown = was.grown;
       numbered = was.numbered;
-      goals = λ k d l. absurd (omega (arith, l, none));
-      last = λ still.
-          let act = c.requires.goal (omega (arith, still, was.grown c.args.goal.agent, after.grown c.args.goal.agent)) in
-          record { action = act; deep = omega (arith, none, was.numbered.upto _ act) };
+      goals = deep.0;
+      agent = deep.1.action.agent;
+      last = λ _. deep.1;
+      first = ap (λ (xs : List Await). get_or xs 0 c.args.goal) (sym items) ∙ sym (get_or_append_left c.loop-walk.goals.items (c.loop-walk.last ∷ []) c.args.goal 0 (omega (arith, fewer))) ∙ was.first;
     }
+
+pub returns-in-None-clause-reached : goal.returns-in-None-clause-reached
+returns-in-None-clause-reached g c =
+    let none : length c.loop-walk.goals.items ≡ 0 = search rules in
+    let same = sym (get_or_push c.loop-walk.goals.items c.loop-walk.last c.args.goal 0 none) ∙ c.loop-walk.invariant.first in
+    subst (λ (w : Await). w.count ≤ finished_in c.loop-walk.walk w.agent) same (c.is_open-is_left.ensures.over c.if-is_left.false)

@@ -1,9 +1,12 @@
 #!/usr/bin/env python3
-"""`times` and `rest` of random accepted programs beside a plain count: python3 tests/rests.py FLEET [COUNT [SEED]].
+"""`times` and `rest` of random accepted programs, and `verify` of changed ones, beside a plain count:
+
+    python3 tests/rests.py FLEET [COUNT [SEED]]
 
 Each of the COUNT (10,000) cases is a map, agents on it, a program that is accepted for them, a log that is broken off
-somewhere, costs, and robots that break down. What is left is counted here to be accepted, and to run on as the program
-does. Status 1 if an answer differs.
+somewhere, costs, and robots that break down; and the program with a change or two, which `verify` has to accept if it
+is right here as well, and to refuse for its first fault. What is left is counted here to be accepted, and to run on as
+the program does. Status 1 if an answer differs, or if some refusal never came.
 """
 import collections
 import os
@@ -285,8 +288,78 @@ def map_of(cells, width, height):
     return "type octile\nheight %d\nwidth %d\nmap\n" % (height, width) + "".join(rows)
 
 
-def case(rng, k, fleet):
-    """The answers that differ."""
+def changed(rng, program):
+    """The program with one or two actions that lack an await, await more, less or each other, or go elsewhere."""
+    agents = [agent._replace(actions=list(agent.actions)) for agent in program]
+
+    def add(i, n, j, count):
+        step, awaits = agents[i].actions[n - 1]
+        agents[i].actions[n - 1] = step, sorted({**dict(awaits), j: count}.items())
+    for _ in range(rng.randint(1, 2)):
+        way = rng.choice(["lack", "lack", "more", "less", "ring", "another", "elsewhere", "order"])
+        fit = [(i, n) for i, n in actions_of(program) if way in ("another", "elsewhere", "order") or agents[i].actions[n - 1][1]]
+        if not fit:
+            continue
+        i, n = rng.choice(fit)
+        step, awaits = agents[i].actions[n - 1]
+        j, count = rng.choice(awaits or [(i, n)])
+        others = [w for w in awaits if w[0] != j]
+        if way in ("lack", "less", "more"):
+            count = {"lack": 0, "less": count - 1, "more": count + 1}[way]
+            agents[i].actions[n - 1] = step, sorted(others + [(j, count)] * (count > 0))
+        elif way == "ring" and count <= len(agents[j].actions):
+            add(j, rng.randint(1, count), i, n)
+        elif way == "another":
+            j = rng.randrange(len(program))
+            if j != i:
+                add(i, n, j, rng.randint(1, len(program[j].actions) + 1))
+        elif way == "elsewhere":
+            agents[i].actions[n - 1] = rng.choice(list(STEPS)[:4]), awaits
+        elif way == "order":
+            m = rng.randrange(len(agents[i].actions))
+            other = agents[i].actions[m]
+            agents[i].actions[m], agents[i].actions[n - 1] = (step, other[1]), (other[0], awaits)
+    return agents
+
+
+def first_fault(program, free):
+    """The line of the first fault of steps and awaits, if there is one."""
+    for i, agent in enumerate(program):
+        if places(agent)[-1] != agent.goal:
+            return "verify 4 Goal agent %d" % i
+    for kind, is_wrong in (("5 Step", lambda i, n: places(program[i])[n] not in free),
+                           ("6 AwaitRange", lambda i, n: any(count > len(program[j].actions)
+                                                             for j, count in program[i].actions[n - 1][1]))):
+        for i, n in actions_of(program):
+            if is_wrong(i, n):
+                return "verify %s agent %d action %d" % (kind, i, n)
+    return None
+
+
+def is_judged(program, free, said, told):
+    """Whether the verdict is right: the numbers, the fault, a ring of needs, or holds that bring two onto one cell."""
+    fault = first_fault(program, free)
+    if fault:
+        return not said and told == [fault]
+    if is_accepted(program, free):
+        chain = max(critical(program, lambda action: 1).values(), default=0)
+        awaits = sum(len(awaits) for agent in program for _, awaits in agent.actions)
+        return not told and said == ["accepted", "agents %d" % len(program), "moves %d" % len(actions_of(program)),
+                                     "awaits %d" % awaits, "chain %d" % chain]
+    words = told[0].split() if told else []
+    if words[:3] == ["verify", "7", "Cyclic"]:
+        ring = [tuple(map(int, word.split(":"))) for word in words[3:]]
+        return not said and all(before in needs(program, action) for before, action in zip(ring[-1:] + ring, ring))
+    if words[:4] == ["verify", "8", "Unordered", "cell"]:
+        holds = [[int(word) for word in line.split()] if line != "-" else [] for line in said]
+        row, cell = run(program, holds, len(holds))[-1], tuple(map(int, words[4].split(",")))
+        agents = {int(words[k].split(":")[0]) for k in (6, 8)}
+        return len(agents) == 2 and all(places(program[i])[row[i]] == cell for i in agents)
+    return False
+
+
+def case(rng, k, fleet, seen):
+    """The answers that differ. The words of each verdict that came are added to `seen`."""
     width, height, free, program = problem(rng)
     cost_lines, cost = costs_of(rng, program)
     breaks = [rng.randint(1, len(a.actions)) if a.actions and rng.random() < 0.3 else 0 for a in program]
@@ -318,19 +391,28 @@ def case(rng, k, fleet):
         (open("left.scen").read(), scen_of(left, width, height)),
         (open("left.map").read(), map_of(free - set(cells), width, height)),
         (open("others.scen").read(), scen_of([a for i, a in enumerate(left) if i != dead], width, height))]
+    other = changed(rng, program)
+    with open("other", "wb") as file:
+        file.write(bytes_of(other))
+    ran = subprocess.run([fleet, "verify", "map", "scen", "other"], capture_output=True, text=True)
+    said, told = ran.stdout.splitlines(), ran.stderr.splitlines()
+    seen.add(" ".join((told or said)[0].split()[:3]))
+    if not is_judged(other, free, said, told):
+        answers.append(((said, told), listing(other)))
     return [(got, due) for got, due in answers if got != due]
 
 
 def main(fleet, count="10000", seed="1"):
-    fleet, rng = os.path.abspath(fleet), random.Random(int(seed))
+    fleet, rng, seen = os.path.abspath(fleet), random.Random(int(seed)), set()
     with tempfile.TemporaryDirectory() as room:
         os.chdir(room)
         for k in range(int(count)):
-            for got, due in case(rng, k, fleet):
+            for got, due in case(rng, k, fleet, seen):
                 print("case %d:" % k, got, "due", due)
                 sys.exit(1)
         os.chdir("/")
-    print("rests:", count, "cases compared")
+    print("rests:", count, "cases compared,", len(seen), "verdicts")
+    sys.exit(len(seen) != 6)
 
 
 if __name__ == "__main__":

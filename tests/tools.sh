@@ -39,11 +39,11 @@ check 'starts and goals are distinct' 0 '16 16\n' '' \
 check 'a study of no option' 2 '' 'study: --dwel is no option\n' 'sh tools/study.sh examples/pair.map examples/pair.scen --dwel 3'
 check 'a study of a plan that does not plan' 2 '' 'study: --tries 3 is of no use with a plan\n' 'sh tools/study.sh examples/pair.map examples/pair.scen --tries 3 --plan examples/pair.plan'
 
-# Times and rests of random programs, beside a plain count.
+# Times and rests of random programs, and verdicts on changed ones, beside a plain count.
 if has python3; then
-    check 'times and rests' 0 'rests: 40 cases compared\n' '' "python3 '$root/tests/rests.py' '$fleet' 40"
+    check 'times, rests and verdicts' 0 'rests: 100 cases compared, 6 verdicts\n' '' "python3 '$root/tests/rests.py' '$fleet' 100"
 else
-    skip 'times and rests: no python3'
+    skip 'times, rests and verdicts: no python3'
 fi
 
 # The gateway: simulated vehicles, and messages that come twice, late, in another order or not at all.

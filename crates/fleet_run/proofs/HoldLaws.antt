@@ -1,17 +1,9 @@
 -- A line is read as a tick exactly if it is the line of that tick.
-use Rattle.std.proofs.Common.{◌≡◌, ◌≢◌, ◌∙◌, ℕ, zero, suc, ◌+◌, ◌-◌, ◌*◌, ◌<◌, ◌≤◌, ◌^◌, ◌&&◌, Bool, true, false, cond, List, [], ◌∷◌, ◌++◌, length, map, get_or, Option, None, Some, nat_le, nat_lt, eqb, refl, sym, ap, subst, inl, inr, ◌⊎◌, arith, rules, All, eqb-true, leb-true, ltb-true, decimal}
-use Rattle.std.specs.Prelude.{codes, option_map, option_and_then}
-use Rattle.std.specs.List.{slice_split, join_with_byte, AllByRecursion}
-use Rattle.std.specs.List.Sorted.{IsStrictlyIncreasing}
+use Rattle.fleet_run.proofs.Words.{◌≡◌, ◌≢◌, ◌∙◌, ℕ, zero, suc, ◌+◌, ◌-◌, ◌*◌, ◌<◌, ◌≤◌, ◌^◌, ◌&&◌, Bool, true, false, cond, List, [], ◌∷◌, ◌++◌, length, map, get_or, Option, None, Some, nat_le, nat_lt, eqb, refl, sym, ap, subst, inl, inr, ◌⊎◌, arith, rules, All, eqb-true, leb-true, ltb-true, decimal, codes, option_map, option_and_then, slice_split, join_with_byte, AllByRecursion, IsStrictlyIncreasing, cases_Bool, and_parts, ne_eqb, le-leb, lt-ltb, get_or_append_left, get_or_default, length-map, All-from_recursion, recursion_from_All, Bytes, is_digit, number_after, number, tick_line, IsTickLine, plain_number, agents_of, is_space, is_dash, tick_of}
 use Rattle.std.specs.Str.{all_ascii_digits}
-use Rattle.std.proofs.lemmas.Bool.{cases_Bool, and_parts, ne_eqb, le-leb, lt-ltb}
 use Rattle.std.proofs.lemmas.Fmt.{digits_decimal, digits_value-decimal, decimal-digits_value, decimal_nonempty, decimal_digit, first_decimal}
-use Rattle.std.proofs.lemmas.List.{get_or_append_left, get_or_default, length-map}
-use Rattle.std.proofs.lemmas.List.Elements.{All-from_recursion, recursion_from_All}
 use Rattle.std.proofs.lemmas.List.Splits.{join_with_byte-slice_split, slice_split_at, slice_split_none, length-slice_split}
 use Rattle.std.proofs.lemmas.Str.Parse.{IsNumeralModel, numerals_by_fold, not_in_digits}
-use Rattle.fleet_text.specs.Text.{Bytes, is_digit, number_after, number}
-use Rattle.fleet_run.specs.HoldText.{tick_line, IsTickLine, plain_number, agents_of, is_space, is_dash, tick_of}
 
 -- ---- numbers without a leading zero
 

@@ -1,12 +1,7 @@
 -- The words of a line of holds, one after another.
-use Rattle.std.proofs.Common.{◌≡◌, ◌∙◌, ℕ, ◌+◌, ◌<◌, ◌≤◌, min, List, [], ◌∷◌, ◌++◌, length, take, drop, Option, None, Some, refl, sym, ap, subst, arith, append_assoc}
-use Rattle.std.specs.Prelude.{position, option_map}
-use Rattle.std.specs.List.{slice_split}
+use Rattle.fleet_run.proofs.Words.{◌≡◌, ◌∙◌, ℕ, ◌+◌, ◌<◌, ◌≤◌, min, List, [], ◌∷◌, ◌++◌, length, take, drop, Option, None, Some, refl, sym, ap, subst, arith, append_assoc, position, option_map, slice_split, le-leb, lt-ltb, Bytes, is_space, plain_number, agents_of}
 use Rattle.std.proofs.lemmas.List.Splits.{slice_split_first}
-use Rattle.std.proofs.lemmas.Bool.{le-leb, lt-ltb}
-use Rattle.fleet_text.specs.Text.{Bytes}
 use Rattle.fleet_text.proofs.TextLaws.{found_at, found_nowhere, split_none}
-use Rattle.fleet_run.specs.HoldText.{is_space, plain_number, agents_of}
 
 pub cut_at : (line : Bytes) (end : ℕ) → position is_space line ≡ Some end
     → (slice_split is_space line ≡ take end line ∷ slice_split is_space (drop (end + 1) line)) × (end < length line)

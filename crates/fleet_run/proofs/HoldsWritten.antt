@@ -1,14 +1,6 @@
 -- Written lists of held agents are read again.
-use Rattle.std.proofs.Common.{◌≡◌, ℕ, ◌+◌, ◌<◌, List, [], ◌∷◌, ◌++◌, length, map, take, get_or, All, None, Some, refl, sym, ap, ◌∙◌, arith, decimal}
-use Rattle.std.specs.List.{AllByRecursion, join_with_byte}
-use Rattle.std.specs.List.Sorted.{IsStrictlyIncreasing}
-use Rattle.std.proofs.lemmas.List.Elements.{recursion_from_All}
-use Rattle.fleet_model.specs.Machine.{Holds}
+use Rattle.fleet_run.proofs.Words.{◌≡◌, ℕ, ◌+◌, ◌<◌, List, [], ◌∷◌, ◌++◌, length, map, take, get_or, All, None, Some, refl, sym, ap, ◌∙◌, arith, decimal, AllByRecursion, join_with_byte, IsStrictlyIncreasing, recursion_from_All, Holds, ended_text, From, line_more, from_less, from_join, decimal_from, lines_written, list_source, tick_line, tick_of, ticks_of, last_of, text_source, holds_text}
 use Rattle.std.proofs.lemmas.Simd.{map-map}
-use Rattle.fleet_text.specs.Words.{ended_text}
-use Rattle.fleet_text.proofs.WrittenLaws.{From, line_more, from_less, from_join, decimal_from, lines_written}
-use Rattle.fleet_run.specs.Source.{list_source}
-use Rattle.fleet_run.specs.HoldText.{tick_line, tick_of, ticks_of, last_of, text_source, holds_text}
 use Rattle.fleet_run.proofs.HoldLaws.{tick_read}
 
 -- ---- a line

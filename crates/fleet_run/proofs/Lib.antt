@@ -12,3 +12,4 @@ pub mod TraceLemmas
 pub mod Patched
 pub mod Lines
 pub mod Resized
+mod Words

@@ -1,28 +1,13 @@
 -- Rows of bytes that end with kept numerals.
-use Rattle.std.proofs.Common.{◌≡◌, ◌≢◌, ◌≤◌, ◌<◌, ◌+◌, ◌-◌, ◌*◌, ◌++◌, ◌∷◌, [], ◌⊎◌, get_or, zero, suc, inl, inr, refl, ℕ, List, length, take, drop, set, ap, sym, ◌∙◌, arith, length-append, subst, Bool, true, false, Option, None, Some, pos, if◌then◌else◌, add-one}
-use Rattle.std.proofs.lemmas.List.{append_assoc, drop-append-le, drop-drop, drop-set-lt, drop-take, drop_all, ext_get_or, get_or_past, get_or-map, map-set, get_or-set_other, get_or-set_same, length-drop, length-map, length-set, length-take}
-use Rattle.std.specs.Prelude.{codes}
-use Rattle.std.specs.List.{flat_map}
-use Rattle.std.specs.Fmt.{signed_decimal}
+use Rattle.fleet_run.proofs.Words.{◌≡◌, ◌≢◌, ◌≤◌, ◌<◌, ◌+◌, ◌-◌, ◌*◌, ◌++◌, ◌∷◌, [], ◌⊎◌, get_or, zero, suc, inl, inr, refl, ℕ, List, length, take, drop, set, ap, sym, ◌∙◌, arith, length-append, subst, Bool, true, false, Option, None, Some, pos, if◌then◌else◌, add-one, append_assoc, drop-append-le, drop-drop, drop-set-lt, drop-take, drop_all, ext_get_or, get_or_past, get_or-map, map-set, get_or-set_other, get_or-set_same, length-drop, length-map, length-set, length-take, codes, flat_map, signed_decimal, drop-append-add, drop-append_seam, drop-cons, take-append-add, ints, cases_eq, cases_lt, Place, Action, Standing, Program, Configuration, standing_at, standing_after, next_action, finished_one, is_moving, tick, length-tick, standing_at_tick, MachineState, flag_of, moving_flags, place_text, numeral, numeral_text, numerals_of, numerals_text, HasNumerals, EndsWith, IsNumeralAt, IsLineKept, IsWrittenOver, WritesOver, AreClose, IsBeside, IsKeptBefore, places_of}
 use Rattle.std.proofs.lemmas.List.FromFn.{get_or-map-range_with_len}
 use Rattle.std.proofs.lemmas.List.Concat.{flat_map-cons}
-use Rattle.std.proofs.Math.Seq.{drop-append-add, drop-append_seam, drop-cons, take-append-add}
-use Rattle.std.proofs.lemmas.Int.{ints}
-use Rattle.std.proofs.lemmas.Bool.{cases_eq, cases_lt}
-use Rattle.fleet_model.specs.declared.geometry.Place.{Place}
 use Rattle.fleet_model.specs.declared.geometry.Dir.TheVariants.{North, East, South, West}
 use Rattle.fleet_model.specs.declared.geometry.Step.{Step}
 use Rattle.fleet_model.specs.declared.geometry.Step.TheVariants.{Go, Dwell}
-use Rattle.fleet_model.specs.declared.program.Action.{Action}
 use Rattle.fleet_model.specs.Geometry.{stepped}
-use Rattle.fleet_model.specs.declared.standing.Standing.{Standing}
-use Rattle.fleet_model.specs.Program.{Program}
-use Rattle.fleet_model.specs.Machine.{Configuration, standing_at, standing_after, next_action, finished_one, is_moving, tick}
-use Rattle.fleet_model.proofs.Tick.{length-tick, standing_at_tick}
-use Rattle.fleet_machine.specs.Machine.{MachineState, flag_of, moving_flags}
 use Rattle.fleet_machine.specs.AgentSet.{AreNoneFrom, IsNextFrom}
-use Rattle.fleet_run.specs.Text.{place_text}
-use Rattle.fleet_run.specs.Line.{Numeral, numeral, numeral_text, numerals_of, numerals_text, HasNumerals, EndsWith, IsNumeralAt, IsLineKept, IsWrittenOver, WritesOver, AreClose, IsBeside, IsKeptBefore, places_of}
+use Rattle.fleet_run.specs.Line.{Numeral}
 
 -- what was written before a place leaves what is behind it
 drop_behind : (row row' text : List ℕ) (at m : ℕ) → drop at row' ≡ text ++ drop (at + length text) row

@@ -1,19 +1,8 @@
 -- A run at one time: what it wrote, and what it asked for, and the run so far.
-use Rattle.std.proofs.Common.{◌≡◌, ◌∙◌, ◌<◌, ◌+◌, not, cond, ℕ, Bool, None, Some, Option, Ok, Err, List, length, refl, sym, ap, subst, Result}
-use Rattle.fleet_model.specs.Program.{Program, IsWellFormed}
-use Rattle.fleet_model.specs.Machine.{Configuration, is_ready_held, tick}
-use Rattle.fleet_machine.specs.Machine.{flag_of}
-use Rattle.fleet_run.specs.declared.run.End.{End}
-use Rattle.fleet_run.specs.declared.run.RunFault.{RunFault}
-use Rattle.fleet_run.specs.declared.run.RunFault.TheVariants.{OutOfMemory, Source, Hold, Write, HoldLimit}
-use Rattle.fleet_run.specs.declared.run.Time.{Time}
-use Rattle.fleet_run.specs.Source.{SourceState, CanBeAsked}
-use Rattle.fleet_run.specs.Text.{line_of, lines_below}
-use Rattle.fleet_run.specs.Outcome.{AsksNext, AsksUnless, AsksUnlessOver, IsAskedFor, PassesTime, RunsLines, run_end}
+use Rattle.fleet_run.proofs.Words.{◌≡◌, ◌∙◌, ◌<◌, ◌+◌, not, cond, ℕ, Bool, None, Some, Option, Ok, Err, List, length, refl, sym, ap, subst, Result, Program, IsWellFormed, Configuration, is_ready_held, tick, flag_of, End, RunFault, OutOfMemory, Source, Hold, Write, HoldLimit, Time, SourceState, CanBeAsked, line_of, lines_below, AsksNext, AsksUnless, AsksUnlessOver, IsAskedFor, PassesTime, RunsLines, run_end, SinkState, Takes}
 use Rattle.fleet_run.proofs.Ending.{not_over}
 use Rattle.fleet_run.proofs.Progress.{all_left}
 use Rattle.fleet_run.proofs.UnderWay.{IsUnderWay, asked, asked_so_far, falls, line_added, one_tick_on, stops_asking, stops_at_sink, unset_after}
-use Rattle.fleet_text.specs.Sink.{SinkState, Takes}
 
 -- no answer of asking is that the sink failed, or want of memory
 asks_so : (end : Option End) (ended : Bool) (s s' : SourceState) (t : ℕ) (e : RunFault) (flags : List Bool) → AsksUnless end ended s s' t (Err e) flags

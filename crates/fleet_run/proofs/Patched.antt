@@ -1,12 +1,6 @@
 -- A number, written over one beside it by its last digit.
-use Rattle.std.proofs.Common.{◌≡◌, ◌≤◌, ◌<◌, ◌+◌, ◌-◌, ◌/◌, ◌%◌, ◌^◌, ◌++◌, ◌∷◌, [], ℤ, pos, set, ℕ, List, length, take, drop, ap, sym, ◌∙◌, arith, append_assoc, length-append, slice_index}
-use Rattle.std.proofs.lemmas.Int.{ints}
-use Rattle.std.proofs.lemmas.List.{take-append-drop, length-take}
-use Rattle.std.proofs.Math.Seq.{get_or-append_seam, set-append_seam}
-use Rattle.std.specs.Fmt.{signed_decimal}
+use Rattle.fleet_run.proofs.Words.{◌≡◌, ◌≤◌, ◌<◌, ◌+◌, ◌-◌, ◌/◌, ◌%◌, ◌^◌, ◌++◌, ◌∷◌, [], ℤ, pos, set, ℕ, List, length, take, drop, ap, sym, ◌∙◌, arith, append_assoc, length-append, slice_index, ints, take-append-drop, length-take, get_or-append_seam, set-append_seam, signed_decimal, tens_text, AreClose, IsDigit, IsDigitOver, IsWrittenOver, numeral, numeral_text}
 use Rattle.fleet_text.proofs.DigitLemmas.{decimal_by_tens}
-use Rattle.fleet_text.specs.Words.{tens_text}
-use Rattle.fleet_run.specs.Line.{AreClose, IsDigit, IsDigitOver, IsWrittenOver, numeral, numeral_text}
 
 -- ---- the text of a numeral
 

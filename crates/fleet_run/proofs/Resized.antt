@@ -1,11 +1,7 @@
 -- A row in which a numeral was written over one that has more bytes or fewer.
-use Rattle.std.proofs.Common.{◌≡◌, ◌≤◌, ◌<◌, ◌+◌, ◌-◌, ◌++◌, get_or, zero, suc, inl, inr, refl, ℕ, List, length, take, drop, set, ap, sym, ◌∙◌, arith, length-append, subst}
-use Rattle.std.proofs.lemmas.List.{append_assoc, drop-drop, drop-set-lt, get_or-set_same, get_or-set_other, length-drop, length-set, length-take}
+use Rattle.fleet_run.proofs.Words.{◌≡◌, ◌≤◌, ◌<◌, ◌+◌, ◌-◌, ◌++◌, get_or, zero, suc, inl, inr, refl, ℕ, List, length, take, drop, set, ap, sym, ◌∙◌, arith, length-append, subst, append_assoc, drop-drop, drop-set-lt, get_or-set_same, get_or-set_other, length-drop, length-set, length-take, cases_lt, copy_within, drop-append-add, drop-append_seam, numeral_text, numerals_text, moved_before, HasNumerals, IsResized}
 use Rattle.std.proofs.lemmas.List.Edits.{take-paste, drop-paste}
-use Rattle.std.proofs.lemmas.Bool.{cases_lt}
-use Rattle.std.specs.List.{copy_within}
-use Rattle.std.proofs.Math.Seq.{drop-append-add, drop-append_seam}
-use Rattle.fleet_run.specs.Line.{Numeral, numeral_text, numerals_text, moved_before, HasNumerals, IsResized}
+use Rattle.fleet_run.specs.Line.{Numeral}
 use Rattle.fleet_run.proofs.Lines.{left_behind, same_or_later, placed, piece_before, next_begin, begins_rise}
 
 module _ (c : List Numeral) (row row1 row2 begins begins2 : List ℕ) (i to : ℕ) (s : Numeral) (kept : HasNumerals c row begins) (agent : i < length c)

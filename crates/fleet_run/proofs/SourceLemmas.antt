@@ -1,11 +1,8 @@
 -- The flags of a tick, one number at a time.
-use Rattle.std.proofs.Common.{◌≡◌, ◌≢◌, ◌==◌, ◌∙◌, sym, ℕ, ◌+◌, ◌<◌, ◌≤◌, Bool, true, false, List, [], ◌∷◌, ◌++◌, length, get_or, set, take, ◌⊎◌, refl, inl, inr, arith, get_or-set_other}
+use Rattle.fleet_run.proofs.Words.{◌≡◌, ◌≢◌, ◌==◌, ◌∙◌, sym, ℕ, ◌+◌, ◌<◌, ◌≤◌, Bool, true, false, List, [], ◌∷◌, ◌++◌, length, get_or, set, take, ◌⊎◌, refl, inl, inr, arith, get_or-set_other, length-set, take_more, is_among, AreFlagsOf}
 use Rattle.std.proofs.lemmas.Bool.Decides.{eqb_tells}
 use Rattle.std.proofs.lemmas.Grind.{get_or-set_at}
-use Rattle.std.proofs.lemmas.List.{length-set, take_more}
 use Rattle.std.proofs.Math.Bool.{or-true}
-use Rattle.fleet_model.specs.Machine.{is_among}
-use Rattle.fleet_run.specs.Source.{AreFlagsOf}
 
 pub is_among-last : (i n : ℕ) (ns : List ℕ) → (n == i) ≡ true → is_among (ns ++ n ∷ []) i ≡ true
 is_among-last i n [] e = rw e refl

@@ -1,18 +1,5 @@
 -- Runs under holds that are read in place, said of the bytes of the holds.
-use Rattle.std.proofs.Common.{◌≡◌, ◌≢◌, ℕ, false, List, [], ◌∷◌, length, None, Some, Option, Result, Ok, Err, rules, subst}
-use Rattle.std.specs.Prelude.{IfOk}
-use Rattle.fleet_model.specs.Program.{Program}
-use Rattle.fleet_model.specs.Machine.{Configuration}
-use Rattle.fleet_text.specs.Text.{Bytes, lines}
-use Rattle.fleet_run.specs.Drive.{Drives, IsInTime}
-use Rattle.fleet_run.specs.HoldText.{HoldLines, tick_of, last_of, fault_before, source_of}
-use Rattle.fleet_text.specs.Sink.{SinkState}
-use Rattle.fleet_run.specs.Source.{SourceState}
-use Rattle.fleet_run.specs.declared.source.SourceFault.{SourceFault}
-use Rattle.fleet_run.specs.declared.source.SourceFault.TheVariants.{Broken}
-use Rattle.fleet_run.specs.declared.run.RunFault.{RunFault}
-use Rattle.fleet_run.specs.declared.run.RunFault.TheVariants.{OutOfMemory, Source, Hold, Write, HoldLimit}
-use Rattle.fleet_run.specs.declared.trace.Report.{Report}
+use Rattle.fleet_run.proofs.Words.{◌≡◌, ◌≢◌, ℕ, false, List, [], ◌∷◌, length, None, Some, Option, Result, Ok, Err, rules, subst, IfOk, Program, Configuration, Bytes, lines, Drives, IsInTime, HoldLines, tick_of, last_of, fault_before, source_of, SinkState, SourceState, SourceFault, Broken, RunFault, OutOfMemory, Source, Hold, Write, HoldLimit, Report}
 use Rattle.fleet_run.specs.Trace.{hold_source, StopsTrace, Traces}
 
 fault_before-broken : (tick : Option (List ℕ)) (last : Option SourceFault) → last ≢ Some Broken → fault_before tick last ≢ Some Broken

@@ -1,34 +1,7 @@
 -- Runs that are under way, and what is written of them.
-use Rattle.std.proofs.Common.{◌≡◌, ◌<◌, ◌≤◌, ◌*◌, take, subst, ℕ, zero, suc, ◌+◌, not, Bool, true, false, cond, None, List, [], ◌∷◌, get_or, drop, length, refl, ap, sym, ◌∙◌, add-one, inl, inr, ◌≢◌, arith, below_more, Result, Ok, Err, ◌++◌, Some, Option, length-append}
-use Rattle.std.proofs.lemmas.Bool.{cases_Bool, not-true, not-false, or_parts}
-use Rattle.std.proofs.lemmas.List.{length-drop, take-append-le, ext_get_or}
-use Rattle.fleet_model.specs.declared.limits.TheConstants.{MAX_AGENTS, MAX_MOVES}
+use Rattle.fleet_run.proofs.Words.{◌≡◌, ◌<◌, ◌≤◌, ◌*◌, take, subst, ℕ, zero, suc, ◌+◌, not, Bool, true, false, cond, None, List, [], ◌∷◌, get_or, drop, length, refl, ap, sym, ◌∙◌, add-one, inl, inr, ◌≢◌, arith, below_more, Result, Ok, Err, ◌++◌, Some, Option, length-append, cases_Bool, not-true, not-false, or_parts, length-drop, take-append-le, ext_get_or, MAX_AGENTS, MAX_MOVES, Program, IsWellFormed, Configuration, Holds, is_ready_held, is_over, is_among, is_held, tick, run, held_ticks, opening, standing_at, count_at, is_moving, next_action, finished_one, is_finished, is_stuck, IsFinish, IsReached, SourceState, HasNotFailed, AreFlagsOf, AsksTick, first_of, rest_of, SourceFault, Broken, Text, RunFault, OutOfMemory, Source, Hold, Write, HoldLimit, NeedsTicks, IsAskedFor, StopsAtSink, StopsAtSource, AsksNext, RunsLines, RunsToEnd, run_end, is_err, IfOk, IsOk, SinkState, StopsWithin, Takes, TakesAll, HasFailed, IsWorking, line_of, lines_below, trace_closing, flag_of, length-run, tick_agree, held_ticks-le, length-tick, standing_at_tick, Appends-trans, takes_more, Appends, Standing, Action, Arrives, End, Finished, Stuck, Report, Ran, Drives, IsDriven, IsInTime, trace_from}
 use Rattle.fleet_run.specs.declared.run.TheConstants.{MAX_RUN_TICKS}
-use Rattle.fleet_model.specs.Program.{Program, IsWellFormed}
-use Rattle.fleet_model.specs.Machine.{Configuration, Holds, is_ready_held, is_over, is_among, is_held, tick, run, held_ticks, opening, standing_at, count_at, is_moving, next_action, finished_one, is_finished, is_stuck, IsFinish, IsReached}
-use Rattle.fleet_run.specs.Source.{SourceState, HasNotFailed, AreFlagsOf, AsksTick, first_of, rest_of}
-use Rattle.fleet_run.specs.declared.source.SourceFault.{SourceFault}
-use Rattle.fleet_run.specs.declared.source.SourceFault.TheVariants.{Broken, Text}
-use Rattle.fleet_run.specs.declared.run.RunFault.{RunFault}
-use Rattle.fleet_run.specs.declared.run.RunFault.TheVariants.{OutOfMemory, Source, Hold, Write, HoldLimit}
-use Rattle.fleet_run.specs.Outcome.{NeedsTicks, IsAskedFor, StopsAtSink, StopsAtSource, AsksNext, RunsLines, RunsToEnd, run_end}
-use Rattle.std.specs.Prelude.{is_err, ◌≤◌, IfOk, IsOk}
-use Rattle.fleet_text.specs.Sink.{SinkState, StopsWithin, Takes, TakesAll, HasFailed, IsWorking}
-use Rattle.fleet_run.specs.Text.{line_of, lines_below, trace_closing}
-use Rattle.fleet_machine.specs.Machine.{flag_of}
-use Rattle.fleet_model.proofs.Tick.{length-run, tick_agree, held_ticks-le, length-tick, standing_at_tick}
-use Rattle.std.proofs.KnownBytes.{Appends-trans}
-use Rattle.fleet_text.proofs.SinkLemmas.{takes_more}
 use Rattle.fleet_run.proofs.Progress.{ready_held_same, all_left, all_left_le, all_left_lt, all_left_few}
-use Rattle.std.specs.Io.KnownBytes.{Appends}
-use Rattle.fleet_model.specs.declared.standing.Standing.{Standing}
-use Rattle.fleet_model.specs.declared.program.Action.{Action}
-use Rattle.fleet_model.specs.Run.{Arrives}
-use Rattle.fleet_run.specs.declared.run.End.{End}
-use Rattle.fleet_run.specs.declared.run.End.TheVariants.{Finished, Stuck}
-use Rattle.fleet_run.specs.declared.trace.Report.{Report}
-use Rattle.fleet_run.specs.declared.run.Ran.{Ran}
-use Rattle.fleet_run.specs.Drive.{Drives, IsDriven, IsInTime, trace_from}
 use Rattle.fleet_run.proofs.Rehearsed.{least_at, within_closing}
 
 pub first_of-drop : (holds : Holds) (t : ℕ) → first_of (drop t holds) ≡ get_or holds t []

@@ -1,10 +1,4 @@
-use Rattle.std.proofs.Common.{◌≡◌, ℕ, arith, [], ◌∙◌, ap, sym, subst}
-use Rattle.std.specs.Prelude.{IfOk}
-use Rattle.fleet_grid.specs.Ground.{is_passable}
-use Rattle.fleet_run.specs.Fleet.{IsShown, AreOnGoals}
-use Rattle.fleet_run.specs.Drive.{Drives}
-use Rattle.fleet_model.specs.Run.{Arrives}
-use Rattle.fleet_model.specs.Machine.{opening, standing_at, IsFinish}
+use Rattle.fleet_run.proofs.Words.{◌≡◌, ℕ, arith, [], ◌∙◌, ap, sym, subst, IfOk, is_passable, IsShown, AreOnGoals, Drives, Arrives, opening, standing_at, IsFinish}
 use Rattle.fleet_run.proofs.UnderWay.{at_opening, told_in_time, told_unless_failed}
 use Rattle.fleet_run.proofs.Progress.{arrived_if_told, longest_if_told}
 use Rattle.fleet_run.proofs.fleet.drive.Goals as goal

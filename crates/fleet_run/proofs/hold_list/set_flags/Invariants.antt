@@ -1,5 +1,4 @@
-use Rattle.std.proofs.Common.{take}
-use Rattle.fleet_run.specs.Source.{AreFlagsOf}
+use Rattle.fleet_run.proofs.Words.{take, AreFlagsOf}
 use Rattle.fleet_run.proofs.hold_list.set_flags.Given as goal
 
 abbrev pub invariant-loop-number : goal.invariant-loop-number

@@ -1,9 +1,5 @@
-use Rattle.std.proofs.Common.{◌++◌, [], ◌∷◌, ◌∙◌, sym, ap, Result, Ok, Err}
-use Rattle.std.specs.Prelude.{OnOk}
+use Rattle.fleet_run.proofs.Words.{◌++◌, [], ◌∷◌, ◌∙◌, sym, ap, Result, Ok, Err, OnOk, take_all, each_spaced, spaced_more, line_written, tick_line}
 use Rattle.std.specs.Fmt.{decimal}
-use Rattle.std.proofs.lemmas.List.{take_all}
-use Rattle.fleet_text.proofs.WrittenLaws.{each_spaced, spaced_more, line_written}
-use Rattle.fleet_run.specs.HoldText.{tick_line}
 use Rattle.fleet_run.proofs.HoldsWritten.{last_written}
 use Rattle.fleet_run.proofs.hold_writing.put_tick.Goals as goal
 

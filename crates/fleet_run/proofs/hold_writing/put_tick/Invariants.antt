@@ -1,6 +1,5 @@
-use Rattle.std.proofs.Common.{◌≡◌, ◌++◌, take}
+use Rattle.fleet_run.proofs.Words.{◌≡◌, ◌++◌, take, each_spaced}
 use Rattle.std.specs.Fmt.{decimal}
-use Rattle.fleet_text.proofs.WrittenLaws.{each_spaced}
 use Rattle.fleet_run.proofs.hold_writing.put_tick.Given as goal
 
 abbrev pub invariant-loop-agent : goal.invariant-loop-agent

@@ -1,6 +1,4 @@
-use Rattle.std.proofs.Common.{◌∙◌, ap, map}
-use Rattle.std.proofs.lemmas.List.{take_all}
-use Rattle.fleet_run.specs.HoldText.{text_source, holds_text}
+use Rattle.fleet_run.proofs.Words.{◌∙◌, ap, map, take_all, text_source, holds_text}
 use Rattle.fleet_run.proofs.HoldsWritten.{holds_more, rows_again}
 use Rattle.fleet_run.proofs.hold_writing.write_holds.Goals as goal
 

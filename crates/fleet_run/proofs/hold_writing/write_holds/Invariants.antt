@@ -1,5 +1,4 @@
-use Rattle.std.proofs.Common.{◌≡◌, take, map}
-use Rattle.fleet_run.specs.HoldText.{holds_text}
+use Rattle.fleet_run.proofs.Words.{◌≡◌, take, map, holds_text}
 use Rattle.fleet_run.proofs.hold_writing.write_holds.Given as goal
 
 abbrev pub invariant-loop-held : goal.invariant-loop-held

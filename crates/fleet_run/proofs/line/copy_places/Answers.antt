@@ -1,6 +1,5 @@
-use Rattle.std.proofs.Common.{◌∙◌, refl, arith, length-set}
+use Rattle.fleet_run.proofs.Words.{◌∙◌, refl, arith, length-set, standing_at}
 use Rattle.fleet_run.proofs.Lines.{one_copied, all_copied}
-use Rattle.fleet_model.specs.Machine.{standing_at}
 use Rattle.fleet_run.proofs.line.copy_places.Goals as goal
 
 pub loop-i-preserved : goal.loop-i-preserved

@@ -1,5 +1,4 @@
-use Rattle.std.proofs.Common.{◌≡◌, ◌≢◌, rules}
-use Rattle.fleet_run.specs.Line.{numerals_of}
+use Rattle.fleet_run.proofs.Words.{◌≡◌, ◌≢◌, rules, numerals_of}
 use Rattle.fleet_run.proofs.Lines.{column_numeral, column_written, in_column_if, in_row_if, row_numeral, row_written}
 use Rattle.fleet_run.proofs.line.move_place.Goals as goal
 

@@ -1,6 +1,4 @@
-use Rattle.std.proofs.Common.{◌≡◌, ◌+◌, arith, pos, rules}
-use Rattle.std.specs.Prelude.{get_or}
-use Rattle.fleet_run.specs.Line.{numeral}
+use Rattle.fleet_run.proofs.Words.{◌≡◌, ◌+◌, arith, pos, rules, get_or, numeral}
 use Rattle.fleet_run.proofs.Lines.{numeral_there, overwritten}
 use Rattle.fleet_run.proofs.Patched.{last_digit, last_patched}
 use Rattle.fleet_run.proofs.line.patch.Goals as goal

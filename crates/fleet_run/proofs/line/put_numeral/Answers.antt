@@ -1,6 +1,4 @@
-use Rattle.std.proofs.Common.{◌≡◌, ◌∙◌, ◌-◌, arith, append-nil, drop, rules}
-use Rattle.std.proofs.lemmas.List.{length-drop, take_all}
-use Rattle.fleet_run.specs.Line.{numeral, numeral_text}
+use Rattle.fleet_run.proofs.Words.{◌≡◌, ◌∙◌, ◌-◌, arith, append-nil, drop, rules, length-drop, take_all, numeral, numeral_text}
 use Rattle.fleet_run.proofs.line.put_numeral.Goals as goal
 
 pub returns-clause-kept : goal.returns-clause-kept

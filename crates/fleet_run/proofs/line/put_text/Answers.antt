@@ -1,6 +1,4 @@
-use Rattle.std.proofs.Common.{◌≡◌, ◌+◌, arith, subst, List, ℕ}
-use Rattle.std.specs.Prelude.{get_or}
-use Rattle.fleet_run.specs.Line.{IsWrittenOver, IsResized}
+use Rattle.fleet_run.proofs.Words.{◌≡◌, ◌+◌, arith, subst, List, ℕ, get_or, IsWrittenOver, IsResized}
 use Rattle.fleet_run.proofs.Lines.{in_order, really_over, not_over, overwritten}
 use Rattle.fleet_run.proofs.Resized.{resized_by}
 use Rattle.fleet_run.proofs.line.put_text.Goals as goal

@@ -1,5 +1,4 @@
-use Rattle.std.proofs.Common.{◌≡◌, ◌≢◌, ◌<◌, ◌+◌, ◌-◌, ℕ, ◌∙◌, length, set, arith, below_more, get_or-set_same, get_or-set_other}
-use Rattle.std.specs.Prelude.{get_or}
+use Rattle.fleet_run.proofs.Words.{◌≡◌, ◌≢◌, ◌<◌, ◌+◌, ◌-◌, ℕ, ◌∙◌, length, set, arith, below_more, get_or-set_same, get_or-set_other, get_or}
 use Rattle.fleet_run.proofs.line.shift_begins.Goals as goal
 
 pub loop-k-preserved : goal.loop-k-preserved

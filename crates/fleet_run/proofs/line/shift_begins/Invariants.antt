@@ -1,5 +1,4 @@
-use Rattle.std.proofs.Common.{◌≡◌, ◌<◌, ◌≤◌, ◌+◌, ℕ}
-use Rattle.std.specs.Prelude.{get_or}
+use Rattle.fleet_run.proofs.Words.{◌≡◌, ◌<◌, ◌≤◌, ◌+◌, ℕ, get_or}
 use Rattle.fleet_run.proofs.line.shift_begins.Given as goal
 
 abbrev pub invariant-loop-k : goal.invariant-loop-k

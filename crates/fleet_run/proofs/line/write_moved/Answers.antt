@@ -1,7 +1,5 @@
-use Rattle.std.proofs.Common.{◌<◌, ap, length, refl, arith}
+use Rattle.fleet_run.proofs.Words.{◌<◌, ap, length, refl, arith, Place, standing_at}
 use Rattle.std.proofs.Math.ListN.{length-set}
-use Rattle.fleet_model.specs.declared.geometry.Place.{Place}
-use Rattle.fleet_model.specs.Machine.{standing_at}
 use Rattle.fleet_run.proofs.Lines.{places_long, rewritten_next, rewritten_all, places_all, stood}
 use Rattle.fleet_run.proofs.line.write_moved.Goals as goal
 

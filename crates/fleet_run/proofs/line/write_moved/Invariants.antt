@@ -1,5 +1,4 @@
-use Rattle.std.proofs.Common.{◌≡◌, ◌≤◌, ◌+◌, ◌-◌, length}
-use Rattle.fleet_model.specs.declared.limits.TheConstants.{MAX_AGENTS}
+use Rattle.fleet_run.proofs.Words.{◌≡◌, ◌≤◌, ◌+◌, ◌-◌, length, MAX_AGENTS}
 use Rattle.fleet_machine.specs.AgentSet.{IsCursorOf}
 use Rattle.fleet_run.specs.declared.trace.TheConstants.{LINE}
 use Rattle.fleet_run.specs.declared.line.TheConstants.{MOST_RESIZED, NUMERALS}

@@ -1,5 +1,4 @@
-use Rattle.std.proofs.Common.{◌≡◌, ◌++◌, drop, rules}
-use Rattle.fleet_run.specs.Line.{numeral, numeral_text}
+use Rattle.fleet_run.proofs.Words.{◌≡◌, ◌++◌, drop, rules, numeral, numeral_text}
 use Rattle.fleet_run.proofs.Lines.{ends_before}
 use Rattle.fleet_run.proofs.line.write_numeral.Goals as goal
 

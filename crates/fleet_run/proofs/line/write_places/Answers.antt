@@ -1,6 +1,4 @@
-use Rattle.std.proofs.Common.{◌≡◌, ◌+◌, ◌*◌, ◌-◌, ◌<◌, arith, length, refl, rules, ap, ◌∙◌, ◌∷◌, subst}
-use Rattle.std.proofs.lemmas.List.{drop_all}
-use Rattle.fleet_run.specs.Line.{EndsWith, numerals_of}
+use Rattle.fleet_run.proofs.Words.{◌≡◌, ◌+◌, ◌*◌, ◌-◌, ◌<◌, arith, length, refl, rules, ap, ◌∙◌, ◌∷◌, subst, drop_all, EndsWith, numerals_of}
 use Rattle.fleet_run.proofs.Lines.{all_written, column_numeral, ends_empty, length-numerals_of, row_numeral}
 use Rattle.fleet_run.proofs.line.write_places.Goals as goal
 

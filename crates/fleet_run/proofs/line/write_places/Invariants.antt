@@ -1,5 +1,4 @@
-use Rattle.std.proofs.Common.{◌*◌}
-use Rattle.fleet_run.specs.Line.{EndsWith, numerals_of}
+use Rattle.fleet_run.proofs.Words.{◌*◌, EndsWith, numerals_of}
 use Rattle.fleet_run.proofs.line.write_places.Given as goal
 
 abbrev pub invariant-loop-i : goal.invariant-loop-i

@@ -1,9 +1,4 @@
-use Rattle.std.proofs.Common.{rules, [], ◌∷◌, sym}
-use Rattle.fleet_model.specs.Program.{awaits_of}
-use Rattle.fleet_text.proofs.SinkLemmas.{takes_err, stops_within_more, stops_before, stops_past, takes_rest}
-use Rattle.fleet_text.specs.Words.{with_spaces, next_words, numbered_text}
-use Rattle.fleet_run.specs.Text.{place_text}
-use Rattle.fleet_run.specs.Listing.{step_words, await_words}
+use Rattle.fleet_run.proofs.Words.{rules, [], ◌∷◌, sym, awaits_of, takes_err, stops_within_more, stops_before, stops_past, takes_rest, with_spaces, next_words, numbered_text, place_text, step_words, await_words}
 use Rattle.fleet_run.proofs.listing.put_action.Goals as goal
 
 pub returns-in_err-put_step : goal.returns-in_err-put_step

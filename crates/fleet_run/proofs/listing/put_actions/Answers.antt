@@ -1,7 +1,5 @@
-use Rattle.std.proofs.Common.{rules, arith, ◌+◌, sym, ◌∙◌}
-use Rattle.fleet_model.specs.Program.{moves}
+use Rattle.fleet_run.proofs.Words.{rules, arith, ◌+◌, sym, ◌∙◌, moves, action_line}
 use Rattle.fleet_verify.proofs.Paths.{in_reach, step_from}
-use Rattle.fleet_run.specs.Listing.{action_line}
 use Rattle.fleet_run.proofs.Rehearsed.{one_text_more, refused_in_text}
 use Rattle.fleet_run.proofs.listing.put_actions.Goals as goal
 

@@ -1,7 +1,4 @@
-use Rattle.std.proofs.Common.{◌≡◌, ◌+◌}
-use Rattle.fleet_model.specs.Program.{path}
-use Rattle.fleet_text.specs.Sink.{Takes}
-use Rattle.fleet_run.specs.Listing.{action_line, texts_below}
+use Rattle.fleet_run.proofs.Words.{◌≡◌, ◌+◌, path, Takes, action_line, texts_below}
 use Rattle.fleet_run.proofs.listing.put_actions.Given as goal
 
 abbrev pub invariant-loop-n : goal.invariant-loop-n

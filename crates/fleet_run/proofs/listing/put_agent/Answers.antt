@@ -1,7 +1,4 @@
-use Rattle.std.proofs.Common.{rules}
-use Rattle.fleet_model.specs.Program.{start_of, goal_of}
-use Rattle.fleet_text.proofs.SinkLemmas.{takes_err, takes_then, stops_within_more}
-use Rattle.fleet_run.specs.Listing.{agent_line}
+use Rattle.fleet_run.proofs.Words.{rules, start_of, goal_of, takes_err, takes_then, stops_within_more, agent_line}
 use Rattle.fleet_run.proofs.listing.put_agent.Goals as goal
 
 pub returns-in_err-put_agent_line : goal.returns-in_err-put_agent_line

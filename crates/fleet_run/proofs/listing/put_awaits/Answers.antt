@@ -1,10 +1,4 @@
-use Rattle.std.proofs.Common.{◌≡◌, ◌≢◌, ◌<◌, ◌∷◌, length, map, take, rules, arith}
-use Rattle.std.specs.Prelude.{codes}
-use Rattle.std.proofs.lemmas.List.{take_all}
-use Rattle.fleet_model.specs.Program.{awaits_of}
-use Rattle.fleet_text.specs.Words.{next_words}
-use Rattle.fleet_text.proofs.SinkLemmas.{passes_more, gathers_err, gathers_then, stops_before}
-use Rattle.fleet_run.specs.Listing.{await_text}
+use Rattle.fleet_run.proofs.Words.{◌≡◌, ◌≢◌, ◌<◌, ◌∷◌, length, map, take, rules, arith, codes, take_all, awaits_of, next_words, passes_more, gathers_err, gathers_then, stops_before, await_text}
 use Rattle.fleet_run.proofs.Rehearsed.{some_awaits, one_await_more, refused_in_await}
 use Rattle.fleet_run.proofs.listing.put_awaits.Goals as goal
 

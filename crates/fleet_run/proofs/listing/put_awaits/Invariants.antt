@@ -1,8 +1,4 @@
-use Rattle.std.proofs.Common.{map, take}
-use Rattle.fleet_model.specs.Program.{awaits_of}
-use Rattle.fleet_text.specs.Row.{PassesOn}
-use Rattle.fleet_text.specs.Words.{next_words}
-use Rattle.fleet_run.specs.Listing.{await_text}
+use Rattle.fleet_run.proofs.Words.{map, take, awaits_of, PassesOn, next_words, await_text}
 use Rattle.fleet_run.proofs.listing.put_awaits.Given as goal
 
 abbrev pub invariant-loop-k : goal.invariant-loop-k

@@ -1,5 +1,4 @@
-use Rattle.std.proofs.Common.{rules, length, arith}
-use Rattle.fleet_run.specs.Listing.{agent_text}
+use Rattle.fleet_run.proofs.Words.{rules, length, arith, agent_text}
 use Rattle.fleet_run.proofs.Rehearsed.{one_text_more, refused_in_text}
 use Rattle.fleet_run.proofs.listing.put_program.Goals as goal
 

@@ -1,5 +1,4 @@
-use Rattle.fleet_text.specs.Sink.{Takes}
-use Rattle.fleet_run.specs.Listing.{agent_text, texts_below}
+use Rattle.fleet_run.proofs.Words.{Takes, agent_text, texts_below}
 use Rattle.fleet_run.proofs.listing.put_program.Given as goal
 
 abbrev pub invariant-loop-i : goal.invariant-loop-i

@@ -1,10 +1,6 @@
-use Rattle.std.proofs.Common.{◌≡◌, arith, sym, subst, ◌∙◌, drop}
-use Rattle.std.proofs.lemmas.Result.{err_from_is_err_and}
-use Rattle.fleet_text.specs.Sink.{Takes}
-use Rattle.fleet_run.specs.Text.{rehearsal_closing}
+use Rattle.fleet_run.proofs.Words.{◌≡◌, arith, sym, subst, ◌∙◌, drop, err_from_is_err_and, Takes, rehearsal_closing, run}
 use Rattle.fleet_run.proofs.Rehearsed.{over_at_end, closing_is, rehearsed, rehearses_so, stops_in_closing, rest_of_row}
 use Rattle.fleet_run.proofs.UnderWay.{took_all}
-use Rattle.fleet_model.specs.Machine.{run}
 use Rattle.fleet_run.proofs.report.run_rehearsal.Goals as goal
 
 pub returns-then-is_err : goal.returns-then-is_err

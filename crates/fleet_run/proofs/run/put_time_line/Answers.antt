@@ -1,8 +1,4 @@
-use Rattle.std.proofs.Common.{◌≡◌, ◌∙◌, ◌++◌, ◌-◌, ◌∷◌, ap, arith, drop, length, subst, decimal}
-use Rattle.std.proofs.lemmas.List.{length-drop, take_all}
-use Rattle.fleet_text.specs.Sink.{TakesAll}
-use Rattle.fleet_run.specs.Line.{numerals_of}
-use Rattle.fleet_run.specs.Text.{line_of}
+use Rattle.fleet_run.proofs.Words.{◌≡◌, ◌∙◌, ◌++◌, ◌-◌, ◌∷◌, ap, arith, drop, length, subst, decimal, length-drop, take_all, TakesAll, numerals_of, line_of}
 use Rattle.fleet_run.proofs.Lines.{places_behind, timed}
 use Rattle.fleet_run.proofs.run.put_time_line.Goals as goal
 

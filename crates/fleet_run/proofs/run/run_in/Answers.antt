@@ -1,6 +1,4 @@
-use Rattle.std.proofs.Common.{arith}
-use Rattle.std.proofs.lemmas.Result.{err_from_is_err_and}
-use Rattle.fleet_run.specs.declared.run.Time.{Time}
+use Rattle.fleet_run.proofs.Words.{arith, err_from_is_err_and, Time}
 use Rattle.fleet_run.proofs.Passing.{ends_in_time, goes_on_in_time, stops_in_time}
 use Rattle.fleet_run.proofs.UnderWay.{few_held, few_ticks}
 use Rattle.fleet_run.proofs.run.run_in.Goals as goal

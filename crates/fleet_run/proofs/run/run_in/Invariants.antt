@@ -1,6 +1,4 @@
-use Rattle.std.proofs.Common.{◌≡◌, ◌≤◌, ◌+◌, length}
-use Rattle.fleet_machine.specs.Machine.{Runs}
-use Rattle.fleet_run.specs.Line.{IsLineKept, places_of}
+use Rattle.fleet_run.proofs.Words.{◌≡◌, ◌≤◌, ◌+◌, length, Runs, IsLineKept, places_of}
 use Rattle.fleet_run.proofs.Passing.{IsSoFar}
 use Rattle.fleet_run.proofs.Progress.{all_left}
 use Rattle.fleet_run.proofs.run.run_in.Given as goal

@@ -1,5 +1,4 @@
-use Rattle.std.proofs.Common.{sym}
-use Rattle.std.proofs.lemmas.List.{take_rest}
+use Rattle.fleet_run.proofs.Words.{sym, take_rest}
 use Rattle.fleet_run.proofs.HoldLemmas.{cut_at, cut_nowhere}
 use Rattle.fleet_run.proofs.source.cut.Goals as goal
 

@@ -1,9 +1,5 @@
-use Rattle.std.proofs.Common.{◌≡◌, ◌+◌, ◌++◌, ◌∷◌, [], List, ℕ, sym, arith}
-use Rattle.std.specs.Prelude.{option_map}
-use Rattle.std.specs.List.{slice_split}
+use Rattle.fleet_run.proofs.Words.{◌≡◌, ◌+◌, ◌++◌, ◌∷◌, [], List, ℕ, sym, arith, option_map, slice_split, AreFlagsOf, is_space, agents_of}
 use Rattle.fleet_text.specs.declared.numbers.TheConstants.{TOO_LONG}
-use Rattle.fleet_run.specs.Source.{AreFlagsOf}
-use Rattle.fleet_run.specs.HoldText.{is_space, agents_of}
 use Rattle.fleet_run.proofs.SourceLemmas.{flags_set, flags_past}
 use Rattle.fleet_run.proofs.HoldLemmas.{word_inside, one_more}
 use Rattle.fleet_run.proofs.source.set_agents.Goals as goal

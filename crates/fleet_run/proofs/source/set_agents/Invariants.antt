@@ -1,8 +1,4 @@
-use Rattle.std.proofs.Common.{◌≡◌, ◌≤◌, List, ℕ, ◌++◌, length}
-use Rattle.std.specs.Prelude.{option_map}
-use Rattle.std.specs.List.{slice_split}
-use Rattle.fleet_run.specs.Source.{AreFlagsOf}
-use Rattle.fleet_run.specs.HoldText.{is_space, agents_of}
+use Rattle.fleet_run.proofs.Words.{◌≡◌, ◌≤◌, List, ℕ, ◌++◌, length, option_map, slice_split, AreFlagsOf, is_space, agents_of}
 use Rattle.fleet_run.proofs.source.set_agents.Given as goal
 
 abbrev pub invariant-words : goal.invariant-words

@@ -1,7 +1,4 @@
-use Rattle.std.proofs.Common.{slice_index}
-use Rattle.fleet_text.specs.Sink.{Takes}
-use Rattle.fleet_run.specs.Listing.{texts_below}
-use Rattle.fleet_run.specs.TimesText.{label_line}
+use Rattle.fleet_run.proofs.Words.{slice_index, Takes, texts_below, label_line}
 use Rattle.fleet_run.proofs.times_text.put_arrivals.Given as goal
 
 abbrev pub invariant-loop-i : goal.invariant-loop-i

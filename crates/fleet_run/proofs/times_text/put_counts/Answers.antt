@@ -1,5 +1,4 @@
-use Rattle.std.proofs.Common.{rules, length, slice_index, arith}
-use Rattle.fleet_run.specs.TimesText.{label_line}
+use Rattle.fleet_run.proofs.Words.{rules, length, slice_index, arith, label_line}
 use Rattle.fleet_run.proofs.Rehearsed.{one_text_more, refused_in_text}
 use Rattle.fleet_run.proofs.times_text.put_counts.Goals as goal
 

@@ -1,7 +1,4 @@
-use Rattle.std.proofs.Common.{rules, [], map}
-use Rattle.std.specs.Prelude.{codes}
-use Rattle.fleet_text.specs.Words.{next_words}
-use Rattle.fleet_text.proofs.SinkLemmas.{takes_err, stops_within_more, stops_before, stops_past, takes_rest}
+use Rattle.fleet_run.proofs.Words.{rules, [], map, codes, next_words, takes_err, stops_within_more, stops_before, stops_past, takes_rest}
 use Rattle.fleet_verify.specs.RefusalWords.{action_text}
 use Rattle.fleet_verify.specs.Stretch.{path_actions}
 use Rattle.fleet_run.proofs.times_text.put_path.Goals as goal

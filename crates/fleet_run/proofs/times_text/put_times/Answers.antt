@@ -1,8 +1,4 @@
-use Rattle.std.proofs.Common.{rules, length}
-use Rattle.std.specs.Prelude.{codes}
-use Rattle.fleet_text.specs.Words.{count_line}
-use Rattle.fleet_text.proofs.SinkLemmas.{takes_err, takes_then, stops_after, stops_within_more}
-use Rattle.fleet_run.specs.TimesText.{agent_lines}
+use Rattle.fleet_run.proofs.Words.{rules, length, codes, count_line, takes_err, takes_then, stops_after, stops_within_more, agent_lines}
 use Rattle.fleet_run.proofs.times_text.put_times.Goals as goal
 
 pub returns-in_err-put_count : goal.returns-in_err-put_count

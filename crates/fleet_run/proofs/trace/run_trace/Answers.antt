@@ -1,9 +1,5 @@
-use Rattle.std.proofs.Common.{◌≡◌, length, arith, sym, subst, ◌∙◌, ap, drop}
-use Rattle.fleet_text.specs.Sink.{Takes}
+use Rattle.fleet_run.proofs.Words.{◌≡◌, length, arith, sym, subst, ◌∙◌, ap, drop, Takes, trace_closing, run, held_ticks, err_from_is_err_and}
 use Rattle.fleet_run.proofs.UnderWay.{took_all, driven, drives_so, finished_at_end, stops_in_trace_closing, needed_to_finish}
-use Rattle.fleet_run.specs.Text.{trace_closing}
-use Rattle.fleet_model.specs.Machine.{run, held_ticks}
-use Rattle.std.proofs.lemmas.Result.{err_from_is_err_and}
 use Rattle.fleet_run.proofs.Rehearsed.{rest_of_row}
 use Rattle.fleet_run.proofs.trace.run_trace.Goals as goal
 

@@ -1,5 +1,4 @@
-use Rattle.std.proofs.Common.{◌≡◌, ◌++◌, [], drop, arith, ap, ◌∙◌}
-use Rattle.std.proofs.lemmas.List.{drop_all}
+use Rattle.fleet_run.proofs.Words.{◌≡◌, ◌++◌, [], drop, arith, ap, ◌∙◌, drop_all}
 use Rattle.fleet_run.proofs.Closing.{closing_joined}
 use Rattle.fleet_run.proofs.trace.write_rehearsal_closing.Goals as goal
 

@@ -1,5 +1,4 @@
-use Rattle.std.proofs.Common.{◌≡◌, [], drop, arith}
-use Rattle.std.proofs.lemmas.List.{drop_all}
+use Rattle.fleet_run.proofs.Words.{◌≡◌, [], drop, arith, drop_all}
 use Rattle.fleet_run.proofs.Closing.{trace_joined}
 use Rattle.fleet_run.proofs.trace.write_trace_closing.Goals as goal
 

@@ -1,11 +1,6 @@
-use Rattle.std.proofs.Common.{◌≡◌, ℕ, ap, not, subst, sym, ◌∙◌}
-use Rattle.fleet_model.specs.Machine.{Configuration, is_ready, moved_in, tick}
+use Rattle.fleet_run.proofs.Words.{◌≡◌, ℕ, ap, not, subst, sym, ◌∙◌, Configuration, is_ready, moved_in, tick, FleetState, IsFalse, IsTrue, ◌<◌, length, awaiting_in, LooksAt, flag_of}
 use Rattle.fleet_model.specs.Claims.{KeepsOrder}
-use Rattle.fleet_run.specs.Fleet.{FleetState}
-use Rattle.std.specs.Prelude.{IsFalse, IsTrue, ◌<◌, length}
 use Rattle.fleet_machine.specs.Confirmed.{all_but}
-use Rattle.fleet_machine.specs.Looked.{awaiting_in, LooksAt}
-use Rattle.fleet_machine.specs.Machine.{flag_of}
 use Rattle.fleet_run.proofs.fleet.Fleet.confirm.Goals as goal
 
 pub returns-clause-looks : goal.returns-clause-looks

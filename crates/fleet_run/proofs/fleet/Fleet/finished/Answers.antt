@@ -1,6 +1,4 @@
-use Rattle.std.proofs.Common.{◌≡◌, ap, sym, ◌∙◌}
-use Rattle.fleet_grid.specs.Ground.{is_passable}
-use Rattle.fleet_model.specs.Machine.{is_finished}
+use Rattle.fleet_run.proofs.Words.{◌≡◌, ap, sym, ◌∙◌, is_passable, is_finished}
 use Rattle.fleet_run.proofs.Progress.{on_goals}
 use Rattle.fleet_run.proofs.fleet.Fleet.finished.Goals as goal
 

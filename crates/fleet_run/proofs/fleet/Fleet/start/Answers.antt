@@ -1,7 +1,4 @@
-use Rattle.std.proofs.Common.{◌≡◌, length, ap, arith, ◌∙◌}
-use Rattle.std.proofs.lemmas.List.{length-map}
-use Rattle.fleet_model.specs.declared.standing.Standing.{Standing}
-use Rattle.fleet_model.specs.Machine.{opening}
+use Rattle.fleet_run.proofs.Words.{◌≡◌, length, ap, arith, ◌∙◌, length-map, Standing, opening}
 use Rattle.fleet_machine.proofs.Opened.{opening_at}
 use Rattle.fleet_run.proofs.fleet.Fleet.start.Goals as goal
 

@@ -1,10 +1,4 @@
-use Rattle.std.proofs.Common.{◌≡◌, ℕ, length, ◌∙◌, ap, ap₂, subst, arith}
-use Rattle.fleet_grid.specs.Ground.{is_passable}
-use Rattle.fleet_model.specs.Run.{IsSafeStep}
-use Rattle.fleet_model.specs.Machine.{Configuration, tick, moved_in, is_ready_held}
-use Rattle.fleet_run.specs.Fleet.{FleetState}
-use Rattle.fleet_machine.specs.Looked.{ready_in, awaiting_in, LooksAt}
-use Rattle.fleet_machine.specs.Machine.{flag_of}
+use Rattle.fleet_run.proofs.Words.{◌≡◌, ℕ, length, ◌∙◌, ap, ap₂, subst, arith, is_passable, IsSafeStep, Configuration, tick, moved_in, is_ready_held, FleetState, ready_in, awaiting_in, LooksAt, flag_of}
 use Rattle.fleet_run.proofs.Progress.{rests, looks_at_none}
 use Rattle.fleet_run.proofs.fleet.Fleet.tick.Goals as goal
 

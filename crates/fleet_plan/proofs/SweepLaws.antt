@@ -418,12 +418,6 @@ swept_on g plan table places next ahead walks row t s all entered settled covers
   covers = covers;
 }
 
-pub come_on : (g : Ground) (plan : Plan) (t : ℕ) (old new : SweepRows) → IsSweep g plan old.next t → HaveArrived plan t old new → HasComeTo g plan t new
-come_on g plan t old new s a = record {
-  fits = a.fits;
-  swept = swept_on g plan new.table new.places new.next new.ahead new.walks new.agents t (subst (λ z. IsSweep g plan z t) (sym a.next) s) (a.fits.places ∙ sym a.fits.next) a.entered a.settled a.covers;
-}
-
 -- the sweep begins
 pub come_first : (g : Ground) (plan : Plan) (table : Table ℕ) (places : List ℕ) (rows : SweepRows) → AreFresh plan rows → StandOnPlaces g plan 0 places → IsEntered table places
     → HasComeTo g plan 0 (record { table = table; places = places; next = places; ahead = rows.ahead; walks = rows.walks; agents = rows.agents })

@@ -1,16 +1,13 @@
 -- Orders that are tried one after another, and the best of their plans.
-use Rattle.std.proofs.Common.{◌≡◌, ℕ, zero, suc, ◌+◌, ◌-◌, ◌<◌, ◌≤◌, Bool, List, [], ◌∷◌, ◌++◌, length, take, drop, get_or, Option, Some, None, ◌⊎◌, inl, inr, refl, sym, ap, ◌∙◌, subst, arith, true, false, not, is_some, IsPermutation}
+use Rattle.std.proofs.Common.{◌≡◌, ℕ, zero, suc, ◌+◌, ◌-◌, ◌<◌, ◌≤◌, Bool, List, [], ◌∷◌, ◌++◌, length, take, get_or, Option, Some, None, ◌⊎◌, inl, inr, refl, sym, ap, ◌∙◌, subst, arith, true, false, not, is_some}
 use Rattle.std.specs.Prelude.{slice_get}
 use Rattle.std.proofs.lemmas.Bool.{cases_lt}
 use Rattle.std.proofs.lemmas.List.{length_push}
 use Rattle.std.proofs.lemmas.Option.{slice_get_within}
-use Rattle.std.proofs.lemmas.List.FromFn.{length-range_with_len}
-use Rattle.std.proofs.lemmas.List.Sorted.{IsPermutation-refl}
 use Rattle.fleet_model.specs.Machine.{indices}
 use Rattle.fleet_model.specs.declared.geometry.Place.{Place}
 use Rattle.fleet_model.specs.declared.task.Task.{Task}
 use Rattle.fleet_plan.specs.Plan.{Plan}
-use Rattle.fleet_search.specs.Orders.{to_front}
 use Rattle.std.specs.Prelude.{IfSome, IfNone}
 use Rattle.std.proofs.lemmas.List.{take_more, take-take, get_or-take, length-take}
 use Rattle.fleet_grid.specs.Ground.{is_passable}
@@ -18,13 +15,13 @@ use Rattle.fleet_model.specs.declared.geometry.Cell.{Cell}
 use Rattle.fleet_search.specs.Earliest.{IsEarliest}
 use Rattle.fleet_search.specs.InTurn.{IsPrioritisedPlan}
 use Rattle.fleet_search.specs.Orders.{tasks_by, IsOrderAfter, IsStuckInTries}
-use Rattle.fleet_search.specs.Attempts.{IsOrderOf, AreReservedInOrder}
-use Rattle.fleet_search.specs.Trying.{outcome_of, IsMadeBefore, IsTurnOf, IsFor, IsTried, IsBestSoFar}
+use Rattle.fleet_search.specs.Attempts.{IsOrderOf, AreReservedInOrder, IsMadeBefore, IsFor}
+use Rattle.fleet_search.specs.Trying.{outcome_of, IsTried, IsBestSoFar}
 use Rattle.fleet_search.specs.declared.orders.Problem.{Problem}
 use Rattle.fleet_search.specs.declared.best.Measured.{Measured}
 use Rattle.fleet_search.specs.declared.best.Tried.TheVariants as t
-use Rattle.fleet_search.proofs.OrderLaws.{order-length, order_with_raised, order_after-none, order_after-more, stuck_in_tries, stuck_within}
-use Rattle.fleet_search.proofs.KeptPaths.{none_made, made_after_raise}
+use Rattle.fleet_search.proofs.OrderLaws.{order_after-more}
+use Rattle.fleet_search.proofs.TurnLaws.{first_after_none, stuck_in_turn}
 use Rattle.fleet_search.specs.Best.{Outcome, Planned, NoPathAt, order_after, order_after_all, IsOutcome, AreOutcomes, IsFirstLeast}
 
 -- ---- one outcome more
@@ -114,7 +111,7 @@ none_kept outcomes at none k other n e = elim (get_more outcomes (NoPathAt at) (
   | inr last ↦ let no = last.1 in absurd (cc)
 ]
 
--- ---- the next turn
+-- ---- the paths of an order but the last
 
 -- the first paths of those that were made one after another
 pub made_front : (passable : Place → Bool) (tasks : List Task) (horizon n k : ℕ) (plan : Plan) → IsPrioritisedPlan passable tasks horizon n plan → k ≤ n → IsPrioritisedPlan passable tasks horizon k (take k plan)
@@ -125,20 +122,6 @@ made_front passable tasks horizon n k plan made few = record {
       subst (λ z. IsEarliest passable z task.start task.goal horizon (get_or (take k plan) i [])) (sym (take-take i k plan (omega arith)))
       (subst (λ z. IsEarliest passable (take i plan) task.start task.goal horizon z) (sym (get_or-take k plan i [] l)) e);
 }
-
-pub turn_next : (problem : Problem) (order next : List ℕ) (kept : Plan) (place : ℕ) → IsOrderOf problem order → place < length order → next ≡ to_front order place → length kept ≡ place → IsPrioritisedPlan (is_passable problem.grid.now) (tasks_by order problem.instance.now) problem.horizon (length kept) kept → IsTurnOf problem next kept
-turn_next problem order next kept place each within is long made =
-    let few : length kept < length order = omega arith in
-    let raised : IsPermutation (indices (length problem.instance.now)) next = subst (IsPermutation (indices (length problem.instance.now))) (sym is) (order_with_raised (length problem.instance.now) order place each within) in
-    let at : next ≡ to_front order (length kept) = is ∙ ap (to_front order) (sym long) in
-    let before = order-length (length problem.instance.now) order each in
-    let after = order-length (length problem.instance.now) next raised in
-    record {
-      each_once = raised;
-      made = subst (λ z. IsPrioritisedPlan (is_passable problem.grid.now) (drop 1 (tasks_by z problem.instance.now)) problem.horizon (length kept) kept) (sym at)
-          (made_after_raise (is_passable problem.grid.now) problem.instance.now problem.horizon order kept few made);
-      fewer = omega (arith, before, after, few);
-    }
 
 -- all paths but the last
 pub but_last : (problem : Problem) (order : List ℕ) (paths kept : Plan) → AreReservedInOrder problem order paths true → kept ≡ take (length paths - 1) paths → (length kept ≡ length order - 1) × IsMadeBefore problem order kept
@@ -152,19 +135,6 @@ but_last problem order paths kept made is =
           (made_front (is_passable problem.grid.now) (tasks_by order problem.instance.now) problem.horizon (length order) (length paths - 1) paths made (omega arith))),
     )
 
--- the first turn
-pub first_turn : (problem : Problem) (order : List ℕ) (kept : Plan) (n : ℕ) → order ≡ indices n → n ≡ length problem.instance.now → 1 ≤ n → kept ≡ [] → IsTurnOf problem order kept
-first_turn problem order kept n is all some none =
-    let each : order ≡ indices (length problem.instance.now) = is ∙ ap indices all in
-    let long : length order ≡ n = ap length is ∙ length-range_with_len 0 n in
-    let short : length kept ≡ 0 = ap length none in
-    record {
-      each_once = subst (IsPermutation (indices (length problem.instance.now))) (sym each) (IsPermutation-refl (indices (length problem.instance.now)));
-      made = subst (λ z. IsPrioritisedPlan (is_passable problem.grid.now) (drop 1 (tasks_by order problem.instance.now)) problem.horizon (length z) z) (sym none)
-          (none_made (is_passable problem.grid.now) (drop 1 (tasks_by order problem.instance.now)) problem.horizon);
-      fewer = omega arith;
-    }
-
 pub copied_more : (paths copy new : Plan) (i : ℕ) (path : List Cell) → i < length paths → copy ≡ take i paths → path ≡ get_or paths i path → new ≡ copy ++ path ∷ [] → new ≡ take (i + 1) paths
 copied_more paths copy new i path l e is more = more ∙ ap (λ z. z ++ path ∷ []) e ∙ ap (λ z. take i paths ++ z ∷ []) is ∙ sym (take_more paths i path l)
 
@@ -176,7 +146,7 @@ so_far_none problem Measures order first = record {
   all = refl;
   came = tt;
   next = first;
-  is_best = (λ k plan n e. cc, subst (IsOrderAfter (is_passable problem.grid.now) problem.instance.now problem.horizon 0) (sym first) (order_after-none (is_passable problem.grid.now) problem.instance.now problem.horizon));
+  is_best = (λ k plan n e. cc, first_after_none problem order first);
 }
 
 module _ (problem : Problem) (Measures : Plan → ℕ → Type 0) (order next : List ℕ) (tried : ℕ) where
@@ -187,7 +157,7 @@ module _ (problem : Problem) (Measures : Plan → ℕ → Type 0) (order next : 
     came = outcomes_more (is_passable problem.grid.now) problem.instance.now problem.horizon Measures (indices (length problem.instance.now)) so.outcomes (outcome_of (t.Planned m)) so.came
         (subst (λ z. IsOutcome (is_passable problem.grid.now) problem.instance.now problem.horizon Measures z (outcome_of (t.Planned m))) so.next is.outcome);
     next = is.next ∙ ap (λ z. order_after z (outcome_of (t.Planned m))) so.next ∙ sym (order_after_more (indices (length problem.instance.now)) so.outcomes (outcome_of (t.Planned m)));
-    is_best = subst (λ (z : Measured). IsFirstLeast (so.outcomes ++ outcome_of (t.Planned m) ∷ []) z.checked.plan z.measure × IsFor problem z) (sym none)
+    is_best = subst (λ (z : Measured). IsFirstLeast (so.outcomes ++ outcome_of (t.Planned m) ∷ []) z.checked.plan z.measure × IsFor problem z.checked) (sym none)
         (least_first so.outcomes m.checked.plan m.measure so.is_best.0, is.right);
   }
   best_planned (Some e) m new so is none earlier later = record {
@@ -197,9 +167,9 @@ module _ (problem : Problem) (Measures : Plan → ℕ → Type 0) (order next : 
         (subst (λ z. IsOutcome (is_passable problem.grid.now) problem.instance.now problem.horizon Measures z (outcome_of (t.Planned m))) so.next is.outcome);
     next = is.next ∙ ap (λ z. order_after z (outcome_of (t.Planned m))) so.next ∙ sym (order_after_more (indices (length problem.instance.now)) so.outcomes (outcome_of (t.Planned m)));
     is_best = elim (cases_lt m.measure e.measure) [
-      | inl less ↦ subst (λ (z : Measured). IsFirstLeast (so.outcomes ++ outcome_of (t.Planned m) ∷ []) z.checked.plan z.measure × IsFor problem z) (sym (later less))
+      | inl less ↦ subst (λ (z : Measured). IsFirstLeast (so.outcomes ++ outcome_of (t.Planned m) ∷ []) z.checked.plan z.measure × IsFor problem z.checked) (sym (later less))
           (least_next so.outcomes e.checked.plan m.checked.plan e.measure m.measure so.is_best.0 less, is.right)
-      | inr more ↦ subst (λ (z : Measured). IsFirstLeast (so.outcomes ++ outcome_of (t.Planned m) ∷ []) z.checked.plan z.measure × IsFor problem z) (sym (earlier more))
+      | inr more ↦ subst (λ (z : Measured). IsFirstLeast (so.outcomes ++ outcome_of (t.Planned m) ∷ []) z.checked.plan z.measure × IsFor problem z.checked) (sym (earlier more))
           (least_kept so.outcomes (outcome_of (t.Planned m)) e.checked.plan e.measure so.is_best.0 (λ other n same. let k = same_measure m.checked.plan other m.measure n same in omega arith), so.is_best.1)
     ];
   }
@@ -230,11 +200,8 @@ module _ (problem : Problem) (Measures : Plan → ℕ → Type 0) (order next : 
 pub stuck_at_last : (problem : Problem) (Measures : Plan → ℕ → Type 0) (order next : List ℕ) (tried tries : ℕ) (best : Option Measured) (place agent : ℕ) (none : Bool) → is_some best ≡ not none → none ≡ true → IsOrderOf problem order → IsBestSoFar problem Measures order tried best → IsTried problem Measures order next (t.NoPathAt place) → tried ≤ tries - 1 → (place ≡ 0) ⊎ (tries ≤ tried + 1) → agent ≡ get_or next 0 0 → IsStuckInTries (is_passable problem.grid.now) problem.instance.now problem.horizon tries agent
 stuck_at_last problem Measures order next tried tries (Some e) place agent none test y each so is few last first = let bad : true ≡ false = test ∙ ap not y in absurd (cc)
 stuck_at_last problem Measures order next tried tries None place agent none test y each so is few last first =
-    let passable = is_passable problem.grid.now in
-    let tasks = problem.instance.now in
-    let after = subst (λ z. IsOrderAfter passable tasks problem.horizon z order) so.all so.is_best.1 in
-    let inside = stuck_within passable tasks problem.horizon order place is.outcome in
-    stuck_in_tries passable tasks problem.horizon tries tried order place agent few each after is.outcome inside (first ∙ ap (λ z. get_or z 0 0) is.next) last
+    let after = subst (λ z. IsOrderAfter (is_passable problem.grid.now) problem.instance.now problem.horizon z order) so.all so.is_best.1 in
+    stuck_in_turn problem order next tries tried place agent each few after is.outcome is.next first last
 
 -- what holds if there is no plan so far
 pub if_none : (best : Option Measured) (P : Type 0) → P → IfNone best P

@@ -3,6 +3,7 @@ use Rattle.std.proofs.lemmas.Bool.{cases_lt}
 use Rattle.std.proofs.Common.{inl, inr, ◌≡◌, ℕ, zero, suc, ◌+◌, ◌<◌, ◌≤◌, Bool, List, [], ◌∷◌, ◌++◌, length, map, take, drop, get_or, remove, Some, refl, sym, ap, ◌∙◌, subst, arith}
 use Rattle.std.specs.Prelude.{slice_get, option_map}
 use Rattle.std.proofs.lemmas.Option.{slice_get-map}
+use Rattle.std.proofs.lemmas.List.{take-take, get_or-take, length-take-le}
 use Rattle.fleet_model.specs.declared.geometry.Cell.{Cell}
 use Rattle.fleet_model.specs.declared.geometry.Place.{Place}
 use Rattle.fleet_model.specs.declared.task.Task.{Task}
@@ -82,33 +83,13 @@ earliest-later passable reserved start goal sooner horizon path h e = record { w
 
 -- ---- paths that are kept
 
-take-in-take : {X : Type 0} (xs : List X) (i n : ℕ) → i ≤ n → take i (take n xs) ≡ take i xs
-take-in-take [] zero n h = refl
-take-in-take [] (suc i) zero h = absurd (omega arith)
-take-in-take [] (suc i) (suc n) h = refl
-take-in-take (x ∷ xs) zero n h = refl
-take-in-take (x ∷ xs) (suc i) zero h = absurd (omega arith)
-take-in-take (x ∷ xs) (suc i) (suc n) h = ap (λ z. x ∷ z) (take-in-take xs i n (omega arith))
-
-get_or-in-take : {X : Type 0} (xs : List X) (i n : ℕ) (d : X) → i < n → get_or (take n xs) i d ≡ get_or xs i d
-get_or-in-take [] i zero d h = absurd (omega arith)
-get_or-in-take [] i (suc n) d h = refl
-get_or-in-take (x ∷ xs) i zero d h = absurd (omega arith)
-get_or-in-take (x ∷ xs) zero (suc n) d h = refl
-get_or-in-take (x ∷ xs) (suc i) (suc n) d h = get_or-in-take xs i n d (omega arith)
-
-length-in-take : {X : Type 0} (xs : List X) (n : ℕ) → n ≤ length xs → length (take n xs) ≡ n
-length-in-take xs zero h = refl
-length-in-take [] (suc n) h = absurd (omega arith)
-length-in-take (x ∷ xs) (suc n) h = ap suc (length-in-take xs n (omega arith))
-
 pub later_task : (tasks : List Task) (j : ℕ) → slice_get (drop 1 tasks) j ≡ slice_get tasks (suc j)
 later_task [] j = refl
 later_task (t ∷ tasks) j = refl
 
 pub kept_made : (passable : Place → Bool) (tasks : List Task) (horizon : ℕ) (first : List Cell) (paths : Plan) (n : ℕ) → IsPrioritisedPlan passable tasks horizon 1 (first ∷ []) → IsPrioritisedPlan passable (drop 1 tasks) horizon (length paths) paths → n ≤ length paths → ((i : ℕ) → i < n → Fits (first ∷ take i paths) (get_or paths i [])) → IsPrioritisedPlan passable tasks horizon (n + 1) (first ∷ take n paths)
 kept_made passable tasks horizon first paths n one made few fits = record {
-  agents = (let e : length (take n paths) ≡ n = length-in-take paths n few in omega arith);
+  agents = (let e : length (take n paths) ≡ n = length-take-le n paths few in omega arith);
   each = each;
 }
   where
@@ -116,8 +97,8 @@ kept_made passable tasks horizon first paths n one made few fits = record {
     each zero task h t = one.each 0 task (omega arith) t
     each (suc j) task h t =
         let l : j < n = omega arith in
-        let front : take j (take n paths) ≡ take j paths = take-in-take paths j n (omega arith) in
-        let at : get_or (take n paths) j [] ≡ get_or paths j [] = get_or-in-take paths j n [] l in
+        let front : take j (take n paths) ≡ take j paths = take-take j n paths (omega arith) in
+        let at : get_or (take n paths) j [] ≡ get_or paths j [] = get_or-take n paths j [] l in
         let old : IsEarliest passable (take j paths) task.start task.goal horizon (get_or paths j []) = made.each j task (omega arith) (later_task tasks j ∙ t) in
         let new : IsEarliest passable (first ∷ take j paths) task.start task.goal horizon (get_or paths j []) = earliest-more passable first (take j paths) task.start task.goal horizon (get_or paths j []) old (fits j l) in
         subst (λ z. IsEarliest passable (first ∷ z) task.start task.goal horizon (get_or (take n paths) j [])) (sym front)

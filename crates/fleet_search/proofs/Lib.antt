@@ -19,6 +19,7 @@ pub mod Trail
 pub mod InTurnLaws
 pub mod LabelLaws
 pub mod OrderLaws
+pub mod TurnLaws
 pub mod BestLaws
 pub mod AloneLaws
 pub mod KeptPaths

@@ -11,7 +11,7 @@ use Rattle.fleet_model.specs.Geometry.{place_of}
 use Rattle.fleet_model.specs.declared.task.Task.{Task}
 use Rattle.fleet_model.specs.Conflict.{Motion, HasVertexConflict, HasSwappingConflict, HasCycleConflict, after_in}
 use Rattle.fleet_plan.specs.Plan.{Plan, cell_at, cell_of, last_cell, motion_of, AreNeighbours, IsConflictFree}
-use Rattle.fleet_search.specs.Orders.{no_task, tasks_by, paths_by, IsMadeInOrder, IsMadeInTries}
+use Rattle.fleet_search.specs.Orders.{no_task, tasks_by, paths_by, IsMadeInOrder}
 use Rattle.fleet_search.specs.InTurn.{IsPrioritisedPlan}
 use Rattle.fleet_search.proofs.InTurnLaws.{in_turn_free}
 use Rattle.fleet_search.proofs.OrderLaws.{order-length, place_of_agent, task_in_order, get_or-by}
@@ -153,6 +153,3 @@ in_order_free passable tasks horizon order plan each agents m =
     let made : IsPrioritisedPlan passable (tasks_by order tasks) horizon (length (tasks_by order tasks)) (paths_by order plan) =
     subst (λ z. IsPrioritisedPlan passable (tasks_by order tasks) horizon z (paths_by order plan)) (sym (length-map order (λ a. get_or tasks a no_task))) m in
     free_by passable tasks plan order each agents (in_turn_free passable (tasks_by order tasks) horizon (paths_by order plan) made)
-
-pub in_tries_free : (passable : Place → Bool) (tasks : List Task) (horizon tries : ℕ) (plan : Plan) → IsMadeInTries passable tasks horizon tries plan → IsConflictFree passable tasks plan
-in_tries_free passable tasks horizon tries plan m = in_order_free passable tasks horizon m.order plan m.each_once m.agents m.made

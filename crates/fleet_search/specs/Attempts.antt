@@ -4,6 +4,7 @@ use Rattle.fleet_model.specs.Machine.{indices}
 use Rattle.fleet_model.specs.declared.geometry.Cell.{Cell}
 use Rattle.fleet_model.specs.declared.task.Task.{Task}
 use Rattle.fleet_plan.specs.Plan.{Plan}
+use Rattle.fleet_plan.specs.Checked.{CheckedParts}
 use Rattle.fleet_search.specs.Way.{Fits}
 use Rattle.fleet_search.specs.Earliest.{IsEarliest, IsInfeasible}
 use Rattle.fleet_grid.specs.Ground.{is_passable}
@@ -11,6 +12,7 @@ use Rattle.fleet_search.specs.InTurn.{IsPrioritisedPlan}
 use Rattle.fleet_search.specs.Orders.{tasks_by, IsStuckInOrder}
 use Rattle.fleet_search.specs.declared.orders.Problem.{Problem}
 use Rattle.fleet_search.specs.declared.orders.Tables.{Tables}
+use Rattle.fleet_search.specs.declared.orders.Turn.{Turn}
 use Rattle.fleet_search.specs.declared.orders.Attempt.{Attempt}
 use Rattle.fleet_search.specs.declared.orders.Attempt.TheVariants.{Made, Stuck}
 
@@ -48,6 +50,25 @@ pub record ArePathsKept (old new paths : Plan) (kept : ℕ) : Type 0 where
 abbrev pub IsMadeAfterFirst : Problem → List ℕ → Plan → Type 0
 IsMadeAfterFirst problem order paths =
     IsPrioritisedPlan (is_passable problem.grid.now) (drop 1 (tasks_by order problem.instance.now)) problem.horizon (length paths) paths
+
+-- the paths are those of the first agents of the order, each the earliest against those before it
+abbrev pub IsMadeBefore : Problem → List ℕ → Plan → Type 0
+IsMadeBefore problem order paths = IsPrioritisedPlan (is_passable problem.grid.now) (tasks_by order problem.instance.now) problem.horizon (length paths) paths
+
+-- the order has each agent once, and the paths are those of agents after its first, each the earliest without that one
+pub record IsTurnOf (problem : Problem) (order : List ℕ) (kept : Plan) : Type 0 where
+  pub each_once : IsOrderOf problem order
+  pub made : IsMadeAfterFirst problem order kept
+  pub fewer : length kept < length order
+
+-- .. of a turn
+abbrev pub IsTurn : Problem → Turn → Type 0
+IsTurn problem turn = IsTurnOf problem turn.order.items turn.kept.items
+
+-- the plan is for the map and the instance of the problem
+pub record IsFor (problem : Problem) (checked : CheckedParts) : Type 0 where
+  pub grid : checked.grid ≡ problem.grid.now
+  pub instance : checked.instance ≡ problem.instance.now
 
 -- paths of the agents, as they stand in the order, each the earliest against those before it: of all of them, or of
 -- those before one that is left without a path

@@ -1,15 +1,14 @@
 -- What a search has come to.
 use Rattle.std.specs.Prelude.{◌≡◌, ◌≢◌, ℕ, ◌<◌, List, [], ◌∷◌, ◌++◌, length, Contains}
 use Rattle.fleet_search.specs.declared.frontier.Node.{Node}
-use Rattle.fleet_search.specs.declared.labels.Labels.{Labels}
-use Rattle.fleet_search.specs.Labels.{earliest_in, IsLabelSet}
+use Rattle.fleet_search.specs.Labels.{LabelState, earliest_in, IsLabelSet}
 use Rattle.fleet_search.specs.Rows.{bucket_of, IsPut}
 
 -- the nodes in the order in which they were made, the earliest times of the search by cell and safe interval, and the
 -- places of the nodes that are open, bucket by bucket
 pub record Exploration : Type 0 where
   pub nodes : List Node
-  pub labels : Labels
+  pub labels : LabelState
   pub open_list : List (List ℕ)
 
 -- the open list holds places of nodes

@@ -1,45 +1,24 @@
 -- Orders that are tried one after another, to find the best of their plans.
-use Rattle.std.specs.Prelude.{◌≡◌, ℕ, ◌<◌, List, length, slice_get, Option, Some, None, ⊤}
+use Rattle.std.specs.Prelude.{◌≡◌, ℕ, List, length, slice_get, Option, Some, None, ⊤}
 use Rattle.fleet_model.specs.Machine.{indices}
 use Rattle.fleet_plan.specs.Plan.{Plan}
 use Rattle.fleet_grid.specs.Ground.{is_passable}
-use Rattle.fleet_search.specs.Orders.{tasks_by, IsOrderAfter}
-use Rattle.fleet_search.specs.InTurn.{IsPrioritisedPlan}
-use Rattle.fleet_search.specs.Attempts.{IsOrderOf, IsMadeAfterFirst}
+use Rattle.fleet_search.specs.Orders.{IsOrderAfter}
+use Rattle.fleet_search.specs.Attempts.{IsFor}
 use Rattle.fleet_search.specs.Best.{Outcome, Planned, NoPathAt, order_after, order_after_all, IsOutcome, AreOutcomes, IsFirstLeast}
 use Rattle.fleet_search.specs.declared.orders.Problem.{Problem}
 use Rattle.fleet_search.specs.declared.best.Measured.{Measured}
 use Rattle.fleet_search.specs.declared.best.Tried.{Tried}
 use Rattle.fleet_search.specs.declared.best.Tried.TheVariants as t
-use Rattle.fleet_search.specs.declared.best.Turn.{Turn}
 
 -- what came of an order, as a value
 abbrev pub outcome_of : Tried → Outcome
 outcome_of (t.Planned m) = Planned m.checked.plan m.measure
 outcome_of (t.NoPathAt place) = NoPathAt place
 
--- the paths are those of the first agents of the order, each the earliest against those before it
-abbrev pub IsMadeBefore : Problem → List ℕ → Plan → Type 0
-IsMadeBefore problem order paths = IsPrioritisedPlan (is_passable problem.grid.now) (tasks_by order problem.instance.now) problem.horizon (length paths) paths
-
--- the order has each agent once, and the paths are those of agents after its first, each the earliest without that one
-pub record IsTurnOf (problem : Problem) (order : List ℕ) (kept : Plan) : Type 0 where
-  pub each_once : IsOrderOf problem order
-  pub made : IsMadeAfterFirst problem order kept
-  pub fewer : length kept < length order
-
--- .. of a turn
-abbrev pub IsTurn : Problem → Turn → Type 0
-IsTurn problem turn = IsTurnOf problem turn.order.items turn.kept.items
-
--- the plan is for the map and the instance of the problem
-pub record IsFor (problem : Problem) (m : Measured) : Type 0 where
-  pub grid : m.checked.grid ≡ problem.grid.now
-  pub instance : m.checked.instance ≡ problem.instance.now
-
 -- a plan is for the problem
 abbrev pub IsTriedFor : Problem → Tried → Type 0
-IsTriedFor problem (t.Planned m) = IsFor problem m
+IsTriedFor problem (t.Planned m) = IsFor problem m.checked
 IsTriedFor problem (t.NoPathAt place) = ⊤
 
 -- this came of the order, and the next one has its turn
@@ -53,7 +32,7 @@ abbrev pub IsBestOf : Problem → (order : List ℕ) → List Outcome → Option
 IsBestOf problem order outcomes None =
     ((k : ℕ) (plan : Plan) (n : ℕ) → slice_get outcomes k ≡ Some (Planned plan n) → ⊥)
     × IsOrderAfter (is_passable problem.grid.now) problem.instance.now problem.horizon (length outcomes) order
-IsBestOf problem order outcomes (Some m) = IsFirstLeast outcomes m.checked.plan m.measure × IsFor problem m
+IsBestOf problem order outcomes (Some m) = IsFirstLeast outcomes m.checked.plan m.measure × IsFor problem m.checked
 
 -- so many orders were tried, and this is the best of their plans
 pub record IsBestSoFar (problem : Problem) (Measures : Plan → ℕ → Type 0) (order : List ℕ) (tried : ℕ) (best : Option Measured) : Type 0 where

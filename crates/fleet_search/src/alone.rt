@@ -72,9 +72,10 @@ fn sum_of_distances(tables: &mut Alone<'_>, checked: &Checked<'_>) -> Result<u32
 pub fn bound(alloc: Global, checked: &Checked<'_>) -> Result<u32, OutOfMemory>
     ensures { IfOk result (IsBound (is_passable checked.now.grid) checked.now.instance) }
 {
+    let distances = Distances::new(alloc, checked.grid())?;
     let mut tables = Alone {
         nobody: Reservations::new(alloc),
-        distances: Distances::new(alloc, checked.grid())?,
+        distances,
         frontier: Frontier::new(alloc),
     };
     sum_of_distances(&mut tables, checked)

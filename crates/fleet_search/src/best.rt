@@ -4,17 +4,16 @@ ghost use Rattle.std.specs.Prelude.{◌≡◌, ◌-◌, ◌<◌, ◌≤◌, ℕ,
 ghost use Rattle.fleet_plan.specs.Plan.{IsConflictFree};
 ghost use Rattle.fleet_grid.specs.Ground.{is_passable};
 ghost use Rattle.fleet_model.specs.Machine.{indices};
-ghost use Rattle.fleet_search.specs.Orders.{to_front, IsStuckInOrder, IsStuckInTries};
-ghost use Rattle.fleet_search.specs.Attempts.{AreTables, AreReservedInOrder};
+ghost use Rattle.fleet_search.specs.Orders.{IsStuckInTries};
+ghost use Rattle.fleet_search.specs.Attempts.{AreTables, AreReservedInOrder, IsMadeBefore, IsTurn, IsFor};
 ghost use Rattle.fleet_search.specs.Best.{IsBestInTries};
-ghost use Rattle.fleet_search.specs.Trying.{IsTurn, IsMadeBefore, IsFor, IsTried};
+ghost use Rattle.fleet_search.specs.Trying.{IsTried};
 ghost use Rattle.fleet_plan.specs.Numbers.{sum_of_costs};
 
-use crate::distances::Distances;
 use crate::fault::PlanStop;
-use crate::frontier::Frontier;
 use crate::orders::{
-    Attempt, Problem, Tables, checked_of, first_order, is_last_try, plan_in_order, raise,
+    Attempt, Problem, Tables, Turn, advance, checked_of, first_turn, is_last_try, note_stuck,
+    plan_in_order,
 };
 use crate::reservations::copy_path;
 use fleet_grid::Grid;
@@ -35,14 +34,6 @@ pub struct Measured<'g> {
 enum Tried<'g> {
     Planned(Measured<'g>),
     NoPathAt(usize),
-}
-
-/// The order that is tried next, and paths of its agents after the first, each the earliest past those before it
-/// without the first.
-#[derive(Drop)]
-struct Turn {
-    order: Vec<u16>,
-    kept: Vec<Path>,
 }
 
 /// The same paths.
@@ -70,27 +61,6 @@ fn all_but_last(
     copy_paths(problem.alloc, &paths[..paths.len() - 1])
 }
 
-/// It is the turn of the order in which the agent at this place comes first; the paths are those of the agents before
-/// it.
-fn advance(
-    problem: &Problem<'_>,
-    turn: &mut Turn,
-    place: usize,
-    kept: Vec<Path>,
-) -> Result<(), OutOfMemory>
-    requires turn { IsTurn problem.now turn.old }
-    requires place { place < length turn.old.order.items }
-    requires kept { length kept.items ≡ place }
-    requires made { IsMadeBefore problem.now turn.old.order.items kept.items }
-    ensures turn { OnOk result (IsTurn problem.now turn.new) }
-    ensures next { OnOk result
-        (turn.new.order.items ≡ to_front turn.old.order.items place) }
-{
-    raise(&mut turn.order, place)?;
-    turn.kept = kept;
-    Ok(())
-}
-
 /// Measures the plan of the paths of the turn's order; the next order is that in which the last agent comes first.
 fn note_made<'g, M: Measure>(
     problem: &Problem<'g>,
@@ -107,31 +77,9 @@ fn note_made<'g, M: Measure>(
     let last = turn.order.len() - 1;
     let kept = all_but_last(problem, turn.order.as_slice(), paths.as_slice())?;
     let checked = checked_of(problem, turn.order.as_slice(), paths)?;
-    let value = measure.measure(&checked)?;
     advance(problem, turn, last, kept)?;
-    Ok(Measured {
-        checked,
-        measure: value,
-    })
-}
-
-/// The next order is that in which the agent comes first that these paths, of the agents before it, leave none.
-fn note_stuck(
-    problem: &Problem<'_>,
-    turn: &mut Turn,
-    paths: Vec<Path>,
-) -> Result<usize, OutOfMemory>
-    requires turn { IsTurn problem.now turn.old }
-    requires paths { AreReservedInOrder problem.now turn.old.order.items paths.items false }
-    ensures turn { OnOk result (IsTurn problem.now turn.new) }
-    ensures stuck { IfOk result (λ place. IsStuckInOrder (is_passable problem.now.grid.now)
-        problem.now.instance.now problem.now.horizon turn.old.order.items place) }
-    ensures next { IfOk result (λ place.
-        turn.new.order.items ≡ to_front turn.old.order.items place) }
-{
-    let place = paths.len();
-    advance(problem, turn, place, paths)?;
-    Ok(place)
+    let measure = measure.measure(&checked)?;
+    Ok(Measured { checked, measure })
 }
 
 /// Plans in the order of the turn. Then it is the next order's turn.
@@ -148,8 +96,7 @@ fn try_order<'g, M: Measure>(
     ensures tried { IfOk result (IsTried problem.now (M.is_measure measure.now)
         turn.old.order.items turn.new.order.items) }
 {
-    let attempt = plan_in_order(problem, turn.order.as_slice(), turn.kept.as_slice(), tables)?;
-    match attempt {
+    match plan_in_order(problem, turn, tables)? {
         Attempt::Made(paths) => {
             let measured = note_made(problem, measure, turn, paths)?;
             Ok(Tried::Planned(measured))
@@ -190,7 +137,7 @@ fn best_from<'g, M: Measure>(
     ensures best { IfOk result (λ m. IsBestInTries (is_passable problem.now.grid.now)
         problem.now.instance.now problem.now.horizon (M.is_measure measure.now) tries
         m.checked.plan m.measure) }
-    ensures right { IfOk result (IsFor problem.now) }
+    ensures right { IfOk result (λ m. IsFor problem.now m.checked) }
     ensures no_path { IfErr result (λ e. (agent : ℕ) → e ≡ PlanStop.NoPath agent
         → IsStuckInTries (is_passable problem.now.grid.now) problem.now.instance.now
         problem.now.horizon tries agent) }
@@ -244,14 +191,8 @@ pub fn best_in_orders<'g, M: Measure>(
         instance,
         horizon,
     };
-    let mut tables = Tables {
-        distances: Distances::new(alloc, grid)?,
-        frontier: Frontier::new(alloc),
-    };
-    let mut turn = Turn {
-        order: first_order(alloc, instance.agents())?,
-        kept: Vec::new(alloc),
-    };
+    let mut turn = first_turn(&problem)?;
+    let mut tables = Tables::new(&problem)?;
     best_from(&problem, tries, measure, &mut turn, &mut tables)
 }
 

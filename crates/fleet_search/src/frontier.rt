@@ -23,7 +23,7 @@ use crate::distances::Distances;
 use crate::intervals::{
     FOREVER, Occupancy, SafeInterval, begins_after, count_begun, earliest_after, interval_after,
 };
-use crate::labels::Arrivals;
+use crate::labels::Labels;
 use crate::reservation_table::ReservationTable;
 use crate::reservations::Reservations;
 use fleet_grid::{Grid, extend_to};
@@ -160,7 +160,7 @@ pub struct Frontier {
     alloc: Global,
     nodes: Vec<Node>,
     /// For each safe interval of a cell the earliest time at which a node was made in it.
-    labels: Arrivals,
+    labels: Labels,
     /// The places of the nodes that are still to be expanded, bucket by bucket.
     open_list: Vec<Vec<u32>>,
 }
@@ -173,7 +173,7 @@ impl Model for Frontier {
 
     ghost view = { λ f. record {
       nodes = f.nodes.items;
-      labels = f.labels.labels;
+      labels = f.labels;
       open_list = lists_of f.open_list.items;
     } };
 
@@ -188,7 +188,7 @@ impl Frontier {
         Frontier {
             alloc,
             nodes: Vec::new(alloc),
-            labels: Arrivals::new(alloc),
+            labels: Labels::new(alloc),
             open_list: Vec::new(alloc),
         }
     }

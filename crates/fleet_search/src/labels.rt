@@ -1,11 +1,12 @@
 //! Labels of safe intervals: when a search has come there at the earliest.
 
 ghost use Rattle.std.specs.Prelude.{◌≡◌, ◌<◌, ◌↔◌, ℕ, IsTrue, suc, OnOk, None, get_or};
-ghost use Rattle.fleet_search.specs.Labels.{no_interval_label, interval_label, earliest_in, AreLabels, IsLabelPut, IsLabelSet, IsSeen};
+ghost use Rattle.fleet_search.specs.Labels.{no_interval_label, interval_label, earliest_in, IsLabelPut, IsLabelSet, IsSeen};
 
 use fleet_grid::{Key, Lists, Table, set_in};
 use fleet_model::OutOfMemory;
 use std::alloc::Global;
+use std::marker::Model;
 
 /// The earliest time, in steps, at which the search of this number comes to a safe interval.
 #[derive(Clone, Copy)]
@@ -17,55 +18,29 @@ pub struct IntervalLabel {
 /// No search has come to the interval.
 const NONE: IntervalLabel = IntervalLabel { search: 0, time: 0 };
 
-/// For each safe interval of each cell the earliest time at which the latest search has come there. Labels of earlier
-/// searches stay in the table, where their numbers tell them apart.
+/// For each safe interval of each cell its label.
 #[derive(Drop)]
-pub struct Labels {
+pub struct LabelTable {
     pub alloc: Global,
-    pub search: u16,
     /// For each cell the label of its first interval.
     pub first: Table<IntervalLabel>,
     /// For each cell the labels of its later intervals.
     pub later: Lists<IntervalLabel>,
 }
 
-impl Labels {
-    /// No interval has a label, and no search has begun. Takes no memory.
-    pub fn new(alloc: Global) -> Labels
-        ensures labels { AreLabels result }
-        ensures search { result.search ≡ 0 }
+impl LabelTable {
+    /// No interval has a label. Takes no memory.
+    fn new(alloc: Global) -> LabelTable
+        ensures { (cell : ℕ) (interval : ℕ) → interval_label result cell interval ≡ no_interval_label }
     {
-        Labels {
+        LabelTable {
             alloc,
-            search: 0,
             first: Table::new(alloc, NONE),
             later: Lists::new(alloc),
         }
     }
 
-    /// The earliest time at which this search has come to this safe interval of the cell.
-    fn earliest(&self, cell: usize, interval: usize) -> Option<u16>
-        ensures { result ≡ earliest_in self.now cell interval }
-    {
-        let label = self.label(cell, interval);
-        if label.search == self.search {
-            Some(label.time)
-        } else {
-            None
-        }
-    }
-
-    /// Whether the search has come to this safe interval of the cell by the time.
-    pub fn is_reached(&self, cell: usize, interval: usize, time: u32) -> bool
-        ensures { IsTrue result ↔ IsSeen (earliest_in self.now cell interval) time }
-    {
-        match self.earliest(cell, interval) {
-            Some(earliest) => u32::from(earliest) <= time,
-            None => false,
-        }
-    }
-
-    /// The label of this interval, by whichever search.
+    /// The label of this interval.
     fn label(&self, cell: usize, interval: usize) -> IntervalLabel
         ensures { result ≡ interval_label self.now cell interval }
     {
@@ -83,17 +58,11 @@ impl Labels {
         label_at(self.later.list(Key::of_number(cell)), place)
     }
 
-    /// Notes that the search comes to this safe interval of the cell at the time.
-    #[tactic(auto, using(crate::proofs::LabelLaws::label_is_set, crate::proofs::LabelLaws::labels_stay))]
-    pub fn note(&mut self, cell: usize, interval: usize, time: u16) -> Result<(), OutOfMemory>
-        requires labels { AreLabels self.old }
-        requires few { interval < 4294967295 }
-        ensures labels { OnOk result (AreLabels self.new) }
-        ensures set { OnOk result
-            (IsLabelSet (earliest_in self.old) (earliest_in self.new) cell interval time) }
+    /// Puts the label of this interval.
+    fn put(&mut self, cell: usize, interval: usize, label: IntervalLabel) -> Result<(), OutOfMemory>
+        requires { interval < 4294967295 }
+        ensures { OnOk result (IsLabelPut self.old self.new cell interval label) }
     {
-        let search = self.search;
-        let label = IntervalLabel { search, time };
         if interval == 0 {
             self.put_first(cell, label)
         } else {
@@ -123,19 +92,6 @@ impl Labels {
         self.later
             .change(key, |labels| set_in(labels, place, label, NONE))?
     }
-
-    /// Begins a search: no interval has a label of its number. After the greatest number all labels are taken off.
-    pub fn begin(&mut self)
-        requires { AreLabels self.old }
-        ensures labels { AreLabels self.new }
-        ensures none { (cell : ℕ) (interval : ℕ) → earliest_in self.new cell interval ≡ None }
-    {
-        let is_last = self.search == u16::MAX;
-        if is_last {
-            *self = Labels::new(self.alloc);
-        }
-        self.search += 1;
-    }
 }
 
 /// The label at a place of the row.
@@ -148,25 +104,53 @@ fn label_at(row: &[IntervalLabel], place: usize) -> IntervalLabel
     }
 }
 
-/// For each safe interval of each cell the earliest time at which the latest search has come there.
+/// For each safe interval of each cell the earliest time at which the latest search has come there. Labels of earlier
+/// searches stay in the table, where their numbers tell them apart.
 #[derive(Drop)]
-pub struct Arrivals {
-    labels: Labels,
-    ghost own: { AreLabels labels },
+pub struct Labels {
+    search: u16,
+    table: LabelTable,
 }
 
-impl Arrivals {
+impl Model for Labels {
+    ghost use Rattle.fleet_search.specs.Labels.{LabelState, AreLabels};
+
+    ghost Value = { LabelState };
+
+    ghost view = { λ l. record { search = l.search; table = l.table } };
+
+    ghost invariant = { λ l. AreLabels (record { search = l.search; table = l.table }) };
+}
+
+impl Labels {
     /// No search has begun. What is answered before the first one begins is of no use. Takes no memory.
-    pub fn new(alloc: Global) -> Arrivals {
-        let labels = Labels::new(alloc);
-        Arrivals { labels }
+    pub fn new(alloc: Global) -> Labels {
+        Labels {
+            search: 0,
+            table: LabelTable::new(alloc),
+        }
+    }
+
+    /// The earliest time at which the search has come to this safe interval of the cell.
+    fn earliest(&self, cell: usize, interval: usize) -> Option<u16>
+        ensures { result ≡ earliest_in self.now cell interval }
+    {
+        let label = self.table.label(cell, interval);
+        if label.search == self.search {
+            Some(label.time)
+        } else {
+            None
+        }
     }
 
     /// Whether the search has come to this safe interval of the cell by the time.
     pub fn is_reached(&self, cell: usize, interval: usize, time: u32) -> bool
-        ensures { IsTrue result ↔ IsSeen (earliest_in self.now.labels cell interval) time }
+        ensures { IsTrue result ↔ IsSeen (earliest_in self.now cell interval) time }
     {
-        self.labels.is_reached(cell, interval, time)
+        match self.earliest(cell, interval) {
+            Some(earliest) => u32::from(earliest) <= time,
+            None => false,
+        }
     }
 
     /// Notes that the search comes to this safe interval of the cell at the time. If memory is refused, all labels are
@@ -174,20 +158,27 @@ impl Arrivals {
     pub fn note(&mut self, cell: usize, interval: usize, time: u16) -> Result<(), OutOfMemory>
         requires { interval < 4294967295 }
         ensures { OnOk result
-            (IsLabelSet (earliest_in self.old.labels) (earliest_in self.new.labels)
-            cell interval time) }
+            (IsLabelSet (earliest_in self.old) (earliest_in self.new) cell interval time) }
     {
-        let noted = self.labels.note(cell, interval, time);
+        let search = self.search;
+        let noted = self
+            .table
+            .put(cell, interval, IntervalLabel { search, time });
         if noted.is_err() {
-            self.labels = Labels::new(self.labels.alloc);
+            self.table = LabelTable::new(self.table.alloc);
         }
         noted
     }
 
-    /// Begins a search, which has come nowhere.
+    /// Begins a search, which has come nowhere. After the greatest number all labels are taken off.
     pub fn begin(&mut self)
-        ensures { (cell : ℕ) (interval : ℕ) → earliest_in self.new.labels cell interval ≡ None }
+        ensures { (cell : ℕ) (interval : ℕ) → earliest_in self.new cell interval ≡ None }
     {
-        self.labels.begin();
+        let is_last = self.search == u16::MAX;
+        if is_last {
+            self.table = LabelTable::new(self.table.alloc);
+            self.search = 0;
+        }
+        self.search += 1;
     }
 }

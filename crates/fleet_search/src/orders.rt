@@ -1,13 +1,13 @@
 //! Plans made agent by agent, in the order of their numbers, or in several orders: an agent that is left without a path
 //! comes first in the next one.
 
-ghost use Rattle.std.specs.Prelude.{◌≡◌, ◌+◌, ◌<◌, ◌≤◌, ◌↔◌, ◌⊎◌, ◌++◌, ◌∷◌, ℕ, [], true, length, get_or, max, IfOk, IfErr, OnOk, IsTrue};
+ghost use Rattle.std.specs.Prelude.{◌≡◌, ◌+◌, ◌<◌, ◌≤◌, ◌↔◌, ◌⊎◌, ◌++◌, ◌∷◌, ℕ, [], true, false, length, get_or, max, IfOk, IfErr, OnOk, IsTrue};
 ghost use Rattle.fleet_plan.specs.Plan.{IsConflictFree};
 ghost use Rattle.fleet_grid.specs.Ground.{is_passable};
 ghost use Rattle.fleet_search.specs.Way.{Fits};
 ghost use Rattle.fleet_model.specs.Machine.{indices};
-ghost use Rattle.fleet_search.specs.Orders.{to_front, paths_by, IsMadeInOrder, IsMadeInTries, IsMadeInTry, IsStuckInTries};
-ghost use Rattle.fleet_search.specs.Attempts.{AreTables, ArePathsKept, IsPathAdded, IsMadeAfterFirst, IsOrderOf, AreReservedInOrder, IsAttempt, IsOldPath};
+ghost use Rattle.fleet_search.specs.Orders.{to_front, paths_by, IsMadeInOrder, IsStuckInOrder, IsMadeInTries, IsMadeInTry, IsStuckInTries};
+ghost use Rattle.fleet_search.specs.Attempts.{AreTables, ArePathsKept, IsPathAdded, IsMadeAfterFirst, IsMadeBefore, IsOrderOf, IsTurn, IsFor, AreReservedInOrder, IsAttempt, IsOldPath};
 ghost use Rattle.fleet_search.specs.InTurn.{IsPrioritisedPlan, HasNoPathFor};
 
 use crate::distances::Distances;
@@ -37,11 +37,24 @@ pub(crate) struct Tables<'g> {
     pub frontier: Frontier,
 }
 
-/// A plan, and how many orders were tried for it.
+/// The order that is tried next, and paths of its agents after the first, each the earliest past those before it
+/// without the first.
 #[derive(Drop)]
-struct MadePlan {
-    plan: Plan,
-    tried: u32,
+pub(crate) struct Turn {
+    pub order: Vec<u16>,
+    pub kept: Vec<Path>,
+}
+
+impl<'g> Tables<'g> {
+    /// Tables for the map of the problem, before any search.
+    pub(crate) fn new(problem: &Problem<'g>) -> Result<Tables<'g>, OutOfMemory>
+        ensures { IfOk result (AreTables problem.now) }
+    {
+        Ok(Tables {
+            distances: Distances::new(problem.alloc, problem.grid)?,
+            frontier: Frontier::new(problem.alloc),
+        })
+    }
 }
 
 /// A plan that is free of conflict, and how many orders were tried for it.
@@ -163,24 +176,21 @@ fn keep_paths(reserved: &mut Reservations, paths: &[Path]) -> Result<usize, OutO
     Ok(paths.len())
 }
 
-/// Plans in this order, each path the earliest past those of the agents before. `kept` are such paths of the agents
-/// after the first one, made without it: up to the first that does not fit beside the first agent's path they are still
-/// the earliest. Of the others, one that fits gives way only to a path that arrives sooner.
+/// Plans in the order of the turn, each path the earliest past those of the agents before. The paths that are kept were
+/// made without the first agent: up to the first that does not fit beside its path they are still the earliest. Of the
+/// others, one that fits gives way only to a path that arrives sooner.
 pub(crate) fn plan_in_order(
     problem: &Problem<'_>,
-    order: &[u16],
-    kept: &[Path],
+    turn: &Turn,
     tables: &mut Tables<'_>,
 ) -> Result<Attempt, OutOfMemory>
-    requires order { IsOrderOf problem.now order.now }
-    requires kept { IsMadeAfterFirst problem.now order.now kept.now }
-    requires few { length kept.now < length order.now }
+    requires turn { IsTurn problem.now turn.now }
     requires tables { AreTables problem.now tables.old }
     ensures tables { OnOk result (AreTables problem.now tables.new) }
-    ensures attempt { IfOk result (IsAttempt problem.now order.now) }
+    ensures attempt { IfOk result (IsAttempt problem.now turn.now.order.items) }
 {
     let mut reserved = Reservations::new(problem.alloc);
-    let all = reserve_in_order(problem, order, kept, &mut reserved, tables)?;
+    let all = reserve_in_order(problem, &turn.order, &turn.kept, &mut reserved, tables)?;
     let paths = reserved.into_paths();
     Ok(if all {
         Attempt::Made(paths)
@@ -219,21 +229,65 @@ fn reserve_in_order(
     Ok(true)
 }
 
-/// The order that is tried first: the numbers of the agents, rising.
-pub(crate) fn first_order(alloc: Global, agents: u16) -> Result<Vec<u16>, OutOfMemory>
-    ensures { IfOk result (λ order. order.items ≡ indices agents) }
+/// The first turn: the agents in the order of their numbers, and no paths.
+pub(crate) fn first_turn(problem: &Problem<'_>) -> Result<Turn, OutOfMemory>
+    ensures first { IfOk result (λ turn.
+        turn.order.items ≡ indices (length problem.now.instance.now)) }
+    ensures turn { IfOk result (IsTurn problem.now) }
 {
-    Ok(agent_numbers(alloc, agents)?)
+    let order = agent_numbers(problem.alloc, problem.instance.agents())?;
+    let kept = Vec::new(problem.alloc);
+    Ok(Turn { order, kept })
 }
 
 /// Moves the agent at the place to the front; the others follow as they did.
-pub(crate) fn raise(order: &mut Vec<u16>, place: usize) -> Result<(), OutOfMemory>
+fn raise(order: &mut Vec<u16>, place: usize) -> Result<(), OutOfMemory>
     requires { place < length order.old.items }
     ensures { OnOk result (order.new.items ≡ to_front order.old.items place) }
 {
     let agent = order.remove(place);
     order.insert(0, agent)?;
     Ok(())
+}
+
+/// It is the turn of the order in which the agent at this place comes first; the paths are those of the agents before
+/// it.
+pub(crate) fn advance(
+    problem: &Problem<'_>,
+    turn: &mut Turn,
+    place: usize,
+    kept: Vec<Path>,
+) -> Result<(), OutOfMemory>
+    requires turn { IsTurn problem.now turn.old }
+    requires place { place < length turn.old.order.items }
+    requires kept { length kept.items ≡ place }
+    requires made { IsMadeBefore problem.now turn.old.order.items kept.items }
+    ensures turn { OnOk result (IsTurn problem.now turn.new) }
+    ensures next { OnOk result
+        (turn.new.order.items ≡ to_front turn.old.order.items place) }
+{
+    raise(&mut turn.order, place)?;
+    turn.kept = kept;
+    Ok(())
+}
+
+/// The next order is that in which the agent comes first that these paths, of the agents before it, leave none.
+pub(crate) fn note_stuck(
+    problem: &Problem<'_>,
+    turn: &mut Turn,
+    paths: Vec<Path>,
+) -> Result<usize, OutOfMemory>
+    requires turn { IsTurn problem.now turn.old }
+    requires paths { AreReservedInOrder problem.now turn.old.order.items paths.items false }
+    ensures turn { OnOk result (IsTurn problem.now turn.new) }
+    ensures stuck { IfOk result (λ place. IsStuckInOrder (is_passable problem.now.grid.now)
+        problem.now.instance.now problem.now.horizon turn.old.order.items place) }
+    ensures next { IfOk result (λ place.
+        turn.new.order.items ≡ to_front turn.old.order.items place) }
+{
+    let place = paths.len();
+    advance(problem, turn, place, paths)?;
+    Ok(place)
 }
 
 /// A path of one cell for each agent.
@@ -273,54 +327,36 @@ fn by_number(
     Ok(plan)
 }
 
-/// A plan whose paths are each earliest against those before in one of the first orders.
-fn plan_in_turns(problem: &Problem<'_>, tries: u32) -> Result<MadePlan, PlanStop>
-    ensures made { IfOk result (λ m. IsMadeInTry (is_passable problem.now.grid.now)
-        problem.now.instance.now problem.now.horizon tries m.tried m.plan) }
-    ensures no_path { IfErr result (λ e. (agent : ℕ) → e ≡ PlanStop.NoPath agent
-        → IsStuckInTries (is_passable problem.now.grid.now) problem.now.instance.now
-        problem.now.horizon tries agent) }
-{
-    let mut tables = Tables {
-        distances: Distances::new(problem.alloc, problem.grid)?,
-        frontier: Frontier::new(problem.alloc),
-    };
-    let mut order = first_order(problem.alloc, problem.instance.agents())?;
-    plan_from(problem, tries, &mut order, &mut tables)
-}
-
-/// The same, with the first order and with tables for the map.
-fn plan_from(
-    problem: &Problem<'_>,
+/// The first plan of the first orders, from the first turn on.
+fn plan_from<'g>(
+    problem: &Problem<'g>,
     tries: u32,
-    order: &mut Vec<u16>,
+    turn: &mut Turn,
     tables: &mut Tables<'_>,
-) -> Result<MadePlan, PlanStop>
-    requires order { order.old.items ≡ indices (length problem.now.instance.now) }
-    requires some { 1 ≤ length problem.now.instance.now }
+) -> Result<Found<'g>, PlanStop>
+    requires first { turn.old.order.items ≡ indices (length problem.now.instance.now) }
+    requires turn { IsTurn problem.now turn.old }
     requires tables { AreTables problem.now tables.old }
-    ensures made { IfOk result (λ m. IsMadeInTry (is_passable problem.now.grid.now)
-        problem.now.instance.now problem.now.horizon tries m.tried m.plan) }
+    ensures made { IfOk result (λ f. IsMadeInTry (is_passable problem.now.grid.now)
+        problem.now.instance.now problem.now.horizon tries f.tried f.checked.plan) }
+    ensures right { IfOk result (λ f. IsFor problem.now f.checked) }
     ensures no_path { IfErr result (λ e. (agent : ℕ) → e ≡ PlanStop.NoPath agent
         → IsStuckInTries (is_passable problem.now.grid.now) problem.now.instance.now
         problem.now.horizon tries agent) }
 {
-    let mut kept = Vec::new(problem.alloc);
     for failed in 0..tries.max(1) {
-        match plan_in_order(problem, order.as_slice(), kept.as_slice(), tables)? {
+        match plan_in_order(problem, turn, tables)? {
             Attempt::Made(paths) => {
-                let plan = plan_by_number(problem, order.as_slice(), paths)?;
+                let checked = checked_of(problem, turn.order.as_slice(), paths)?;
                 let tried = failed + 1;
-                return Ok(MadePlan { plan, tried });
+                return Ok(Found { checked, tried });
             }
             Attempt::Stuck(paths) => {
-                let place = paths.len();
+                let place = note_stuck(problem, turn, paths)?;
                 if is_last_try(place, failed, tries) {
-                    let agent = order[place];
+                    let agent = turn.order[0];
                     return Err(PlanStop::NoPath { agent });
                 }
-                raise(order, place)?;
-                kept = paths;
             }
         }
     }
@@ -356,8 +392,7 @@ fn plan_by_number(
 fn checked<'g>(problem: &Problem<'g>, plan: Plan) -> Result<Checked<'g>, OutOfMemory>
     requires { IsConflictFree (is_passable problem.now.grid.now) problem.now.instance.now plan }
     ensures plan { IfOk result (λ checked. checked.plan ≡ plan) }
-    ensures grid { IfOk result (λ checked. checked.grid ≡ problem.now.grid.now) }
-    ensures instance { IfOk result (λ checked. checked.instance ≡ problem.now.instance.now) }
+    ensures right { IfOk result (IsFor problem.now) }
 {
     match check(problem.alloc, plan, problem.grid, problem.instance) {
         Ok(checked) => Ok(checked),
@@ -381,8 +416,7 @@ pub(crate) fn checked_of<'g>(
         length checked.plan ≡ length problem.now.instance.now) }
     ensures made { IfOk result (λ checked. IsMadeInOrder (is_passable problem.now.grid.now)
         problem.now.instance.now problem.now.horizon order.now checked.plan) }
-    ensures grid { IfOk result (λ checked. checked.grid ≡ problem.now.grid.now) }
-    ensures instance { IfOk result (λ checked. checked.instance ≡ problem.now.instance.now) }
+    ensures right { IfOk result (IsFor problem.now) }
 {
     let plan = plan_by_number(problem, order, paths)?;
     checked(problem, plan)
@@ -417,10 +451,9 @@ pub fn first_in_orders<'g>(
         instance,
         horizon,
     };
-    let made = plan_in_turns(&problem, tries)?;
-    let tried = made.tried;
-    let checked = checked(&problem, made.plan)?;
-    Ok(Found { checked, tried })
+    let mut turn = first_turn(&problem)?;
+    let mut tables = Tables::new(&problem)?;
+    plan_from(&problem, tries, &mut turn, &mut tables)
 }
 
 /// Plans in up to `tries` orders as `first_in_orders` does, and answers the plan alone.

@@ -34,7 +34,7 @@ pub returns : goal.returns
 returns c =
     let f = c.self.inside in
     let place : c.len-place.result ≡ length f.nodes.items = omega (arith, c.len-place.ensures, f.nodes.ok.0) in
-    let new : Exploration = record { nodes = c.push.new.self.items; labels = c.note.new.self.labels; open_list = lists_of c.put_in_row.new.rows.items } in
+    let new : Exploration = record { nodes = c.push.new.self.items; labels = c.note.new.self; open_list = lists_of c.put_in_row.new.rows.items } in
     subst (λ z. IsAdded z new c.args.node c.args.cell c.args.interval c.args.bucket) c.self.view_is (record {
       places = c.self.invariant;
       nodes = c.in_ok-push.ensures.items;

@@ -1,7 +1,7 @@
 use Rattle.std.proofs.Common.{length, arith}
 use Rattle.fleet_grid.specs.Ground.{is_passable}
 use Rattle.fleet_search.proofs.OrderLaws.{stuck_within}
-use Rattle.fleet_search.proofs.best.note_stuck.Goals as goal
+use Rattle.fleet_search.proofs.orders.note_stuck.Goals as goal
 
 pub advance-requires-clause-place : goal.advance-requires-clause-place
 advance-requires-clause-place c =

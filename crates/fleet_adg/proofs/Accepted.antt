@@ -1,20 +1,5 @@
 -- The program of a conflict-free plan is accepted.
-use Rattle.std.proofs.Common.{◌≡◌, ℕ, suc, ◌+◌, ◌-◌, ◌*◌, ◌<◌, ◌≤◌, Bool, true, IsTrue, List, length, get_or, Contains, ◌⊎◌, inl, inr, sym, ap, ◌∙◌, subst, arith, mul-le-mul_right}
-use Rattle.std.proofs.lemmas.Bool.{cases_lt}
-use Rattle.std.proofs.lemmas.Option.{slice_get_within}
-use Rattle.std.proofs.lemmas.List.Elements.{All-contains}
-use Rattle.fleet_model.specs.declared.geometry.Place.{Place}
-use Rattle.fleet_model.specs.declared.program.Await.{Await}
-use Rattle.fleet_model.specs.declared.program.ActionId.{ActionId}
-use Rattle.fleet_model.specs.declared.deps.Deps.{Deps}
-use Rattle.fleet_model.specs.Geometry.{place_of}
-use Rattle.fleet_model.specs.Program.{path}
-use Rattle.fleet_model.specs.Chain.{IsNumbering}
-use Rattle.fleet_model.specs.Visit.{ComesAfterByAwait}
-use Rattle.fleet_model.specs.declared.task.Task.{Task}
-use Rattle.fleet_model.specs.Accepted.{IsAcceptedBy}
-use Rattle.fleet_plan.specs.Plan.{Plan, cell_of, steps, IsConflictFree}
-use Rattle.fleet_adg.specs.Compiled.{changes_in, changes, moves_by, entry_awaits, compiled}
+use Rattle.fleet_adg.proofs.Words.{◌≡◌, ℕ, suc, ◌+◌, ◌-◌, ◌*◌, ◌<◌, ◌≤◌, Bool, true, IsTrue, List, length, get_or, Contains, ◌⊎◌, inl, inr, sym, ap, ◌∙◌, subst, arith, mul-le-mul_right, cases_lt, slice_get_within, All-contains, Place, Await, ActionId, Deps, place_of, path, IsNumbering, ComesAfterByAwait, Task, IsAcceptedBy, Plan, cell_of, steps, IsConflictFree, changes_in, changes, moves_by, entry_awaits, compiled}
 use Rattle.fleet_adg.proofs.Moves.{cell_of-end, moves_by-mono, move_once, time_of_count}
 use Rattle.fleet_adg.proofs.Depth.{depth}
 use Rattle.fleet_adg.proofs.Follow.{ahead, depth_of-lt, depth_of-ahead}

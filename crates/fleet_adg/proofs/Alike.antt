@@ -1,28 +1,5 @@
 -- The programs of one plan have the same chains, whichever leavings they await.
-use Rattle.std.proofs.Common.{◌≡◌, ℕ, suc, ◌+◌, ◌<◌, ◌≤◌, Bool, List, [], ◌∷◌, length, map, Contains, inl, inr, refl, sym, ap, ◌∙◌, subst, arith}
-use Rattle.std.specs.Option.{option_map_or}
-use Rattle.std.proofs.lemmas.Bool.{cases_lt}
-use Rattle.std.proofs.lemmas.List.Elements.{All-contains}
-use Rattle.fleet_model.specs.declared.geometry.Place.{Place}
-use Rattle.fleet_model.specs.declared.program.Await.{Await}
-use Rattle.fleet_model.specs.declared.program.Action.{Action}
-use Rattle.fleet_model.specs.declared.program.ActionId.{ActionId}
-use Rattle.fleet_model.specs.declared.program.AgentProgram.{AgentProgram}
-use Rattle.fleet_model.specs.declared.program.Visit.{Visit}
-use Rattle.fleet_model.specs.declared.task.Task.{Task}
-use Rattle.fleet_model.specs.declared.deps.Deps.{Deps}
-use Rattle.fleet_model.specs.Geometry.{place_of}
-use Rattle.fleet_model.specs.Program.{origin, awaits_of}
-use Rattle.fleet_model.specs.Chain.{IsAction, DirectlyNeeds, ChainFrom, Reaches, awaited}
-use Rattle.fleet_model.specs.Visit.{IsVisitOf, ComesAfterByChain, entering, leaving}
-use Rattle.fleet_model.specs.Accepted.{IsAcceptedBy}
-use Rattle.fleet_model.proofs.Chains.{goes_next, goes_enters, chain_first, Reaches-first, Reaches-last, Reaches-need, Reaches-trans, Reaches-rises}
-use Rattle.fleet_plan.specs.Plan.{Plan, cell_of, steps, IsConflictFree}
-use Rattle.fleet_verify.proofs.Listing.{awaits_accepted, two_ordered}
-use Rattle.fleet_verify.specs.Reduced.{DiffersInAwaits, HaveSameChains}
-use Rattle.fleet_verify.proofs.SameChains.{run_over}
-use Rattle.fleet_model.specs.Machine.{Holds, run}
-use Rattle.fleet_adg.specs.Compiled.{changes, moves_by, entry_awaits, action_in, compiled}
+use Rattle.fleet_adg.proofs.Words.{◌≡◌, ℕ, suc, ◌+◌, ◌<◌, ◌≤◌, Bool, List, [], ◌∷◌, length, map, Contains, inl, inr, refl, sym, ap, ◌∙◌, subst, arith, option_map_or, cases_lt, All-contains, Place, Await, Action, ActionId, AgentProgram, Visit, Task, Deps, place_of, origin, awaits_of, IsAction, DirectlyNeeds, ChainFrom, Reaches, awaited, IsVisitOf, ComesAfterByChain, entering, leaving, IsAcceptedBy, goes_next, goes_enters, chain_first, Reaches-first, Reaches-last, Reaches-need, Reaches-trans, Reaches-rises, Plan, cell_of, steps, IsConflictFree, awaits_accepted, two_ordered, DiffersInAwaits, HaveSameChains, run_over, Holds, run, changes, moves_by, entry_awaits, action_in, compiled}
 use Rattle.fleet_adg.proofs.Moves.{moves_by-yes, moves_by-mono}
 use Rattle.fleet_adg.proofs.Entry.{IsAwaitOf, entry-sound}
 use Rattle.fleet_adg.proofs.Programs.{length-compiled, no_agent-compiled, start_of-compiled, goal_of-compiled, actions_of-compiled, moves-compiled, goes-compiled, awaits_cases, path-compiled, IsActionIn}

@@ -1,22 +1,6 @@
 -- What the action of an agent in a step awaits: only leavings of its cell by others, up to that step, and among them
 -- that of the visit before.
-use Rattle.std.proofs.Common.{◌≡◌, ◌≢◌, ℕ, zero, suc, ◌+◌, ◌<◌, ◌≤◌, Bool, true, cond, not, ◌==◌, List, [], ◌∷◌, map, filter, filter_map, length, get_or, All, Contains, Option, Some, None, option_map, option_and_then, option_to_list, is_some, inl, inr, refl, sym, ap, ◌∙◌, subst, arith, add-one}
-use Rattle.std.specs.List.{range_with_len, AllByRecursion, cons_option}
-use Rattle.std.specs.List.Sorted.{IsStrictlyIncreasing}
-use Rattle.std.proofs.lemmas.Bool.{cases_lt, cases_Bool, and_parts, and_from, not-true, eqb-false, ne_eqb, not_from_false}
-use Rattle.std.proofs.lemmas.Option.{none-some, same_Some}
-use Rattle.std.proofs.lemmas.List.Elements.{All-from_recursion, All-filter, filter_passes}
-use Rattle.fleet_model.specs.declared.geometry.Cell.{Cell}
-use Rattle.fleet_model.specs.declared.geometry.Place.{Place}
-use Rattle.fleet_model.specs.declared.program.Await.{Await}
-use Rattle.fleet_model.specs.declared.deps.Deps.{Deps}
-use Rattle.fleet_model.specs.declared.task.Task.{Task}
-use Rattle.fleet_model.specs.Geometry.{is_same_cell}
-use Rattle.fleet_model.specs.Machine.{indices}
-use Rattle.fleet_model.proofs.Cells.{is_same_cell-true, is_same_cell-eq}
-use Rattle.fleet_plan.specs.Plan.{Plan, cell_of, IsConflictFree}
-use Rattle.fleet_adg.specs.Compiled.{last_below, changes_in, moves_by, leaves, await_of, leaver, last_leaving_by, last_leaving, leavings, entry_awaits}
-use Rattle.fleet_verify.proofs.Members.{contains_later, filter_has}
+use Rattle.fleet_adg.proofs.Words.{◌≡◌, ◌≢◌, ℕ, zero, suc, ◌+◌, ◌<◌, ◌≤◌, Bool, true, cond, not, ◌==◌, List, [], ◌∷◌, map, filter, filter_map, length, get_or, All, Contains, Option, Some, None, option_map, option_and_then, option_to_list, is_some, inl, inr, refl, sym, ap, ◌∙◌, subst, arith, add-one, range_with_len, AllByRecursion, cons_option, IsStrictlyIncreasing, cases_lt, cases_Bool, and_parts, and_from, not-true, eqb-false, ne_eqb, not_from_false, none-some, same_Some, All-from_recursion, All-filter, filter_passes, Cell, Place, Await, Deps, Task, is_same_cell, indices, is_same_cell-true, is_same_cell-eq, Plan, cell_of, IsConflictFree, last_below, changes_in, moves_by, leaves, await_of, leaver, last_leaving_by, last_leaving, leavings, entry_awaits, contains_later, filter_has}
 use Rattle.fleet_adg.proofs.Basics.{last_below-some, last_below-at}
 use Rattle.fleet_adg.proofs.Moves.{changes_in-from_ne, moves_by-yes, moves_by-mono, only_one}
 

@@ -1,22 +1,6 @@
 -- What a fold over the agents of a step makes: the leavings and the actions of one step more.
-use Rattle.std.proofs.Common.{◌≡◌, ◌≢◌, ℕ, zero, suc, ◌+◌, ◌-◌, ◌<◌, ◌≤◌, min, Bool, true, false, cond, eqb, ltb, List, [], ◌∷◌, ◌++◌, map, set, filter, filter_map, length, get_or, Option, Some, None, option_map, option_to_list, inl, inr, refl, sym, ap, ◌∙◌, arith, add-one}
-use Rattle.std.specs.List.{range_with_len, cons_option, fold}
-use Rattle.std.specs.Option.{option_or}
-use Rattle.std.proofs.lemmas.Bool.{cases_Bool, cases_lt, cases_eq, lt-ltb, le-ltb, eq-eqb, false_from_ne_true}
-use Rattle.std.proofs.lemmas.List.{length-set, get_or-set_same, get_or-set_other, same_lists}
-use Rattle.std.proofs.lemmas.List.FromFn.{length-map-range_with_len, get_or-map-range_with_len}
-use Rattle.std.proofs.lemmas.List.Sums.{fold_push}
-use Rattle.fleet_model.specs.declared.geometry.Cell.{Cell}
-use Rattle.fleet_model.specs.declared.program.Await.{Await}
-use Rattle.fleet_model.specs.declared.program.Action.{Action}
-use Rattle.fleet_model.specs.Machine.{indices}
-use Rattle.fleet_model.specs.Program.{origin}
-use Rattle.fleet_model.specs.declared.deps.Deps.{Deps}
-use Rattle.fleet_plan.specs.Plan.{Plan, cell_at, cell_of}
-use Rattle.fleet_adg.specs.Compiled.{changes_in, leaves, await_of, last_below, leaver, last_leaving_by, last_leaving, leavings, action_in}
-use Rattle.fleet_adg.specs.Leavings.{with_leaving, leavings_after}
-use Rattle.fleet_adg.specs.Sweep.{under_way, actions_by, all_actions_by}
-use Rattle.fleet_plan.specs.UnderWay.{is_under_way}
+use Rattle.fleet_adg.proofs.Words.{◌≡◌, ◌≢◌, ℕ, zero, suc, ◌+◌, ◌-◌, ◌<◌, ◌≤◌, min, Bool, true, false, cond, eqb, ltb, List, [], ◌∷◌, ◌++◌, map, set, filter, filter_map, length, get_or, Option, Some, None, option_map, option_to_list, inl, inr, refl, sym, ap, ◌∙◌, arith, add-one, range_with_len, cons_option, fold, option_or, cases_Bool, cases_lt, cases_eq, lt-ltb, le-ltb, eq-eqb, false_from_ne_true, length-set, get_or-set_same, get_or-set_other, same_lists, length-map-range_with_len, get_or-map-range_with_len, fold_push, Cell, Await, Action, indices, origin, Deps, Plan, cell_of, changes_in, leaves, await_of, last_below, leaver, last_leaving_by, last_leaving, leavings, action_in, with_leaving, leavings_after, under_way, actions_by, all_actions_by, is_under_way}
+use Rattle.fleet_plan.specs.Plan.{cell_at}
 use Rattle.fleet_adg.proofs.Basics.{indices_push, last_below-zero, last_below-here, last_below-before}
 use Rattle.fleet_adg.proofs.Moves.{changes_in-ne}
 use Rattle.fleet_adg.proofs.Entry.{leaves-parts, last_leaving_by-agent}

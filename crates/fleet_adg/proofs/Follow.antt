@@ -1,19 +1,8 @@
 -- The agents that follow each other in one step of a plan without swapping and cycle conflict: how many are ahead of
 -- one.
-use Rattle.std.proofs.Common.{◌≡◌, ◌≢◌, ℕ, zero, suc, ◌+◌, ◌<◌, ◌≤◌, Bool, true, cond, List, map, length, get_or, Option, Some, None, ◌⊎◌, inl, inr, sym, ap, ◌∙◌, subst, arith, add-one, ◌==◌}
-use Rattle.std.specs.List.{range_with_len}
-use Rattle.std.proofs.lemmas.Bool.{cases_lt, cases_Bool, ne_eqb}
-use Rattle.std.proofs.lemmas.Option.{none-some}
-use Rattle.std.proofs.lemmas.List.{get_or_past}
-use Rattle.std.proofs.lemmas.List.FromFn.{length-map-range_with_len, get_or-map-range_with_len}
+use Rattle.fleet_adg.proofs.Words.{◌≡◌, ◌≢◌, ℕ, zero, suc, ◌+◌, ◌<◌, ◌≤◌, Bool, true, cond, List, map, length, get_or, Option, Some, None, ◌⊎◌, inl, inr, sym, ap, ◌∙◌, subst, arith, add-one, ◌==◌, range_with_len, cases_lt, cases_Bool, ne_eqb, none-some, get_or_past, length-map-range_with_len, get_or-map-range_with_len, Place, is_same_cell, place_of, Task, Plan, cell_of, motion_of, IsConflictFree, last_below, changes_in, is_same_cell-true, is_same_cell-eq, place_of-injective}
 use Rattle.std.proofs.lemmas.Map.Keys.{IsDistinct-from_apart}
-use Rattle.fleet_model.specs.declared.geometry.Place.{Place}
-use Rattle.fleet_model.specs.Geometry.{is_same_cell, place_of}
 use Rattle.fleet_model.specs.Conflict.{after_in, HasCycleConflict}
-use Rattle.fleet_model.specs.declared.task.Task.{Task}
-use Rattle.fleet_plan.specs.Plan.{Plan, cell_of, motion_of, IsConflictFree}
-use Rattle.fleet_adg.specs.Compiled.{last_below, changes_in}
-use Rattle.fleet_model.proofs.Cells.{is_same_cell-true, is_same_cell-eq, place_of-injective}
 use Rattle.fleet_adg.proofs.Basics.{last_below-some, last_below-at}
 use Rattle.fleet_adg.proofs.Moves.{changes_in-ne}
 use Rattle.fleet_adg.proofs.Depth.{depth, IsLoop, depth-lt, depth_next}

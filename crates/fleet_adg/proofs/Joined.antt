@@ -1,28 +1,8 @@
 -- The parts of the agents joined to the bytes of a program.
-use Rattle.std.proofs.Common.{◌≡◌, ℕ, zero, suc, ◌+◌, ◌<◌, ◌≤◌, true, List, [], ◌∷◌, ◌++◌, map, replicate, length, get_or, All, sum_by, Bool, refl, sym, ap, ◌∙◌, subst, arith, add-one, append_assoc}
-use Rattle.std.specs.Prelude.{Result, Ok, IsTrue, ◌↔◌, if◌then◌else◌}
-use Rattle.std.specs.List.{flat_map}
-use Rattle.std.proofs.lemmas.List.{append-nil, map_push, length-replicate, length-append}
-use Rattle.std.proofs.lemmas.List.Concat.{flat_map-cons, flat_map-append}
-use Rattle.std.proofs.lemmas.List.Sums.{sum_by-cons}
-use Rattle.std.proofs.lemmas.Bool.{and_parts, both_ways, ne_eqb}
-use Rattle.fleet_model.specs.declared.geometry.Place.{Place}
-use Rattle.fleet_model.specs.declared.task.Task.{Task}
-use Rattle.fleet_model.specs.declared.program.Action.{Action}
-use Rattle.fleet_model.specs.declared.program.AgentProgram.{AgentProgram}
-use Rattle.fleet_model.specs.declared.deps.Deps.{Deps}
-use Rattle.fleet_model.specs.declared.limits.TheConstants.{MAX_HORIZON, MAX_MOVES, MAX_MOVES_V1}
-use Rattle.fleet_model.specs.Geometry.{is_move}
-use Rattle.fleet_model.specs.Machine.{indices}
-use Rattle.fleet_model.specs.Program.{Program, moves, total_moves, IsWellFormed, NeverStays, AreShort}
+use Rattle.fleet_adg.proofs.Words.{◌≡◌, ℕ, zero, suc, ◌+◌, ◌<◌, ◌≤◌, true, List, [], ◌∷◌, ◌++◌, map, replicate, length, get_or, All, sum_by, Bool, refl, sym, ap, ◌∙◌, subst, arith, add-one, append_assoc, Result, Ok, IsTrue, ◌↔◌, flat_map, append-nil, map_push, length-replicate, length-append, flat_map-cons, flat_map-append, sum_by-cons, and_parts, both_ways, ne_eqb, Place, Task, Action, AgentProgram, Deps, MAX_HORIZON, MAX_MOVES, MAX_MOVES_V1, is_move, indices, Program, moves, total_moves, IsWellFormed, NeverStays, AreShort, Version, One, Two, written, magic, two_bytes, agent, spelling, most_count, CanSpell, SpellsIn, SpellsShortest, Plan, cell_of, steps, IsConflictFree, IsWithinLimits, moves_by, agent_program, compiled, stay, with_stays, compiled_staying, each_has_few, all_have_few, has_few_actions, actions_by, all_bytes_by}
+use Rattle.std.specs.Prelude.{if◌then◌else◌}
 use Rattle.fleet_code.specs.declared.fault.LoadFault.{LoadFault}
-use Rattle.fleet_code.specs.declared.format.Version.{Version}
-use Rattle.fleet_code.specs.declared.format.Version.TheVariants.{One, Two}
-use Rattle.fleet_code.specs.Written.{Written, written}
-use Rattle.fleet_code.specs.Spelling.{magic, two_bytes, agent, spelling, most_count, CanSpell, SpellsIn, SpellsShortest}
-use Rattle.fleet_plan.specs.Plan.{Plan, cell_of, steps, IsConflictFree, IsWithinLimits}
-use Rattle.fleet_adg.specs.Compiled.{moves_by, agent_program, compiled, stay, with_stays, compiled_staying, each_has_few, all_have_few, has_few_actions}
-use Rattle.fleet_adg.specs.Sweep.{actions_by, all_bytes_by}
+use Rattle.fleet_code.specs.Written.{Written}
 use Rattle.fleet_adg.specs.ProgramBytes.{version_for}
 use Rattle.fleet_adg.proofs.Basics.{indices_push}
 use Rattle.fleet_adg.proofs.Moves.{moves_by-le}

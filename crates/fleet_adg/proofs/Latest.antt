@@ -1,19 +1,8 @@
 -- What is awaited, said by visits: under `Last` the leaving of the latest visit, under `All` the last leaving by each
 -- other agent.
-use Rattle.std.proofs.Common.{◌≡◌, ◌≢◌, ℕ, suc, ◌+◌, ◌<◌, Bool, true, cond, not, ◌==◌, List, [], ◌∷◌, filter, filter_map, length, Contains, Some, option_map, option_and_then, option_to_list, is_some, inl, inr, refl, sym, ap, ◌∙◌, subst, arith, add-one}
-use Rattle.std.proofs.lemmas.Bool.{cases_lt, both_ways, false_from_ne_true, eq-eqb, ne_eqb, eqb-false, not-true, not_from_false}
-use Rattle.std.proofs.lemmas.List.Elements.{All-from_recursion, All-filter, filter_passes, All-contains}
-use Rattle.fleet_model.specs.declared.geometry.Cell.{Cell}
-use Rattle.fleet_model.specs.declared.geometry.Place.{Place}
-use Rattle.fleet_model.specs.declared.program.Await.{Await}
-use Rattle.fleet_model.specs.declared.deps.Deps.{Deps}
-use Rattle.fleet_model.specs.Machine.{indices}
-use Rattle.fleet_model.specs.declared.task.Task.{Task}
-use Rattle.fleet_plan.specs.Plan.{Plan, cell_of, IsConflictFree}
-use Rattle.fleet_adg.specs.Compiled.{last_below, changes_in, moves_by, leaves, await_of, leaver, last_leaving_by, last_leaving, leavings, entry_awaits, IsLatestVisit, IsLastLeaving}
+use Rattle.fleet_adg.proofs.Words.{◌≡◌, ◌≢◌, ℕ, suc, ◌+◌, ◌<◌, Bool, true, cond, not, ◌==◌, List, [], ◌∷◌, filter, filter_map, length, Contains, Some, option_map, option_and_then, option_to_list, is_some, inl, inr, refl, sym, ap, ◌∙◌, subst, arith, add-one, cases_lt, both_ways, false_from_ne_true, eq-eqb, ne_eqb, eqb-false, not-true, not_from_false, All-from_recursion, All-filter, filter_passes, All-contains, Cell, Place, Await, Deps, indices, Task, Plan, cell_of, IsConflictFree, last_below, changes_in, moves_by, leaves, await_of, leaver, last_leaving_by, last_leaving, leavings, entry_awaits, IsLatestVisit, IsLastLeaving, filter_has}
 use Rattle.fleet_adg.proofs.Basics.{last_cases, last_below-some, last_below-at}
 use Rattle.fleet_adg.proofs.Moves.{changes_in-ne, changes_in-from_ne, only_one}
-use Rattle.fleet_verify.proofs.Members.{filter_has}
 use Rattle.fleet_adg.proofs.Entry.{contains_filter_map, all_filter_map, option_map-some, leaves-from, leaver-at, leaver-some, some-from, last_leaving-at}
 
 module _ (passable : Place → Bool) (tasks : List Task) (plan : Plan) (free : IsConflictFree passable tasks plan) where

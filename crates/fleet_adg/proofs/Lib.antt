@@ -21,3 +21,4 @@ mod RestMade
 mod TasksOf
 mod Joined
 mod ThinnedBytes
+mod Words

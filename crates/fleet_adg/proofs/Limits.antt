@@ -1,23 +1,7 @@
 -- The program of a plan within the limits is well formed.
-use Rattle.std.proofs.Common.{◌≡◌, ◌≢◌, ℕ, suc, ◌+◌, ◌-◌, ◌<◌, ◌≤◌, min, List, [], ◌∷◌, map, length, get_or, All, sum_by, inl, inr, refl, sym, ap, ◌∙◌, subst, arith}
-use Rattle.std.specs.Option.{option_map_or}
-use Rattle.std.proofs.lemmas.Bool.{cases_lt}
-use Rattle.std.proofs.lemmas.List.{length-map}
-use Rattle.std.proofs.lemmas.List.Elements.{All-head, All-tail, All-weaker}
-use Rattle.std.proofs.lemmas.List.Sums.{sum_by-cons}
-use Rattle.fleet_model.specs.declared.geometry.Cell.{Cell}
-use Rattle.fleet_model.specs.declared.program.Await.{Await}
-use Rattle.fleet_model.specs.declared.program.AgentProgram.{AgentProgram}
-use Rattle.fleet_model.specs.declared.deps.Deps.{Deps}
-use Rattle.fleet_model.specs.declared.limits.TheConstants.{MAX_HORIZON, MAX_AWAIT, MAX_MOVES_IN_ALL}
-use Rattle.fleet_model.specs.Program.{origin, awaits_of, total_moves, IsCell, AreAwaits, IsWellFormed}
-use Rattle.fleet_model.specs.Machine.{indices}
+use Rattle.fleet_adg.proofs.Words.{◌≡◌, ◌≢◌, ℕ, suc, ◌+◌, ◌-◌, ◌<◌, ◌≤◌, min, List, [], ◌∷◌, map, length, get_or, All, sum_by, inl, inr, refl, sym, ap, ◌∙◌, subst, arith, option_map_or, cases_lt, length-map, All-head, All-tail, All-weaker, sum_by-cons, Cell, Await, AgentProgram, Deps, MAX_HORIZON, MAX_AWAIT, MAX_MOVES_IN_ALL, origin, awaits_of, total_moves, IsCell, AreAwaits, IsWellFormed, indices, Version, One, Two, most_count, Plan, cell_of, steps, IsPath, IsWithinLimits, changes, moves_by, entry_awaits, action_in, agent_program, compiled, moves_in_all}
 use Rattle.fleet_model.proofs.OnePass.{no_awaits}
-use Rattle.fleet_code.specs.declared.format.Version.{Version}
-use Rattle.fleet_code.specs.declared.format.Version.TheVariants.{One, Two}
-use Rattle.fleet_code.specs.Spelling.{most_count}
-use Rattle.fleet_plan.specs.Plan.{Plan, cell_at, cell_of, steps, IsPath, IsWithinLimits}
-use Rattle.fleet_adg.specs.Compiled.{changes, moves_by, entry_awaits, action_in, agent_program, compiled, moves_in_all}
+use Rattle.fleet_plan.specs.Plan.{cell_at}
 use Rattle.fleet_adg.proofs.Moves.{changes_in-end, moves_by-yes, moves_by-le, moves_by-mono}
 use Rattle.fleet_adg.proofs.Entry.{IsAwaitOf, entry-sound, entry-rising}
 use Rattle.fleet_adg.proofs.Programs.{length-compiled, no_agent-compiled, start_of-compiled, goal_of-compiled, moves-compiled, no_moves-compiled, awaits_cases}

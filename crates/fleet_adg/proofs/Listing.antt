@@ -1,26 +1,10 @@
 -- The visits of a cell in a compiled program, listed by the time of entering: each but the first awaits that the one
 -- before has left.
-use Rattle.std.proofs.Common.{◌≡◌, ◌≢◌, ℕ, zero, suc, ◌+◌, ◌<◌, ◌≤◌, Bool, true, false, List, [], ◌∷◌, ◌++◌, length, get_or, slice_get, All, Contains, Some, ◌⊎◌, inl, inr, refl, sym, ap, ◌∙◌, subst, arith, add-one, ℤ, pos, negsuc}
-use Rattle.std.proofs.lemmas.Bool.{cases_lt, cases_Bool, cases_eq}
-use Rattle.std.proofs.lemmas.Option.{none-some, slice_get_within, get_or_from_slice_get, slice_get-get_or}
-use Rattle.std.proofs.lemmas.List.{length_push, get_or_push, get_or_append_left}
-use Rattle.std.proofs.lemmas.List.Elements.{All-push, All-weaker, All-nil, Contains-append_left, Contains-push}
-use Rattle.fleet_model.specs.declared.geometry.Cell.{Cell}
-use Rattle.fleet_model.specs.declared.geometry.Place.{Place}
-use Rattle.fleet_model.specs.declared.program.Visit.{Visit}
-use Rattle.fleet_model.specs.declared.deps.Deps.{Deps}
-use Rattle.fleet_model.specs.Geometry.{is_same_cell, place_of}
-use Rattle.fleet_model.specs.Program.{awaits_of, path}
-use Rattle.fleet_model.specs.Visit.{IsVisitOf, ListsVisits, Adjacent, ComesAfterByAwait, IsOrderly}
-use Rattle.fleet_model.specs.declared.task.Task.{Task}
-use Rattle.fleet_plan.specs.Plan.{Plan, cell_of, steps, IsConflictFree}
-use Rattle.fleet_adg.specs.Compiled.{changes_in, moves_by, compiled}
+use Rattle.fleet_adg.proofs.Words.{◌≡◌, ◌≢◌, ℕ, zero, suc, ◌+◌, ◌<◌, ◌≤◌, Bool, true, false, List, [], ◌∷◌, ◌++◌, length, get_or, slice_get, All, Contains, Some, ◌⊎◌, inl, inr, refl, sym, ap, ◌∙◌, subst, arith, add-one, ℤ, pos, negsuc, cases_lt, cases_Bool, cases_eq, none-some, slice_get_within, get_or_from_slice_get, slice_get-get_or, length_push, get_or_push, get_or_append_left, All-push, All-weaker, All-nil, Contains-append_left, Contains-push, Cell, Place, Visit, Deps, is_same_cell, place_of, awaits_of, path, IsVisitOf, ListsVisits, Adjacent, ComesAfterByAwait, IsOrderly, Task, Plan, cell_of, steps, IsConflictFree, changes_in, moves_by, compiled, is_same_cell-true, is_same_cell-eq, place_of-injective, goes_next, goes_enters}
 use Rattle.fleet_adg.proofs.Basics.{last_cases}
 use Rattle.fleet_adg.proofs.Moves.{changes_in-same, changes_in-end, moves_by-yes, moves_by-no, moves_by-mono, time_of_count}
-use Rattle.fleet_model.proofs.Cells.{is_same_cell-true, is_same_cell-eq, place_of-injective}
 use Rattle.fleet_adg.proofs.Follow.{only_one}
 use Rattle.fleet_adg.proofs.Entry.{entry-complete}
-use Rattle.fleet_model.proofs.Chains.{goes_next, goes_enters}
 use Rattle.fleet_adg.proofs.Programs.{length-compiled, moves-compiled, action_in-step, path-compiled, goes-compiled}
 
 -- ---- lists

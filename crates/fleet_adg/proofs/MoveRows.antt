@@ -1,22 +1,6 @@
 -- The moves of a step as a row: each of them, and what a fold over those who move makes.
-use Rattle.std.proofs.Common.{◌≡◌, ℕ, ◌+◌, ◌<◌, ◌≤◌, ◌==◌, not, filter, All, true, List, length, get_or, sym, ap, subst, ◌∙◌, arith}
-use Rattle.std.specs.List.{fold}
-use Rattle.std.proofs.lemmas.List.{length-map, get_or-map, get_or_default}
-use Rattle.std.proofs.lemmas.List.Elements.{filter_passes, All-get_or, All-filter}
-use Rattle.fleet_model.specs.declared.limits.TheConstants.{MAX_HORIZON}
-use Rattle.fleet_model.specs.declared.geometry.Cell.{Cell}
-use Rattle.fleet_model.specs.declared.program.Await.{Await}
-use Rattle.fleet_model.specs.declared.program.Action.{Action}
-use Rattle.fleet_model.specs.declared.deps.Deps.{Deps}
-use Rattle.fleet_code.specs.declared.format.Version.{Version}
-use Rattle.fleet_code.specs.Spelling.{most_count}
-use Rattle.fleet_grid.specs.Ground.{Ground, cell_index}
-use Rattle.fleet_plan.specs.Plan.{Plan, cell_of}
-use Rattle.fleet_adg.specs.declared.sweep.Move.{Move}
+use Rattle.fleet_adg.proofs.Words.{◌≡◌, ℕ, ◌+◌, ◌<◌, ◌≤◌, ◌==◌, not, filter, All, true, List, length, get_or, sym, ap, subst, ◌∙◌, arith, fold, length-map, get_or-map, get_or_default, filter_passes, All-get_or, All-filter, MAX_HORIZON, Cell, Await, Action, Deps, Version, most_count, Ground, cell_index, Plan, cell_of, Move, changes_in, leavings, entry_awaits, row_of, AreLeavingsAt, under_way, movers, move_by, moves_in, all_actions_by}
 use Rattle.fleet_adg.specs.declared.leavings.Leavings.{Leavings}
-use Rattle.fleet_adg.specs.Compiled.{changes_in, leavings, entry_awaits}
-use Rattle.fleet_adg.specs.Leavings.{row_of, AreLeavingsAt}
-use Rattle.fleet_adg.specs.Sweep.{under_way, movers, move_by, moves_in, all_actions_by}
 use Rattle.fleet_adg.proofs.Folds.{fold-filter, note_by, note_by-stays, leaves-still, add_by, add_by-stays, all_actions_by-next}
 use Rattle.fleet_adg.proofs.Limits.{counts_fit}
 use Rattle.fleet_adg.proofs.SweepSteps.{IsNotedBelow, noting_ends, under_way_below}

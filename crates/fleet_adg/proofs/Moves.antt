@@ -1,16 +1,7 @@
 -- The moves of one agent of a plan: how many it has made at a time, and the step of each.
-use Rattle.std.proofs.Common.{◌≡◌, ◌≢◌, ℕ, zero, suc, ◌+◌, ◌-◌, ◌<◌, ◌≤◌, min, Bool, true, false, cond, List, [], ◌∷◌, ◌++◌, length, get_or, inl, inr, refl, sym, ap, ◌∙◌, subst, arith, add-one, append-nil}
-use Rattle.std.specs.List.{range_with_len, filter}
-use Rattle.std.proofs.lemmas.Bool.{cases_Bool, both_ways, not-true, not-false, not_from_false, cases_lt, cases_eq}
-use Rattle.std.proofs.lemmas.List.{length_push, get_or_push, get_or_append_left}
-use Rattle.std.proofs.lemmas.List.Elements.{filter-append}
-use Rattle.fleet_model.specs.Program.{origin}
-use Rattle.fleet_model.specs.declared.geometry.Place.{Place}
-use Rattle.fleet_model.specs.declared.task.Task.{Task}
-use Rattle.fleet_model.specs.Geometry.{is_same_cell, place_of}
-use Rattle.fleet_model.proofs.Cells.{is_same_cell-true, is_same_cell-eq, is_same_cell-ne}
-use Rattle.fleet_plan.specs.Plan.{Plan, cell_at, cell_of, last_cell, steps, IsConflictFree}
-use Rattle.fleet_adg.specs.Compiled.{changes_in, changes, moves_by}
+use Rattle.fleet_adg.proofs.Words.{◌≡◌, ◌≢◌, ℕ, zero, suc, ◌+◌, ◌-◌, ◌<◌, ◌≤◌, min, Bool, true, false, cond, List, [], ◌∷◌, ◌++◌, length, get_or, inl, inr, refl, sym, ap, ◌∙◌, subst, arith, add-one, append-nil, range_with_len, cases_Bool, both_ways, not-true, not-false, not_from_false, cases_lt, cases_eq, length_push, get_or_push, get_or_append_left, filter-append, origin, Place, Task, is_same_cell, place_of, is_same_cell-true, is_same_cell-eq, is_same_cell-ne, Plan, cell_of, last_cell, steps, IsConflictFree, changes_in, changes, moves_by}
+use Rattle.std.specs.List.{filter}
+use Rattle.fleet_plan.specs.Plan.{cell_at}
 use Rattle.fleet_adg.proofs.Basics.{indices_push}
 
 -- ---- whether an agent changes its cell in a step

@@ -1,27 +1,6 @@
 -- The parts of a compiled program: starts, goals, paths, numbers of moves and awaits.
-use Rattle.std.proofs.Common.{◌≡◌, ℕ, zero, suc, ◌+◌, ◌-◌, ◌<◌, ◌≤◌, Bool, true, false, cond, ltb, List, [], ◌∷◌, ◌++◌, map, take, length, get_or, slice_get, Some, None, option_map, ◌⊎◌, inl, inr, refl, sym, ap, ◌∙◌, subst, arith, add-one, pos, ◌-ℤ◌, ◌+ℤ◌}
-use Rattle.std.specs.Option.{option_map_or}
-use Rattle.std.proofs.lemmas.Bool.{cases_lt, cases_Bool, lt-ltb, le-ltb}
-use Rattle.std.proofs.lemmas.Int.{ints}
-use Rattle.std.proofs.lemmas.Option.{same_Some, slice_get-map, slice_get-get_or, slice_get_past}
-use Rattle.std.proofs.lemmas.List.{map_push, take-map, take_all, take-append-le, length-map}
-use Rattle.std.proofs.lemmas.List.FromFn.{length-map-range_with_len, get_or-map-range_with_len}
-use Rattle.fleet_model.specs.declared.geometry.Cell.{Cell}
-use Rattle.fleet_model.specs.declared.geometry.Place.{Place}
-use Rattle.fleet_model.specs.declared.geometry.Dir.{Dir}
+use Rattle.fleet_adg.proofs.Words.{◌≡◌, ℕ, zero, suc, ◌+◌, ◌-◌, ◌<◌, ◌≤◌, Bool, true, false, cond, ltb, List, [], ◌∷◌, ◌++◌, map, take, length, get_or, slice_get, Some, None, option_map, ◌⊎◌, inl, inr, refl, sym, ap, ◌∙◌, subst, arith, add-one, pos, ◌-ℤ◌, ◌+ℤ◌, option_map_or, cases_lt, cases_Bool, lt-ltb, le-ltb, ints, same_Some, slice_get-map, slice_get-get_or, slice_get_past, map_push, take-map, take_all, take-append-le, length-map, length-map-range_with_len, get_or-map-range_with_len, Cell, Place, Dir, Action, AgentProgram, Deps, place_of, moved, is_move, stepped, origin, start_of, goal_of, actions_of, moves, awaits_of, walked, path, AreMoves, NeverStays, indices, IsTrue, All-map, Task, Plan, cell_of, steps, AreNeighbours, IsConflictFree, direction, changes_in, changes, moves_by, entry_awaits, action_in, agent_program, compiled, NeverDwells}
 use Rattle.fleet_model.specs.declared.geometry.Dir.TheVariants.{North, East, South, West}
-use Rattle.fleet_model.specs.declared.program.Action.{Action}
-use Rattle.fleet_model.specs.declared.program.AgentProgram.{AgentProgram}
-use Rattle.fleet_model.specs.declared.deps.Deps.{Deps}
-use Rattle.fleet_model.specs.Geometry.{place_of, moved, is_move, stepped}
-use Rattle.fleet_model.specs.Program.{origin, start_of, goal_of, actions_of, moves, awaits_of, walked, path, AreMoves, NeverStays}
-use Rattle.fleet_model.specs.Machine.{indices}
-use Rattle.std.specs.Prelude.{IsTrue}
-use Rattle.std.proofs.lemmas.List.Elements.{All-map}
-use Rattle.fleet_model.specs.declared.task.Task.{Task}
-use Rattle.fleet_plan.specs.Plan.{Plan, cell_of, steps, AreNeighbours, IsConflictFree}
-use Rattle.fleet_adg.specs.Compiled.{direction, changes_in, changes, moves_by, entry_awaits, action_in, agent_program, compiled}
-use Rattle.fleet_model.proofs.Chains.{NeverDwells}
 use Rattle.fleet_adg.proofs.Moves.{changes_in-ne, changes_in-same, changes-yes, changes-no, moves_by-yes, moves_by-mono, IsMoveAt, move_at, listed_at}
 
 -- ---- directions

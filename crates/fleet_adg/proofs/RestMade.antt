@@ -1,30 +1,9 @@
 -- What is left of a program, made await by await, action by action and agent by agent.
-use Rattle.std.proofs.Common.{◌≡◌, ℕ, ◌+◌, ◌<◌, ◌≤◌, true, false, not, List, [], ◌∷◌, ◌++◌, length, map, take, drop, refl, sym, ap, subst, ◌∙◌, arith, add-one, inl, inr, ◌⊎◌}
-use Rattle.std.specs.Prelude.{slice_get, Option, Some, None, option_map, filter, IsTrue, ℤ, pos, negsuc}
-use Rattle.std.specs.Option.{option_map_or}
-use Rattle.std.proofs.lemmas.Bool.{cases_lt}
-use Rattle.std.proofs.lemmas.Int.{ints}
-use Rattle.std.proofs.lemmas.List.{take_more, map-append, append-nil, drop-append-le, length-take-le}
-use Rattle.std.proofs.lemmas.List.FromFn.{map-range_with_len_more}
-use Rattle.std.proofs.lemmas.List.Elements.{filter-append}
-use Rattle.std.proofs.lemmas.Option.{slice_get_within, get_or_from_slice_get, same_Some, none-some}
-use Rattle.fleet_model.specs.declared.geometry.Place.{Place}
-use Rattle.fleet_model.specs.declared.geometry.Step.{Step}
-use Rattle.fleet_model.specs.declared.program.Await.{Await}
-use Rattle.fleet_model.specs.declared.program.Action.{Action}
-use Rattle.fleet_model.specs.declared.program.AgentProgram.{AgentProgram}
-use Rattle.fleet_model.specs.declared.limits.TheConstants.{MAX_COORDINATE}
-use Rattle.fleet_model.specs.declared.task.Task.{Task}
-use Rattle.fleet_model.specs.Program.{Program, actions_of, step_of, awaits_of, IsWellFormed, IsCell}
-use Rattle.fleet_model.specs.Machine.{Configuration, run, IsReached, place_at, is_met, indices}
-use Rattle.fleet_model.specs.Accepted.{IsAccepted}
+use Rattle.fleet_adg.proofs.Words.{◌≡◌, ℕ, ◌+◌, ◌<◌, ◌≤◌, true, false, not, List, [], ◌∷◌, ◌++◌, length, map, take, drop, refl, sym, ap, subst, ◌∙◌, arith, add-one, inl, inr, ◌⊎◌, slice_get, Option, Some, None, option_map, filter, IsTrue, ℤ, pos, negsuc, option_map_or, cases_lt, ints, take_more, map-append, append-nil, drop-append-le, length-take-le, map-range_with_len_more, filter-append, slice_get_within, get_or_from_slice_get, same_Some, none-some, Place, Step, Await, Action, AgentProgram, MAX_COORDINATE, Task, Program, actions_of, step_of, awaits_of, IsWellFormed, IsCell, Configuration, run, IsReached, place_at, is_met, indices, IsAccepted, Ground, is_passable, IsGround, IsNoNumber, StandOn, cell_at, natural, rest_await, rest_awaits, rest_action, IsOnWay, IsCellNumber}
 use Rattle.fleet_model.proofs.Tick.{length-run}
-use Rattle.fleet_grid.specs.Ground.{Ground, is_passable, IsGround, IsNoNumber}
 use Rattle.fleet_grid.proofs.StoredLaws.{no_cell}
-use Rattle.fleet_verify.specs.Rest.{StandOn, cell_at, natural, rest_await, rest_awaits, rest_action}
 use Rattle.fleet_verify.proofs.Finish.{count_within}
 use Rattle.fleet_verify.proofs.FreeRun.{runs_on_ground}
-use Rattle.fleet_adg.specs.Remaining.{IsOnWay, IsCellNumber}
 
 take_push : {X : Type 0} (xs : List X) (k : ℕ) (x : X) → slice_get xs k ≡ Some x → take (k + 1) xs ≡ take k xs ++ x ∷ []
 take_push xs k x at = take_more xs k x (slice_get_within xs k x at) ∙ ap (λ y. take k xs ++ y ∷ []) (get_or_from_slice_get xs k x x at)

@@ -1,12 +1,5 @@
 -- A leaving put into a row by its place: that of the first leaving by the same agent or a later one.
-use Rattle.std.proofs.Common.{◌≡◌, ◌≢◌, ℕ, suc, ◌+◌, ◌<◌, ◌≤◌, cond, not, List, [], ◌∷◌, set, length, get_or, Option, Some, None, inl, inr, refl, sym, ap, ◌∙◌, subst, arith}
-use Rattle.std.specs.Prelude.{nat_le}
-use Rattle.std.specs.List.{position_or_len, position, insert}
-use Rattle.std.proofs.lemmas.Bool.{cases_lt, lt-ltb, le-ltb, le-leb, lt-leb}
-use Rattle.std.specs.Option.{unwrap_or}
-use Rattle.std.proofs.lemmas.List.Sums.{prefix_len-le-length}
-use Rattle.fleet_model.specs.declared.program.Await.{Await}
-use Rattle.fleet_adg.specs.Leavings.{with_leaving}
+use Rattle.fleet_adg.proofs.Words.{◌≡◌, ◌≢◌, ℕ, suc, ◌+◌, ◌<◌, ◌≤◌, cond, not, List, [], ◌∷◌, set, length, get_or, Option, Some, None, inl, inr, refl, sym, ap, ◌∙◌, subst, arith, nat_le, position_or_len, position, insert, cases_lt, lt-ltb, le-ltb, le-leb, lt-leb, unwrap_or, prefix_len-le-length, Await, with_leaving}
 use Rattle.fleet_adg.proofs.Folds.{put_before, put_here, put_after}
 
 -- where a leaving by this agent belongs

@@ -1,16 +1,5 @@
 -- Programs whose numbers version 1 of the bytes has room for.
-use Rattle.std.proofs.Common.{◌≡◌, ℕ, suc, ◌<◌, ◌≤◌, ◌∙◌, List, [], length, get_or, sym, ap, subst, arith}
-use Rattle.std.specs.Prelude.{Contains, Option, slice_get}
-use Rattle.std.specs.Option.{option_map_or}
-use Rattle.std.proofs.lemmas.Option.{slice_get-get_or, slice_get_past}
-use Rattle.std.proofs.lemmas.Bool.{cases_lt}
-use Rattle.std.proofs.lemmas.List.Elements.{Contains-get_or}
-use Rattle.std.proofs.Common.{inl, inr}
-use Rattle.fleet_model.specs.declared.limits.TheConstants.{MAX_MOVES_V1}
-use Rattle.fleet_model.specs.declared.program.Await.{Await}
-use Rattle.fleet_model.specs.declared.program.Action.{Action}
-use Rattle.fleet_model.specs.declared.program.AgentProgram.{AgentProgram}
-use Rattle.fleet_model.specs.Program.{Program, actions_of, moves, awaits_of, AreInRange, AreShort}
+use Rattle.fleet_adg.proofs.Words.{◌≡◌, ℕ, suc, ◌<◌, ◌≤◌, ◌∙◌, List, [], length, get_or, sym, ap, subst, arith, Contains, Option, slice_get, option_map_or, slice_get-get_or, slice_get_past, cases_lt, Contains-get_or, inl, inr, MAX_MOVES_V1, Await, Action, AgentProgram, Program, actions_of, moves, awaits_of, AreInRange, AreShort}
 
 actions_there : (p : Program) (i : ℕ) (d : AgentProgram) → i < length p → actions_of p i ≡ (get_or p i d).actions
 actions_there p i d lt = ap (λ (o : Option AgentProgram). option_map_or (λ (a : AgentProgram). a.actions) o []) (slice_get-get_or p i d lt)

@@ -1,38 +1,7 @@
 -- Programs whose agents stay at the end, and those of plans.
-use Rattle.std.proofs.Common.{◌≡◌, ℕ, zero, suc, ◌+◌, ◌-◌, ◌*◌, ◌<◌, ◌≤◌, min, Bool, true, false, List, [], ◌∷◌, ◌++◌, length, map, take, drop, All, Contains, Option, Some, None, refl, sym, ap, subst, ◌∙◌, arith, inl, inr, length-append, ◌↔◌, cond, leb, Result, Ok, Err, IfOk, sum_by}
-use Rattle.std.specs.Prelude.{replicate, slice_get, option_map, IsTrue}
-use Rattle.std.specs.Option.{option_map_or}
+use Rattle.fleet_adg.proofs.Words.{◌≡◌, ℕ, zero, suc, ◌+◌, ◌-◌, ◌*◌, ◌<◌, ◌≤◌, min, Bool, true, false, List, [], ◌∷◌, ◌++◌, length, map, take, drop, All, Contains, Option, Some, None, refl, sym, ap, subst, ◌∙◌, arith, inl, inr, length-append, ◌↔◌, cond, leb, Result, Ok, Err, IfOk, sum_by, replicate, slice_get, option_map, IsTrue, option_map_or, cases_lt, leb-true, le-leb, and_parts, slice_get-map, slice_get_past, slice_get_within, slice_get-get_or, append-nil, length-map, length-replicate, map-append, take-append-le, All-weaker, sum_by-cons, Cell, Place, Step, Dwell, MAX_MOVES, MAX_MOVES_IN_ALL, MAX_MOVES_V1, Await, Action, ActionId, AgentProgram, Visit, Task, place_of, is_move, Program, origin, start_of, goal_of, actions_of, moves, awaits_of, path, walked, total_moves, AreInRange, AreAwaits, IsCell, IsWellFormed, NeverStays, AreShort, IsAction, DirectlyNeeds, ChainFrom, Reaches, IsNumbering, is_entry, stays_before, next_move, IsVisitOf, ListsVisits, Adjacent, ComesAfterByChain, entering, leaving, IsRight, IsAcceptedBy, IsAccepted, stay_path, entry_moves, chain_first, Reaches-first, Reaches-need, Reaches-trans, DiffersInAwaits, HaveSameChains, RunEqually, same_moves, run_over, stay, with_stays, moves_by, compiled, compiled_if_few, compiled_staying, each_has_few, all_have_few, has_few_actions, compiled_staying_if_few, moves_in_all, list_all, range_with_len, Deps, awaits_accepted, Plan, steps, IsConflictFree, IsWithinLimits}
 use Rattle.std.proofs.Math.Nat.{min-eq_left, min-eq_right}
-use Rattle.std.proofs.lemmas.Bool.{cases_lt, leb-true, le-leb, and_parts}
-use Rattle.std.proofs.lemmas.Option.{slice_get-map, slice_get_past, slice_get_within, slice_get-get_or}
-use Rattle.std.proofs.lemmas.List.{append-nil, length-map, length-replicate, map-append, take-append-le}
-use Rattle.std.proofs.lemmas.List.Elements.{All-weaker}
-use Rattle.std.proofs.lemmas.List.Sums.{sum_by-cons}
-use Rattle.fleet_model.specs.declared.geometry.Cell.{Cell}
-use Rattle.fleet_model.specs.declared.geometry.Place.{Place}
-use Rattle.fleet_model.specs.declared.geometry.Step.{Step}
-use Rattle.fleet_model.specs.declared.geometry.Step.TheVariants.{Dwell}
-use Rattle.fleet_model.specs.declared.limits.TheConstants.{MAX_MOVES, MAX_MOVES_IN_ALL, MAX_MOVES_V1}
-use Rattle.fleet_model.specs.declared.program.Await.{Await}
-use Rattle.fleet_model.specs.declared.program.Action.{Action}
-use Rattle.fleet_model.specs.declared.program.ActionId.{ActionId}
-use Rattle.fleet_model.specs.declared.program.AgentProgram.{AgentProgram}
-use Rattle.fleet_model.specs.declared.program.Visit.{Visit}
-use Rattle.fleet_model.specs.declared.task.Task.{Task}
-use Rattle.fleet_model.specs.Geometry.{place_of, is_move}
-use Rattle.fleet_model.specs.Program.{Program, origin, start_of, goal_of, actions_of, moves, awaits_of, path, walked, total_moves, AreInRange, AreAwaits, IsCell, IsWellFormed, NeverStays, AreShort}
-use Rattle.fleet_model.specs.Chain.{IsAction, DirectlyNeeds, ChainFrom, Reaches, IsNumbering}
-use Rattle.fleet_model.specs.Visit.{is_entry, stays_before, next_move, IsVisitOf, ListsVisits, Adjacent, ComesAfterByChain, entering, leaving}
-use Rattle.fleet_model.specs.Accepted.{IsRight, IsAcceptedBy, IsAccepted}
-use Rattle.fleet_model.proofs.Chains.{stay_path, entry_moves, chain_first, Reaches-first, Reaches-need, Reaches-trans}
-use Rattle.fleet_verify.specs.Reduced.{DiffersInAwaits, HaveSameChains, RunEqually}
-use Rattle.fleet_verify.proofs.SameChains.{same_moves, run_over}
-use Rattle.fleet_adg.specs.Compiled.{stay, with_stays, moves_by, compiled, compiled_if_few, compiled_staying, each_has_few, all_have_few, has_few_actions, compiled_staying_if_few, moves_in_all}
-use Rattle.std.specs.List.{list_all, range_with_len}
-use Rattle.fleet_model.specs.declared.deps.Deps.{Deps}
 use Rattle.fleet_adg.proofs.Short.{short_in_range, short_moves}
-use Rattle.fleet_verify.proofs.Listing.{awaits_accepted}
-use Rattle.fleet_plan.specs.Plan.{Plan, steps, IsConflictFree, IsWithinLimits}
 use Rattle.fleet_model.specs.Answer.{IsDueUnless}
 use Rattle.fleet_adg.specs.declared.fault.CompileFault.{CompileFault}
 use Rattle.fleet_adg.specs.declared.fault.CompileFault.TheVariants.{OutOfMemory, TooLong}

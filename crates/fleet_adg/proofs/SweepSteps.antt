@@ -1,29 +1,7 @@
 -- The steps of the sweep, as its loops take them.
-use Rattle.std.proofs.Common.{◌≡◌, ◌≢◌, ℕ, zero, suc, ◌+◌, ◌-◌, ◌<◌, ◌≤◌, Bool, true, false, cond, List, [], ◌∷◌, ◌++◌, map, set, take, replicate, filter, filter_map, not, ◌==◌, length, get_or, slice_get, All, Some, inl, inr, refl, sym, ap, ◌∙◌, arith, add-one}
-use Rattle.std.specs.List.{range_with_len, fold}
-use Rattle.std.proofs.lemmas.Bool.{cases_Bool, cases_lt, cases_eq, lt-ltb, le-ltb, both_ways, false_from_ne_true}
-use Rattle.std.proofs.lemmas.List.{length-set, get_or_past, length-map, get_or-map}
-use Rattle.std.proofs.lemmas.List.Sums.{fold_more}
-use Rattle.std.proofs.lemmas.List.FromFn.{length-map-range_with_len, get_or-map-range_with_len}
-use Rattle.std.proofs.lemmas.Option.{get_or_from_slice_get}
-use Rattle.fleet_model.specs.declared.geometry.Cell.{Cell}
-use Rattle.fleet_model.specs.declared.geometry.Dir.{Dir}
-use Rattle.fleet_model.specs.declared.geometry.Step.TheVariants.{Go}
-use Rattle.fleet_model.specs.declared.task.Task.{Task}
-use Rattle.fleet_model.specs.Geometry.{place_of}
-use Rattle.fleet_model.specs.declared.program.Await.{Await}
-use Rattle.fleet_model.specs.declared.program.Action.{Action}
-use Rattle.fleet_model.specs.Machine.{indices}
-use Rattle.fleet_model.specs.declared.deps.Deps.{Deps}
+use Rattle.fleet_adg.proofs.Words.{◌≡◌, ◌≢◌, ℕ, zero, suc, ◌+◌, ◌-◌, ◌<◌, ◌≤◌, Bool, true, false, cond, List, [], ◌∷◌, ◌++◌, map, set, take, replicate, filter, filter_map, not, ◌==◌, length, get_or, slice_get, All, Some, inl, inr, refl, sym, ap, ◌∙◌, arith, add-one, range_with_len, fold, cases_Bool, cases_lt, cases_eq, lt-ltb, le-ltb, both_ways, false_from_ne_true, length-set, get_or_past, length-map, get_or-map, fold_more, length-map-range_with_len, get_or-map-range_with_len, get_or_from_slice_get, Cell, Dir, Go, Task, place_of, Await, Action, indices, Deps, Ground, IsGround, is_passable, cell_index, Plan, cell_of, steps, IsConflictFree, direction, last_below, entry_awaits, changes_in, changes, moves_by, leaves, await_of, last_leaving_by, last_leaving, leavings, action_in, row_of, kind_of, leavings_after, AreLeavingsAt, Version, written, under_way, movers, actions_by, all_actions_by, all_bytes_by, IsOnMap, is_under_way}
 use Rattle.fleet_adg.specs.declared.leavings.Leavings.{Leavings}
-use Rattle.fleet_grid.specs.Ground.{Ground, IsGround, is_passable, cell_index}
-use Rattle.fleet_plan.specs.Plan.{Plan, cell_of, steps, IsConflictFree}
-use Rattle.fleet_adg.specs.Compiled.{direction, last_below, entry_awaits, changes_in, changes, moves_by, leaves, await_of, last_leaving_by, last_leaving, leavings, action_in}
-use Rattle.fleet_adg.specs.Leavings.{row_of, kind_of, leavings_after, AreLeavingsAt}
-use Rattle.fleet_code.specs.declared.format.Version.{Version}
-use Rattle.fleet_code.specs.Written.{Written, written}
-use Rattle.fleet_adg.specs.Sweep.{under_way, movers, actions_by, all_actions_by, all_bytes_by, IsOnMap}
-use Rattle.fleet_plan.specs.UnderWay.{is_under_way}
+use Rattle.fleet_code.specs.Written.{Written}
 use Rattle.fleet_adg.proofs.Moves.{moves_by-yes, moves_by-no, moves_by-le, steps-ge}
 use Rattle.fleet_adg.proofs.Entry.{leaves-parts, leaves-from}
 use Rattle.fleet_adg.proofs.Folds.{still, note_by, note_by-leaves, note_by-stays, leavings-next, add_by, add_by-changes, add_by-stays}

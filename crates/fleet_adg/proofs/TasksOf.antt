@@ -1,23 +1,10 @@
 -- The tasks of an accepted program.
-use Rattle.std.proofs.Common.{◌≡◌, ◌≢◌, ℕ, ◌+◌, ◌<◌, List, [], ◌∷◌, ◌++◌, length, map, get_or, sym, ap, subst, ◌∙◌, arith}
-use Rattle.std.specs.Prelude.{All, IsTrue}
-use Rattle.std.proofs.lemmas.List.{ext_get_or}
-use Rattle.std.proofs.lemmas.List.FromFn.{get_or-map-range_with_len, length-map-range_with_len, map-range_with_len_more}
-use Rattle.std.proofs.lemmas.Option.{slice_get-get_or}
-use Rattle.fleet_model.specs.declared.geometry.Cell.{Cell}
-use Rattle.fleet_model.specs.declared.geometry.Place.{Place}
+use Rattle.fleet_adg.proofs.Words.{◌≡◌, ◌≢◌, ℕ, ◌+◌, ◌<◌, List, [], ◌∷◌, ◌++◌, length, map, get_or, sym, ap, subst, ◌∙◌, arith, All, IsTrue, ext_get_or, get_or-map-range_with_len, length-map-range_with_len, map-range_with_len_more, slice_get-get_or, Cell, Place, Task, place_of, Program, start_of, goal_of, moves, IsWellFormed, indices, HasTasks, IsRight, Ground, is_passable, task_of, tasks_of}
 use Rattle.fleet_model.specs.declared.standing.Standing.{Standing}
-use Rattle.fleet_model.specs.declared.task.Task.{Task}
-use Rattle.fleet_model.specs.Geometry.{place_of}
-use Rattle.fleet_model.specs.Program.{Program, start_of, goal_of, moves, IsWellFormed}
-use Rattle.fleet_model.specs.Machine.{indices}
-use Rattle.fleet_model.specs.Accepted.{HasTasks, IsRight}
 use Rattle.fleet_model.specs.Run.{motion, IsSafe}
 use Rattle.fleet_model.proofs.Tick.{standing_at_opening}
-use Rattle.fleet_grid.specs.Ground.{Ground, is_passable}
 use Rattle.fleet_scen.specs.Instance.{IsInstance}
 use Rattle.fleet_scen.specs.ScenText.{HasPassableEnds}
-use Rattle.fleet_adg.specs.Remaining.{task_of, tasks_of}
 
 pub task_from_parts : (s t : Task) → s.start ≡ t.start → s.goal ≡ t.goal → s ≡ t
 task_from_parts s t start goal = λ i. record { start = start i; goal = goal i }

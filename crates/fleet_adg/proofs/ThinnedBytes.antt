@@ -1,30 +1,9 @@
 -- The bytes of a program whose implied awaits are gone, as they are put together.
-use Rattle.std.proofs.Common.{◌≡◌, ℕ, zero, suc, ◌+◌, ◌<◌, ◌≤◌, List, [], ◌∷◌, ◌++◌, length, map, refl, sym, ap, subst, ◌∙◌, arith, append_assoc, ◌↔◌}
-use Rattle.std.specs.Prelude.{Some, slice_get}
-use Rattle.std.specs.List.{flat_map}
-use Rattle.std.proofs.lemmas.List.{append-nil}
-use Rattle.std.proofs.lemmas.List.Concat.{flat_map-cons, flat_map-append}
-use Rattle.std.proofs.lemmas.Option.{slice_get-map}
-use Rattle.fleet_model.specs.declared.geometry.Cell.{Cell}
-use Rattle.fleet_model.specs.declared.geometry.Step.{Step}
-use Rattle.fleet_model.specs.declared.task.Task.{Task}
-use Rattle.fleet_model.specs.declared.program.Await.{Await}
-use Rattle.fleet_model.specs.declared.program.Action.{Action}
-use Rattle.fleet_model.specs.declared.program.ActionId.{ActionId}
-use Rattle.fleet_model.specs.declared.program.AgentProgram.{AgentProgram}
-use Rattle.fleet_model.specs.Program.{Program, actions_of, moves, start_of, goal_of, step_of, awaits_of, AreInRange, IsWellFormed, NeverStays, AreShort}
-use Rattle.fleet_grid.specs.Ground.{Ground, is_passable}
-use Rattle.fleet_code.specs.declared.format.Version.{Version}
-use Rattle.fleet_code.specs.declared.format.Version.TheVariants.{One, Two}
-use Rattle.fleet_code.specs.Spelling.{cell, count, opcode, await, action, agent, spelling, CanSpell, SpellsIn, SpellsShortest}
+use Rattle.fleet_adg.proofs.Words.{◌≡◌, ℕ, zero, suc, ◌+◌, ◌<◌, ◌≤◌, List, [], ◌∷◌, ◌++◌, length, map, refl, sym, ap, subst, ◌∙◌, arith, append_assoc, ◌↔◌, Some, slice_get, flat_map, append-nil, flat_map-cons, flat_map-append, slice_get-map, Cell, Step, Task, Await, Action, ActionId, AgentProgram, Program, actions_of, moves, start_of, goal_of, step_of, awaits_of, AreInRange, IsWellFormed, NeverStays, AreShort, Ground, is_passable, Version, One, Two, count, opcode, agent, spelling, CanSpell, SpellsIn, SpellsShortest, IsImplied, IsAcceptedFor, IsThinned, same_moves, thinned_reduced, thinned_again, reduced_chains, thinned_range, thinned_least, longest_over, accepted_over, run_over, FitsFirst, IsThinnedFor, Adds, AddsAwaits, AddsAction, AddsActions, AreUnimplied, AreThinnedActions, AreThinnedAgents}
+use Rattle.fleet_code.specs.Spelling.{cell, await, action}
 use Rattle.fleet_code.proofs.Stays.{none_stays}
-use Rattle.fleet_needs.specs.Implied.{IsImplied}
-use Rattle.fleet_verify.specs.Parts.{IsAcceptedFor}
-use Rattle.fleet_verify.specs.Reduced.{IsThinned}
-use Rattle.fleet_verify.proofs.SameChains.{same_moves, thinned_reduced, thinned_again, reduced_chains, thinned_range, thinned_least, longest_over, accepted_over, run_over}
 use Rattle.fleet_adg.proofs.Short.{short_in_range, short_moves}
 use Rattle.fleet_adg.proofs.Thinning.{none_yet, drop_implied, action_more, agent_more, thinned_is, thinned_formed}
-use Rattle.fleet_adg.specs.Thinned.{FitsFirst, IsThinnedFor, Adds, AddsAwaits, AddsAction, AddsActions, AreUnimplied, AreThinnedActions, AreThinnedAgents}
 
 -- one more was added
 pub adds_more : {X : Type 0} (f : X → List ℕ) (P Q : List X → Type 0) (x : X) (before out end : List ℕ) → Adds (flat_map f) P before out → ((xs : List X) → P xs → Q (xs ++ x ∷ [])) → end ≡ out ++ f x → Adds (flat_map f) Q before end

@@ -1,26 +1,9 @@
 -- A program whose implied awaits are gone, made action by action.
-use Rattle.std.proofs.Common.{◌≡◌, ◌≢◌, ℕ, zero, suc, ◌+◌, ◌<◌, ◌≤◌, List, [], ◌∷◌, ◌++◌, length, get_or, map, take, refl, sym, ap, subst, ◌∙◌, arith, inl, inr, ◌⊎◌, add-one}
-use Rattle.std.specs.Prelude.{slice_get, Option, Some, None, Contains, All, option_map}
-use Rattle.std.specs.Option.{option_map_or}
-use Rattle.std.specs.List.Sorted.{IsStrictlyIncreasing}
-use Rattle.std.proofs.lemmas.Bool.{cases_lt}
-use Rattle.std.proofs.lemmas.Option.{slice_get-map, slice_get-get_or, slice_get_within, slice_get_past, slice_get_cases, get_or_from_slice_get, same_Some, none-some}
-use Rattle.std.proofs.lemmas.List.{take_all, map-append, length-map, ext_get_or, get_or-map, length_push, get_or_push, get_or_append_left, get_or_default}
-use Rattle.std.proofs.lemmas.List.Elements.{All-push, Contains-push, Contains-push_cases, Contains-append_left}
-use Rattle.fleet_model.specs.declared.program.Await.{Await}
-use Rattle.fleet_model.specs.declared.geometry.Step.TheVariants.{Dwell}
-use Rattle.fleet_model.specs.declared.program.Action.{Action}
-use Rattle.fleet_model.specs.declared.program.ActionId.{ActionId}
-use Rattle.fleet_model.specs.declared.program.AgentProgram.{AgentProgram}
-use Rattle.fleet_model.specs.Program.{Program, actions_of, moves, step_of, awaits_of, total_moves, AreAwaits, IsCell, IsWellFormed, AreShort, AreInRange}
+use Rattle.fleet_adg.proofs.Words.{◌≡◌, ◌≢◌, ℕ, zero, suc, ◌+◌, ◌<◌, ◌≤◌, List, [], ◌∷◌, ◌++◌, length, get_or, map, take, refl, sym, ap, subst, ◌∙◌, arith, inl, inr, ◌⊎◌, add-one, slice_get, Option, Some, None, Contains, All, option_map, option_map_or, IsStrictlyIncreasing, cases_lt, slice_get-map, slice_get-get_or, slice_get_within, slice_get_past, slice_get_cases, get_or_from_slice_get, same_Some, none-some, take_all, map-append, length-map, ext_get_or, get_or-map, length_push, get_or_push, get_or_append_left, get_or_default, All-push, Contains-push, Contains-push_cases, Contains-append_left, Await, Dwell, Action, ActionId, AgentProgram, Program, actions_of, moves, step_of, awaits_of, total_moves, AreAwaits, IsCell, IsWellFormed, AreShort, AreInRange, MAX_AWAIT, MAX_MOVES_V1, IsImplied, IsThinned, thinned_range, AreUnimplied, IsThinnedAction, AreThinnedActions, IsThinnedAgent, AreThinnedAgents}
 use Rattle.fleet_model.proofs.Totals.{moves_more}
-use Rattle.fleet_model.specs.declared.limits.TheConstants.{MAX_AWAIT, MAX_MOVES_V1}
-use Rattle.fleet_needs.specs.Implied.{IsImplied}
 use Rattle.fleet_needs.proofs.AwaitOrder.{await_below}
 use Rattle.fleet_adg.proofs.Short.{short_in_range, short_moves}
-use Rattle.fleet_verify.specs.Reduced.{IsThinned}
-use Rattle.fleet_verify.proofs.SameChains.{same_moves as moves_there, thinned_range}
-use Rattle.fleet_adg.specs.Thinned.{AreUnimplied, IsThinnedAction, AreThinnedActions, IsThinnedAgent, AreThinnedAgents}
+use Rattle.fleet_verify.proofs.SameChains.{same_moves as moves_there}
 
 -- a greater number at the end of a list that rises
 push_rises : (xs : List ℕ) (x : ℕ) → IsStrictlyIncreasing xs → ((y : ℕ) → Contains xs y → y < x) → IsStrictlyIncreasing (xs ++ x ∷ [])

@@ -1,11 +1,4 @@
-use Rattle.std.proofs.Common.{◌≤◌, ℕ, length, sym, ap, subst, ◌∙◌}
-use Rattle.fleet_model.specs.declared.limits.TheConstants.{MAX_MOVES_IN_ALL}
-use Rattle.fleet_grid.specs.Ground.{is_passable}
-use Rattle.fleet_code.specs.declared.format.Version.{Version}
-use Rattle.fleet_code.specs.Spelling.{spelling}
-use Rattle.fleet_plan.specs.Plan.{Plan, steps}
-use Rattle.fleet_adg.specs.Compiled.{compiled_staying, has_few_actions}
-use Rattle.fleet_adg.specs.Sweep.{all_bytes_by}
+use Rattle.fleet_adg.proofs.Words.{◌≤◌, ℕ, length, sym, ap, subst, ◌∙◌, MAX_MOVES_IN_ALL, is_passable, Version, spelling, Plan, steps, compiled_staying, has_few_actions, all_bytes_by}
 use Rattle.fleet_adg.proofs.SweepSteps.{length-all_bytes_by}
 use Rattle.fleet_adg.proofs.Staying.{staying-well_formed, staying-accepted, stay_alike}
 use Rattle.fleet_adg.proofs.Joined.{rows_fit, rows_total, length-staying, shortest_bytes, first_bytes}

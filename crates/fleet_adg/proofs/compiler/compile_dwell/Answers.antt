@@ -1,10 +1,4 @@
-use Rattle.std.proofs.Common.{sym, ap, subst, ◌∙◌}
-use Rattle.std.specs.Prelude.{Ok}
-use Rattle.fleet_model.specs.declared.deps.Deps.{Deps}
-use Rattle.fleet_model.specs.Accepted.{IsAccepted}
-use Rattle.fleet_grid.specs.Ground.{is_passable}
-use Rattle.fleet_verify.specs.Reduced.{RunEqually}
-use Rattle.fleet_adg.specs.Compiled.{compiled_staying}
+use Rattle.fleet_adg.proofs.Words.{sym, ap, subst, ◌∙◌, Ok, Deps, IsAccepted, is_passable, RunEqually, compiled_staying}
 use Rattle.fleet_adg.proofs.Staying.{short-accepted, stay_alike}
 use Rattle.fleet_adg.proofs.compiler.compile_dwell.Goals as goal
 

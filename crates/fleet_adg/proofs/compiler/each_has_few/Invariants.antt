@@ -1,7 +1,4 @@
-use Rattle.std.proofs.Common.{ℕ, ◌+◌, ◌<◌, ◌≤◌}
-use Rattle.fleet_model.specs.declared.limits.TheConstants.{MAX_MOVES}
-use Rattle.fleet_plan.specs.Plan.{steps}
-use Rattle.fleet_adg.specs.Compiled.{moves_by}
+use Rattle.fleet_adg.proofs.Words.{ℕ, ◌+◌, ◌<◌, ◌≤◌, MAX_MOVES, steps, moves_by}
 use Rattle.fleet_adg.proofs.compiler.each_has_few.Given as goal
 
 abbrev pub invariant-loop-i : goal.invariant-loop-i

@@ -1,7 +1,4 @@
-use Rattle.std.proofs.Common.{◌++◌, get_or, replicate, ap, ◌∙◌, arith}
-use Rattle.fleet_code.specs.Spelling.{agent}
-use Rattle.fleet_plan.specs.Plan.{cell_of}
-use Rattle.fleet_adg.specs.Compiled.{stay}
+use Rattle.fleet_adg.proofs.Words.{◌++◌, get_or, replicate, ap, ◌∙◌, arith, agent, cell_of, stay}
 use Rattle.fleet_adg.proofs.Joined.{join_more, join_all}
 use Rattle.fleet_adg.proofs.compiler.join.Goals as goal
 

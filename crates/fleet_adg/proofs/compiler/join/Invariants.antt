@@ -1,9 +1,4 @@
-use Rattle.std.proofs.Common.{◌≡◌, ◌++◌}
-use Rattle.std.specs.List.{flat_map}
-use Rattle.fleet_model.specs.declared.deps.Deps.{Deps}
-use Rattle.fleet_code.specs.Spelling.{agent}
-use Rattle.fleet_plan.specs.Plan.{steps}
-use Rattle.fleet_adg.specs.Sweep.{all_bytes_by}
+use Rattle.fleet_adg.proofs.Words.{◌≡◌, ◌++◌, flat_map, Deps, agent, steps, all_bytes_by}
 use Rattle.fleet_adg.proofs.Joined.{parts}
 use Rattle.fleet_adg.proofs.compiler.join.Given as goal
 

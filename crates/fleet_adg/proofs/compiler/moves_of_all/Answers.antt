@@ -1,7 +1,4 @@
-use Rattle.std.proofs.Common.{◌≡◌, length, sum_by, ap, ◌∙◌, arith}
-use Rattle.fleet_model.specs.Machine.{indices}
-use Rattle.fleet_plan.specs.Plan.{steps}
-use Rattle.fleet_adg.specs.Compiled.{moves_by, moves_in_all}
+use Rattle.fleet_adg.proofs.Words.{◌≡◌, length, sum_by, ap, ◌∙◌, arith, indices, steps, moves_by, moves_in_all}
 use Rattle.fleet_plan.proofs.Counted.{total_more}
 use Rattle.fleet_adg.proofs.compiler.moves_of_all.Goals as goal
 

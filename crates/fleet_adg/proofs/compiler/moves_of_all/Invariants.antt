@@ -1,8 +1,4 @@
-use Rattle.std.proofs.Common.{◌≡◌, ◌≤◌, ◌*◌, sum_by}
-use Rattle.fleet_model.specs.declared.limits.TheConstants.{MAX_HORIZON}
-use Rattle.fleet_model.specs.Machine.{indices}
-use Rattle.fleet_plan.specs.Plan.{steps}
-use Rattle.fleet_adg.specs.Compiled.{moves_by}
+use Rattle.fleet_adg.proofs.Words.{◌≡◌, ◌≤◌, ◌*◌, sum_by, MAX_HORIZON, indices, steps, moves_by}
 use Rattle.fleet_adg.proofs.compiler.moves_of_all.Given as goal
 
 abbrev pub invariant-loop-i : goal.invariant-loop-i

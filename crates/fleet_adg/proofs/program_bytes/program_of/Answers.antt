@@ -1,5 +1,4 @@
-use Rattle.std.proofs.Common.{refl}
-use Rattle.std.specs.Prelude.{Ok}
+use Rattle.fleet_adg.proofs.Words.{refl, Ok}
 use Rattle.fleet_adg.proofs.Joined.{read_is}
 use Rattle.fleet_adg.proofs.program_bytes.program_of.Goals as goal
 

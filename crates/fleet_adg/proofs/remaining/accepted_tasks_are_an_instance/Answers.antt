@@ -1,5 +1,4 @@
-use Rattle.std.proofs.Common.{[], arith}
-use Rattle.fleet_grid.specs.Ground.{is_passable}
+use Rattle.fleet_adg.proofs.Words.{[], arith, is_passable}
 use Rattle.fleet_adg.proofs.TasksOf.{tasks_are, ends_passable, instance}
 use Rattle.fleet_adg.proofs.remaining.accepted_tasks_are_an_instance.Goals as goal
 

@@ -1,8 +1,4 @@
-use Rattle.std.proofs.Common.{◌≤◌, ◌++◌, [], ◌∷◌, length, map, drop, ap, sym, ◌∙◌, arith}
-use Rattle.std.proofs.lemmas.List.{take_all}
-use Rattle.fleet_model.specs.Program.{actions_of}
-use Rattle.fleet_model.specs.Machine.{count_at}
-use Rattle.fleet_verify.specs.Rest.{rest_action}
+use Rattle.fleet_adg.proofs.Words.{◌≤◌, ◌++◌, [], ◌∷◌, length, map, drop, ap, sym, ◌∙◌, arith, take_all, actions_of, count_at, rest_action}
 use Rattle.fleet_adg.proofs.RestMade.{action_more}
 use Rattle.fleet_adg.proofs.remaining.put_rest.Goals as goal
 

@@ -1,7 +1,4 @@
-use Rattle.std.proofs.Common.{◌≡◌, ◌≤◌, map, take, drop}
-use Rattle.fleet_model.specs.Program.{actions_of}
-use Rattle.fleet_model.specs.Machine.{count_at}
-use Rattle.fleet_verify.specs.Rest.{rest_action}
+use Rattle.fleet_adg.proofs.Words.{◌≡◌, ◌≤◌, map, take, drop, actions_of, count_at, rest_action}
 use Rattle.fleet_adg.proofs.remaining.put_rest.Given as goal
 
 abbrev pub invariant-loop-finished : goal.invariant-loop-finished

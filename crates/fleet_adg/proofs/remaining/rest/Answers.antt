@@ -1,9 +1,4 @@
-use Rattle.std.proofs.Common.{◌≡◌, ◌+◌, drop, sym, ap, subst, ◌∙◌}
-use Rattle.fleet_model.specs.Program.{Program, IsWellFormed}
-use Rattle.fleet_model.specs.Machine.{Configuration, IsReached, run, place_at, count_at}
-use Rattle.fleet_model.specs.Accepted.{IsAccepted}
-use Rattle.fleet_grid.specs.Ground.{is_passable, IsGround}
-use Rattle.fleet_verify.specs.Rest.{StandOn, cell_at, rest, rest_tasks}
+use Rattle.fleet_adg.proofs.Words.{◌≡◌, ◌+◌, drop, sym, ap, subst, ◌∙◌, Program, IsWellFormed, Configuration, IsReached, run, place_at, count_at, IsAccepted, is_passable, IsGround, StandOn, cell_at, rest, rest_tasks}
 use Rattle.fleet_adg.proofs.RestMade.{on_way, stand_on, cells_are}
 use Rattle.fleet_adg.proofs.remaining.rest.Goals as goal
 

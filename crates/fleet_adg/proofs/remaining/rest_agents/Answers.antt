@@ -1,6 +1,4 @@
-use Rattle.std.proofs.Common.{◌≡◌, ℕ, length, map, subst, ◌∙◌, arith}
-use Rattle.fleet_model.specs.Machine.{indices}
-use Rattle.fleet_verify.specs.Rest.{cell_at, rest_agent}
+use Rattle.fleet_adg.proofs.Words.{◌≡◌, ℕ, length, map, subst, ◌∙◌, arith, indices, cell_at, rest_agent}
 use Rattle.fleet_adg.proofs.RestMade.{agent_more}
 use Rattle.fleet_adg.proofs.remaining.rest_agents.Goals as goal
 

@@ -1,6 +1,4 @@
-use Rattle.std.proofs.Common.{◌≡◌, map}
-use Rattle.fleet_model.specs.Machine.{indices}
-use Rattle.fleet_verify.specs.Rest.{cell_at, rest_agent}
+use Rattle.fleet_adg.proofs.Words.{◌≡◌, map, indices, cell_at, rest_agent}
 use Rattle.fleet_adg.proofs.remaining.rest_agents.Given as goal
 
 abbrev pub invariant-loop-i : goal.invariant-loop-i

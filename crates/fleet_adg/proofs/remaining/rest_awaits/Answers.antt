@@ -1,9 +1,4 @@
-use Rattle.std.proofs.Common.{◌≤◌, length, ap, sym, ◌∙◌, arith}
-use Rattle.std.specs.Prelude.{Contains}
-use Rattle.std.proofs.lemmas.List.{take_all}
-use Rattle.std.proofs.lemmas.Option.{slice_get_within, get_or_from_slice_get}
-use Rattle.fleet_model.specs.Program.{awaits_of}
-use Rattle.fleet_verify.specs.Rest.{rest_awaits}
+use Rattle.fleet_adg.proofs.Words.{◌≤◌, length, ap, sym, ◌∙◌, arith, Contains, take_all, slice_get_within, get_or_from_slice_get, awaits_of, rest_awaits}
 use Rattle.fleet_adg.proofs.RestMade.{unmet_more, met_more}
 use Rattle.fleet_adg.proofs.remaining.rest_awaits.Goals as goal
 use Rattle.fleet_adg.proofs.remaining.rest_awaits.Goals.{in-Some+in_ok-push, in_default}

@@ -1,6 +1,4 @@
-use Rattle.std.proofs.Common.{◌≡◌, take}
-use Rattle.fleet_model.specs.Program.{awaits_of}
-use Rattle.fleet_verify.specs.Rest.{rest_awaits}
+use Rattle.fleet_adg.proofs.Words.{◌≡◌, take, awaits_of, rest_awaits}
 use Rattle.fleet_adg.proofs.remaining.rest_awaits.Given as goal
 
 abbrev pub invariant-loop-k : goal.invariant-loop-k

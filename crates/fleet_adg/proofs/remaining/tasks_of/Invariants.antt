@@ -1,6 +1,4 @@
-use Rattle.std.proofs.Common.{◌≡◌, map}
-use Rattle.fleet_model.specs.Machine.{indices}
-use Rattle.fleet_adg.specs.Remaining.{task_of}
+use Rattle.fleet_adg.proofs.Words.{◌≡◌, map, indices, task_of}
 use Rattle.fleet_adg.proofs.remaining.tasks_of.Given as goal
 
 abbrev pub invariant-loop-i : goal.invariant-loop-i

@@ -1,6 +1,4 @@
-use Rattle.std.proofs.Common.{nat_le, ap, ◌∙◌, arith}
-use Rattle.std.specs.List.{position}
-use Rattle.fleet_model.specs.declared.program.Await.{Await}
+use Rattle.fleet_adg.proofs.Words.{nat_le, ap, ◌∙◌, arith, position, Await}
 use Rattle.fleet_adg.proofs.Rows.{place_le, place_within, put_in_place, put_before_place, put_last}
 use Rattle.fleet_adg.proofs.row.note.Goals as goal
 use Rattle.fleet_adg.proofs.row.note.Goals.{else-is_within-via-then-is_within+else-index-leaving, else-is_within-via-else-is_within}

@@ -1,5 +1,4 @@
-use Rattle.std.proofs.Common.{refl, ◌∙◌}
-use Rattle.fleet_adg.specs.Leavings.{kind_of}
+use Rattle.fleet_adg.proofs.Words.{refl, ◌∙◌, kind_of}
 use Rattle.fleet_adg.proofs.SweepSteps.{sweep_begins, bytes_begin}
 use Rattle.fleet_adg.proofs.sweep.actions_of.Goals as goal
 

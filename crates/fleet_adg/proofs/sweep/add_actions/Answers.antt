@@ -1,12 +1,4 @@
-use Rattle.std.proofs.Common.{◌+◌, ◌<◌, ◌≤◌, ◌==◌, not, filter, map, set, length, get_or, refl, sym, ap, subst, ◌∙◌, arith}
-use Rattle.std.specs.List.{fold}
-use Rattle.std.proofs.lemmas.List.{take_all}
-use Rattle.fleet_model.specs.declared.geometry.Step.TheVariants.{Go}
-use Rattle.fleet_model.specs.declared.program.Action.{Action}
-use Rattle.fleet_grid.specs.Ground.{cell_index}
-use Rattle.fleet_adg.specs.Leavings.{kind_of, row_of}
-use Rattle.fleet_code.specs.Written.{written}
-use Rattle.fleet_adg.specs.Sweep.{movers, all_actions_by}
+use Rattle.fleet_adg.proofs.Words.{◌+◌, ◌<◌, ◌≤◌, ◌==◌, not, filter, map, set, length, get_or, refl, sym, ap, subst, ◌∙◌, arith, fold, take_all, Go, Action, cell_index, kind_of, row_of, written, movers, all_actions_by}
 use Rattle.fleet_adg.proofs.Folds.{add_by}
 use Rattle.fleet_adg.proofs.SweepSteps.{length-all_actions_by, length-all_bytes_by, bytes_grow, action_is}
 use Rattle.fleet_adg.proofs.MoveRows.{awaits_fit, no_move, move_at, length-moves, all_added}

@@ -1,8 +1,4 @@
-use Rattle.std.proofs.Common.{◌≡◌, map, take}
-use Rattle.std.specs.List.{fold}
-use Rattle.fleet_code.specs.Written.{written}
-use Rattle.fleet_adg.specs.Leavings.{kind_of}
-use Rattle.fleet_adg.specs.Sweep.{movers, all_actions_by}
+use Rattle.fleet_adg.proofs.Words.{◌≡◌, map, take, fold, written, kind_of, movers, all_actions_by}
 use Rattle.fleet_adg.proofs.Folds.{add_by}
 use Rattle.fleet_adg.proofs.sweep.add_actions.Given as goal
 

@@ -1,5 +1,4 @@
-use Rattle.std.proofs.Common.{◌≡◌, [], replicate}
-use Rattle.fleet_code.specs.Written.{written}
+use Rattle.fleet_adg.proofs.Words.{◌≡◌, [], replicate, written}
 use Rattle.fleet_adg.proofs.sweep.empty_lists.Given as goal
 
 abbrev pub invariant-loop-i : goal.invariant-loop-i

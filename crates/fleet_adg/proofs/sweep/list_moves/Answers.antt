@@ -1,11 +1,4 @@
-use Rattle.std.proofs.Common.{◌≡◌, ◌+◌, ◌<◌, ◌++◌, ◌∷◌, [], ℕ, true, false, List, length, get_or, take, map, filter, refl, sym, ap, ◌∙◌}
-use Rattle.std.proofs.lemmas.List.{take_more, take_all, map-append, append-nil}
-use Rattle.std.proofs.lemmas.List.Elements.{filter-append}
-use Rattle.fleet_model.specs.declared.geometry.Cell.{Cell}
-use Rattle.fleet_plan.specs.Plan.{Plan, cell_of}
-use Rattle.fleet_adg.specs.declared.sweep.Move.{Move}
-use Rattle.fleet_adg.specs.Compiled.{changes_in}
-use Rattle.fleet_adg.specs.Sweep.{move_by}
+use Rattle.fleet_adg.proofs.Words.{◌≡◌, ◌+◌, ◌<◌, ◌++◌, ◌∷◌, [], ℕ, true, false, List, length, get_or, take, map, filter, refl, sym, ap, ◌∙◌, take_more, take_all, map-append, append-nil, filter-append, Cell, Plan, cell_of, Move, changes_in, move_by}
 use Rattle.fleet_adg.proofs.SweepSteps.{movers_among}
 use Rattle.fleet_adg.proofs.sweep.list_moves.Goals as goal
 use Rattle.fleet_adg.proofs.sweep.list_moves.Goals.{in-Some+in_ok-push, in_default}

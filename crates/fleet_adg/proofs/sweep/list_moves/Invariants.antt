@@ -1,6 +1,4 @@
-use Rattle.std.proofs.Common.{◌≡◌, map, filter, take}
-use Rattle.fleet_adg.specs.Compiled.{changes_in}
-use Rattle.fleet_adg.specs.Sweep.{move_by}
+use Rattle.fleet_adg.proofs.Words.{◌≡◌, map, filter, take, changes_in, move_by}
 use Rattle.fleet_adg.proofs.sweep.list_moves.Given as goal
 
 abbrev pub invariant-loop-i : goal.invariant-loop-i

@@ -1,6 +1,5 @@
-use Rattle.std.proofs.Common.{◌+◌, ap}
+use Rattle.fleet_adg.proofs.Words.{◌+◌, ap, all_bytes_by}
 use Rattle.std.proofs.lemmas.Result.{IfOk-equal, on_ok_weaker}
-use Rattle.fleet_adg.specs.Sweep.{all_bytes_by}
 use Rattle.fleet_adg.proofs.sweep.make_moves.Goals as goal
 
 pub returns-clause-leavings : goal.returns-clause-leavings

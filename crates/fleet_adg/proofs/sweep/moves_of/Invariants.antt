@@ -1,5 +1,4 @@
-use Rattle.std.proofs.Common.{◌≡◌}
-use Rattle.fleet_adg.specs.Compiled.{moves_by}
+use Rattle.fleet_adg.proofs.Words.{◌≡◌, moves_by}
 use Rattle.fleet_adg.proofs.sweep.moves_of.Given as goal
 
 abbrev pub invariant-loop-time : goal.invariant-loop-time

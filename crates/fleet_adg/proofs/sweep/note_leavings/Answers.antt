@@ -1,7 +1,4 @@
-use Rattle.std.proofs.Common.{◌+◌, ◌<◌, ◌≤◌, length, get_or, sym, ap, subst, ◌∙◌, arith}
-use Rattle.std.proofs.lemmas.List.{take_all}
-use Rattle.fleet_adg.specs.Leavings.{kind_of}
-use Rattle.fleet_adg.specs.Sweep.{movers}
+use Rattle.fleet_adg.proofs.Words.{◌+◌, ◌<◌, ◌≤◌, length, get_or, sym, ap, subst, ◌∙◌, arith, take_all, kind_of, movers}
 use Rattle.fleet_adg.proofs.SweepSteps.{IsNotedBelow, row_short, count_is, length-all_bytes_by, noting_begins, one_leaves}
 use Rattle.fleet_adg.proofs.MoveRows.{no_move, move_at, length-moves, all_noted}
 use Rattle.fleet_adg.proofs.sweep.note_leavings.Goals as goal

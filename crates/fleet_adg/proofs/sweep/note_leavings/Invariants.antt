@@ -1,6 +1,4 @@
-use Rattle.std.proofs.Common.{take}
-use Rattle.fleet_adg.specs.Leavings.{kind_of}
-use Rattle.fleet_adg.specs.Sweep.{movers}
+use Rattle.fleet_adg.proofs.Words.{take, kind_of, movers}
 use Rattle.fleet_adg.proofs.SweepSteps.{IsNotedBelow}
 use Rattle.fleet_adg.proofs.sweep.note_leavings.Given as goal
 

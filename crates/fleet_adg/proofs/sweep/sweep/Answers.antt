@@ -1,8 +1,4 @@
-use Rattle.std.proofs.Common.{◌+◌, ◌<◌, All, length, filter, sym, ap, subst, ◌∙◌, arith}
-use Rattle.fleet_model.specs.Machine.{indices}
-use Rattle.fleet_adg.specs.Leavings.{AreLeavingsAt}
-use Rattle.fleet_adg.specs.Sweep.{all_bytes_by}
-use Rattle.fleet_plan.specs.UnderWay.{is_under_way}
+use Rattle.fleet_adg.proofs.Words.{◌+◌, ◌<◌, All, length, filter, sym, ap, subst, ◌∙◌, arith, indices, AreLeavingsAt, all_bytes_by, is_under_way}
 use Rattle.fleet_adg.proofs.Limits.{steps_few}
 use Rattle.fleet_adg.proofs.SweepSteps.{agents_below, under_way_later}
 use Rattle.fleet_adg.proofs.sweep.sweep.Goals as goal

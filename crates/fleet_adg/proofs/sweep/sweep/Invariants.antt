@@ -1,7 +1,4 @@
-use Rattle.std.proofs.Common.{◌≡◌, ◌<◌, All, length, filter}
-use Rattle.fleet_adg.specs.Leavings.{kind_of, AreLeavingsAt}
-use Rattle.fleet_adg.specs.Sweep.{under_way, all_bytes_by}
-use Rattle.fleet_plan.specs.UnderWay.{is_under_way}
+use Rattle.fleet_adg.proofs.Words.{◌≡◌, ◌<◌, All, length, filter, kind_of, AreLeavingsAt, under_way, all_bytes_by, is_under_way}
 use Rattle.fleet_adg.proofs.sweep.sweep.Given as goal
 
 abbrev pub invariant-loop-time : goal.invariant-loop-time

@@ -1,11 +1,4 @@
-use Rattle.std.proofs.Common.{◌≤◌, ◌≡◌, [], length, refl, ap, subst, arith, inl, inr}
-use Rattle.std.specs.Prelude.{Option}
-use Rattle.std.specs.Option.{option_map_or}
-use Rattle.std.proofs.lemmas.Bool.{cases_lt}
-use Rattle.std.proofs.lemmas.Option.{slice_get_past}
-use Rattle.fleet_model.specs.declared.limits.TheConstants.{MAX_MOVES_V1}
-use Rattle.fleet_model.specs.declared.program.AgentProgram.{AgentProgram}
-use Rattle.fleet_model.specs.Program.{moves}
+use Rattle.fleet_adg.proofs.Words.{◌≤◌, ◌≡◌, [], length, refl, ap, subst, arith, inl, inr, Option, option_map_or, cases_lt, slice_get_past, MAX_MOVES_V1, AgentProgram, moves}
 use Rattle.fleet_adg.proofs.thinner.have_few_moves.Goals as goal
 
 pub loop-i-preserved : goal.loop-i-preserved

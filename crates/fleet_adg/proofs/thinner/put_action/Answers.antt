@@ -1,12 +1,6 @@
-use Rattle.std.proofs.Common.{◌≡◌, ◌<◌, ◌+◌, ◌-◌, ℕ, length, sym, subst, ◌∙◌, arith}
-use Rattle.std.proofs.lemmas.Bool.{false≢true}
-use Rattle.std.specs.Prelude.{slice_get, Some}
-use Rattle.std.proofs.lemmas.Option.{slice_get_within, get_or_from_slice_get}
-use Rattle.fleet_model.specs.Program.{awaits_of, step_of}
+use Rattle.fleet_adg.proofs.Words.{◌≡◌, ◌<◌, ◌+◌, ◌-◌, ℕ, length, sym, subst, ◌∙◌, arith, false≢true, slice_get, Some, slice_get_within, get_or_from_slice_get, awaits_of, step_of, IsImplied, AreUnimplied}
 use Rattle.fleet_model.proofs.Totals.{few_awaits_of}
 use Rattle.fleet_code.specs.Spelling.{await}
-use Rattle.fleet_needs.specs.Implied.{IsImplied}
-use Rattle.fleet_adg.specs.Thinned.{AreUnimplied}
 use Rattle.fleet_adg.proofs.Thinning.{keep_one}
 use Rattle.fleet_adg.proofs.ThinnedBytes.{adds_none, adds_more, adds_same, adds_step}
 use Rattle.fleet_adg.proofs.thinner.put_action.Goals.{then-is_kept+in_ok-put_await-in-Await, else-is_kept}

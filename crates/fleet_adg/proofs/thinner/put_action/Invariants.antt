@@ -1,6 +1,4 @@
-use Rattle.std.proofs.Common.{◌≡◌, ◌≤◌, ◌+◌, ◌-◌, length}
-use Rattle.fleet_model.specs.Program.{awaits_of}
-use Rattle.fleet_adg.specs.Thinned.{AddsAwaits}
+use Rattle.fleet_adg.proofs.Words.{◌≡◌, ◌≤◌, ◌+◌, ◌-◌, length, awaits_of, AddsAwaits}
 use Rattle.fleet_adg.proofs.thinner.put_action.Given as goal
 
 abbrev pub invariant-instructions : goal.invariant-instructions

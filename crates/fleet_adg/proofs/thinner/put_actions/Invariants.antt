@@ -1,5 +1,4 @@
-use Rattle.std.proofs.Common.{◌≡◌}
-use Rattle.fleet_adg.specs.Thinned.{AddsActions}
+use Rattle.fleet_adg.proofs.Words.{◌≡◌, AddsActions}
 use Rattle.fleet_adg.proofs.thinner.put_actions.Given as goal
 
 abbrev pub invariant-loop-finished : goal.invariant-loop-finished

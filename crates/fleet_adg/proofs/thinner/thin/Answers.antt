@@ -1,9 +1,4 @@
-use Rattle.std.proofs.Common.{sym, ap, subst}
-use Rattle.fleet_model.specs.Program.{Program}
-use Rattle.fleet_grid.specs.Ground.{is_passable}
-use Rattle.fleet_verify.specs.Parts.{IsAcceptedFor}
-use Rattle.fleet_verify.specs.Reduced.{IsThinned}
-use Rattle.fleet_adg.specs.Thinned.{IsThinnedFor}
+use Rattle.fleet_adg.proofs.Words.{sym, ap, subst, Program, is_passable, IsAcceptedFor, IsThinned, IsThinnedFor}
 use Rattle.fleet_adg.proofs.Thinning.{thinned_short}
 use Rattle.fleet_adg.proofs.ThinnedBytes.{never_over}
 use Rattle.fleet_adg.proofs.thinner.thin.Goals as goal

@@ -1,9 +1,6 @@
-use Rattle.std.proofs.Common.{◌≡◌, length, sym, ap, subst, ◌∙◌}
-use Rattle.fleet_model.specs.Program.{Program, total_moves}
+use Rattle.fleet_adg.proofs.Words.{◌≡◌, length, sym, ap, subst, ◌∙◌, Program, total_moves, is_passable, IsThinnedFor}
 use Rattle.fleet_needs.specs.Critical.{IsNumberedTo}
-use Rattle.fleet_grid.specs.Ground.{is_passable}
 use Rattle.fleet_verify.proofs.Finish.{longest_numbers}
-use Rattle.fleet_adg.specs.Thinned.{IsThinnedFor}
 use Rattle.fleet_adg.proofs.Thinning.{thinned_is, total_same}
 use Rattle.fleet_adg.proofs.ThinnedBytes.{thinned_for, thinned_shortest}
 use Rattle.fleet_adg.proofs.thinner.thin_bytes.Goals as goal

@@ -1,5 +1,4 @@
-use Rattle.std.proofs.Common.{◌++◌, length}
-use Rattle.fleet_code.specs.Spelling.{magic, two_bytes}
+use Rattle.fleet_adg.proofs.Words.{◌++◌, length, magic, two_bytes}
 use Rattle.fleet_adg.proofs.ThinnedBytes.{adds_agent}
 use Rattle.fleet_adg.proofs.thinner.thinned_bytes.Goals as goal
 

@@ -1,7 +1,4 @@
-use Rattle.std.proofs.Common.{◌++◌, length}
-use Rattle.std.specs.List.{flat_map}
-use Rattle.fleet_code.specs.Spelling.{magic, two_bytes, agent}
-use Rattle.fleet_adg.specs.Thinned.{Adds, AreThinnedAgents}
+use Rattle.fleet_adg.proofs.Words.{◌++◌, length, flat_map, magic, two_bytes, agent, Adds, AreThinnedAgents}
 use Rattle.fleet_adg.proofs.thinner.thinned_bytes.Given as goal
 
 abbrev pub invariant-loop-i : goal.invariant-loop-i

@@ -1,7 +1,5 @@
 -- What a run without holds shows that finishes all actions: every place on its way, and that each await was met.
-use Rattle.fleet_verify.proofs.Words.{EachIndex, ◌≡◌, ℕ, zero, suc, ◌<◌, ◌≤◌, Bool, true, List, [], length, Some, nat_le, ap, ◌∙◌, subst, arith, inl, inr, leb-true, le-leb, Contains, cases_lt, slice_get-get_or, Place, Task, Await, ActionId, Visit, Program, moves, awaits_of, IsWellFormed, count_at, run, is_finished, IsLeast}
-use Rattle.fleet_verify.specs.Faults.{EachAction, EndsRight, StandsRight, AwaitsRight, HasStarts, HasRanges}
-use Rattle.fleet_verify.specs.Walk.{begun_in, AreOnGround}
+use Rattle.fleet_verify.proofs.Words.{EachIndex, ◌≡◌, ℕ, zero, suc, ◌<◌, ◌≤◌, Bool, true, List, [], length, Some, nat_le, ap, ◌∙◌, subst, arith, inl, inr, leb-true, le-leb, Contains, cases_lt, slice_get-get_or, Place, Task, Await, ActionId, Visit, Program, moves, awaits_of, IsWellFormed, count_at, run, is_finished, IsLeast, EachAction, EndsRight, StandsRight, AwaitsRight, HasStarts, HasRanges, begun_in, AreOnGround}
 use Rattle.fleet_verify.proofs.RunCounts.{count_opening}
 use Rattle.fleet_verify.proofs.Finish.{count_within, done_after, done_first}
 use Rattle.fleet_verify.proofs.FreeRun.{order_all}

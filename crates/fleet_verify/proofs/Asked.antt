@@ -1,15 +1,7 @@
 -- Open pairs asked for.
-use Rattle.fleet_verify.proofs.Words.{◌≡◌, ℕ, ◌+◌, ◌<◌, ◌≤◌, Bool, true, false, List, [], ◌∷◌, ◌++◌, length, get_or, Option, Some, None, IfSome, slice_get, refl, sym, ap, ◌∙◌, subst, arith, inl, inr, All, cases_lt, cases_eq, cases_order, cases_Bool, ne_eqb, get_or_append_left, get_or_push, slice_get-get_or, slice_get_within, get_or_from_slice_get, same_Some, ActionId, Visit, Program, Reaches, entering, leaving}
-use Rattle.std.proofs.Common.{eqb, Result, Ok, Err, IfOk}
-use Rattle.fleet_needs.specs.declared.questions.Question.{Question}
-use Rattle.fleet_needs.specs.Asked.{AreAnswers}
-use Rattle.fleet_verify.specs.Ahead.{AreCountedUp, count_in, level_in}
-use Rattle.fleet_verify.specs.Chained.{AreKnown, IsChained, IsAskedOf, AreAsked, BeginsLate, BeginsLater, IsFlagOf, EndApart, EnterApart, AreAmong, key_of}
-use Rattle.fleet_verify.specs.LevelRows.{HasLevels}
-use Rattle.fleet_verify.specs.OpenPairs.{AreVisits, question_of}
+use Rattle.fleet_verify.proofs.Words.{◌≡◌, ℕ, ◌+◌, ◌<◌, ◌≤◌, Bool, true, false, List, [], ◌∷◌, ◌++◌, length, get_or, Option, Some, None, IfSome, slice_get, refl, sym, ap, ◌∙◌, subst, arith, inl, inr, All, cases_lt, cases_eq, cases_order, cases_Bool, ne_eqb, get_or_append_left, get_or_push, slice_get-get_or, slice_get_within, get_or_from_slice_get, same_Some, ActionId, Visit, Program, Reaches, entering, leaving, eqb, Result, Ok, Err, IfOk, Question, AreAnswers, AreCountedUp, count_in, level_in, AreKnown, IsChained, IsAskedOf, AreAsked, BeginsLate, BeginsLater, IsFlagOf, EndApart, EnterApart, AreAmong, key_of, HasLevels, AreVisits, question_of, OpenPair}
 use Rattle.fleet_verify.specs.declared.chained.Answers.{Answers}
 use Rattle.fleet_verify.specs.declared.chained.TheConstants.{NUMBERS}
-use Rattle.fleet_verify.specs.declared.order.OpenPair.{OpenPair}
 use Rattle.fleet_verify.proofs.Decide.{Reaches-dec}
 use Rattle.fleet_verify.proofs.Levels.{counted_numbers}
 use Rattle.fleet_verify.proofs.Listing.{levels_number, entry_start, entry_later, rank_rises}
@@ -114,6 +106,13 @@ pub known_asked : {E : Type 0} (p : Program) (asked : List Question) (r : Result
 known_asked p asked (Ok (Some known)) apart answers same = record { answers = answers; apart = subst EndApart (sym same) apart }
 known_asked p asked (Ok None) apart answers same = tt
 known_asked p asked (Err e) apart answers same = tt
+
+-- what is answered to them was asked for the pairs
+pub asked_again : {E : Type 0} (Later : Type 0) (p : Program) (pairs : List OpenPair) (asked : List Question) (r : Result (Option Answers) E) → AreAsked p pairs asked
+    → IfOk r (λ found. IfSome found (λ known. known.questions.items ≡ asked)) → IfOk r (λ found. IfSome found (λ known. Later → AreAsked p pairs known.questions.items))
+asked_again _ p pairs asked (Ok (Some known)) h same = λ _. subst (AreAsked p pairs) (sym same) h
+asked_again _ p pairs asked (Ok None) h same = tt
+asked_again _ p pairs asked (Err e) h same = tt
 
 -- ---- the places of questions, by the numbers of their last actions
 

@@ -1,11 +1,5 @@
 -- Visits that begin in any order.
-use Rattle.fleet_verify.proofs.Words.{◌≡◌, ◌≢◌, ℕ, suc, ◌+◌, ◌<◌, ◌≤◌, Bool, List, [], ◌∷◌, ◌++◌, length, get_or, Option, Some, slice_get, refl, ap, sym, ◌∙◌, subst, arith, inl, inr, All, Contains, IsTrue, filter, AllPairs, cases_order, cases_eq, cases_lt, get_or_default, AllPairs-filter, Contains-push, Contains-push_cases, Contains-append_left, all_pairs_push, slice_get_within, get_or_from_slice_get, slice_get-get_or, Cell, Place, Visit, place_of, is_same_place, Program, moves, path, AreInRange, IsCell, is_entry, IsVisit, IsVisitOf, ListsVisits, Adjacent, ComesAfter, IsOrderly, is_same_place-true, is_same_place-eq}
-use Rattle.fleet_verify.specs.Ahead.{AreEarlier, AreBegun, AreKeptOnGround}
-use Rattle.fleet_verify.specs.Faults.{StandsRight, EachAction}
-use Rattle.fleet_verify.specs.Chained.{IsChained, EnterApart}
-use Rattle.fleet_verify.specs.OpenPairs.{AreVisits}
-use Rattle.fleet_verify.specs.Order.{visits_of, entries, IsLastVisit, AreAddedBy, AreConsecutive, IsOpenPair, StandsBefore}
-use Rattle.fleet_verify.specs.declared.order.OpenPair.{OpenPair}
+use Rattle.fleet_verify.proofs.Words.{◌≡◌, ◌≢◌, ℕ, suc, ◌+◌, ◌<◌, ◌≤◌, Bool, List, [], ◌∷◌, ◌++◌, length, get_or, Option, Some, slice_get, refl, ap, sym, ◌∙◌, subst, arith, inl, inr, All, Contains, IsTrue, filter, AllPairs, cases_order, cases_eq, cases_lt, get_or_default, AllPairs-filter, Contains-push, Contains-push_cases, Contains-append_left, all_pairs_push, slice_get_within, get_or_from_slice_get, slice_get-get_or, Cell, Place, Visit, place_of, is_same_place, Program, moves, path, AreInRange, IsCell, is_entry, IsVisit, IsVisitOf, ListsVisits, Adjacent, ComesAfter, IsOrderly, is_same_place-true, is_same_place-eq, AreEarlier, AreBegun, AreKeptOnGround, StandsRight, EachAction, IsChained, EnterApart, AreVisits, visits_of, entries, IsLastVisit, AreAddedBy, AreConsecutive, IsOpenPair, StandsBefore, OpenPair}
 use Rattle.fleet_verify.proofs.Judged.{some_cell}
 use Rattle.fleet_verify.proofs.Listing.{await_chain}
 use Rattle.fleet_verify.proofs.Members.{filter_has, filter_from, contains_none, same_visit}

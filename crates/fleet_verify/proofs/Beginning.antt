@@ -1,20 +1,9 @@
 -- The agents one after another: on their starts, and at their ends.
-use Rattle.fleet_verify.proofs.Words.{◌≡◌, ℕ, zero, suc, ◌+◌, ◌-◌, ◌<◌, ◌≤◌, Bool, List, [], ◌∷◌, ◌++◌, length, get_or, slice_index, Option, refl, sym, ap, ◌∙◌, subst, arith, inl, inr, ◌⊎◌, All, IsTrue, cases_eq, cases_lt, get_or_append_left, get_or-append_right, length-append, Cell, Place, ActionId, Visit, Task, IsNumbering, IsLongestChain, IsFinish, place_of, Program, origin, start_of, moves, path, AreInRange, IsWellFormed, own_reach, Reaches-rises, Ground, is_passable}
-use Rattle.std.proofs.Common.{max}
-use Rattle.std.proofs.Math.Seq.{get_or-append_seam}
-use Rattle.fleet_verify.specs.Ahead.{AreCountedUp, IsTop, IsAhead, AreBegun, AreDone, count_in, level_in}
-use Rattle.fleet_verify.specs.Chained.{IsChained, EnterApart}
-use Rattle.fleet_verify.specs.Faults.{HasStarts, HasRanges, EndsRight, StandsRight}
-use Rattle.fleet_verify.specs.OpenPairs.{AreVisits}
-use Rattle.fleet_verify.specs.LastVisits.{kept_at}
-use Rattle.fleet_verify.specs.Order.{AreAddedBy}
+use Rattle.fleet_verify.proofs.Words.{◌≡◌, ℕ, zero, suc, ◌+◌, ◌-◌, ◌<◌, ◌≤◌, Bool, List, [], ◌∷◌, ◌++◌, length, get_or, slice_index, Option, refl, sym, ap, ◌∙◌, subst, arith, inl, inr, ◌⊎◌, All, IsTrue, cases_eq, cases_lt, get_or_append_left, get_or-append_right, length-append, Cell, Place, ActionId, Visit, Task, IsNumbering, IsLongestChain, IsFinish, place_of, Program, origin, start_of, moves, path, AreInRange, IsWellFormed, own_reach, Reaches-rises, Ground, is_passable, max, get_or-append_seam, AreCountedUp, IsTop, IsAhead, AreBegun, AreDone, count_in, level_in, IsChained, EnterApart, HasStarts, HasRanges, EndsRight, StandsRight, AreVisits, kept_at, AreAddedBy, Ahead, OpenPair, HasLevels}
 use Rattle.fleet_verify.specs.Parts.{IsAcceptedFor}
-use Rattle.fleet_verify.specs.declared.ahead.Ahead.{Ahead}
-use Rattle.fleet_verify.specs.declared.order.OpenPair.{OpenPair}
 use Rattle.fleet_verify.proofs.Begin.{begun_none, begun_more, begun_ground, begun_visits, begun_apart, begun_chained}
 use Rattle.fleet_verify.proofs.RunCounts.{longest_finishes}
 use Rattle.fleet_verify.proofs.Ordered.{none_ranked, all_counted, all_in_range, top_longest}
-use Rattle.fleet_verify.specs.LevelRows.{HasLevels}
 use Rattle.fleet_verify.proofs.Levels.{counted_numbers, counted_levels}
 use Rattle.fleet_verify.proofs.Stays.{accepted_by}
 

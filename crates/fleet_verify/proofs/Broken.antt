@@ -1,9 +1,7 @@
 -- What is refused for its order runs badly.
-use Rattle.fleet_verify.proofs.Words.{Bool, List, Some, ap, ◌∙◌, slice_get-get_or, Place, Task, Visit, place_of, Program, AreInRange, ComesAfterByChain, AreUnordered}
-use Rattle.fleet_verify.specs.declared.fault.VerifyFault.{VerifyFault}
-use Rattle.fleet_verify.specs.declared.fault.VerifyFault.TheVariants.{OutOfMemory, OtherFleet, Start, Goal, Step, AwaitRange, Cyclic, Unordered}
+use Rattle.fleet_verify.proofs.Words.{Bool, List, Some, ap, ◌∙◌, slice_get-get_or, Place, Task, Visit, place_of, Program, AreInRange, ComesAfterByChain, AreUnordered, VerifyFault, OutOfMemory, OtherFleet, Start, Goal, AwaitRange, Cyclic, Unordered, HasNumbering, IsFault, IsUnordered}
+use Rattle.fleet_verify.specs.declared.fault.VerifyFault.TheVariants.{Step}
 use Rattle.fleet_verify.specs.Broken.{MeetUnordered, IsBrokenBy}
-use Rattle.fleet_verify.specs.Faults.{HasNumbering, IsFault, IsUnordered}
 use Rattle.fleet_verify.proofs.BreakingHolds.{breaking_made, breaking_conflict}
 use Rattle.fleet_verify.proofs.Finish.{ring_never}
 use Rattle.fleet_verify.proofs.Listing.{levels_number, as_visit}

@@ -1,19 +1,6 @@
 -- Rows of levels that climb.
-use Rattle.fleet_verify.proofs.Words.{◌≡◌, ◌≢◌, ℕ, zero, suc, ◌+◌, ◌-◌, ◌<◌, ◌≤◌, List, [], ◌∷◌, ◌++◌, length, get_or, set, slice_index, refl, sym, ap, ◌∙◌, subst, arith, inl, inr, All, get_or-set_same, get_or-set_other, length-set, length-append, get_or_default, Bool, IsTrue, Cell, Place, Await, place_of, stepped, Program, moves, path, MAX_COORDINATE, cases_lt, Ground, IsGround, is_passable, ℤ, pos, negsuc, passable_at, true, false}
-use Rattle.std.proofs.lemmas.List.{set-get_or}
-use Rattle.std.proofs.Math.Seq.{get_or-append_seam}
+use Rattle.fleet_verify.proofs.Words.{◌≡◌, ◌≢◌, ℕ, zero, suc, ◌+◌, ◌-◌, ◌<◌, ◌≤◌, List, [], ◌∷◌, ◌++◌, length, get_or, set, slice_index, refl, sym, ap, ◌∙◌, subst, arith, inl, inr, All, get_or-set_same, get_or-set_other, length-set, length-append, get_or_default, Bool, IsTrue, Cell, Place, Await, place_of, stepped, Program, moves, path, MAX_COORDINATE, cases_lt, Ground, IsGround, is_passable, ℤ, pos, negsuc, passable_at, true, false, set-get_or, get_or-append_seam, Piece, level_at, levels_to, last_level, climbed_by, climbed, false≢true, off_map, Ahead, Needs, Runner, kept_at, AddsLevel, IsAhead, IsAheadBy, IsArrival, IsRunner, AreNeeds, IsKeptBack, climbed_in, count_in, stand, IsStop, IsStopAt, LeavesGround}
 use Rattle.std.proofs.Math.Nat.{add-zero}
-use Rattle.fleet_verify.specs.declared.level_row.Piece.{Piece}
-use Rattle.fleet_verify.specs.Pieces.{level_at, levels_to}
-use Rattle.fleet_verify.specs.Rising.{last_level, climbed_by, climbed}
-use Rattle.std.proofs.lemmas.Bool.{false≢true}
-use Rattle.fleet_grid.proofs.StoredLaws.{off_map}
-use Rattle.fleet_verify.specs.declared.ahead.Ahead.{Ahead}
-use Rattle.fleet_verify.specs.declared.ahead.Needs.{Needs}
-use Rattle.fleet_verify.specs.declared.ahead.Runner.{Runner}
-use Rattle.fleet_verify.specs.LastVisits.{kept_at}
-use Rattle.fleet_verify.specs.Ahead.{AddsLevel, IsAhead, IsAheadBy, IsArrival, IsRunner, AreNeeds, IsKeptBack, climbed_in, count_in, stand}
-use Rattle.fleet_verify.specs.Walk.{IsStop, IsStopAt, LeavesGround}
 use Rattle.fleet_verify.specs.declared.unheld_run.Stop.{Stop}
 use Rattle.fleet_verify.specs.declared.unheld_run.Stop.TheVariants.{OutOfMemory, OffGround}
 use Rattle.fleet_verify.proofs.NextLevel.{place_at, leads_on}

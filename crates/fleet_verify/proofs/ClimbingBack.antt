@@ -1,10 +1,5 @@
 -- Stretches that are followed back along levels that rise by one.
-use Rattle.fleet_verify.proofs.Words.{◌≡◌, ◌≢◌, ℕ, zero, suc, ◌+◌, ◌-◌, ◌<◌, ◌≤◌, List, refl, sym, ap, subst, arith, inl, ActionId, Program, IsAction, IsCriticalCost}
-use Rattle.fleet_needs.proofs.Costing.{one_cost}
-use Rattle.fleet_verify.specs.Ahead.{level_in}
-use Rattle.fleet_verify.specs.LevelRows.{AreCostRows}
-use Rattle.fleet_verify.specs.Times.{LeadsBack, IsStretchTo, IsWholeTo, of_agent}
-use Rattle.fleet_verify.specs.declared.times.TheConstants.{LONGEST}
+use Rattle.fleet_verify.proofs.Words.{◌≡◌, ◌≢◌, ℕ, zero, suc, ◌+◌, ◌-◌, ◌<◌, ◌≤◌, List, refl, sym, ap, subst, arith, inl, ActionId, Program, IsAction, IsCriticalCost, one_cost, level_in, AreCostRows, LeadsBack, IsStretchTo, IsWholeTo, of_agent, LONGEST}
 use Rattle.fleet_verify.proofs.CriticalPaths.{stretch_begins, stretch_on}
 use Rattle.fleet_verify.proofs.Members.{same_action}
 

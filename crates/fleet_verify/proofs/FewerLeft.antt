@@ -1,9 +1,5 @@
 -- Agents that run on until nobody can.
-use Rattle.fleet_verify.proofs.Words.{◌≡◌, ℕ, zero, suc, ◌+◌, ◌-◌, ◌<◌, ◌≤◌, ◌⊎◌, List, [], length, get_or, sym, ap, ◌∙◌, subst, arith, inl, inr, Option, Some, None, Await, Program, moves, cases_lt, cases_eq, Bool, IsTrue, false}
-use Rattle.std.proofs.lemmas.Bool.{false≢true}
-use Rattle.fleet_model.specs.declared.limits.TheConstants.{MAX_MOVES_IN_ALL}
-use Rattle.fleet_model.specs.Chain.{awaited}
-use Rattle.fleet_verify.specs.Ahead.{IsStopped, IsRunOn, IsNextLevel, CanGoOn, KeepsOthers, climbed_in, count_in}
+use Rattle.fleet_verify.proofs.Words.{◌≡◌, ℕ, zero, suc, ◌+◌, ◌-◌, ◌<◌, ◌≤◌, ◌⊎◌, List, [], length, get_or, sym, ap, ◌∙◌, subst, arith, inl, inr, Option, Some, None, Await, Program, moves, cases_lt, cases_eq, Bool, IsTrue, false, false≢true, MAX_MOVES_IN_ALL, awaited, IsStopped, IsRunOn, IsNextLevel, CanGoOn, KeepsOthers, climbed_in, count_in}
 use Rattle.fleet_verify.proofs.Climbing.{none_climbs, own_count, other_row}
 use Rattle.fleet_verify.proofs.NextLevel.{next_level_some}
 

@@ -1,9 +1,7 @@
 -- What a run finishes, after which ticks, and that no list of holds finishes a ring.
-use Rattle.fleet_verify.proofs.Words.{◌≡◌, ℕ, suc, ◌+◌, ◌≤◌, ap, subst, arith, inl, inr, zero, ◌-◌, ◌<◌, true, List, [], length, get_or, Some, sym, ◌∙◌, Contains, slice_get, nat_le, ◌⊎◌, Await, ActionId, Program, moves, awaits_of, Configuration, count_at, Holds, is_held, run, IsDone, is_finished, IsLeast, DirectlyNeeds, IsAction, IsNumbering, IsLongestChain, AreInRange, IsFinish, Reaches, cases_lt, le-leb, leb-true, slice_get-get_or, slice_get_within, get_or_from_slice_get}
+use Rattle.fleet_verify.proofs.Words.{◌≡◌, ℕ, suc, ◌+◌, ◌≤◌, ap, subst, arith, inl, inr, zero, ◌-◌, ◌<◌, true, List, [], length, get_or, Some, sym, ◌∙◌, Contains, slice_get, nat_le, ◌⊎◌, Await, ActionId, Program, moves, awaits_of, Configuration, count_at, Holds, is_held, run, IsDone, is_finished, IsLeast, DirectlyNeeds, IsAction, IsNumbering, IsLongestChain, AreInRange, IsFinish, Reaches, cases_lt, le-leb, leb-true, slice_get-get_or, slice_get_within, get_or_from_slice_get, IsRing, IsNumberedTo}
 use Rattle.fleet_verify.proofs.RunCounts.{counts, readies, run_counts, grows, grows_once, within_moves, count_past, count_opening, finished_all, first_passing, first_is, chain_before, longest_finishes}
 use Rattle.fleet_verify.proofs.Waiting.{IsReadyTo, step}
-use Rattle.fleet_verify.specs.Ring.{IsRing}
-use Rattle.fleet_needs.specs.Critical.{IsNumberedTo}
 
 -- ---- what is finished in a run: more with each tick, and with an action all that it needs through chains
 

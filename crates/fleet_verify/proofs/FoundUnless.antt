@@ -1,12 +1,7 @@
 -- What is said of a program that is not found to be accepted.
-use Rattle.std.specs.Prelude.{IfOk, Result, Ok, Err}
-use Rattle.fleet_verify.proofs.Words.{Bool, List, All, Place, Program, inr}
-use Rattle.fleet_model.specs.declared.task.Task.{Task}
-use Rattle.fleet_verify.specs.declared.ahead.Ahead.{Ahead}
+use Rattle.fleet_verify.proofs.Words.{Bool, List, All, Place, Program, inr, IfOk, Result, Ok, Err, Task, Ahead, IsAhead, HaveFinished, NobodyGoesOn, IsChained}
 use Rattle.fleet_verify.specs.declared.ahead.Outlook.{Outlook}
 use Rattle.fleet_verify.specs.declared.ahead.Outlook.TheVariants.{Accepted, Unknown}
-use Rattle.fleet_verify.specs.Ahead.{IsAhead, HaveFinished, NobodyGoesOn}
-use Rattle.fleet_verify.specs.Chained.{IsChained}
 use Rattle.fleet_verify.specs.Outlook.{IsFound, IsFoundUnless}
 
 pub found_unless : {E : Type 0} (passable : Place → Bool) (tasks : List Task) (p : Program) (a : Ahead) → IsAhead passable p a → NobodyGoesOn p a.rows.items → (r : Result Outlook E)

@@ -1,12 +1,9 @@
 -- The run without holds.
-use Rattle.fleet_verify.proofs.Words.{◌≡◌, ℕ, zero, suc, ◌+◌, ◌-◌, ◌<◌, ◌≤◌, Bool, true, false, List, [], ◌∷◌, ◌++◌, length, map, get_or, nat_le, refl, ap, sym, ◌∙◌, subst, arith, inl, inr, leb-true, le-leb, add-one, ◌≢◌, IsTrue, All, slice_get, Some, ◌==◌, ◌⊎◌, leb-false, false-eqb, Contains, AllPairs, cases_eq, cases_lt, get_or_default, append_assoc, append-nil, Contains-push, Contains-push_cases, Contains-append_left, all_pairs_push, get_or-map-range_with_len, length-map-range_with_len, ActionId, Visit, count_at, indices, run, is_held, is_ready, is_finished, IsLeast, Holds, Program, moves, AreInRange, path, IsAction, IsLevel, EndsChain, entering, is_entry, ListsVisits, Adjacent, ComesAfterByChain, IsOrderly, slice_get-get_or, slice_get_within, same_Some, Place, Motion, HasVertexConflict, HasFollowingConflict, HasCycleConflict, motion, IsFree, HasBegun, HasLeft, IsOwnedInTurn}
-use Rattle.std.specs.List.{IsDistinct}
+use Rattle.fleet_verify.proofs.Words.{◌≡◌, ℕ, zero, suc, ◌+◌, ◌-◌, ◌<◌, ◌≤◌, Bool, true, false, List, [], ◌∷◌, ◌++◌, length, map, get_or, nat_le, refl, ap, sym, ◌∙◌, subst, arith, inl, inr, leb-true, le-leb, add-one, ◌≢◌, IsTrue, All, slice_get, Some, ◌==◌, ◌⊎◌, leb-false, false-eqb, Contains, AllPairs, cases_eq, cases_lt, get_or_default, append_assoc, append-nil, Contains-push, Contains-push_cases, Contains-append_left, all_pairs_push, get_or-map-range_with_len, length-map-range_with_len, ActionId, Visit, count_at, indices, run, is_held, is_ready, is_finished, IsLeast, Holds, Program, moves, AreInRange, path, IsAction, IsLevel, EndsChain, entering, is_entry, ListsVisits, Adjacent, ComesAfterByChain, IsOrderly, slice_get-get_or, slice_get_within, same_Some, Place, Motion, HasVertexConflict, HasFollowingConflict, HasCycleConflict, motion, IsFree, HasBegun, HasLeft, IsOwnedInTurn, IsDistinct, AreLevels, entry_level, IsBefore, begun_by, begun_in}
 use Rattle.fleet_verify.proofs.RunCounts.{counts, readies, run_counts, count_opening, run_place, run_held, held_at_most, finished_all, unfinished_ends, ends_in_time, within_moves}
-use Rattle.fleet_verify.specs.Listing.{AreLevels, entry_level, IsBefore}
 use Rattle.fleet_verify.proofs.Waiting.{step, ready_says, ready_from}
 use Rattle.fleet_verify.proofs.Finish.{count_grows, count_grows_to, count_within, done_after, done_first}
 use Rattle.fleet_verify.proofs.Listing.{entry_start, entry_later}
-use Rattle.fleet_verify.specs.Walk.{begun_by, begun_in}
 use Rattle.fleet_verify.proofs.UnderWay.{begun_yes, begun_no}
 use Rattle.fleet_verify.proofs.Members.{same_visit}
 use Rattle.fleet_verify.proofs.Owned.{all_left_before, no_vertex, no_following}

@@ -1,12 +1,6 @@
 -- The cells, one after another.
-use Rattle.fleet_verify.proofs.Words.{◌≡◌, ℕ, suc, ◌+◌, ◌<◌, ◌≤◌, Bool, true, false, List, [], ◌∷◌, length, Option, Some, None, refl, ap, sym, ◌∙◌, subst, arith, inl, inr, ◌⊎◌, All, cases_eq, Cell, Place, Task, Visit, place_of, is_same_place, Program, moves, path, IsCell, IsVisitOf, Adjacent, ComesAfter, IsOrderly, IsVisit, is_same_place-true, IsIn, is_in}
+use Rattle.fleet_verify.proofs.Words.{◌≡◌, ℕ, suc, ◌+◌, ◌<◌, ◌≤◌, Bool, true, false, List, [], ◌∷◌, length, Option, Some, None, refl, ap, sym, ◌∙◌, subst, arith, inl, inr, ◌⊎◌, All, cases_eq, Cell, Place, Task, Visit, place_of, is_same_place, Program, moves, path, IsCell, IsVisitOf, Adjacent, ComesAfter, IsOrderly, IsVisit, is_same_place-true, IsIn, is_in, PlacedVisit, VerifyFault, Unordered, OrderViolation, visits_of, IsListJudged, IsVisitPlaced, IsPathOrderly, AreAllPlaced, AreViolations, IsFirstBreak, HasRanges, IsFault, IsSooner, IsOrderlyAt}
 use Rattle.fleet_verify.proofs.Listing.{levels_number}
-use Rattle.fleet_verify.specs.declared.order.PlacedVisit.{PlacedVisit}
-use Rattle.fleet_verify.specs.declared.fault.VerifyFault.{VerifyFault}
-use Rattle.fleet_verify.specs.declared.fault.VerifyFault.TheVariants.{Unordered}
-use Rattle.fleet_verify.specs.declared.order.OrderViolation.{OrderViolation}
-use Rattle.fleet_verify.specs.Order.{visits_of, IsListJudged, IsVisitPlaced, IsPathOrderly, AreAllPlaced, AreViolations}
-use Rattle.fleet_verify.specs.Faults.{IsFirstBreak, HasRanges, IsFault, IsSooner, IsOrderlyAt}
 
 -- the visits of the place come one after another
 abbrev pub InTurn : Program → Place → Type 0

@@ -1,18 +1,10 @@
 -- Squares of cells, and the visits that they keep.
-use Rattle.fleet_verify.proofs.Words.{◌≡◌, ◌≢◌, ℕ, suc, ◌+◌, ◌<◌, Bool, true, false, List, [], ◌∷◌, length, get_or, slice_get, Some, None, refl, sym, ap, ◌∙◌, subst, arith, inl, inr, cases_eq, cases_lt, ne_eqb, eqb-true, get_or_past, same_Some, slice_get-map, option_map, Option, Cell, IsCell}
-use Rattle.std.proofs.Common.{◌/◌, ◌%◌, nat_eq, replicate}
-use Rattle.std.proofs.lemmas.Bool.{true≢false}
-use Rattle.std.proofs.lemmas.List.{get_or-replicate, length-replicate}
+use Rattle.fleet_verify.proofs.Words.{◌≡◌, ◌≢◌, ℕ, suc, ◌+◌, ◌<◌, Bool, true, false, List, [], ◌∷◌, length, get_or, slice_get, Some, None, refl, sym, ap, ◌∙◌, subst, arith, inl, inr, cases_eq, cases_lt, ne_eqb, eqb-true, get_or_past, same_Some, slice_get-map, option_map, Option, Cell, IsCell, ◌/◌, ◌%◌, nat_eq, replicate, true≢false, get_or-replicate, length-replicate, nat_eq_equiv, position_or_len, position, IndexMap, get, keys, insert_entry, Updates, IsUnique, with_value_at, square_of, place_in_square, visit_kept, visit_in, last_in, IsSquareAt, IsWritten, NO_VISIT}
 use Rattle.std.proofs.lemmas.Map.Entries.{lookup_from_place}
-use Rattle.std.specs.Cmp.{nat_eq_equiv}
-use Rattle.std.specs.List.{position_or_len, position}
 use Rattle.std.specs.Prelude.{is_some}
 use Rattle.std.specs.Map.{keys_of}
-use Rattle.indexmap.specs.IndexMap.{IndexMap, get, keys, insert_entry, Updates, IsUnique, with_value_at}
 use Rattle.indexmap.proofs.CallerLemmas.{updates-with_value_at, keys-with_value_at}
 use Rattle.indexmap.proofs.MapLemmas.{Found-position}
-use Rattle.fleet_verify.specs.Squares.{square_of, place_in_square, visit_kept, visit_in, last_in, IsSquareAt, IsWritten}
-use Rattle.fleet_verify.specs.declared.last_visits.TheConstants.{NO_VISIT}
 
 -- cells at one place of one square are one
 pub same_in_square : (c d : Cell) → IsCell c → IsCell d → square_of c ≡ square_of d → place_in_square c ≡ place_in_square d → c ≡ d

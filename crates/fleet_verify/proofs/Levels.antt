@@ -1,9 +1,7 @@
 -- Levels, and how they are counted up.
-use Rattle.fleet_verify.proofs.Words.{◌≡◌, ◌≢◌, ℕ, suc, ◌+◌, ◌<◌, ◌≤◌, true, false, subst, arith, inl, inr, ◌⊎◌, zero, sym, ap, ActionId, Program, AreInRange, Holds, is_held, run, IsDone, IsDue, IsAction, DirectlyNeeds, Reaches, unit_cost, IsLevel, IsNumbering, EndsChain, ends_more, own_reach, LastStep, chain_ends_by_step, Reaches-trans, ends_one, ends_within, Reaches-first, Reaches-last, Reaches-need, cases_eq}
+use Rattle.fleet_verify.proofs.Words.{◌≡◌, ◌≢◌, ℕ, suc, ◌+◌, ◌<◌, ◌≤◌, true, false, subst, arith, inl, inr, ◌⊎◌, zero, sym, ap, ActionId, Program, AreInRange, Holds, is_held, run, IsDone, IsDue, IsAction, DirectlyNeeds, Reaches, unit_cost, IsLevel, IsNumbering, EndsChain, ends_more, own_reach, LastStep, chain_ends_by_step, Reaches-trans, ends_one, ends_within, Reaches-first, Reaches-last, Reaches-need, cases_eq, AreLevels, IsCountedUp, IsRow, IsRowOfNeeds}
 use Rattle.fleet_verify.proofs.RunCounts.{counts, readies, run_counts, chain_due, ready_or_needs}
 use Rattle.fleet_verify.proofs.Timed.{critical}
-use Rattle.fleet_verify.specs.Listing.{AreLevels}
-use Rattle.fleet_verify.specs.Rows.{IsCountedUp, IsRow, IsRowOfNeeds}
 
 -- an action's level is the cost of its critical path at unit cost
 pub level_exists : (p : Program) → AreInRange p → (number : ActionId → ℕ) → IsNumbering p number → (b : ActionId) → IsAction p b → (n : ℕ) × IsLevel p b n

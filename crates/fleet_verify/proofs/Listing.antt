@@ -1,7 +1,6 @@
 -- Orders of visits, the listing sorted by the levels of the entering actions, and the chains between two visits of a
 -- place.
-use Rattle.fleet_verify.proofs.Words.{◌≡◌, ℕ, zero, suc, ◌+◌, ◌<◌, ◌≤◌, Bool, true, cond, List, length, get_or, refl, sym, ap, subst, arith, inl, inr, Some, ◌∙◌, Contains, slice_get, ◌⊎◌, cases_lt, eq-eqb, ne_eqb, cases_order, Place, Await, ActionId, Visit, Task, Program, moves, awaits_of, AreInRange, IsAction, Reaches, IsNumbering, awaited, is_entry, next_move, IsVisitOf, ListsVisits, Adjacent, ComesAfterByAwait, ComesAfterByChain, entering, leaving, IsVisit, AreUnordered, IsAcceptedBy, next_upto, Reaches-first, Reaches-last, Reaches-need, ends_one, ends_more, own_reach, Reaches-rises, Reaches-trans, slice_get_within, get_or_from_slice_get}
-use Rattle.fleet_verify.specs.Listing.{AreLevels, entry_level, IsBefore, IsSortedListing}
+use Rattle.fleet_verify.proofs.Words.{◌≡◌, ℕ, zero, suc, ◌+◌, ◌<◌, ◌≤◌, Bool, true, cond, List, length, get_or, refl, sym, ap, subst, arith, inl, inr, Some, ◌∙◌, Contains, slice_get, ◌⊎◌, cases_lt, eq-eqb, ne_eqb, cases_order, Place, Await, ActionId, Visit, Task, Program, moves, awaits_of, AreInRange, IsAction, Reaches, IsNumbering, awaited, is_entry, next_move, IsVisitOf, ListsVisits, Adjacent, ComesAfterByAwait, ComesAfterByChain, entering, leaving, IsVisit, AreUnordered, IsAcceptedBy, next_upto, Reaches-first, Reaches-last, Reaches-need, ends_one, ends_more, own_reach, Reaches-rises, Reaches-trans, slice_get_within, get_or_from_slice_get, AreLevels, entry_level, IsBefore, IsSortedListing}
 use Rattle.fleet_verify.proofs.Members.{contains_none}
 use Rattle.fleet_verify.proofs.Neighbours.{adjacent_at, adjacent_from, same_neighbours, any_two, Found, place_in}
 

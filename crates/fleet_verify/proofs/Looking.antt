@@ -1,9 +1,6 @@
 -- How far actions are looked at, and what they need.
-use Rattle.fleet_verify.proofs.Words.{inl, inr, ◌≡◌, ℕ, ◌+◌, ◌<◌, List, [], ◌∷◌, ◌++◌, length, refl, ◌-◌, sym, ap, ◌∙◌, subst, arith, ◌≢◌, ◌≤◌, slice_index, set, Some, slice_get, get_or-set_same, get_or-set_other, ActionId, Visit, Program, moves, total_moves, awaits_of, AreInRange, IsAction, Reaches, DirectlyNeeds, entering, IsVisit, Reaches-first, Reaches-trans, Reaches-last, Reaches-need, Reaches-kept, own_reach, IsNeededFor, ◌⊎◌, Contains, cases_eq, cases_lt, map-append, length_push, get_or_push, get_or_append_left, Await, sum_by-le-sum_by, same_Some, slice_get-get_or, slice_get_within, get_or_from_slice_get, length-set, indices}
-use Rattle.fleet_verify.specs.Blocked.{IsBlocked, IsUnmet, want_at, AreWants, down_from}
-use Rattle.fleet_machine.proofs.Indices.{indices-more}
+use Rattle.fleet_verify.proofs.Words.{inl, inr, ◌≡◌, ℕ, ◌+◌, ◌<◌, List, [], ◌∷◌, ◌++◌, length, refl, ◌-◌, sym, ap, ◌∙◌, subst, arith, ◌≢◌, ◌≤◌, slice_index, set, Some, slice_get, get_or-set_same, get_or-set_other, ActionId, Visit, Program, moves, total_moves, awaits_of, AreInRange, IsAction, Reaches, DirectlyNeeds, entering, IsVisit, Reaches-first, Reaches-trans, Reaches-last, Reaches-need, Reaches-kept, own_reach, IsNeededFor, ◌⊎◌, Contains, cases_eq, cases_lt, map-append, length_push, get_or_push, get_or_append_left, Await, sum_by-le-sum_by, same_Some, slice_get-get_or, slice_get_within, get_or_from_slice_get, length-set, indices, IsBlocked, IsUnmet, want_at, AreWants, down_from, indices-more, IsRaised, IsLooking, looked_sum, AreNeeded}
 use Rattle.fleet_verify.proofs.RunCounts.{sum_rises, sum_of_moves}
-use Rattle.fleet_verify.specs.Needed.{IsRaised, IsLooking, looked_sum, AreNeeded}
 
 pub needed_action : (p : Program) (v w : Visit) (a : ActionId) → IsNeededFor p v w a → IsAction p a
 needed_action p v w a (inl r) = Reaches-first p a (entering v) r

@@ -1,11 +1,5 @@
 -- The level of the next action, await by await; and the action finished.
-use Rattle.fleet_verify.proofs.Words.{◌≡◌, ℕ, ◌+◌, ◌-◌, ◌<◌, ◌≤◌, Bool, true, List, [], ◌∷◌, ◌++◌, length, get_or, set, slice_index, Option, Some, slice_get, refl, sym, ap, ◌∙◌, subst, arith, inl, inr, ◌⊎◌, IsTrue, cases_eq, cases_lt, get_or-set_same, get_or-set_other, length-set, slice_get-get_or, slice_get_within, get_or_from_slice_get, same_Some, Cell, Place, Step, ActionId, Await, Visit, place_of, stepped, is_move, is_entry, IsVisit, Program, origin, awaits_of, step_of, path, moves, DirectlyNeeds, awaited}
-use Rattle.std.proofs.Common.{max}
-use Rattle.fleet_verify.specs.Ahead.{IsRanked, IsNextLevel, AddsLevel, IsAheadBy, IsArrival, count_in, level_in}
-use Rattle.fleet_verify.specs.Faults.{StandsRight}
-use Rattle.fleet_verify.specs.Order.{AreAddedBy}
-use Rattle.fleet_verify.specs.declared.order.OpenPair.{OpenPair}
-use Rattle.fleet_verify.specs.declared.ahead.Needs.{Needs}
+use Rattle.fleet_verify.proofs.Words.{◌≡◌, ℕ, ◌+◌, ◌-◌, ◌<◌, ◌≤◌, Bool, true, List, [], ◌∷◌, ◌++◌, length, get_or, set, slice_index, Option, Some, slice_get, refl, sym, ap, ◌∙◌, subst, arith, inl, inr, ◌⊎◌, IsTrue, cases_eq, cases_lt, get_or-set_same, get_or-set_other, length-set, slice_get-get_or, slice_get_within, get_or_from_slice_get, same_Some, Cell, Place, Step, ActionId, Await, Visit, place_of, stepped, is_move, is_entry, IsVisit, Program, origin, awaits_of, step_of, path, moves, DirectlyNeeds, awaited, max, IsRanked, IsNextLevel, AddsLevel, IsAheadBy, IsArrival, count_in, level_in, StandsRight, AreAddedBy, OpenPair, Needs}
 use Rattle.fleet_verify.proofs.Begin.{begun_more}
 use Rattle.fleet_verify.proofs.Leaving.{entry_by}
 use Rattle.fleet_verify.proofs.Members.{same_action}

@@ -1,17 +1,6 @@
 -- Open pairs: questions for chains, and the first neighbours of each cell without one.
-use Rattle.fleet_verify.proofs.Words.{◌≡◌, ◌≢◌, ℕ, zero, suc, ◌+◌, ◌<◌, ◌≤◌, Bool, List, [], ◌∷◌, length, map, get_or, Option, Some, None, slice_get, refl, ap, sym, ◌∙◌, subst, arith, inl, inr, add-one, All, Contains, ◌⊎◌, ◌↔◌, option_map, option_or, cases_eq, cases_lt, length-map, slice_get-get_or, slice_get_within, get_or_from_slice_get, same_Some, Cell, Place, Task, ActionId, Visit, place_of, Program, path, start_of, IsCell, AreInRange, Reaches, IsNumbering, IsVisitOf, ComesAfter, ComesAfterByChain, entering, leaving}
-use Rattle.std.proofs.lemmas.List.Elements.{All-map}
-use Rattle.fleet_model.proofs.Cells.{place_of-injective}
+use Rattle.fleet_verify.proofs.Words.{◌≡◌, ◌≢◌, ℕ, zero, suc, ◌+◌, ◌<◌, ◌≤◌, Bool, List, [], ◌∷◌, length, map, get_or, Option, Some, None, slice_get, refl, ap, sym, ◌∙◌, subst, arith, inl, inr, add-one, All, Contains, ◌⊎◌, ◌↔◌, option_map, option_or, cases_eq, cases_lt, length-map, slice_get-get_or, slice_get_within, get_or_from_slice_get, same_Some, Cell, Place, Task, ActionId, Visit, place_of, Program, path, start_of, IsCell, AreInRange, Reaches, IsNumbering, IsVisitOf, ComesAfter, ComesAfterByChain, entering, leaving, All-map, place_of-injective, IsQuestion, AreAnswers, OrderViolation, OpenPair, PlacedVisit, VisitOrder, HasStarts, IsFirstBreak, IsBefore, number_of, visits_of, IsListJudged, AreAllPlaced, AreViolations, AreGrouped, IsOpenPair, AreConsecutive, StandsBefore, AreVisits, question_of, violation_of, HasNoChain, IsFirstBad, AnswersFirstBad, IsFlagged}
 use Rattle.fleet_scen.specs.Instance.{IsInstance}
-use Rattle.fleet_needs.specs.Asked.{IsQuestion, AreAnswers}
-use Rattle.fleet_verify.specs.declared.order.OrderViolation.{OrderViolation}
-use Rattle.fleet_verify.specs.declared.order.OpenPair.{OpenPair}
-use Rattle.fleet_verify.specs.declared.order.PlacedVisit.{PlacedVisit}
-use Rattle.fleet_verify.specs.declared.order.VisitOrder.{VisitOrder}
-use Rattle.fleet_verify.specs.Faults.{HasStarts, IsFirstBreak}
-use Rattle.fleet_verify.specs.Listing.{IsBefore}
-use Rattle.fleet_verify.specs.Order.{number_of, visits_of, IsListJudged, AreAllPlaced, AreViolations, AreGrouped, IsOpenPair, AreConsecutive, StandsBefore}
-use Rattle.fleet_verify.specs.OpenPairs.{AreVisits, question_of, violation_of, HasNoChain, IsFirstBad, AnswersFirstBad, IsFlagged}
 use Rattle.fleet_verify.proofs.Decide.{Reaches-dec}
 use Rattle.fleet_verify.proofs.Listing.{levels_number, await_chain, entry_start, entry_later, before_rank, as_visit}
 use Rattle.fleet_verify.proofs.Neighbours.{adjacent_at, adjacent_from, any_two}

@@ -1,12 +1,5 @@
 -- Visits that a numbering orders.
-use Rattle.fleet_verify.proofs.Words.{◌≡◌, ◌≢◌, ℕ, zero, suc, ◌+◌, ◌<◌, Bool, true, false, List, [], ◌∷◌, ◌++◌, length, map, get_or, Option, Some, None, slice_get, refl, ap, sym, ◌∙◌, subst, arith, inl, inr, ◌-◌, ◌≤◌, slice_index, ◌⊎◌, filter, AllPairs, All, Contains, cases_eq, cases_lt, map-append, append_assoc, append-nil, length-append, get_or_append_left, filter-append, All-push, Contains-push, Contains-append_left, all_pairs_push, slice_get_within, same_Some, slice_get-get_or, Cell, Place, Visit, place_of, is_same_place, Program, IsCell, moves, awaits_of, AreInRange, IsWellFormed, is_entry, ComesAfterByAwait, is_same_place-true, is_same_place-eq, ActionId, IsAction, DirectlyNeeds, EndsChain, IsLongestChain, awaited, ends_within, ends_action}
-use Rattle.fleet_model.proofs.Cells.{place_of-injective}
-use Rattle.fleet_verify.specs.declared.order.PlacedVisit.{PlacedVisit}
-use Rattle.fleet_verify.specs.declared.order.OpenPair.{OpenPair}
-use Rattle.fleet_verify.specs.Order.{number_of, visits_of, entries, IsOpenNext, IsLastVisit, IsGrouped, IsOpenPair, IsVisitPlaced, AreAddedBy, AreGroupedBy, AreConsecutive, StandsBefore}
-use Rattle.std.proofs.Math.Seq.{get_or-append_seam}
-use Rattle.fleet_verify.specs.Rows.{IsCountedUp}
-use Rattle.fleet_verify.specs.Ahead.{AreCountedUp, IsTop, IsRanked, AreRanked, IsNextLevel, AddsLevel, count_in, level_in, next_in}
+use Rattle.fleet_verify.proofs.Words.{◌≡◌, ◌≢◌, ℕ, zero, suc, ◌+◌, ◌<◌, Bool, true, false, List, [], ◌∷◌, ◌++◌, length, map, get_or, Option, Some, None, slice_get, refl, ap, sym, ◌∙◌, subst, arith, inl, inr, ◌-◌, ◌≤◌, slice_index, ◌⊎◌, filter, AllPairs, All, Contains, cases_eq, cases_lt, map-append, append_assoc, append-nil, length-append, get_or_append_left, filter-append, All-push, Contains-push, Contains-append_left, all_pairs_push, slice_get_within, same_Some, slice_get-get_or, Cell, Place, Visit, place_of, is_same_place, Program, IsCell, moves, awaits_of, AreInRange, IsWellFormed, is_entry, ComesAfterByAwait, is_same_place-true, is_same_place-eq, ActionId, IsAction, DirectlyNeeds, EndsChain, IsLongestChain, awaited, ends_within, ends_action, place_of-injective, PlacedVisit, OpenPair, number_of, visits_of, entries, IsOpenNext, IsLastVisit, IsGrouped, IsOpenPair, IsVisitPlaced, AreAddedBy, AreGroupedBy, AreConsecutive, StandsBefore, get_or-append_seam, IsCountedUp, AreCountedUp, IsTop, IsRanked, AreRanked, IsNextLevel, AddsLevel, count_in, level_in, next_in}
 use Rattle.fleet_verify.proofs.Members.{same_action}
 use Rattle.fleet_verify.proofs.Levels.{counted_numbers, counted_levels}
 use Rattle.fleet_verify.proofs.Stays.{has_action}

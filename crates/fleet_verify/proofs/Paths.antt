@@ -1,6 +1,5 @@
 -- One step of a path.
-use Rattle.fleet_verify.proofs.Words.{◌≡◌, ℕ, Bool, zero, suc, ◌+◌, ◌≤◌, [], Option, Some, None, get_or, slice_get, false, refl, ap, sym, ◌∙◌, subst, arith, add-one, option_map, pos, ◌+ℤ◌, ◌≤ℤ◌, ints, same_Some, slice_get-get_or, Cell, North, East, South, West, Place, Step, Go, Dwell, MAX_COORDINATE, Action, IsInReach, place_of, stepped, Program, start_of, actions_of, moves, step_of, path, IsCell, IsWellFormed, path_more}
-use Rattle.fleet_verify.specs.Faults.{StandsRight, IsFirstNumber}
+use Rattle.fleet_verify.proofs.Words.{◌≡◌, ℕ, Bool, zero, suc, ◌+◌, ◌≤◌, [], Option, Some, None, get_or, slice_get, false, refl, ap, sym, ◌∙◌, subst, arith, add-one, option_map, pos, ◌+ℤ◌, ◌≤ℤ◌, ints, same_Some, slice_get-get_or, Cell, North, East, South, West, Place, Step, Go, Dwell, MAX_COORDINATE, Action, IsInReach, place_of, stepped, Program, start_of, actions_of, moves, step_of, path, IsCell, IsWellFormed, path_more, StandsRight, IsFirstNumber}
 
 pub action_with : (o : Option Action) (d : Step) → option_map (λ a. a.step) o ≡ Some d → (a : Action) × (o ≡ Some a) × (a.step ≡ d)
 action_with None d e = absurd cc

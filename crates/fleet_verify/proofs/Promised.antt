@@ -1,8 +1,5 @@
 -- What is promised of an accepted program, and of a refusal.
-use Rattle.fleet_verify.proofs.Words.{◌≡◌, ℕ, ◌≤◌, ◌&&◌, Bool, true, false, List, sym, subst, ◌∙◌, ◌≢◌, IsTrue, Place, Task, ActionId, Program, IsWellFormed, Holds, run, is_held, is_ready, IsDue, IsAction, IsLongestChain, IsRight, IsAccepted, RunsWell, RunsRight, IsOfLeastLevel, Progresses, IsFinishedInTime, Schedule, IsSchedule}
-use Rattle.fleet_verify.specs.declared.fault.VerifyFault.{VerifyFault}
-use Rattle.fleet_verify.specs.declared.fault.VerifyFault.TheVariants.{OutOfMemory}
-use Rattle.fleet_verify.specs.Faults.{IsFault}
+use Rattle.fleet_verify.proofs.Words.{◌≡◌, ℕ, ◌≤◌, ◌&&◌, Bool, true, false, List, sym, subst, ◌∙◌, ◌≢◌, IsTrue, Place, Task, ActionId, Program, IsWellFormed, Holds, run, is_held, is_ready, IsDue, IsAction, IsLongestChain, IsRight, IsAccepted, RunsWell, RunsRight, IsOfLeastLevel, Progresses, IsFinishedInTime, Schedule, IsSchedule, VerifyFault, OutOfMemory, IsFault}
 use Rattle.fleet_verify.specs.Promises.{KeepsSchedule, Promises, IsRefusedRightly}
 use Rattle.fleet_verify.proofs.RunCounts.{any_below}
 use Rattle.fleet_verify.proofs.Levels.{level_exists, least_due, due_done, chain_done}

@@ -1,6 +1,5 @@
 -- The awaits of an action, one after another.
-use Rattle.fleet_verify.proofs.Words.{◌≡◌, ◌≢◌, ℕ, ◌+◌, ◌<◌, ◌≤◌, length, get_or, Some, slice_get, sym, ap, ◌∙◌, subst, arith, inl, inr, cases_eq, same_Some, slice_get-get_or, slice_get_within, get_or_from_slice_get, Await, Program, moves, awaits_of, IsInRange, IsWellFormed}
-use Rattle.fleet_verify.specs.Faults.{AwaitsRight}
+use Rattle.fleet_verify.proofs.Words.{◌≡◌, ◌≢◌, ℕ, ◌+◌, ◌<◌, ◌≤◌, length, get_or, Some, slice_get, sym, ap, ◌∙◌, subst, arith, inl, inr, cases_eq, same_Some, slice_get-get_or, slice_get_within, get_or_from_slice_get, Await, Program, moves, awaits_of, IsInRange, IsWellFormed, AwaitsRight}
 
 -- the first k awaits can be met
 abbrev pub AwaitsRightTo : Program → ℕ → ℕ → ℕ → Type 0

@@ -1,16 +1,12 @@
 -- What is refused is not accepted, and what is accepted runs well.
-use Rattle.fleet_verify.proofs.Words.{◌≡◌, ◌≢◌, ℕ, suc, ◌+◌, ◌<◌, Bool, List, length, get_or, Some, slice_get, refl, ap, sym, ◌∙◌, subst, arith, add-one, option_map, slice_get-get_or, slice_get_within, get_or_from_slice_get, Cell, Place, Task, ActionId, Visit, place_of, Holds, IsFinish, run, Program, origin, IsLongestChain, ListsVisits, Adjacent, ComesAfter, IsAccepted, IsOwnedInTurn}
-use Rattle.fleet_model.specs.Run.{Arrives}
+use Rattle.fleet_verify.proofs.Words.{◌≡◌, ◌≢◌, ℕ, suc, ◌+◌, ◌<◌, Bool, List, length, get_or, Some, slice_get, refl, ap, sym, ◌∙◌, subst, arith, add-one, option_map, slice_get-get_or, slice_get_within, get_or_from_slice_get, Cell, Place, Task, ActionId, Visit, place_of, Holds, IsFinish, run, Program, origin, IsLongestChain, ListsVisits, Adjacent, ComesAfter, IsAccepted, IsOwnedInTurn, Arrives, IsToldRing, VerifyFault, OutOfMemory, OtherFleet, Start, Goal, AwaitRange, Cyclic, Unordered, HasRanges, IsFault, IsOfOrder, IsUnordered, StartsRight, EndsRight}
 use Rattle.fleet_verify.proofs.FreeRun.{runs_owned}
 use Rattle.fleet_verify.proofs.RunCounts.{finish_exists, finish_above, finish_below, finish_stays}
-use Rattle.fleet_verify.specs.Ring.{IsToldRing}
 use Rattle.fleet_verify.proofs.Finish.{ring_unnumbered}
 use Rattle.fleet_verify.proofs.Listing.{sorted_passes, after_reaches, levels_number}
 use Rattle.fleet_verify.proofs.Unordered.{neighbours_unordered}
 use Rattle.fleet_verify.proofs.Neighbours.{adjacent_at}
-use Rattle.fleet_verify.specs.declared.fault.VerifyFault.{VerifyFault}
-use Rattle.fleet_verify.specs.declared.fault.VerifyFault.TheVariants.{OutOfMemory, OtherFleet, Start, Goal, Step, AwaitRange, Cyclic, Unordered}
-use Rattle.fleet_verify.specs.Faults.{HasRanges, IsFault, IsOfOrder, IsUnordered, StartsRight, EndsRight}
+use Rattle.fleet_verify.specs.declared.fault.VerifyFault.TheVariants.{Step}
 
 module _ (passable : Place → Bool) (tasks : List Task) (p : Program) (a : IsAccepted passable tasks p) where
   task_at : (i : ℕ) → i < length p → (t : Task) × (slice_get tasks i ≡ Some t)

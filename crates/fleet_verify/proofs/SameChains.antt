@@ -1,7 +1,5 @@
 -- Programs with the same chains, and those of them with the fewest awaits.
-use Rattle.fleet_verify.proofs.Words.{◌≡◌, ℕ, zero, suc, ◌+◌, ◌<◌, ◌≤◌, List, [], ◌∷◌, length, map, take, drop, get_or, Option, Some, None, refl, sym, ap, ap₂, ◌∙◌, arith, Bool, true, false, cond, not, ◌&&◌, ◌++◌, subst, inl, inr, ◌≢◌, slice_get, option_map, if◌then◌else◌, Contains, ◌⊎◌, option_map_or, length-map, ext_get_or, take-map, drop-map, length-append, slice_get-map, slice_get_past, Place, Step, Action, ActionId, Visit, Standing, place_of, stepped, is_move, Program, origin, start_of, actions_of, moves, path, walked, awaits_of, AreInRange, IsInRange, Configuration, standing_at, count_at, next_action, finished_one, opening, is_ready, standing_after, indices, tick, Holds, is_held, run, IsAction, DirectlyNeeds, ChainFrom, Reaches, EndsChain, IsLevel, IsLongestChain, IsNumbering, awaited, is_entry, stays_before, next_move, IsVisitOf, ListsVisits, leaving, Adjacent, ComesAfterByChain, entering, length_opening, standing_at_opening, Task, Await, IsAcceptedBy, chain_first, chain_rises, ends_by, ends_long, Reaches-need, chain_join, chain_last, Reaches-first, Reaches-last, Reaches-trans, Reaches-refl, cases_lt, AgentProgram}
-use Rattle.std.specs.Cmp.{both_ways}
-use Rattle.fleet_verify.specs.Reduced.{DiffersInAwaits, HaveSameChains, IsThinned, IsReduced, HasLeastAwaits}
+use Rattle.fleet_verify.proofs.Words.{◌≡◌, ℕ, zero, suc, ◌+◌, ◌<◌, ◌≤◌, List, [], ◌∷◌, length, map, take, drop, get_or, Option, Some, None, refl, sym, ap, ap₂, ◌∙◌, arith, Bool, true, false, cond, not, ◌&&◌, ◌++◌, subst, inl, inr, ◌≢◌, slice_get, option_map, if◌then◌else◌, Contains, ◌⊎◌, option_map_or, length-map, ext_get_or, take-map, drop-map, length-append, slice_get-map, slice_get_past, Place, Step, Action, ActionId, Visit, Standing, place_of, stepped, is_move, Program, origin, start_of, actions_of, moves, path, walked, awaits_of, AreInRange, IsInRange, Configuration, standing_at, count_at, next_action, finished_one, opening, is_ready, standing_after, indices, tick, Holds, is_held, run, IsAction, DirectlyNeeds, ChainFrom, Reaches, EndsChain, IsLevel, IsLongestChain, IsNumbering, awaited, is_entry, stays_before, next_move, IsVisitOf, ListsVisits, leaving, Adjacent, ComesAfterByChain, entering, length_opening, standing_at_opening, Task, Await, IsAcceptedBy, chain_first, chain_rises, ends_by, ends_long, Reaches-need, chain_join, chain_last, Reaches-first, Reaches-last, Reaches-trans, Reaches-refl, cases_lt, AgentProgram, both_ways, DiffersInAwaits, HaveSameChains, IsThinned, IsReduced, HasLeastAwaits}
 use Rattle.fleet_verify.proofs.RunCounts.{counts, readies, run_counts, chain_due}
 use Rattle.fleet_verify.proofs.Waiting.{ready_says, ready_from}
 use Rattle.fleet_verify.proofs.BreakingHolds.{moves_within}

@@ -1,7 +1,6 @@
 -- Visits of a place of which any two have an order can be listed one after another.
-use Rattle.fleet_verify.proofs.Words.{◌≡◌, ◌≢◌, ℕ, zero, suc, ◌<◌, ◌≤◌, true, List, [], ◌∷◌, length, get_or, Some, sym, ap, ◌∙◌, subst, arith, inl, inr, Contains, ◌⊎◌, slice_get, int_eq, cases_lt, cases_eq, cases_order, cases_Bool, Decides-int_eq, get_or_default, get_or_from_slice_get, slice_get_within, Place, ActionId, Visit, Program, moves, path, Reaches, IsNumbering, is_entry, IsVisitOf, ListsVisits, Adjacent, ComesAfterByChain, entering, leaving}
+use Rattle.fleet_verify.proofs.Words.{◌≡◌, ◌≢◌, ℕ, zero, suc, ◌<◌, ◌≤◌, true, List, [], ◌∷◌, length, get_or, Some, sym, ap, ◌∙◌, subst, arith, inl, inr, Contains, ◌⊎◌, slice_get, int_eq, cases_lt, cases_eq, cases_order, cases_Bool, Decides-int_eq, get_or_default, get_or_from_slice_get, slice_get_within, Place, ActionId, Visit, Program, moves, path, Reaches, IsNumbering, is_entry, IsVisitOf, ListsVisits, Adjacent, ComesAfterByChain, entering, leaving, entry_level}
 use Rattle.std.proofs.lemmas.Bool.{both_ways}
-use Rattle.fleet_verify.specs.Listing.{entry_level}
 use Rattle.fleet_verify.proofs.Members.{contains_head, contains_later, contains_cases, contains_none}
 use Rattle.fleet_verify.proofs.Neighbours.{adjacent_at, any_two}
 use Rattle.fleet_verify.proofs.Listing.{rank_rises}

@@ -1,17 +1,11 @@
 -- The stays of a finished run without holds have all visits, sorted.
-use Rattle.fleet_verify.proofs.Words.{◌≡◌, ℕ, zero, suc, ◌<◌, ◌≤◌, Bool, true, false, List, [], ◌∷◌, length, map, get_or, Some, slice_get, refl, ap, sym, ◌∙◌, subst, arith, inl, inr, Contains, All, option_map, filter, AllPairs, cases_order, get_or_default, length-map, AllPairs-filter, slice_get_within, get_or_from_slice_get, same_Some, Place, Task, Await, ActionId, Visit, place_of, is_same_place, run, is_finished, IsEnd, IsFinish, Program, moves, actions_of, awaits_of, path, start_of, goal_of, IsLongestChain, IsNumbering, is_entry, IsVisitOf, ListsVisits, ComesAfter, IsOrderly, IsAccepted, AreInRange, IsVisit, is_same_place-true, is_same_place-eq}
+use Rattle.fleet_verify.proofs.Words.{◌≡◌, ℕ, zero, suc, ◌<◌, ◌≤◌, Bool, true, false, List, [], ◌∷◌, length, map, get_or, Some, slice_get, refl, ap, sym, ◌∙◌, subst, arith, inl, inr, Contains, All, option_map, filter, AllPairs, cases_order, get_or_default, length-map, AllPairs-filter, slice_get_within, get_or_from_slice_get, same_Some, Place, Task, Await, ActionId, Visit, place_of, is_same_place, run, is_finished, IsEnd, IsFinish, Program, moves, actions_of, awaits_of, path, start_of, goal_of, IsLongestChain, IsNumbering, is_entry, IsVisitOf, ListsVisits, ComesAfter, IsOrderly, IsAccepted, AreInRange, IsVisit, is_same_place-true, is_same_place-eq, IsBefore, IsSortedListing, PlacedVisit, begun_in, IsRunOnGround, HasArrived, visits_of, entries, AreAllPlaced, IsVisitPlaced, AreAdded, AreAllAdded, VisitOrder, HasStarts, HasRanges, AwaitsRight, EachAction}
 use Rattle.fleet_verify.proofs.RunCounts.{unheld_is_longest}
-use Rattle.fleet_verify.specs.Listing.{IsBefore, IsSortedListing}
 use Rattle.fleet_verify.proofs.Members.{filter_has, filter_from, contains_map}
 use Rattle.fleet_verify.proofs.Listing.{levels_number}
 use Rattle.fleet_verify.proofs.Neighbours.{adjacent_from}
-use Rattle.fleet_verify.specs.declared.order.PlacedVisit.{PlacedVisit}
-use Rattle.fleet_verify.specs.Walk.{begun_in, IsRunOnGround, HasArrived}
 use Rattle.fleet_verify.specs.declared.unheld_run.UnheldRun.{UnheldRun}
 use Rattle.fleet_verify.proofs.Arrived.{all_right}
-use Rattle.fleet_verify.specs.Order.{visits_of, entries, AreAllPlaced, IsVisitPlaced, AreAdded, AreAllAdded}
-use Rattle.fleet_verify.specs.declared.order.VisitOrder.{VisitOrder}
-use Rattle.fleet_verify.specs.Faults.{HasStarts, HasRanges, AwaitsRight, EachAction}
 use Rattle.fleet_verify.proofs.FreeRun.{level, levels_are, order_all, IsOrder}
 
 -- ---- awaits

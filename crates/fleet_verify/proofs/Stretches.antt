@@ -1,9 +1,5 @@
 -- The words of stretches.
-use Rattle.fleet_verify.proofs.Words.{◌≡◌, ℕ, List, [], ◌∷◌, ◌++◌, map, refl, ap, ◌∙◌, map-append, flat_map, range_with_len}
-use Rattle.fleet_text.specs.Words.{numbered_text, numbered_words}
-use Rattle.fleet_verify.specs.RefusalWords.{action_text}
-use Rattle.fleet_verify.specs.Stretch.{stretch_actions, path_actions}
-use Rattle.fleet_verify.specs.declared.stretch.Stretch.{Stretch}
+use Rattle.fleet_verify.proofs.Words.{◌≡◌, ℕ, List, [], ◌∷◌, ◌++◌, map, refl, ap, ◌∙◌, map-append, flat_map, range_with_len, numbered_text, numbered_words, action_text, stretch_actions, path_actions, Stretch}
 
 -- a word for each action
 abbrev pub words_of : Stretch → List (List ℕ)

@@ -1,7 +1,6 @@
 -- Schedules, when they end by the costs of actions, and orders that are given ahead.
-use Rattle.fleet_verify.proofs.Words.{◌≡◌, ◌≢◌, ℕ, zero, suc, ◌+◌, ◌<◌, ◌≤◌, List, [], ◌∷◌, length, Option, Some, None, refl, ap, sym, ◌∙◌, subst, arith, inl, inr, ◌⊎◌, Bool, true, false, ◌-◌, ◌++◌, sum_by, ◌↔◌, Contains, option_map, cases_lt, cases_order, sum_by-cons, same_Some, Place, ActionId, Program, moves, path, AreInRange, awaits_of, IsAction, DirectlyNeeds, ChainFrom, Reaches, awaited, IsCriticalCost, IsNumbering, IsVisitOf, ComesAfterByChain, IsOrderly, entering, leaving, next_move, chain_first, Reaches-first, Reaches-last, own_reach, IsIn, is_in, need_action, chain_last, Reaches-need, Reaches-refl, Reaches-trans, ends_alone, ends_dearer, chain_push, chain_cost_push, Schedule, IsBy, HasBegunBy, HasEndedBy, IsSchedule, MayBeOnAt, TakeAtLeast, EndInTime, Dispatch, OrdersAwait, IsCarriedOut, IsPrompt, Await}
+use Rattle.fleet_verify.proofs.Words.{◌≡◌, ◌≢◌, ℕ, zero, suc, ◌+◌, ◌<◌, ◌≤◌, List, [], ◌∷◌, length, Option, Some, None, refl, ap, sym, ◌∙◌, subst, arith, inl, inr, ◌⊎◌, Bool, true, false, ◌-◌, ◌++◌, sum_by, ◌↔◌, Contains, option_map, cases_lt, cases_order, sum_by-cons, same_Some, Place, ActionId, Program, moves, path, AreInRange, awaits_of, IsAction, DirectlyNeeds, ChainFrom, Reaches, awaited, IsCriticalCost, IsNumbering, IsVisitOf, ComesAfterByChain, IsOrderly, entering, leaving, next_move, chain_first, Reaches-first, Reaches-last, own_reach, IsIn, is_in, need_action, chain_last, Reaches-need, Reaches-refl, Reaches-trans, ends_alone, ends_dearer, chain_push, chain_cost_push, Schedule, IsBy, HasBegunBy, HasEndedBy, IsSchedule, MayBeOnAt, TakeAtLeast, EndInTime, Dispatch, OrdersAwait, IsCarriedOut, IsPrompt, Await, IsBound, bound_of, bound_on, own_cost}
 use Rattle.fleet_verify.proofs.Listing.{two_ordered}
-use Rattle.fleet_needs.proofs.Costing.{IsBound, bound_of, bound_on, own_cost}
 use Rattle.fleet_verify.proofs.Members.{same_action, contains_head, contains_later, contains_none, contains_cases}
 use Rattle.fleet_verify.proofs.Decide.{IsAction-dec, before_in, needs_before}
 

@@ -1,10 +1,7 @@
 -- Runs without holds that are under way, and the visits that have begun in them.
-use Rattle.fleet_verify.proofs.Words.{◌≡◌, ℕ, zero, suc, ◌+◌, ◌<◌, ◌≤◌, Bool, true, false, List, [], ◌∷◌, ◌++◌, length, map, Option, None, Some, refl, ap, sym, ◌∙◌, subst, arith, add-one, rules, IsTrue, inl, inr, ◌≢◌, ◌&&◌, not, get_or, IfNone, IfSome, IsSome, ◌⊎◌, filter, list_any, map-append, append_assoc, filter-append, cases_lt, cases_eq, same_Some, Cell, Step, Place, Visit, place_of, stepped, indices, Configuration, count_at, run, tick, moved_in, is_held, is_moving, is_ready, is_over, is_finished, place_at, IsLeast, IsReached, Program, moves, step_of, path, total_moves, get_or-map-range_with_len, and-true, tick_agree}
-use Rattle.fleet_machine.proofs.Indices.{indices-more, some_counted, none_counts}
-use Rattle.fleet_verify.specs.Faults.{EachAction, StandsRight}
-use Rattle.fleet_verify.specs.Walk.{positions_of, begun_by, begun_in, moved_to, IsEnded}
+use Rattle.fleet_verify.proofs.Words.{◌≡◌, ℕ, zero, suc, ◌+◌, ◌<◌, ◌≤◌, Bool, true, false, List, [], ◌∷◌, ◌++◌, length, map, Option, None, Some, refl, ap, sym, ◌∙◌, subst, arith, add-one, rules, IsTrue, inl, inr, ◌≢◌, ◌&&◌, not, get_or, IfNone, IfSome, IsSome, ◌⊎◌, filter, list_any, map-append, append_assoc, filter-append, cases_lt, cases_eq, same_Some, Cell, Step, Place, Visit, place_of, stepped, indices, Configuration, count_at, run, tick, moved_in, is_held, is_moving, is_ready, is_over, is_finished, place_at, IsLeast, IsReached, Program, moves, step_of, path, total_moves, get_or-map-range_with_len, and-true, tick_agree, indices-more, EachAction, StandsRight, positions_of, begun_by, begun_in, moved_to, IsEnded, MachineState, Runs, flag_of, moving_flags}
+use Rattle.fleet_machine.proofs.Indices.{some_counted, none_counts}
 use Rattle.fleet_verify.proofs.Paths.{path_step}
-use Rattle.fleet_machine.specs.Machine.{MachineState, Runs, flag_of, moving_flags}
 use Rattle.fleet_machine.proofs.Ready.{rests_if}
 use Rattle.fleet_verify.proofs.RunCounts.{finished_all, any_below, held_past, tick_free, run_place, run_ends, some_ready}
 use Rattle.fleet_verify.proofs.Finish.{count_within}

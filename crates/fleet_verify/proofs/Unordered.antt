@@ -1,6 +1,5 @@
 -- Neighbours among sorted visits without a chain have no order either way.
-use Rattle.fleet_verify.proofs.Words.{◌≡◌, ℕ, suc, ◌+◌, ◌<◌, ◌≤◌, List, length, get_or, Some, sym, ap, ◌∙◌, subst, arith, inl, inr, slice_get, cases_order, slice_get_within, get_or_from_slice_get, Place, ActionId, Visit, Program, IsNumbering, IsVisitOf, ComesAfterByChain, AreUnordered}
-use Rattle.fleet_verify.specs.Listing.{entry_level, IsBefore, IsSortedListing}
+use Rattle.fleet_verify.proofs.Words.{◌≡◌, ℕ, suc, ◌+◌, ◌<◌, ◌≤◌, List, length, get_or, Some, sym, ap, ◌∙◌, subst, arith, inl, inr, slice_get, cases_order, slice_get_within, get_or_from_slice_get, Place, ActionId, Visit, Program, IsNumbering, IsVisitOf, ComesAfterByChain, AreUnordered, entry_level, IsBefore, IsSortedListing}
 use Rattle.fleet_verify.proofs.Listing.{after_reaches, before_rank, rank_rises}
 use Rattle.fleet_verify.proofs.Neighbours.{adjacent_at}
 

@@ -1,10 +1,7 @@
 -- When an agent is ready, who waits, and for whom.
-use Rattle.fleet_verify.proofs.Words.{◌≡◌, ℕ, suc, ◌<◌, ◌≤◌, Bool, true, false, length, refl, ap, arith, inl, inr, ◌+◌, List, [], ◌∷◌, ◌++◌, take, get_or, slice_index, Some, sym, ◌∙◌, subst, ◌≢◌, zero, ◌-◌, IsTrue, reverse, not, Option, None, IfSome, IfNone, unwrap_or, Contains, ◌⊎◌, slice_get, Standing, Await, Program, moves, awaits_of, IsWellFormed, AreInRange, Configuration, count_at, is_ready, Holds, is_held, run, indices, is_finished, is_stuck, ready_left, ready_met, unready_waits, take_more, map-append, get_or_append_left, get_or-append_right, length-append, get_or-reverse, length-reverse, get_or_default, slice_get-get_or, slice_get_within, get_or_from_slice_get, same_Some, cases_lt, cases_eq, lt-ltb, le-ltb, and_parts, not-true, ActionId, IsAction, DirectlyNeeds, get_or-map-range_with_len, length-map-range_with_len, IsRepeat, repeated, list_any}
+use Rattle.fleet_verify.proofs.Words.{◌≡◌, ℕ, suc, ◌<◌, ◌≤◌, Bool, true, false, length, refl, ap, arith, inl, inr, ◌+◌, List, [], ◌∷◌, ◌++◌, take, get_or, slice_index, Some, sym, ◌∙◌, subst, ◌≢◌, zero, ◌-◌, IsTrue, reverse, not, Option, None, IfSome, IfNone, unwrap_or, Contains, ◌⊎◌, slice_get, Standing, Await, Program, moves, awaits_of, IsWellFormed, AreInRange, Configuration, count_at, is_ready, Holds, is_held, run, indices, is_finished, is_stuck, ready_left, ready_met, unready_waits, take_more, map-append, get_or_append_left, get_or-append_right, length-append, get_or-reverse, length-reverse, get_or_default, slice_get-get_or, slice_get_within, get_or_from_slice_get, same_Some, cases_lt, cases_eq, lt-ltb, le-ltb, and_parts, not-true, ActionId, IsAction, DirectlyNeeds, get_or-map-range_with_len, length-map-range_with_len, IsRepeat, repeated, list_any, AreCounts, counts_of, IsReadyBy, IsToldRing, IsActionUpTo, nth, IsBlocked, IsUnmet, want_at, AreWants, next_of, need_of, WaitsBack, IsLeastBack, down_from}
 use Rattle.fleet_verify.proofs.RunCounts.{tick_free, tick_stays, unfinished_one}
-use Rattle.fleet_verify.specs.Walk.{AreCounts, counts_of, IsReadyBy}
 use Rattle.fleet_verify.proofs.Members.{same_action}
-use Rattle.fleet_verify.specs.Ring.{IsToldRing, IsActionUpTo}
-use Rattle.fleet_verify.specs.Blocked.{nth, IsBlocked, IsUnmet, want_at, AreWants, next_of, need_of, WaitsBack, IsLeastBack, down_from}
 use Rattle.fleet_machine.proofs.Indices.{any_at}
 
 -- an action is left, and each of its awaits is met

@@ -1,5 +1,5 @@
 -- Open pairs as questions for chains, and what was answered to questions.
-use Rattle.std.specs.Prelude.{◌≡◌, ◌≢◌, ℕ, ◌+◌, ◌*◌, ◌<◌, ◌≤◌, Bool, false, List, length, get_or, slice_get, Some, All}
+use Rattle.std.specs.Prelude.{◌≡◌, ◌≢◌, ℕ, ◌+◌, ◌*◌, ◌<◌, ◌≤◌, Bool, false, List, length, get_or, slice_get, Option, Some, All}
 use Rattle.std.specs.List.{AllPairs}
 use Rattle.fleet_model.specs.declared.program.ActionId.{ActionId}
 use Rattle.fleet_model.specs.declared.program.Visit.{Visit}
@@ -45,6 +45,11 @@ key_of a = a.agent * NUMBERS + a.number
 abbrev pub EndApart : List Question → Type 0
 EndApart questions =
     (j k : ℕ) (q r : Question) → slice_get questions j ≡ Some q → slice_get questions k ≡ Some r → q.last ≡ r.last → j ≡ k
+
+-- if no two of the questions end with the same action, each has its place by the number of its last action
+abbrev pub ArePlaced : List Question → (ℕ → Option ℕ) → Type 0
+ArePlaced questions places =
+    EndApart questions → (k : ℕ) (q : Question) → slice_get questions k ≡ Some q → places (key_of q.last) ≡ Some k
 
 -- no two of the pairs have the same second visit
 abbrev pub EnterApart : List OpenPair → Type 0

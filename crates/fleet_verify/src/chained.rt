@@ -42,7 +42,7 @@ impl Answers {
     ghost use Rattle.fleet_model.specs.Program.{Program, AreInRange};
     ghost use Rattle.fleet_needs.specs.Asked.{AreAnswers, IsQuestion};
     ghost use Rattle.fleet_needs.specs.declared.questions.Question.{Question};
-    ghost use Rattle.fleet_verify.specs.Chained.{AreKnown, IsFlagOf, EndApart, AreAmong, key_of};
+    ghost use Rattle.fleet_verify.specs.Chained.{AreKnown, IsFlagOf, ArePlaced, AreAmong, key_of};
 
     /// Nothing was asked. Takes no memory.
     pub fn none(alloc: Global) -> Answers
@@ -86,9 +86,26 @@ impl Answers {
             → AreAmong self.now.questions.items questions.now → ⊥)) }
     {
         let places = self.places(alloc)?;
+        self.flags_by(alloc, &places, questions)
+    }
+
+    /// The same, by the places of the questions that were asked.
+    fn flags_by(
+        &self,
+        alloc: Global,
+        places: &IndexMap<u64, usize>,
+        questions: &[Question],
+    ) -> Result<Option<Vec<bool>>, OutOfMemory>
+        requires { ArePlaced self.now.questions.items (get nat_eq places.now) }
+        ensures some { IfOk result (λ found. IfSome found (λ flags. (p : Program)
+            → AreAnswers p self.now.questions.items self.now.flags.items
+            → AreAnswers p questions.now flags.items)) }
+        ensures none { IfOk result (λ found. IfNone found ((p : Program) → AreKnown p self.now
+            → AreAmong self.now.questions.items questions.now → ⊥)) }
+    {
         let mut flags = Vec::with_capacity(alloc, questions.len())?;
         for k in 0..questions.len() {
-            let Some(flag) = self.flag_of(&places, questions[k]) else {
+            let Some(flag) = self.flag_of(places, questions[k]) else {
                 return Ok(None);
             };
             flags.push(flag)?;
@@ -99,9 +116,8 @@ impl Answers {
     /// The places of the questions, by their last actions. Of questions with one last action it is that of the last
     /// one.
     fn places(&self, alloc: Global) -> Result<IndexMap<u64, usize>, OutOfMemory>
-        ensures { IfOk result (λ places. EndApart self.now.questions.items
-            → (k : ℕ) (q : Question) → slice_get self.now.questions.items k ≡ Some q
-            → get nat_eq places (key_of q.last) ≡ Some k) }
+        ensures { IfOk result (λ places.
+            ArePlaced self.now.questions.items (get nat_eq places)) }
     {
         let mut places = IndexMap::new(alloc);
         for k in 0..self.questions.len() {

@@ -1,5 +1,4 @@
-use Rattle.std.proofs.Common.{ℕ, ◌<◌}
-use Rattle.fleet_verify.specs.Faults.{EndsRight}
+use Rattle.fleet_verify.proofs.Words.{ℕ, ◌<◌, EndsRight}
 use Rattle.fleet_verify.proofs.agents.has_arrived.Given as goal
 
 abbrev pub invariant-loop-agent : goal.invariant-loop-agent

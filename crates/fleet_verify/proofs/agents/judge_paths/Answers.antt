@@ -1,5 +1,4 @@
-use Rattle.fleet_verify.proofs.Words.{◌<◌, length, arith, below_more, is_passable}
-use Rattle.fleet_verify.specs.Faults.{EndsRight, StandsRight, AwaitsRight}
+use Rattle.fleet_verify.proofs.Words.{◌<◌, length, arith, below_more, is_passable, EndsRight, StandsRight, AwaitsRight}
 use Rattle.fleet_verify.proofs.Positions.{one_agent_more}
 use Rattle.fleet_verify.proofs.agents.judge_paths.Goals as goal
 

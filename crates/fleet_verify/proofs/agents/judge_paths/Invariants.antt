@@ -1,6 +1,4 @@
-use Rattle.fleet_verify.proofs.Words.{ℕ, ◌<◌, is_passable}
-use Rattle.fleet_verify.specs.Faults.{EndsRight, StandsRight, AwaitsRight}
-use Rattle.fleet_verify.specs.Path.{AnswersFirstAction}
+use Rattle.fleet_verify.proofs.Words.{ℕ, ◌<◌, is_passable, EndsRight, StandsRight, AwaitsRight, AnswersFirstAction}
 use Rattle.fleet_verify.proofs.agents.judge_paths.Given as goal
 
 abbrev pub invariant-loop-agent : goal.invariant-loop-agent

@@ -1,8 +1,4 @@
-use Rattle.fleet_verify.proofs.Words.{◌+◌, ◌∙◌, sym, ap, subst, arith, IsTrue, Cell, is_move, place_of, stepped, is_passable, Visit, err_from_is_err_and}
-use Rattle.fleet_verify.specs.declared.order.PlacedVisit.{PlacedVisit}
-use Rattle.fleet_verify.specs.Ahead.{count_in, climbed_in, stand}
-use Rattle.fleet_verify.specs.LastVisits.{kept_at}
-use Rattle.fleet_verify.specs.Order.{numbered_cell}
+use Rattle.fleet_verify.proofs.Words.{◌+◌, ◌∙◌, sym, ap, subst, arith, IsTrue, Cell, is_move, place_of, stepped, is_passable, Visit, err_from_is_err_and, PlacedVisit, count_in, climbed_in, stand, kept_at, numbered_cell}
 use Rattle.fleet_verify.proofs.Begin.{begun_kept, begun_earlier}
 use Rattle.fleet_verify.proofs.NextLevel.{enters_by, leads_on, visit_by}
 use Rattle.fleet_verify.proofs.Climbing.{stop_on, runner_count, runner_place, runner_ground, arrival_by, arrival_here, within_numbers}

@@ -1,6 +1,4 @@
-use Rattle.fleet_verify.proofs.Words.{◌≡◌, ◌+◌, ◌<◌, ◌∙◌, length, sym, ap, arith, inl, awaits_of}
-use Rattle.fleet_verify.specs.Ahead.{climbed_in}
-use Rattle.fleet_verify.specs.Rising.{last_level}
+use Rattle.fleet_verify.proofs.Words.{◌≡◌, ◌+◌, ◌<◌, ◌∙◌, length, sym, ap, arith, inl, awaits_of, climbed_in, last_level}
 use Rattle.fleet_verify.proofs.NextLevel.{least_begins, least_ends}
 use Rattle.fleet_verify.proofs.Climbing.{own_row, own_count}
 use Rattle.fleet_verify.proofs.ahead.bare_needs.Goals as goal

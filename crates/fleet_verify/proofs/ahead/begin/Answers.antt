@@ -1,5 +1,4 @@
-use Rattle.std.proofs.lemmas.Bool.{false≢true}
-use Rattle.fleet_verify.proofs.Words.{sym, ◌∙◌, arith, is_passable, ◌≡◌, true, subst, place_of, Cell}
+use Rattle.fleet_verify.proofs.Words.{sym, ◌∙◌, arith, is_passable, ◌≡◌, true, subst, place_of, Cell, false≢true}
 use Rattle.fleet_verify.proofs.Beginning.{beginning_first, beginning_more, beginning_all}
 use Rattle.fleet_verify.proofs.ahead.begin.Goals as goal
 

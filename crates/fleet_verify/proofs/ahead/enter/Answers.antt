@@ -1,5 +1,4 @@
-use Rattle.fleet_verify.proofs.Words.{Option, sym, ◌∙◌, subst, Visit, ComesAfterByAwait}
-use Rattle.fleet_verify.specs.Order.{IsOpenNext}
+use Rattle.fleet_verify.proofs.Words.{Option, sym, ◌∙◌, subst, Visit, ComesAfterByAwait, IsOpenNext}
 use Rattle.fleet_verify.proofs.ahead.enter.Goals as goal
 
 pub returns-in_ok-open_unless_follows-in-Some-clause-pairs : goal.returns-in_ok-open_unless_follows-in-Some-clause-pairs

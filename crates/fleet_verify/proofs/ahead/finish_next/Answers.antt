@@ -1,8 +1,4 @@
-use Rattle.fleet_verify.proofs.Words.{◌≡◌, ◌+◌, [], ℕ, List, length, get_or, set, sym, ap, subst, arith, length-set, Cell, is_passable}
-use Rattle.fleet_verify.specs.Ahead.{IsAheadBy, AddsLevel, climbed_in, stand}
-use Rattle.fleet_verify.specs.LastVisits.{kept_at}
-use Rattle.fleet_verify.specs.Order.{numbered_cell}
-use Rattle.fleet_verify.specs.Rising.{climbed}
+use Rattle.fleet_verify.proofs.Words.{◌≡◌, ◌+◌, [], ℕ, List, length, get_or, set, sym, ap, subst, arith, length-set, Cell, is_passable, IsAheadBy, AddsLevel, climbed_in, stand, kept_at, numbered_cell, climbed}
 use Rattle.fleet_verify.proofs.NextLevel.{ahead_more, next_level_some}
 use Rattle.fleet_verify.proofs.Climbing.{runner_there, runner_count, runner_rows, raised_last}
 use Rattle.fleet_verify.proofs.ahead.finish_next.Goals as goal

@@ -1,5 +1,4 @@
-use Rattle.std.proofs.Common.{◌≡◌, ◌∙◌, subst, sym, arith, eqb-true}
-use Rattle.fleet_verify.specs.LevelRows.{HasLevels}
+use Rattle.fleet_verify.proofs.Words.{◌≡◌, ◌∙◌, subst, sym, arith, eqb-true, HasLevels}
 use Rattle.fleet_verify.proofs.Beginning.{done_counted, done_range, done_finish, done_visits, done_apart, done_levels, ahead_accepted}
 use Rattle.fleet_verify.proofs.ahead.judge_ahead.Goals as goal
 

@@ -1,6 +1,4 @@
-use Rattle.fleet_verify.proofs.Words.{◌≡◌, ◌-◌, ◌+◌, ◌<◌, ◌∙◌, ℕ, List, length, slice_index, refl, sym, ap, arith, inl, inr, slice_get_within, get_or_from_slice_get, awaited, awaits_of, few_awaits_of, slice_get, subst}
-use Rattle.fleet_verify.specs.Ahead.{IsLastAwait, level_in, count_in, climbed_in}
-use Rattle.fleet_verify.specs.Rising.{last_level}
+use Rattle.fleet_verify.proofs.Words.{◌≡◌, ◌-◌, ◌+◌, ◌<◌, ◌∙◌, ℕ, List, length, slice_index, refl, sym, ap, arith, inl, inr, slice_get_within, get_or_from_slice_get, awaited, awaits_of, few_awaits_of, slice_get, subst, IsLastAwait, level_in, count_in, climbed_in, last_level}
 use Rattle.fleet_verify.proofs.Waiting.{await_agent, await_count, await_other}
 use Rattle.fleet_verify.proofs.NextLevel.{least_begins, least_max, least_ends}
 use Rattle.fleet_verify.proofs.Climbing.{own_row, own_count, other_row}

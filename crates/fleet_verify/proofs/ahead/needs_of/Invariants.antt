@@ -1,5 +1,4 @@
-use Rattle.fleet_verify.proofs.Words.{◌≡◌, ◌≤◌, ◌+◌, ◌-◌, length, awaits_of}
-use Rattle.fleet_verify.specs.Ahead.{IsAwaitOrOwn, IsLastAwait, climbed_in}
+use Rattle.fleet_verify.proofs.Words.{◌≡◌, ◌≤◌, ◌+◌, ◌-◌, length, awaits_of, IsAwaitOrOwn, IsLastAwait, climbed_in}
 use Rattle.fleet_verify.proofs.NextLevel.{IsLeastTo}
 use Rattle.fleet_verify.proofs.ahead.needs_of.Given as goal
 

@@ -1,5 +1,4 @@
-use Rattle.std.proofs.Common.{◌≡◌, ◌≤◌, ◌++◌, ◌∷◌, [], ℕ, List, length, get_or, set, sym, ap, ◌∙◌, subst, arith}
-use Rattle.fleet_verify.specs.Rising.{climbed, last_level}
+use Rattle.fleet_verify.proofs.Words.{◌≡◌, ◌≤◌, ◌++◌, ◌∷◌, [], ℕ, List, length, get_or, set, sym, ap, ◌∙◌, subst, arith, climbed, last_level}
 use Rattle.fleet_verify.proofs.Climbing.{raised_next, raised_by, raised_begun, row_there}
 use Rattle.fleet_verify.proofs.ahead.raise.Goals as goal
 

@@ -1,6 +1,4 @@
-use Rattle.fleet_verify.proofs.Words.{is_passable, ℕ, List, ◌∙◌, ap, arith, refl, inl, inr}
-use Rattle.fleet_verify.specs.declared.ahead.Runner.{Runner}
-use Rattle.fleet_verify.specs.Ahead.{climbed_in, count_in}
+use Rattle.fleet_verify.proofs.Words.{is_passable, ℕ, List, ◌∙◌, ap, arith, refl, inl, inr, Runner, climbed_in, count_in}
 use Rattle.fleet_verify.proofs.Climbing.{runner_begins, runner_count, runner_within, kept_back, runner_there}
 use Rattle.fleet_verify.proofs.FewerLeft.{ran_on, has_run}
 use Rattle.fleet_verify.proofs.ahead.run_agent.Goals as goal
@@ -44,3 +42,22 @@ pub returns-clause-run_on : goal.returns-clause-run_on
 returns-clause-run_on g c =
     let now = c.loop-runner.invariant in
     ran_on c.args.ahead.now.rows.items c.loop-runner.ahead.rows.items c.stop_at-2.new.ahead.rows.items c.args.agent c.loop-runner.runner.finished (runner_there now.runner) now.runner.begun c.stop_at-2.ensures.rows now.others now.own
+
+pub loop-runner-preserved : goal.loop-runner-preserved
+loop-runner-preserved g c =
+    let before = c.loop-runner.invariant in
+    record {
+      runner = c.in_ok-runner-in-Ok.ensures.runner;
+      own = inl (has_run (count_in c.args.ahead.now.rows.items c.args.agent) c.loop-runner.runner.finished _ before.own (omega (arith, c.in_ok-runner-in-Ok.ensures.finished)));
+      others = λ j ne. c.in_ok-runner-in-Ok.ensures.others j ne ∙ before.others j ne;
+    }
+
+pub returns-in-Err-clause-ahead : goal.returns-in-Err-clause-ahead
+returns-in-Err-clause-ahead g c =
+    let made = c.stop_at.ensures in
+    rw (made.rows, made.cells, made.last, made.pairs) c.loop-runner.invariant.runner.ahead
+
+pub returns-clause-ahead : goal.returns-clause-ahead
+returns-clause-ahead g c =
+    let made = c.stop_at-2.ensures in
+    rw (made.rows, made.cells, made.last, made.pairs) c.loop-runner.invariant.runner.ahead

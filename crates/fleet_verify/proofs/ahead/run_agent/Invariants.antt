@@ -1,5 +1,4 @@
-use Rattle.fleet_verify.proofs.Words.{◌≡◌, ◌-◌, ◌<◌, ◌⊎◌, is_passable}
-use Rattle.fleet_verify.specs.Ahead.{IsRunner, KeepsOthers, count_in}
+use Rattle.fleet_verify.proofs.Words.{◌≡◌, ◌-◌, ◌<◌, ◌⊎◌, is_passable, IsRunner, KeepsOthers, count_in}
 use Rattle.fleet_verify.proofs.ahead.run_agent.Given as goal
 
 abbrev pub invariant-loop-runner : goal.invariant-loop-runner

@@ -1,5 +1,4 @@
-use Rattle.fleet_verify.proofs.Words.{◌≤◌, ◌+◌, ◌-◌, is_passable}
-use Rattle.fleet_verify.specs.Ahead.{IsRunner, KeepsOthers}
+use Rattle.fleet_verify.proofs.Words.{◌≤◌, ◌+◌, ◌-◌, is_passable, IsRunner, KeepsOthers}
 use Rattle.fleet_verify.proofs.ahead.run_bare.Given as goal
 
 abbrev pub invariant-loop-runner : goal.invariant-loop-runner

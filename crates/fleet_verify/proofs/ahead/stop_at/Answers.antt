@@ -1,5 +1,4 @@
-use Rattle.std.proofs.Common.{◌≡◌, ◌≤◌, ℕ, List, length, sym, subst}
-use Rattle.fleet_verify.specs.Rising.{climbed, last_level}
+use Rattle.fleet_verify.proofs.Words.{◌≡◌, ◌≤◌, ℕ, List, length, sym, subst, climbed, last_level}
 use Rattle.fleet_verify.proofs.Climbing.{row_there}
 use Rattle.fleet_verify.proofs.ahead.stop_at.Goals as goal
 

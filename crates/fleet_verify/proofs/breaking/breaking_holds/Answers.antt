@@ -1,5 +1,4 @@
-use Rattle.fleet_verify.proofs.Words.{ℕ, List, slice_index, map, subst, sym, IfOk-weaker}
-use Rattle.fleet_verify.specs.Needed.{AreNeeded}
+use Rattle.fleet_verify.proofs.Words.{ℕ, List, slice_index, map, subst, sym, IfOk-weaker, AreNeeded}
 use Rattle.fleet_verify.proofs.BreakingHolds.{breaking_conflict}
 use Rattle.fleet_verify.proofs.Rows.{rising_rows}
 use Rattle.fleet_verify.proofs.breaking.breaking_holds.Goals as goal

@@ -1,5 +1,4 @@
-use Rattle.fleet_verify.proofs.Words.{ap, ◌∙◌, arith, length-set}
-use Rattle.fleet_verify.specs.Breaking.{is_held_by}
+use Rattle.fleet_verify.proofs.Words.{ap, ◌∙◌, arith, length-set, is_held_by}
 use Rattle.fleet_verify.proofs.BreakingHolds.{those_more, those_same, tested_more}
 use Rattle.fleet_verify.proofs.breaking.held_agents.Goals as goal
 use Rattle.fleet_verify.proofs.breaking.held_agents.Goals.{then-is_held+in_ok-push, else-is_held}

@@ -1,5 +1,4 @@
-use Rattle.fleet_verify.proofs.Words.{◌≡◌, ◌<◌, ℕ, false, length, get_or, filter, indices}
-use Rattle.fleet_verify.specs.Breaking.{is_held_by}
+use Rattle.fleet_verify.proofs.Words.{◌≡◌, ◌<◌, ℕ, false, length, get_or, filter, indices, is_held_by}
 use Rattle.fleet_verify.proofs.breaking.held_agents.Given as goal
 
 abbrev pub invariant-loop-i : goal.invariant-loop-i

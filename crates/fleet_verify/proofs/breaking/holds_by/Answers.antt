@@ -1,5 +1,4 @@
-use Rattle.fleet_verify.proofs.Words.{◌≡◌, [], ◌∷◌, ◌++◌, map, ap, ◌∙◌, arith, map_push}
-use Rattle.fleet_verify.specs.Breaking.{held_row}
+use Rattle.fleet_verify.proofs.Words.{◌≡◌, [], ◌∷◌, ◌++◌, map, ap, ◌∙◌, arith, map_push, held_row}
 use Rattle.fleet_verify.proofs.BreakingHolds.{meeting_start, meeting_arrived, meeting_last, meeting_step}
 use Rattle.fleet_verify.proofs.breaking.holds_by.Goals as goal
 

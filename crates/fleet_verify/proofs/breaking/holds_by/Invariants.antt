@@ -1,5 +1,4 @@
-use Rattle.fleet_verify.proofs.Words.{◌≡◌, length, map, run}
-use Rattle.fleet_machine.specs.Machine.{Runs}
+use Rattle.fleet_verify.proofs.Words.{◌≡◌, length, map, run, Runs}
 use Rattle.fleet_verify.proofs.BreakingHolds.{IsBegun}
 use Rattle.fleet_verify.proofs.breaking.holds_by.Given as goal
 

@@ -1,6 +1,4 @@
-use Rattle.fleet_verify.proofs.Words.{◌∙◌, tick_agree}
-use Rattle.fleet_machine.specs.Machine.{flag_of}
-use Rattle.fleet_verify.specs.Breaking.{is_held_by}
+use Rattle.fleet_verify.proofs.Words.{◌∙◌, tick_agree, flag_of, is_held_by}
 use Rattle.fleet_verify.proofs.breaking.run_tick.Goals as goal
 
 pub returns-clause-after : goal.returns-clause-after

@@ -1,7 +1,4 @@
-use Rattle.fleet_verify.proofs.Words.{◌≡◌, true, List, subst, arith, Visit}
-use Rattle.fleet_needs.specs.declared.questions.Question.{Question}
-use Rattle.fleet_needs.specs.Asked.{AreAnswers}
-use Rattle.fleet_verify.specs.declared.order.OpenPair.{OpenPair}
+use Rattle.fleet_verify.proofs.Words.{◌≡◌, true, List, subst, arith, Visit, Question, AreAnswers, OpenPair}
 use Rattle.fleet_verify.proofs.Asked.{all_chained, none_flagged}
 use Rattle.fleet_verify.proofs.chained.answer_asked.Goals as goal
 

@@ -1,7 +1,4 @@
-use Rattle.fleet_verify.proofs.Words.{ℕ, ◌+◌, List, length, get_or, ap, sym, ◌∙◌, subst, arith, length_push}
-use Rattle.fleet_needs.specs.declared.questions.Question.{Question}
-use Rattle.fleet_verify.specs.Chained.{IsAskedOf, BeginsLater}
-use Rattle.fleet_verify.specs.OpenPairs.{AreVisits}
+use Rattle.fleet_verify.proofs.Words.{ℕ, ◌+◌, List, length, get_or, ap, sym, ◌∙◌, subst, arith, length_push, Question, IsAskedOf, BeginsLater, AreVisits}
 use Rattle.fleet_verify.proofs.Asked.{asked_more}
 use Rattle.fleet_verify.proofs.chained.ask_all.Goals as goal
 

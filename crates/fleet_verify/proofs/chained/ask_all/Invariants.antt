@@ -1,7 +1,4 @@
-use Rattle.std.proofs.Common.{◌≡◌, ◌<◌, ℕ, length, get_or}
-use Rattle.fleet_needs.specs.declared.questions.Question.{Question}
-use Rattle.fleet_verify.specs.Chained.{IsAskedOf}
-use Rattle.fleet_verify.specs.declared.order.OpenPair.{OpenPair}
+use Rattle.fleet_verify.proofs.Words.{◌≡◌, ◌<◌, ℕ, length, get_or, Question, IsAskedOf, OpenPair}
 use Rattle.fleet_verify.proofs.chained.ask_all.Given as goal
 
 abbrev pub invariant-loop-k : goal.invariant-loop-k

@@ -1,5 +1,5 @@
 use Rattle.std.proofs.Common.{get_or}
-use Rattle.fleet_verify.proofs.Asked.{asked_apart, known_asked, chained_later}
+use Rattle.fleet_verify.proofs.Asked.{asked_again, asked_apart, known_asked, chained_later}
 use Rattle.fleet_verify.proofs.LevelOrder.{has_levels}
 use Rattle.fleet_verify.proofs.chained.unless_chained.Goals as goal
 
@@ -18,3 +18,13 @@ returns-in-None-clause-unchained g c = λ all.
     let p = g.P.ProgramView.program c.args.program.now in
     let levels = has_levels p c.args.levels c.requires.levels in
     (rw c.in-None.is at c.in_ok-questions.ensures.none) (λ k d l. chained_later p c.args.levels.rows.items (get_or c.args.pairs.items k d) levels (all k d l))
+
+pub returns-in-Some-clause-asked : goal.returns-in-Some-clause-asked
+returns-in-Some-clause-asked g c =
+    asked_again _ (g.P.ProgramView.program c.args.program.now) c.args.pairs.items c.in-Some.questions.items c.answer_asked.result (rw c.in-Some.is at c.in_ok-questions.ensures.asked) c.answer_asked.ensures.questions
+
+pub returns-in-Some-clause-chained : goal.returns-in-Some-clause-chained
+returns-in-Some-clause-chained g c = c.answer_asked.ensures.chained
+
+pub returns-in-Some-clause-unchained : goal.returns-in-Some-clause-unchained
+returns-in-Some-clause-unchained g c = c.answer_asked.ensures.unchained

@@ -1,5 +1,4 @@
-use Rattle.std.proofs.Common.{◌≤◌, ◌-◌, length}
-use Rattle.fleet_verify.specs.Covers.{AreCovered}
+use Rattle.fleet_verify.proofs.Words.{◌≤◌, ◌-◌, length, AreCovered}
 use Rattle.fleet_verify.proofs.covers.row_covers.Given as goal
 
 abbrev pub invariant-loop-from : goal.invariant-loop-from

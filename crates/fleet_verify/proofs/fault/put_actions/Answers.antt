@@ -1,6 +1,4 @@
-use Rattle.std.proofs.Common.{rules}
-use Rattle.fleet_text.proofs.SinkLemmas.{gathers_err, passed_element, stops_within_element}
-use Rattle.fleet_verify.specs.RefusalWords.{action_text}
+use Rattle.fleet_verify.proofs.Words.{rules, gathers_err, passed_element, stops_within_element, action_text}
 use Rattle.fleet_verify.proofs.fault.put_actions.Goals as goal
 
 pub returns-in_err-add_next_two : goal.returns-in_err-add_next_two

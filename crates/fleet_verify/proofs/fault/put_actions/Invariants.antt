@@ -1,7 +1,4 @@
-use Rattle.std.proofs.Common.{map, take}
-use Rattle.fleet_text.specs.Row.{PassesOn}
-use Rattle.fleet_text.specs.Words.{next_words}
-use Rattle.fleet_verify.specs.RefusalWords.{action_text}
+use Rattle.fleet_verify.proofs.Words.{map, take, PassesOn, next_words, action_text}
 use Rattle.fleet_verify.proofs.fault.put_actions.Given as goal
 
 abbrev pub invariant-loop-action : goal.invariant-loop-action

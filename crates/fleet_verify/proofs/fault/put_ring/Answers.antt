@@ -1,7 +1,4 @@
-use Rattle.std.proofs.Common.{rules, map, ◌∷◌, [], codes, decimal}
-use Rattle.fleet_text.proofs.SinkLemmas.{takes_rest, takes_err, stops_within_more}
-use Rattle.fleet_text.specs.Words.{with_spaces}
-use Rattle.fleet_verify.specs.RefusalWords.{action_text}
+use Rattle.fleet_verify.proofs.Words.{rules, map, ◌∷◌, [], codes, decimal, takes_rest, takes_err, stops_within_more, with_spaces, action_text}
 use Rattle.fleet_verify.proofs.fault.put_ring.Goals as goal
 
 pub returns-in_err-put_ring_words : goal.returns-in_err-put_ring_words

@@ -1,7 +1,4 @@
-use Rattle.std.proofs.Common.{rules, map, ◌∷◌, [], codes, decimal}
-use Rattle.fleet_text.proofs.SinkLemmas.{gathers_err, gathers_then, stops_before, lists_with_spaces}
-use Rattle.fleet_text.specs.Words.{next_words, with_spaces}
-use Rattle.fleet_verify.specs.RefusalWords.{action_text}
+use Rattle.fleet_verify.proofs.Words.{rules, map, ◌∷◌, [], codes, decimal, gathers_err, gathers_then, stops_before, lists_with_spaces, next_words, with_spaces, action_text}
 use Rattle.fleet_verify.proofs.fault.put_ring_words.Goals as goal
 
 pub returns-in_err-put_words : goal.returns-in_err-put_words

@@ -1,5 +1,4 @@
-use Rattle.fleet_verify.proofs.Words.{arith, get_or-set_same, get_or-set_other}
-use Rattle.fleet_verify.specs.declared.last_visits.TheConstants.{NO_VISIT}
+use Rattle.fleet_verify.proofs.Words.{arith, get_or-set_same, get_or-set_other, NO_VISIT}
 use Rattle.fleet_verify.proofs.last_visits.exchange.Goals as goal
 
 pub returns-clause-written : goal.returns-clause-written

@@ -1,6 +1,5 @@
-use Rattle.std.proofs.Common.{sym}
+use Rattle.fleet_verify.proofs.Words.{sym, CELLS}
 use Rattle.fleet_verify.proofs.LastVisits.{stands_at, inserted_at, inserted_same, no_square}
-use Rattle.fleet_verify.specs.declared.last_visits.TheConstants.{CELLS}
 use Rattle.fleet_verify.proofs.last_visits.look_up_square.Goals as goal
 
 pub returns-in-Some-clause-at : goal.returns-in-Some-clause-at

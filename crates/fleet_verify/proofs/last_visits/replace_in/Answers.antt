@@ -1,6 +1,4 @@
-use Rattle.fleet_verify.proofs.Words.{◌∙◌, refl, rules, IsCell}
-use Rattle.indexmap.specs.IndexMap.{with_value_at}
-use Rattle.fleet_verify.specs.Squares.{square_of}
+use Rattle.fleet_verify.proofs.Words.{◌∙◌, refl, rules, IsCell, with_value_at, square_of}
 use Rattle.fleet_verify.proofs.LastVisits.{written_at, kept_here, kept_others, kept_read, found_square, still_stands}
 use Rattle.fleet_verify.proofs.last_visits.replace_in.Goals as goal
 

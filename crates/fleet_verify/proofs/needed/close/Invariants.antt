@@ -1,5 +1,4 @@
-use Rattle.std.proofs.Common.{◌≤◌}
-use Rattle.fleet_verify.specs.Needed.{IsLooking, looked_sum}
+use Rattle.fleet_verify.proofs.Words.{◌≤◌, IsLooking, looked_sum}
 use Rattle.fleet_verify.proofs.needed.close.Given as goal
 
 abbrev pub invariant-loop-round : goal.invariant-loop-round

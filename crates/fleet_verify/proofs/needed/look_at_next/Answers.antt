@@ -1,5 +1,4 @@
-use Rattle.fleet_verify.proofs.Words.{◌≡◌, ◌<◌, ◌≤◌, ◌+◌, ℕ, true, false, length, slice_index, set, below_more, refl, ◌∙◌, arith, length-set}
-use Rattle.fleet_verify.specs.Needed.{looked_sum}
+use Rattle.fleet_verify.proofs.Words.{◌≡◌, ◌<◌, ◌≤◌, ◌+◌, ℕ, true, false, length, slice_index, set, below_more, refl, ◌∙◌, arith, length-set, looked_sum}
 use Rattle.fleet_verify.proofs.Looking.{raised_moves, looking_more, looked_rises}
 use Rattle.fleet_verify.proofs.needed.look_at_next.Goals as goal
 use Rattle.fleet_verify.proofs.needed.look_at_next.Goals.{then-is_unseen, else-is_unseen}

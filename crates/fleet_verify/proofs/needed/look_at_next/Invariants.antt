@@ -1,5 +1,4 @@
-use Rattle.fleet_verify.proofs.Words.{◌≡◌, ℕ, ◌<◌, ◌≤◌, IsTrue, false, length, slice_index, Visit, moves}
-use Rattle.fleet_verify.specs.Needed.{IsLooking, looked_sum}
+use Rattle.fleet_verify.proofs.Words.{◌≡◌, ℕ, ◌<◌, ◌≤◌, IsTrue, false, length, slice_index, Visit, moves, IsLooking, looked_sum}
 use Rattle.fleet_verify.proofs.needed.look_at_next.Given as goal
 
 abbrev pub invariant-loop-j : goal.invariant-loop-j

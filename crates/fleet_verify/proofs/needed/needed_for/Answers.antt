@@ -1,6 +1,5 @@
-use Rattle.std.proofs.Common.{◌≡◌, ℕ, List, length, slice_index, ap, ◌∙◌, subst, sym, arith}
+use Rattle.fleet_verify.proofs.Words.{◌≡◌, ℕ, List, length, slice_index, ap, ◌∙◌, subst, sym, arith, AreNeeded}
 use Rattle.fleet_verify.proofs.Rows.{written_back}
-use Rattle.fleet_verify.specs.Needed.{AreNeeded}
 use Rattle.fleet_verify.proofs.needed.needed_for.Goals as goal
 
 pub returns-clause-needed : goal.returns-clause-needed

@@ -1,5 +1,4 @@
-use Rattle.std.proofs.Common.{sym, ◌∙◌}
-use Rattle.fleet_verify.specs.LastVisits.{kept_at}
+use Rattle.fleet_verify.proofs.Words.{sym, ◌∙◌, kept_at}
 use Rattle.fleet_verify.proofs.Ordered.{added_visit, added_stay}
 use Rattle.fleet_verify.proofs.order.add_visit.Goals as goal
 

@@ -1,7 +1,4 @@
-use Rattle.fleet_verify.proofs.Words.{below_more, arith, refl, ComesAfter}
-use Rattle.std.specs.Prelude.{nat_eq}
-use Rattle.indexmap.specs.IndexMap.{get}
-use Rattle.fleet_verify.specs.Order.{number_of, IsPathOrderly}
+use Rattle.fleet_verify.proofs.Words.{below_more, arith, refl, ComesAfter, nat_eq, get, number_of, IsPathOrderly}
 use Rattle.fleet_verify.proofs.Judged.{all_in_turn, none_broken}
 use Rattle.fleet_verify.proofs.Ordered.{no_entries}
 use Rattle.fleet_verify.proofs.order.check_cells.Goals as goal

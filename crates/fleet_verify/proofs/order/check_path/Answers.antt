@@ -1,7 +1,4 @@
-use Rattle.fleet_verify.proofs.Words.{◌≡◌, ◌+◌, arith, err_from_is_err_and, place_of, path, is_passable}
-use Rattle.std.specs.Prelude.{nat_eq}
-use Rattle.fleet_verify.specs.Order.{number_of}
-use Rattle.indexmap.specs.IndexMap.{get}
+use Rattle.fleet_verify.proofs.Words.{◌≡◌, ◌+◌, arith, err_from_is_err_and, place_of, path, is_passable, nat_eq, number_of, get}
 use Rattle.fleet_verify.proofs.UnderWay.{next_cell, next_there}
 use Rattle.fleet_verify.proofs.Judged.{broken_fault, unbroken, starts_on, judged_begins, judged_first, judged_more, judged_path}
 use Rattle.fleet_verify.proofs.order.check_path.Goals as goal

@@ -1,10 +1,4 @@
-use Rattle.std.proofs.Common.{ℕ, Bool, List, length, map, Ok, Err, Result, sym, ap, ◌∙◌, subst}
-use Rattle.std.proofs.lemmas.List.{length-map}
-use Rattle.std.specs.Prelude.{nat_eq, IfOk}
-use Rattle.indexmap.specs.IndexMap.{get}
-use Rattle.fleet_needs.specs.declared.questions.Question.{Question}
-use Rattle.fleet_needs.specs.Asked.{AreAnswers}
-use Rattle.fleet_verify.specs.OpenPairs.{question_of, HasNoChain, IsFlagged, AnswersFirstBad}
+use Rattle.fleet_verify.proofs.Words.{ℕ, Bool, List, length, map, Ok, Err, Result, sym, ap, ◌∙◌, subst, length-map, nat_eq, IfOk, get, Question, AreAnswers, question_of, HasNoChain, IsFlagged, AnswersFirstBad}
 use Rattle.fleet_verify.proofs.Finish.{finish_numbers}
 use Rattle.fleet_verify.proofs.OpenPairs.{flags_tell}
 use Rattle.fleet_verify.proofs.order.find_violations.Goals as goal

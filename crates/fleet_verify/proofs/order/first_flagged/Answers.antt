@@ -1,8 +1,4 @@
-use Rattle.fleet_verify.proofs.Words.{get_or, slice_get-get_or, Visit}
-use Rattle.std.specs.Prelude.{nat_eq}
-use Rattle.indexmap.specs.IndexMap.{get}
-use Rattle.fleet_verify.specs.declared.order.OpenPair.{OpenPair}
-use Rattle.fleet_verify.specs.OpenPairs.{IsFlagged}
+use Rattle.fleet_verify.proofs.Words.{get_or, slice_get-get_or, Visit, nat_eq, get, OpenPair, IsFlagged}
 use Rattle.fleet_verify.proofs.OpenPairs.{first_next, first_skip}
 use Rattle.fleet_verify.proofs.order.first_flagged.Goals.{then-has_no_chain+in_ok-keep_first, else-has_no_chain}
 use Rattle.fleet_verify.proofs.order.first_flagged.Goals as goal

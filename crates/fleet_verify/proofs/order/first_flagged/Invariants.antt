@@ -1,7 +1,4 @@
-use Rattle.std.proofs.Common.{ℕ}
-use Rattle.std.specs.Prelude.{nat_eq}
-use Rattle.indexmap.specs.IndexMap.{get}
-use Rattle.fleet_verify.specs.OpenPairs.{IsFlagged, AnswersFirstBad}
+use Rattle.fleet_verify.proofs.Words.{ℕ, nat_eq, get, IsFlagged, AnswersFirstBad}
 use Rattle.fleet_verify.proofs.order.first_flagged.Given as goal
 
 abbrev pub invariant-loop-k : goal.invariant-loop-k

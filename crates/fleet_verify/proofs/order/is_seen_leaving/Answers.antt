@@ -1,5 +1,4 @@
-use Rattle.fleet_verify.proofs.Words.{ap, refl, arith, is_move}
-use Rattle.fleet_model.proofs.Chains.{past_moves}
+use Rattle.fleet_verify.proofs.Words.{ap, refl, arith, is_move, past_moves}
 use Rattle.fleet_verify.proofs.Leaving.{left_by, in_still}
 use Rattle.fleet_verify.proofs.order.is_seen_leaving.Goals as goal
 

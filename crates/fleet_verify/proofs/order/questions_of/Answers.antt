@@ -1,5 +1,4 @@
-use Rattle.fleet_verify.proofs.Words.{map, ap, ◌∙◌, take_all}
-use Rattle.fleet_verify.specs.OpenPairs.{question_of}
+use Rattle.fleet_verify.proofs.Words.{map, ap, ◌∙◌, take_all, question_of}
 use Rattle.fleet_verify.proofs.order.questions_of.Goals as goal
 
 pub returns : goal.returns

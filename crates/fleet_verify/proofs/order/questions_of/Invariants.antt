@@ -1,5 +1,4 @@
-use Rattle.std.proofs.Common.{◌≡◌, map, take}
-use Rattle.fleet_verify.specs.OpenPairs.{question_of}
+use Rattle.fleet_verify.proofs.Words.{◌≡◌, map, take, question_of}
 use Rattle.fleet_verify.proofs.order.questions_of.Given as goal
 
 abbrev pub invariant-loop-pair : goal.invariant-loop-pair

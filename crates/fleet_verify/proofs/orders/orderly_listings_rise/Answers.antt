@@ -1,5 +1,4 @@
-use Rattle.fleet_verify.proofs.Words.{◌<◌, ComesAfterByAwait, ComesAfterByChain}
-use Rattle.fleet_verify.specs.Listing.{entry_level}
+use Rattle.fleet_verify.proofs.Words.{◌<◌, ComesAfterByAwait, ComesAfterByChain, entry_level}
 use Rattle.fleet_verify.proofs.Neighbours.{adjacent_from}
 use Rattle.fleet_verify.proofs.Listing.{levels_number, listing_rises, after_reaches, await_chain}
 use Rattle.fleet_verify.proofs.orders.orderly_listings_rise.Goals as goal

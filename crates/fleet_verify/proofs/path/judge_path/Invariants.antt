@@ -1,6 +1,4 @@
-use Rattle.fleet_grid.specs.Ground.{is_passable}
-use Rattle.fleet_verify.specs.Faults.{AwaitsRight}
-use Rattle.fleet_verify.specs.Path.{IsPosition, AnswersFirst}
+use Rattle.fleet_verify.proofs.Words.{is_passable, AwaitsRight, IsPosition, AnswersFirst}
 use Rattle.fleet_verify.proofs.path.judge_path.Given as goal
 
 abbrev pub invariant-loop-finished : goal.invariant-loop-finished

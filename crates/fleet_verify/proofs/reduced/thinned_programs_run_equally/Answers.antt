@@ -1,5 +1,4 @@
-use Rattle.fleet_model.specs.Program.{AreInRange}
-use Rattle.fleet_verify.specs.Reduced.{HaveSameChains}
+use Rattle.fleet_verify.proofs.Words.{AreInRange, HaveSameChains}
 use Rattle.fleet_verify.proofs.SameChains.{turned, longest_over, accepted_over, run_over, thinned_reduced, reduced_chains, thinned_range}
 use Rattle.fleet_verify.proofs.reduced.thinned_programs_run_equally.Goals as goal
 

@@ -1,5 +1,4 @@
-use Rattle.fleet_verify.proofs.Words.{ap, arith, ◌∙◌, take_all}
-use Rattle.fleet_verify.specs.Walk.{counts_of}
+use Rattle.fleet_verify.proofs.Words.{ap, arith, ◌∙◌, take_all, counts_of}
 use Rattle.fleet_verify.proofs.Waiting.{counts_more}
 use Rattle.fleet_verify.proofs.ring.counts_of.Goals as goal
 

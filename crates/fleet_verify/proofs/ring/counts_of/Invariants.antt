@@ -1,5 +1,4 @@
-use Rattle.std.proofs.Common.{◌≡◌, take}
-use Rattle.fleet_verify.specs.Walk.{counts_of}
+use Rattle.fleet_verify.proofs.Words.{◌≡◌, take, counts_of}
 use Rattle.fleet_verify.proofs.ring.counts_of.Given as goal
 
 abbrev pub invariant-loop-agent : goal.invariant-loop-agent

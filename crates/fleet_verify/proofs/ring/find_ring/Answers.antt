@@ -1,6 +1,4 @@
-use Rattle.fleet_verify.proofs.Words.{◌≡◌, ◌<◌, ℕ, List, length, refl, ap, sym, ◌∙◌, subst, length-map}
-use Rattle.fleet_verify.specs.Walk.{IsReadyBy, counts_of}
-use Rattle.fleet_verify.specs.Blocked.{IsBlocked}
+use Rattle.fleet_verify.proofs.Words.{◌≡◌, ◌<◌, ℕ, List, length, refl, ap, sym, ◌∙◌, subst, length-map, IsReadyBy, counts_of, IsBlocked}
 use Rattle.fleet_verify.proofs.Waiting.{none_ready, some_blocked}
 use Rattle.fleet_verify.proofs.ring.find_ring.Goals as goal
 

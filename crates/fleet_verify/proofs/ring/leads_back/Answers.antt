@@ -1,5 +1,4 @@
-use Rattle.std.proofs.Common.{◌≡◌, ◌+◌, arith, refl, ◌∙◌, sym}
-use Rattle.fleet_verify.specs.Blocked.{nth, next_of}
+use Rattle.fleet_verify.proofs.Words.{◌≡◌, ◌+◌, arith, refl, ◌∙◌, sym, nth, next_of}
 use Rattle.fleet_verify.proofs.Waiting.{blocked_next, steps_more, nth_more}
 use Rattle.fleet_verify.proofs.ring.leads_back.Goals as goal
 

@@ -1,5 +1,4 @@
-use Rattle.std.proofs.Common.{◌≡◌, ◌≢◌, ℕ, ◌≤◌}
-use Rattle.fleet_verify.specs.Blocked.{nth, next_of, IsBlocked}
+use Rattle.fleet_verify.proofs.Words.{◌≡◌, ◌≢◌, ℕ, ◌≤◌, nth, next_of, IsBlocked}
 use Rattle.fleet_verify.proofs.ring.leads_back.Given as goal
 
 abbrev pub invariant-loop-steps : goal.invariant-loop-steps

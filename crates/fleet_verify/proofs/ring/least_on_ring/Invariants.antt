@@ -1,5 +1,4 @@
-use Rattle.std.proofs.Common.{ℕ, ◌<◌, length}
-use Rattle.fleet_verify.specs.Blocked.{IsBlocked, WaitsBack}
+use Rattle.fleet_verify.proofs.Words.{ℕ, ◌<◌, length, IsBlocked, WaitsBack}
 use Rattle.fleet_verify.proofs.ring.least_on_ring.Given as goal
 
 abbrev pub invariant-loop-i : goal.invariant-loop-i

@@ -1,5 +1,4 @@
-use Rattle.fleet_verify.proofs.Words.{◌++◌, ◌∷◌, [], ◌-◌, ap, sym, ◌∙◌, append_assoc, ActionId}
-use Rattle.fleet_verify.specs.Blocked.{down_from}
+use Rattle.fleet_verify.proofs.Words.{◌++◌, ◌∷◌, [], ◌-◌, ap, sym, ◌∙◌, append_assoc, ActionId, down_from}
 use Rattle.fleet_verify.proofs.Looking.{down_more}
 use Rattle.fleet_verify.proofs.ring.push_down.Goals as goal
 

@@ -1,5 +1,4 @@
-use Rattle.std.proofs.Common.{◌≡◌, ◌++◌}
-use Rattle.fleet_verify.specs.Blocked.{down_from}
+use Rattle.fleet_verify.proofs.Words.{◌≡◌, ◌++◌, down_from}
 use Rattle.fleet_verify.proofs.ring.push_down.Given as goal
 
 abbrev pub invariant-loop-back : goal.invariant-loop-back

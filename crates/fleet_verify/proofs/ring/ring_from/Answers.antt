@@ -1,5 +1,4 @@
-use Rattle.fleet_verify.proofs.Words.{◌≡◌, ◌+◌, ℕ, arith, ◌∙◌, subst, List, slice_index, ◌++◌, ◌-◌, ActionId}
-use Rattle.fleet_verify.specs.Blocked.{nth, next_of, want_at, down_from}
+use Rattle.fleet_verify.proofs.Words.{◌≡◌, ◌+◌, ℕ, arith, ◌∙◌, subst, List, slice_index, ◌++◌, ◌-◌, ActionId, nth, next_of, want_at, down_from}
 use Rattle.fleet_verify.proofs.Waiting.{blocked_next, steps_more, nth_more, trail_on, some_on, told, IsWaitTrail}
 use Rattle.fleet_verify.proofs.ring.ring_from.Goals as goal
 

@@ -1,5 +1,4 @@
-use Rattle.std.proofs.Common.{◌≡◌, ◌≢◌, ℕ, ◌≤◌, length}
-use Rattle.fleet_verify.specs.Blocked.{nth, next_of, IsBlocked}
+use Rattle.fleet_verify.proofs.Words.{◌≡◌, ◌≢◌, ℕ, ◌≤◌, length, nth, next_of, IsBlocked}
 use Rattle.fleet_verify.proofs.Waiting.{IsWaitTrail}
 use Rattle.fleet_verify.proofs.ring.ring_from.Given as goal
 

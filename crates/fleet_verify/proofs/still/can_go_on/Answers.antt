@@ -1,5 +1,4 @@
-use Rattle.fleet_verify.proofs.Words.{◌≡◌, ℕ, List, Some, moves, sym, subst}
-use Rattle.fleet_verify.specs.Ahead.{IsNextLevel, climbed_in, count_in}
+use Rattle.fleet_verify.proofs.Words.{◌≡◌, ℕ, List, Some, moves, sym, subst, IsNextLevel, climbed_in, count_in}
 use Rattle.fleet_verify.proofs.Climbing.{none_climbs, kept_back}
 use Rattle.fleet_verify.proofs.FewerLeft.{goes_on, some_left}
 use Rattle.fleet_verify.proofs.still.can_go_on.Goals as goal

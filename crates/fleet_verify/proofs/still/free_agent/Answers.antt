@@ -1,5 +1,4 @@
-use Rattle.fleet_verify.proofs.Words.{ℕ, Option, Await, arith, subst, sym, cases_eq, inl, inr}
-use Rattle.fleet_verify.specs.Ahead.{IsStopped}
+use Rattle.fleet_verify.proofs.Words.{ℕ, Option, Await, arith, subst, sym, cases_eq, inl, inr, IsStopped}
 use Rattle.fleet_verify.proofs.still.free_agent.Goals as goal
 
 pub loop-agent-preserved : goal.loop-agent-preserved

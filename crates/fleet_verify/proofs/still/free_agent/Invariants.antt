@@ -1,5 +1,4 @@
-use Rattle.fleet_verify.proofs.Words.{ℕ, ◌<◌, Option, Await}
-use Rattle.fleet_verify.specs.Ahead.{IsStopped}
+use Rattle.fleet_verify.proofs.Words.{ℕ, ◌<◌, Option, Await, IsStopped}
 use Rattle.fleet_verify.proofs.still.free_agent.Given as goal
 
 abbrev pub invariant-loop-agent : goal.invariant-loop-agent

@@ -1,5 +1,4 @@
-use Rattle.fleet_verify.proofs.Words.{◌≡◌, length, is_passable}
-use Rattle.fleet_verify.specs.Ahead.{IsAhead}
+use Rattle.fleet_verify.proofs.Words.{◌≡◌, length, is_passable, IsAhead}
 use Rattle.fleet_verify.proofs.still.run_ahead.Given as goal
 
 abbrev pub invariant-loop : goal.invariant-loop

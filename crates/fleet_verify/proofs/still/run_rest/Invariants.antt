@@ -1,5 +1,4 @@
-use Rattle.fleet_verify.proofs.Words.{length, is_passable}
-use Rattle.fleet_verify.specs.Ahead.{IsAhead}
+use Rattle.fleet_verify.proofs.Words.{length, is_passable, IsAhead}
 use Rattle.fleet_verify.proofs.FewerLeft.{left_to}
 use Rattle.fleet_verify.proofs.still.run_rest.Given as goal
 

@@ -1,5 +1,4 @@
-use Rattle.fleet_verify.proofs.Words.{ℕ, List, ap, subst, IfOk-weaker, ActionId, Program}
-use Rattle.fleet_verify.specs.Times.{EachFreeTo, AreReached, broken_cost}
+use Rattle.fleet_verify.proofs.Words.{ℕ, List, ap, subst, IfOk-weaker, ActionId, Program, EachFreeTo, AreReached, broken_cost}
 use Rattle.fleet_verify.specs.declared.stopped.Breaks.{Breaks}
 use Rattle.fleet_verify.proofs.CriticalPaths.{reached_of, stops_of}
 use Rattle.fleet_verify.proofs.stopped.reached_counts.Goals as goal

@@ -1,7 +1,4 @@
-use Rattle.fleet_verify.proofs.Words.{rules, ◌∙◌, ap, sym, subst, flat_map, take_all}
-use Rattle.fleet_text.specs.Words.{next_words}
-use Rattle.fleet_text.specs.Row.{PassesOn}
-use Rattle.fleet_text.proofs.SinkLemmas.{gathers_err, passed_words, stops_within_words}
+use Rattle.fleet_verify.proofs.Words.{rules, ◌∙◌, ap, sym, subst, flat_map, take_all, next_words, PassesOn, gathers_err, passed_words, stops_within_words}
 use Rattle.fleet_verify.proofs.Stretches.{words_of, path_words}
 use Rattle.fleet_verify.proofs.stretch.put_stretches.Goals as goal
 

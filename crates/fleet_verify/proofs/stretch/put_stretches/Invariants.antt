@@ -1,6 +1,4 @@
-use Rattle.fleet_verify.proofs.Words.{take, flat_map}
-use Rattle.fleet_text.specs.Row.{PassesOn}
-use Rattle.fleet_text.specs.Words.{next_words}
+use Rattle.fleet_verify.proofs.Words.{take, flat_map, PassesOn, next_words}
 use Rattle.fleet_verify.proofs.Stretches.{words_of}
 use Rattle.fleet_verify.proofs.stretch.put_stretches.Given as goal
 

@@ -1,9 +1,5 @@
-use Rattle.fleet_verify.proofs.Words.{◌<◌, ◌++◌, List, length, refl, sym, subst, arith, All-push, err_from_is_err_and, Visit, count_at, is_passable}
-use Rattle.fleet_machine.specs.Machine.{flag_of}
+use Rattle.fleet_verify.proofs.Words.{◌<◌, ◌++◌, List, length, refl, sym, subst, arith, All-push, err_from_is_err_and, Visit, count_at, is_passable, flag_of, StandsRight, AreAdded, moved_to, position_in, AreOnGround}
 use Rattle.fleet_machine.specs.AgentSet.{IsNextFrom, AreNoneFrom}
-use Rattle.fleet_verify.specs.Faults.{StandsRight}
-use Rattle.fleet_verify.specs.Order.{AreAdded}
-use Rattle.fleet_verify.specs.Walk.{moved_to, position_in, AreOnGround}
 use Rattle.fleet_verify.proofs.UnderWay.{positions_passed, positions_yes, one_moved}
 use Rattle.fleet_verify.proofs.unheld_run.add_moved.Goals as goal
 

@@ -1,6 +1,4 @@
-use Rattle.fleet_verify.proofs.Words.{◌++◌, ◌-◌, ◌≤◌, List, length, Visit, is_passable}
-use Rattle.fleet_verify.specs.Order.{AreAdded}
-use Rattle.fleet_verify.specs.Walk.{moved_to, AreOnGround}
+use Rattle.fleet_verify.proofs.Words.{◌++◌, ◌-◌, ◌≤◌, List, length, Visit, is_passable, AreAdded, moved_to, AreOnGround}
 use Rattle.fleet_verify.proofs.unheld_run.add_moved.Given as goal
 
 abbrev pub invariant-loop-agent : goal.invariant-loop-agent

@@ -1,7 +1,4 @@
-use Rattle.fleet_verify.proofs.Words.{◌≡◌, ◌++◌, ◌∷◌, [], ℕ, List, length, ap, sym, ◌∙◌, subst, arith, All-push, err_from_is_err_and, Visit, Configuration, count_at, is_passable}
-use Rattle.fleet_verify.specs.Faults.{StandsRight}
-use Rattle.fleet_verify.specs.Order.{AreAdded}
-use Rattle.fleet_verify.specs.Walk.{AreOnGround}
+use Rattle.fleet_verify.proofs.Words.{◌≡◌, ◌++◌, ◌∷◌, [], ℕ, List, length, ap, sym, ◌∙◌, subst, arith, All-push, err_from_is_err_and, Visit, Configuration, count_at, is_passable, StandsRight, AreAdded, AreOnGround}
 use Rattle.fleet_verify.proofs.RunCounts.{count_opening}
 use Rattle.fleet_verify.proofs.UnderWay.{starts_of, starts_more, opened_visits}
 use Rattle.fleet_verify.proofs.unheld_run.add_starts.Goals as goal

@@ -1,6 +1,4 @@
-use Rattle.fleet_grid.specs.Ground.{is_passable}
-use Rattle.fleet_verify.specs.Order.{AreAdded}
-use Rattle.fleet_verify.specs.Walk.{AreOnGround}
+use Rattle.fleet_verify.proofs.Words.{is_passable, AreAdded, AreOnGround}
 use Rattle.fleet_verify.proofs.UnderWay.{starts_of}
 use Rattle.fleet_verify.proofs.unheld_run.add_starts.Given as goal
 

@@ -1,8 +1,4 @@
-use Rattle.fleet_verify.proofs.Words.{◌≡◌, ◌<◌, ℕ, List, length, arith, subst, sym, ◌∙◌, All-append, Visit, is_passable}
-use Rattle.fleet_machine.specs.Machine.{flag_of}
-use Rattle.fleet_verify.specs.Faults.{StandsRight}
-use Rattle.fleet_verify.specs.Order.{AreAdded}
-use Rattle.fleet_verify.specs.Walk.{begun_in, moved_to, AreOnGround}
+use Rattle.fleet_verify.proofs.Words.{◌≡◌, ◌<◌, ℕ, List, length, arith, subst, sym, ◌∙◌, All-append, Visit, is_passable, flag_of, StandsRight, AreAdded, begun_in, moved_to, AreOnGround}
 use Rattle.fleet_verify.proofs.UnderWay.{goes_on, stops, arrived, tick_reaches, ends_by, IsUnderWay}
 use Rattle.fleet_verify.proofs.unheld_run.run_on.Goals as goal
 

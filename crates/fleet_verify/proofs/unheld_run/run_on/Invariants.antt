@@ -1,6 +1,4 @@
-use Rattle.fleet_grid.specs.Ground.{is_passable}
-use Rattle.fleet_verify.specs.Order.{AreAdded}
-use Rattle.fleet_verify.specs.Walk.{begun_in, AreOnGround}
+use Rattle.fleet_verify.proofs.Words.{is_passable, AreAdded, begun_in, AreOnGround}
 use Rattle.fleet_verify.proofs.UnderWay.{IsUnderWay}
 use Rattle.fleet_verify.proofs.unheld_run.run_on.Given as goal
 

@@ -1,8 +1,4 @@
-use Rattle.std.proofs.Common.{◌≡◌, ℕ, ◌≤◌, false, take, replicate, ap, ◌∙◌, inl, inr}
-use Rattle.std.proofs.lemmas.Bool.{cases_lt}
-use Rattle.std.proofs.lemmas.List.{take-replicate, get_or-replicate, get_or_past, length-replicate}
-use Rattle.fleet_machine.specs.Machine.{flag_of}
-use Rattle.fleet_verify.proofs.Words.{arith, err_from_is_err_and, MAX_AGENTS}
+use Rattle.fleet_verify.proofs.Words.{arith, err_from_is_err_and, MAX_AGENTS, ◌≡◌, ℕ, ◌≤◌, false, take, replicate, ap, ◌∙◌, inl, inr, cases_lt, take-replicate, get_or-replicate, get_or_past, length-replicate, flag_of}
 use Rattle.fleet_verify.proofs.unheld_run.run_unheld.Goals as goal
 
 -- a row without flags

@@ -1,7 +1,4 @@
-use Rattle.std.proofs.Common.{◌≡◌, ℕ, Some, eqb, subst, sym, ap, ◌∙◌, arith}
-use Rattle.std.proofs.lemmas.Option.{slice_get-get_or, slice_get_within}
-use Rattle.std.specs.Prelude.{nat_eq}
-use Rattle.indexmap.specs.IndexMap.{get}
+use Rattle.fleet_verify.proofs.Words.{◌≡◌, ℕ, Some, eqb, subst, sym, ap, ◌∙◌, arith, slice_get-get_or, slice_get_within, nat_eq, get}
 use Rattle.fleet_verify.proofs.Asked.{place_more}
 use Rattle.fleet_verify.proofs.chained.Answers.places.Goals as goal
 

@@ -1,5 +1,4 @@
-use Rattle.std.specs.Prelude.{nat_eq}
-use Rattle.indexmap.specs.IndexMap.{get}
+use Rattle.fleet_verify.proofs.Words.{nat_eq, get}
 use Rattle.fleet_verify.proofs.Asked.{HavePlaces}
 use Rattle.fleet_verify.proofs.chained.Answers.places.Given as goal
 

@@ -1,5 +1,4 @@
-use Rattle.fleet_verify.proofs.Words.{sym, subst}
-use Rattle.fleet_needs.specs.Critical.{IsNumberedTo}
+use Rattle.fleet_verify.proofs.Words.{sym, subst, IsNumberedTo}
 use Rattle.fleet_verify.proofs.Finish.{longest_numbers}
 use Rattle.fleet_verify.proofs.reach.Reach.of.Goals as goal
 

@@ -1,6 +1,5 @@
-use Rattle.fleet_verify.proofs.Words.{◌≡◌, ◌+◌, ◌-◌, ◌≤◌, ℕ, length, Some, ap, subst, sym, ◌∙◌, arith, slice_get, slice_get_within, awaits_of, few_awaits_of}
+use Rattle.fleet_verify.proofs.Words.{◌≡◌, ◌+◌, ◌-◌, ◌≤◌, ℕ, length, Some, ap, subst, sym, ◌∙◌, arith, slice_get, slice_get_within, awaits_of, few_awaits_of, TimesParts}
 use Rattle.fleet_needs.proofs.Joining.{awaited_action}
-use Rattle.fleet_verify.specs.Times.{TimesParts}
 use Rattle.fleet_verify.proofs.CriticalPaths.{none_more, none_all, until_here}
 use Rattle.fleet_verify.proofs.times.Times.awaited_until.Goals as goal
 

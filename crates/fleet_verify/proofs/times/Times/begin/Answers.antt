@@ -1,6 +1,4 @@
-use Rattle.std.proofs.Common.{ap, arith}
-use Rattle.fleet_verify.specs.Times.{TimesParts}
-use Rattle.fleet_needs.proofs.Costing.{own_cost}
+use Rattle.fleet_verify.proofs.Words.{ap, arith, TimesParts, own_cost}
 use Rattle.fleet_verify.proofs.times.Times.begin.Goals as goal
 
 pub overflow_sub-result : goal.overflow_sub-result

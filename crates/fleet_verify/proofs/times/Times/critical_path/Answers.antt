@@ -1,6 +1,4 @@
-use Rattle.fleet_verify.proofs.Words.{refl, ap, sym, subst, IsCriticalCost}
-use Rattle.fleet_verify.specs.Times.{IsPathOfCost, IsCriticalPath, LeadsBack}
-use Rattle.fleet_verify.specs.Stretch.{first_of, stretch_actions, path_actions}
+use Rattle.fleet_verify.proofs.Words.{refl, ap, sym, subst, IsCriticalCost, IsPathOfCost, IsCriticalPath, LeadsBack, first_of, stretch_actions, path_actions}
 use Rattle.fleet_verify.proofs.CriticalPaths.{arrived_none, way_action, way_falls, way_first, way_join, way_ends, path_before}
 use Rattle.fleet_verify.proofs.times.Times.critical_path.Goals as goal
 
@@ -59,3 +57,12 @@ loop-before-preserved g c =
             (stretch_actions found.0) (first_of found.0) found.1 c.stretch_to-way-in-Some-before.ensures _ (path_before _ found.0 _ c.in_ok-push-2.ensures.items),
       );
     }
+
+pub before-requires-clause-action : goal.before-requires-clause-action
+before-requires-clause-action g c = rw c.first_action.ensures c.loop-before.invariant.action
+
+pub before-requires-clause-end : goal.before-requires-clause-end
+before-requires-clause-end g c = rw c.first_action.ensures c.loop-before.invariant.critical
+
+pub stretch_to-way-requires-clause-action : goal.stretch_to-way-requires-clause-action
+stretch_to-way-requires-clause-action g c = c.in-Some.ensures.some.action

@@ -1,6 +1,4 @@
-use Rattle.fleet_verify.proofs.Words.{reverse, ActionId, IsAction, IsCriticalCost}
-use Rattle.fleet_verify.specs.Times.{IsLatest, IsWayTo}
-use Rattle.fleet_verify.specs.Stretch.{first_of, path_actions}
+use Rattle.fleet_verify.proofs.Words.{reverse, ActionId, IsAction, IsCriticalCost, IsLatest, IsWayTo, first_of, path_actions}
 use Rattle.fleet_verify.proofs.times.Times.critical_path.Given as goal
 
 abbrev pub invariant-loop-before : goal.invariant-loop-before

@@ -1,5 +1,4 @@
-use Rattle.fleet_verify.proofs.Words.{sym, subst, arith, IsAction, IsCriticalCost}
-use Rattle.fleet_verify.specs.Times.{TimesParts, AreTimes}
+use Rattle.fleet_verify.proofs.Words.{sym, subst, arith, IsAction, IsCriticalCost, TimesParts, AreTimes}
 use Rattle.fleet_verify.proofs.times.Times.end.Goals as goal
 
 pub cost-requires : goal.cost-requires

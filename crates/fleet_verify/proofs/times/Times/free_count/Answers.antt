@@ -1,5 +1,4 @@
-use Rattle.fleet_verify.proofs.Words.{◌≡◌, ℕ, ◌+◌, ap, subst, arith, inl, inr, cases_lt, moves, IsCriticalCost}
-use Rattle.fleet_verify.specs.Times.{TimesParts}
+use Rattle.fleet_verify.proofs.Words.{◌≡◌, ℕ, ◌+◌, ap, subst, arith, inl, inr, cases_lt, moves, IsCriticalCost, TimesParts}
 use Rattle.fleet_verify.proofs.times.Times.free_count.Goals as goal
 
 pub loop-finished-preserved : goal.loop-finished-preserved

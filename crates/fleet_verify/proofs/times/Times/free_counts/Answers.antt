@@ -1,5 +1,4 @@
-use Rattle.std.proofs.Common.{◌≡◌, ℕ, length, ap, subst, arith}
-use Rattle.fleet_verify.specs.Times.{TimesParts, IsFreeTo, EachFits}
+use Rattle.fleet_verify.proofs.Words.{◌≡◌, ℕ, length, ap, subst, arith, TimesParts, IsFreeTo, EachFits}
 use Rattle.fleet_verify.proofs.CriticalPaths.{each_more}
 use Rattle.fleet_verify.proofs.times.Times.free_counts.Goals as goal
 

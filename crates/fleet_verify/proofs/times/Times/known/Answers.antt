@@ -1,5 +1,4 @@
-use Rattle.std.proofs.Common.{subst}
-use Rattle.fleet_verify.specs.Times.{TimesParts, AreTimes}
+use Rattle.fleet_verify.proofs.Words.{subst, TimesParts, AreTimes}
 use Rattle.fleet_verify.proofs.CriticalPaths.{ends_each}
 use Rattle.fleet_verify.proofs.times.Times.known.Goals as goal
 

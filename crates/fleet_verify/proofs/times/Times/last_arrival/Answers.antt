@@ -1,6 +1,4 @@
-use Rattle.std.proofs.Common.{subst}
-use Rattle.fleet_verify.specs.Times.{HaveArrivedAt}
-use Rattle.fleet_needs.proofs.Costing.{one_cost}
+use Rattle.fleet_verify.proofs.Words.{subst, HaveArrivedAt, one_cost}
 use Rattle.fleet_verify.proofs.CriticalPaths.{arrived_none}
 use Rattle.fleet_verify.proofs.times.Times.last_arrival.Goals as goal
 

@@ -1,5 +1,4 @@
-use Rattle.fleet_verify.proofs.Words.{◌≡◌, ℕ, ◌+◌, length, sym, ap, subst, ◌∙◌, arith, inl, inr, cases_lt, moves}
-use Rattle.fleet_verify.specs.Times.{TimesParts, IsLater, IsLatest}
+use Rattle.fleet_verify.proofs.Words.{◌≡◌, ℕ, ◌+◌, length, sym, ap, subst, ◌∙◌, arith, inl, inr, cases_lt, moves, TimesParts, IsLater, IsLatest}
 use Rattle.fleet_verify.proofs.CriticalPaths.{IsLatestOf, latest_stays, latest_more, arrived_latest, no_moves, some_of, none_of}
 use Rattle.fleet_verify.proofs.times.Times.latest.Goals as goal
 use Rattle.fleet_verify.proofs.times.Times.latest.Goals.{then-number-gt0, else-number-gt0}

@@ -1,5 +1,4 @@
-use Rattle.fleet_verify.proofs.Words.{◌≡◌, ℕ, subst, arith, ActionId}
-use Rattle.fleet_verify.specs.Times.{FollowsOwn, IsOwnUntil}
+use Rattle.fleet_verify.proofs.Words.{◌≡◌, ℕ, subst, arith, ActionId, FollowsOwn, IsOwnUntil}
 use Rattle.fleet_verify.proofs.CriticalPaths.{none_of}
 use Rattle.fleet_verify.proofs.times.Times.longer.Goals as goal
 

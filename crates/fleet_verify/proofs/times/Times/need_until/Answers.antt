@@ -1,5 +1,4 @@
-use Rattle.fleet_verify.proofs.Words.{inl, inr, ActionId}
-use Rattle.fleet_verify.specs.Times.{IsNeedUntil, IsOwnUntil}
+use Rattle.fleet_verify.proofs.Words.{inl, inr, ActionId, IsNeedUntil, IsOwnUntil}
 use Rattle.fleet_verify.proofs.CriticalPaths.{none_of, none_from}
 use Rattle.fleet_verify.proofs.times.Times.need_until.Goals as goal
 

@@ -1,6 +1,5 @@
-use Rattle.fleet_verify.proofs.Words.{◌≡◌, ◌-◌, sym, subst, arith, ActionId, IsCriticalCost}
+use Rattle.fleet_verify.proofs.Words.{◌≡◌, ◌-◌, sym, subst, arith, ActionId, IsCriticalCost, one_cost}
 use Rattle.fleet_verify.proofs.Members.{same_action}
-use Rattle.fleet_needs.proofs.Costing.{one_cost}
 use Rattle.fleet_verify.proofs.times.Times.own_until.Goals as goal
 
 pub returns-else-end-time-clause-none : goal.returns-else-end-time-clause-none

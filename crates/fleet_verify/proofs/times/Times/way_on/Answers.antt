@@ -1,5 +1,4 @@
-use Rattle.std.proofs.Common.{arith}
-use Rattle.fleet_verify.specs.Times.{of_agent}
+use Rattle.fleet_verify.proofs.Words.{arith, of_agent}
 use Rattle.fleet_verify.proofs.CriticalPaths.{stretch_on, way_action}
 use Rattle.fleet_verify.proofs.times.Times.way_on.Goals as goal
 

@@ -1,6 +1,4 @@
-use Rattle.fleet_verify.proofs.Words.{◌≡◌, ◌≢◌, ℕ, ◌+◌, ◌-◌, ◌≤◌, sym, subst, arith, IsAction}
-use Rattle.fleet_verify.specs.Ahead.{level_in}
-use Rattle.fleet_verify.specs.Times.{TimesParts, AreTimes, IsStretchTo, IsWholeTo, of_agent}
+use Rattle.fleet_verify.proofs.Words.{◌≡◌, ◌≢◌, ℕ, ◌+◌, ◌-◌, ◌≤◌, sym, subst, arith, IsAction, level_in, TimesParts, AreTimes, IsStretchTo, IsWholeTo, of_agent}
 use Rattle.fleet_verify.proofs.ClimbingBack.{climbed_back}
 use Rattle.fleet_verify.proofs.CriticalPaths.{stretch_begins, stretch_on}
 use Rattle.fleet_verify.proofs.times.Times.way_to.Goals as goal

@@ -1,10 +1,6 @@
-use Rattle.fleet_verify.proofs.Words.{◌≡◌, Bool, true, false, [], ◌∷◌, length, get_or, ap, sym, subst, arith, ◌↔◌, length-append, slice_get_within, get_or_from_slice_get, slice_get-get_or, Reaches}
-use Rattle.std.specs.Prelude.{nat_eq}
-use Rattle.indexmap.specs.IndexMap.{get}
-use Rattle.fleet_needs.specs.declared.questions.Question.{Question}
-use Rattle.fleet_verify.specs.Chained.{IsFlagOf}
+use Rattle.fleet_verify.proofs.Words.{◌≡◌, Bool, true, false, [], ◌∷◌, length, get_or, ap, sym, subst, arith, ◌↔◌, length-append, slice_get_within, get_or_from_slice_get, slice_get-get_or, Reaches, nat_eq, get, Question, IsFlagOf}
 use Rattle.fleet_verify.proofs.Asked.{flag_more, flag_there}
-use Rattle.fleet_verify.proofs.chained.Answers.flags_of.Goals as goal
+use Rattle.fleet_verify.proofs.chained.Answers.flags_by.Goals as goal
 
 pub returns-clause-some : goal.returns-clause-some
 returns-clause-some c = λ p answers. record {
@@ -31,4 +27,4 @@ returns-in_default-clause-none c =
     λ p.
     let questions = c.args.questions.now in
     let at = slice_get-get_or questions c.loop-k.k _ (omega (arith, c.loop-k-test.true)) in
-    flag_there p c.args.self.now questions c.loop-k.k _ (get nat_eq c.in_ok-places.places) at c.in_ok-places.ensures c.in_default.ensures.none
+    flag_there p c.args.self.now questions c.loop-k.k _ (get nat_eq c.args.places.now) at c.requires c.in_default.ensures.none

@@ -1,16 +1,18 @@
 -- Rows that are made: one row more, one action more.
-use Rattle.std.proofs.Common.{◌≡◌, ◌≢◌, ℕ, ◌+◌, ◌-◌, ◌<◌, ◌≤◌, Bool, true, false, List, [], ◌∷◌, ◌++◌, length, get_or, set, slice_index, refl, sym, ap, subst, ◌∙◌, arith, inl, inr, ◌⊎◌}
-use Rattle.std.specs.Prelude.{slice_get, Some}
+use Rattle.std.proofs.Common.{◌≡◌, ◌≢◌, ℕ, ◌+◌, ◌-◌, ◌<◌, ◌≤◌, Bool, true, false, List, [], ◌∷◌, ◌++◌, length, get_or, slice_index, refl, sym, ap, subst, ◌∙◌, arith, inl, inr, ◌⊎◌}
+use Rattle.std.specs.Prelude.{slice_get, Some, Vec}
+use Rattle.std.specs.Vec.{with_item}
+use Rattle.std.specs.declared.alloc.Global.{Global}
 use Rattle.std.proofs.lemmas.Bool.{cases_lt, cases_eq, false≢true}
-use Rattle.std.proofs.lemmas.Option.{slice_get-get_or, slice_get_within, same_Some}
-use Rattle.std.proofs.lemmas.List.{get_or-set_same, get_or-set_other, length-set, length_push, get_or_append_left, get_or_push, get_or_past}
+use Rattle.std.proofs.lemmas.Option.{slice_get-get_or, same_Some}
+use Rattle.std.proofs.lemmas.List.{get_or-set_same, get_or-set_other, length-set, length_push, get_or_append_left, get_or_push}
 use Rattle.fleet_model.specs.declared.program.ActionId.{ActionId}
 use Rattle.fleet_model.specs.declared.program.Await.{Await}
 use Rattle.fleet_model.specs.Program.{Program, awaits_of}
 use Rattle.fleet_model.specs.Chain.{IsAction, awaited}
 use Rattle.fleet_needs.specs.Order.{IsAwaiting}
 use Rattle.fleet_needs.specs.Places.{row_place}
-use Rattle.fleet_needs.specs.Joins.{AddsNone, HasRowOr, join_at, IsRow, StandsFor, need_at, need_of, IsNeed, IsJoin, AreJoins, Takes, AreLasts, row_of, IsStanding, IsUpToLast, AreUpTo, AreSound, AreJoinsOf, CanJoin, AreTaken, AreRaised, HaveGrown, HasJoined, IsAdded}
+use Rattle.fleet_needs.specs.Joins.{AddsNone, HasRowOr, join_at, IsRow, StandsFor, need_at, IsNeed, IsJoin, Takes, row_of, IsStanding, IsUpToLast, AreUpTo, AreJoinsOf, CanJoin, AreTaken, HaveGrown, HasJoined, IsAdded}
 use Rattle.fleet_needs.specs.declared.joins.Join.{Join}
 use Rattle.fleet_needs.specs.declared.joins.Need.{Need}
 use Rattle.fleet_needs.specs.declared.joins.Joins.{Joins}
@@ -67,110 +69,7 @@ stands_later p m a x same le none s =
           (subst (λ (i : ℕ). StandsFor p m.joins.items (row_of p m a) i x.number) (sym same) (stands_far p m.joins.items (row_of p m a) a.agent a.number x.number le none s.stands));
     }
 
--- ---- one row more
-
-module _ (p : Program) (a : ActionId) (old new : Joins) (base count : ℕ) (can : CanJoin p old a) (within : base ≤ length old.joins.items)
-    (stands : StandsFor p old.joins.items base a.agent (a.number - 1))
-    (many : count ≡ length (awaits_of p a.agent a.number))
-    (put : new.joins.items ≡ old.joins.items ++ record { action = a; base = base; first = length old.needs.items; count = count } ∷ [])
-    (standing : new.standing ≡ old.standing)
-    (all : length new.needs.items ≡ length old.needs.items + length (awaits_of p a.agent a.number))
-    (kept : (n : ℕ) → n < length old.needs.items → need_at new.needs.items n ≡ need_at old.needs.items n)
-    (each : (k : ℕ) (w : Await) → slice_get (awaits_of p a.agent a.number) k ≡ Some w → need_at new.needs.items (length old.needs.items + k) ≡ record { row = row_of p old (awaited w); wait = w })
-    (room : length new.lasts.items ≡ length old.lasts.items + 1)
-    (raised : (r : ℕ) → slice_index old.lasts.items r ≤ slice_index new.lasts.items r)
-    (noted : (k : ℕ) (w : Await) → slice_get (awaits_of p a.agent a.number) k ≡ Some w → length old.joins.items + 1 ≤ slice_index new.lasts.items (row_of p old (awaited w)))
-    (based : length old.joins.items + 1 ≤ slice_index new.lasts.items base) where
-  abbrev one : Join
-  one = record { action = a; base = base; first = length old.needs.items; count = count }
-
-  long : length new.joins.items ≡ length old.joins.items + 1
-  long = ap (λ (xs : List Join). length xs) put ∙ length_push old.joins.items one
-
-  newest : join_at new.joins.items (length old.joins.items) ≡ one
-  newest = ap (λ (xs : List Join). join_at xs (length old.joins.items)) put ∙ get_or_push old.joins.items one (join_at [] 0) (length old.joins.items) refl
-
-  parts : (n : ℕ) → n < length new.joins.items → (n < length old.joins.items) ⊎ (n ≡ length old.joins.items)
-  parts n l = elim (cases_lt n (length old.joins.items)) [ inl low ↦ inl low | inr high ↦ inr (omega (arith, l, long)) ]
-
-  grown : HaveGrown a old.joins.items new.joins.items
-  grown = record {
-    more = omega (arith, long);
-    same = λ n l. ap (λ (xs : List Join). join_at xs n) put ∙ get_or_append_left old.joins.items (one ∷ []) (join_at [] 0) n l;
-    last = λ n l. elim (parts n l) [ inl low ↦ inl low | inr e ↦ inr (e, ap (λ (m : ℕ). (join_at new.joins.items m).action) e ∙ ap (λ (x : Join). x.action) newest) ];
-  }
-
-  same_need : (n k : ℕ) → n < length old.joins.items → k < length (awaits_of p (join_at old.joins.items n).action.agent (join_at old.joins.items n).action.number)
-      → need_of new.needs.items (join_at old.joins.items n) k ≡ need_of old.needs.items (join_at old.joins.items n) k
-  same_need n k low l = kept ((join_at old.joins.items n).first + k) (let w = (can.sound.joins n low).within in omega arith)
-
-  -- await k of the action
-  await_there : (k : ℕ) → k < length (awaits_of p a.agent a.number) → (w : Await) × (slice_get (awaits_of p a.agent a.number) k ≡ Some w)
-  await_there k l = (get_or (awaits_of p a.agent a.number) k (record { agent = 0; count = 0 }), slice_get-get_or (awaits_of p a.agent a.number) k (record { agent = 0; count = 0 }) l)
-
-  join_on : (n : ℕ) → n < length new.joins.items → IsJoin p new.joins.items new.needs.items n (join_at new.joins.items n)
-  join_on n l = elim (parts n l) [
-    | inl low ↦
-        let j : Join = join_at old.joins.items n in
-        let was = can.sound.joins n low in
-        subst (IsJoin p new.joins.items new.needs.items n) (sym (grown.same n low)) (record {
-          action = was.action;
-          base = stands_kept p a old.joins.items new.joins.items grown j.base j.action.agent (j.action.number - 1) was.base;
-          sooner = was.sooner;
-          count = was.count;
-          within = (let w = was.within in omega (arith, w, all));
-          each = λ k m.
-              let need = was.each k m in
-              subst (IsNeed p new.joins.items (awaits_of p j.action.agent j.action.number) n k) (sym (same_need n k low m))
-              (record { await = need.await; sooner = need.sooner; stands = stands_kept p a old.joins.items new.joins.items grown _ _ _ need.stands });
-        })
-    | inr e ↦ subst (λ (m : ℕ). IsJoin p new.joins.items new.needs.items m (join_at new.joins.items m)) (sym e) (subst (IsJoin p new.joins.items new.needs.items (length old.joins.items)) (sym newest) (record {
-      action = can.action;
-      base = stands_kept p a old.joins.items new.joins.items grown base a.agent (a.number - 1) stands;
-      sooner = within;
-      count = many;
-      within = omega (arith, all);
-      each = λ k m.
-          let there = await_there k m in
-          let is = (can.awaited k there.0 there.1).1 in
-          subst (IsNeed p new.joins.items (awaits_of p a.agent a.number) (length old.joins.items) k) (sym (each k there.0 there.1))
-          (record { await = there.1; sooner = is.within; stands = stands_kept p a old.joins.items new.joins.items grown _ _ _ is.stands });
-    }))
-  ]
-
-  last_old : (n r : ℕ) → n < length old.joins.items → Takes p new.needs.items (join_at old.joins.items n) r → n + 1 ≤ slice_index new.lasts.items r
-  last_old n r low (inl e) = omega (arith, can.sound.lasts.each n r low (inl e), raised r)
-  last_old n r low (inr (k, l, e)) = omega (arith, can.sound.lasts.each n r low (inr (k, l, e ∙ ap (λ (x : Need). x.row) (same_need n k low l))), raised r)
-
-  last_one : (r : ℕ) → Takes p new.needs.items one r → length old.joins.items + 1 ≤ slice_index new.lasts.items r
-  last_one r (inl is) = subst (λ (x : ℕ). length old.joins.items + 1 ≤ slice_index new.lasts.items x) (sym is) based
-  last_one r (inr (k, l, is)) =
-      let there = await_there k l in
-      let at : r ≡ row_of p old (awaited there.0) = is ∙ ap (λ (x : Need). x.row) (each k there.0 there.1) in
-      subst (λ (x : ℕ). length old.joins.items + 1 ≤ slice_index new.lasts.items x) (sym at) (noted k there.0 there.1)
-
-  last_on : (n r : ℕ) → n < length new.joins.items → Takes p new.needs.items (join_at new.joins.items n) r → n + 1 ≤ slice_index new.lasts.items r
-  last_on n r l takes = elim (parts n l) [
-    | inl low ↦ last_old n r low (subst (λ (j : Join). Takes p new.needs.items j r) (grown.same n low) takes)
-    | inr e ↦ omega (arith, e, last_one r (subst (λ (j : Join). Takes p new.needs.items j r) (ap (join_at new.joins.items) e ∙ newest) takes))
-  ]
-
-  newest_row : IsRow new.joins.items (length old.joins.items + 1) a
-  newest_row = record { some = omega arith; upto = omega (arith, long); of = (let e : length old.joins.items + 1 - 1 ≡ length old.joins.items = omega arith in ap (λ (n : ℕ). (join_at new.joins.items n).action) e ∙ ap (λ (x : Join). x.action) newest) }
-
-  pub joined_on : (made : Bool) → HasJoined p a made (length old.joins.items + 1) old new
-  joined_on made = record {
-    sound = record {
-      joins = join_on;
-      lasts = record { all = omega (arith, room, can.sound.lasts.all, long); each = last_on };
-      room = ap (λ xs. length xs.items) standing ∙ can.sound.room;
-    };
-    standing = standing;
-    grown = grown;
-    within = omega (arith, long);
-    stands = record { number = a.number; upto = omega arith; quiet = λ m from upto. absurd (omega arith); row = inr newest_row };
-    here = λ e. newest_row;
-  }
+-- ---- what the awaits of an action take
 
 -- the need of this row by this await
 abbrev pub need_by : Await → ℕ → Need
@@ -185,15 +84,13 @@ module _ (p : Program) (a : ActionId) (old : Joins) where
     all = omega arith;
     kept = λ n l. refl;
     each = λ m w l at. absurd (omega arith);
-    lasts = (refl, λ r. omega arith);
-    noted = λ m w l at. absurd (omega arith);
   }
 
-  pub taken_on : (k : ℕ) (w : Await) → slice_get (awaits_of p a.agent a.number) k ≡ Some w → (taken : ℕ) → taken ≡ row_of p old (awaited w) → (mid new : Joins) → new.joins ≡ mid.joins → new.standing ≡ mid.standing
-      → new.needs.items ≡ mid.needs.items ++ record { row = taken; wait = w } ∷ [] → AreRaised mid.lasts.items new.lasts.items → length old.joins.items + 1 ≤ slice_index new.lasts.items taken → AreTaken p a k old mid → AreTaken p a (k + 1) old new
-  taken_on k w at taken is mid new joins standing put raised noted h = record {
-    joins = joins ∙ h.joins;
-    standing = standing ∙ h.standing;
+  pub taken_on : (k : ℕ) (w : Await) → slice_get (awaits_of p a.agent a.number) k ≡ Some w → (row : ℕ) (mid : Joins) → row ≡ row_of p mid (awaited w) → (needs : Vec Need Global) → needs.items ≡ mid.needs.items ++ need_by w row ∷ []
+      → AreTaken p a k old mid → AreTaken p a (k + 1) old (record { joins = mid.joins; needs = needs; standing = mid.standing })
+  taken_on k w at row mid is needs put h = record {
+    joins = h.joins;
+    standing = h.standing;
     all = omega (arith, long, h.all);
     kept = λ n l. before n (omega (arith, h.all)) ∙ h.kept n l;
     each = λ m v l there. elim (cases_lt m k) [
@@ -201,54 +98,96 @@ module _ (p : Program) (a : ActionId) (old : Joins) where
       | inr more ↦
           let e : m ≡ k = omega arith in
           let place : length old.needs.items + m ≡ length mid.needs.items = omega (arith, h.all) in
-          ap (need_at new.needs.items) place ∙ newest ∙ ap (need_by w) is ∙ ap (λ (x : Await). need_by x (row_of p old (awaited x))) (same m v e there)
-    ];
-    lasts = (raised.0 ∙ h.lasts.0, λ r. (let x = h.lasts.1 r in let y = raised.1 r in omega arith));
-    noted = λ m v l there. elim (cases_lt m k) [
-      | inl less ↦ (let x = h.noted m v less there in let y = raised.1 (row_of p old (awaited v)) in omega arith)
-      | inr more ↦
-          let e : m ≡ k = omega arith in
-          subst (λ (r : ℕ). length old.joins.items + 1 ≤ slice_index new.lasts.items r) (is ∙ ap (λ (x : Await). row_of p old (awaited x)) (same m v e there)) noted
+          let same : w ≡ v = same_Some w v (sym at ∙ ap (slice_get (awaits_of p a.agent a.number)) (sym e) ∙ there) in
+          ap (need_at needs.items) place ∙ newest ∙ ap (need_by w) (is ∙ ap (λ xs. slice_index xs.items (row_place p (awaited w))) h.standing) ∙ ap (λ (x : Await). need_by x (row_of p old (awaited x))) same
     ];
   }
     where
-      long : length new.needs.items ≡ length mid.needs.items + 1
-      long = ap (λ (xs : List Need). length xs) put ∙ length_push mid.needs.items (need_by w taken)
+      long : length needs.items ≡ length mid.needs.items + 1
+      long = ap (λ (xs : List Need). length xs) put ∙ length_push mid.needs.items (need_by w row)
 
-      before : (n : ℕ) → n < length mid.needs.items → need_at new.needs.items n ≡ need_at mid.needs.items n
-      before n l = ap (λ (xs : List Need). need_at xs n) put ∙ get_or_append_left mid.needs.items (need_by w taken ∷ []) (need_at [] 0) n l
+      before : (n : ℕ) → n < length mid.needs.items → need_at needs.items n ≡ need_at mid.needs.items n
+      before n l = ap (λ (xs : List Need). need_at xs n) put ∙ get_or_append_left mid.needs.items (need_by w row ∷ []) (need_at [] 0) n l
 
-      newest : need_at new.needs.items (length mid.needs.items) ≡ need_by w taken
-      newest = ap (λ (xs : List Need). need_at xs (length mid.needs.items)) put ∙ get_or_push mid.needs.items (need_by w taken) (need_at [] 0) (length mid.needs.items) refl
+      newest : need_at needs.items (length mid.needs.items) ≡ need_by w row
+      newest = ap (λ (xs : List Need). need_at xs (length mid.needs.items)) put ∙ get_or_push mid.needs.items (need_by w row) (need_at [] 0) (length mid.needs.items) refl
 
-      same : (m : ℕ) (v : Await) → m ≡ k → slice_get (awaits_of p a.agent a.number) m ≡ Some v → w ≡ v
-      same m v e there = same_Some w v (sym at ∙ ap (slice_get (awaits_of p a.agent a.number)) (sym e) ∙ there)
+-- ---- one row more
 
--- all of them, then the base, and at last the join itself
-pub joined_by : (p : Program) (a : ActionId) (old mid low new : Joins) (base first count : ℕ) → CanJoin p old a → base ≤ length old.joins.items → StandsFor p old.joins.items base a.agent (a.number - 1)
-    → AreTaken p a (length (awaits_of p a.agent a.number)) old mid → low.joins ≡ mid.joins → low.needs ≡ mid.needs → low.standing ≡ mid.standing → AreRaised mid.lasts.items low.lasts.items → length old.joins.items + 1 ≤ slice_index low.lasts.items base
-    → new.lasts.items ≡ low.lasts.items ++ 0 ∷ [] → first ≡ length old.needs.items → count ≡ length (awaits_of p a.agent a.number) → new.joins.items ≡ low.joins.items ++ record { action = a; base = base; first = first; count = count } ∷ [] → new.needs ≡ low.needs → new.standing ≡ low.standing
-    → (made : Bool) → HasJoined p a made (length old.joins.items + 1) old new
-joined_by p a old mid low new base first count can within stands taken joins needs standing raised based putl at many putj same_needs same_standing =
-    joined_on p a old new base count can within stands many
-    (putj ∙ ap (λ (n : ℕ). low.joins.items ++ record { action = a; base = base; first = n; count = count } ∷ []) at ∙ ap (λ xs. xs.items ++ record { action = a; base = base; first = length old.needs.items; count = count } ∷ []) (joins ∙ taken.joins))
-    (same_standing ∙ standing ∙ taken.standing)
-    (ap (λ xs. length xs) list ∙ taken.all)
-    (λ n l. ap (λ (xs : List Need). need_at xs n) list ∙ taken.kept n l)
-    (λ k w there. ap (λ (xs : List Need). need_at xs (length old.needs.items + k)) list ∙ taken.each k w (slice_get_within (awaits_of p a.agent a.number) k w there) there)
-    (ap (λ (xs : List ℕ). length xs) putl ∙ length_push low.lasts.items 0 ∙ ap (λ (n : ℕ). n + 1) (raised.0 ∙ taken.lasts.0))
-    (λ r. (let x = taken.lasts.1 r in let y = raised.1 r in let z = up r in omega arith))
-    (λ k w there. (let x = taken.noted k w (slice_get_within (awaits_of p a.agent a.number) k w there) there in let y = raised.1 (row_of p old (awaited w)) in let z = up (row_of p old (awaited w)) in omega arith))
-    (let z = up base in omega (arith, z, based))
-  where
-    list : new.needs.items ≡ mid.needs.items
-    list = ap (λ xs. xs.items) (same_needs ∙ needs)
+module _ (p : Program) (a : ActionId) (old mid : Joins) (base first count : ℕ) (joins : Vec Join Global) (can : CanJoin p old a) (within : base ≤ length old.joins.items)
+    (stands : StandsFor p old.joins.items base a.agent (a.number - 1)) (many : count ≡ length (awaits_of p a.agent a.number)) (begin : first ≡ length old.needs.items)
+    (taken : AreTaken p a (length (awaits_of p a.agent a.number)) old mid) (pushed : joins.items ≡ mid.joins.items ++ record { action = a; base = base; first = first; count = count } ∷ []) where
+  abbrev one : Join
+  one = record { action = a; base = base; first = first; count = count }
 
-    up : (r : ℕ) → slice_index low.lasts.items r ≤ slice_index new.lasts.items r
-    up r = elim (cases_lt r (length low.lasts.items)) [
-      | inl l ↦ omega (arith, ap (λ (xs : List ℕ). slice_index xs r) putl ∙ get_or_append_left low.lasts.items (0 ∷ []) 0 r l)
-      | inr l ↦ omega (arith, get_or_past low.lasts.items r 0 l)
-    ]
+  abbrev new : Joins
+  new = record { joins = joins; needs = mid.needs; standing = mid.standing }
+
+  put : joins.items ≡ old.joins.items ++ one ∷ []
+  put = pushed ∙ ap (λ xs. xs.items ++ one ∷ []) taken.joins
+
+  long : length joins.items ≡ length old.joins.items + 1
+  long = ap (λ (xs : List Join). length xs) put ∙ length_push old.joins.items one
+
+  newest : join_at joins.items (length old.joins.items) ≡ one
+  newest = ap (λ (xs : List Join). join_at xs (length old.joins.items)) put ∙ get_or_push old.joins.items one (join_at [] 0) (length old.joins.items) refl
+
+  parts : (n : ℕ) → n < length joins.items → (n < length old.joins.items) ⊎ (n ≡ length old.joins.items)
+  parts n l = elim (cases_lt n (length old.joins.items)) [ inl low ↦ inl low | inr high ↦ inr (omega (arith, l, long)) ]
+
+  grown : HaveGrown a old.joins.items joins.items
+  grown = record {
+    more = omega (arith, long);
+    same = λ n l. ap (λ (xs : List Join). join_at xs n) put ∙ get_or_append_left old.joins.items (one ∷ []) (join_at [] 0) n l;
+    last = λ n l. elim (parts n l) [ inl low ↦ inl low | inr e ↦ inr (e, ap (λ (m : ℕ). (join_at joins.items m).action) e ∙ ap (λ (x : Join). x.action) newest) ];
+  }
+
+  still_stands : (r i n : ℕ) → StandsFor p old.joins.items r i n → StandsFor p joins.items r i n
+  still_stands = stands_kept p a old.joins.items joins.items grown
+
+  join_on : (n : ℕ) → n < length joins.items → IsJoin p joins.items mid.needs.items n (join_at joins.items n)
+  join_on n l = elim (parts n l) [
+    | inl low ↦
+        let j : Join = join_at old.joins.items n in
+        let was = can.sound.joins n low in
+        subst (IsJoin p joins.items mid.needs.items n) (sym (grown.same n low)) (record {
+          action = was.action;
+          base = still_stands j.base j.action.agent (j.action.number - 1) was.base;
+          sooner = was.sooner;
+          count = was.count;
+          within = (let w = was.within in omega (arith, w, taken.all));
+          each = λ k m.
+              let need = was.each k m in
+              subst (IsNeed p joins.items (awaits_of p j.action.agent j.action.number) n k) (sym (taken.kept (j.first + k) (let w = was.within in omega arith)))
+              (record { await = need.await; sooner = need.sooner; stands = still_stands _ _ _ need.stands });
+        })
+    | inr e ↦ subst (λ (m : ℕ). IsJoin p joins.items mid.needs.items m (join_at joins.items m)) (sym e) (subst (IsJoin p joins.items mid.needs.items (length old.joins.items)) (sym newest) (record {
+      action = can.action;
+      base = still_stands base a.agent (a.number - 1) stands;
+      sooner = within;
+      count = many;
+      within = omega (arith, taken.all, begin);
+      each = λ k m.
+          let w : Await = get_or (awaits_of p a.agent a.number) k (record { agent = 0; count = 0 }) in
+          let there = slice_get-get_or (awaits_of p a.agent a.number) k (record { agent = 0; count = 0 }) m in
+          let is = (can.awaited k w there).1 in
+          subst (IsNeed p joins.items (awaits_of p a.agent a.number) (length old.joins.items) k) (sym (ap (λ (n : ℕ). need_at mid.needs.items (n + k)) begin ∙ taken.each k w m there))
+          (record { await = there; sooner = is.within; stands = still_stands _ _ _ is.stands });
+    }))
+  ]
+
+  newest_row : IsRow joins.items (length old.joins.items + 1) a
+  newest_row = record { some = omega arith; upto = omega (arith, long); of = (let e : length old.joins.items + 1 - 1 ≡ length old.joins.items = omega arith in ap (λ (n : ℕ). (join_at joins.items n).action) e ∙ ap (λ (x : Join). x.action) newest) }
+
+  pub joined_on : (made : Bool) → HasJoined p a made (length old.joins.items + 1) old new
+  joined_on made = record {
+    sound = record { joins = join_on; room = ap (λ xs. length xs.items) taken.standing ∙ can.sound.room };
+    standing = taken.standing;
+    grown = grown;
+    within = omega (arith, long);
+    stands = record { number = a.number; upto = omega arith; quiet = λ m from upto. absurd (omega arith); row = inr newest_row };
+    here = λ e. newest_row;
+  }
 
 -- an action that adds no chain has no row of its own
 pub joined_none : (p : Program) (a : ActionId) (made : Bool) (m : Joins) (base : ℕ) → made ≡ false → CanJoin p m a → base ≤ length m.joins.items → StandsFor p m.joins.items base a.agent (a.number - 1)
@@ -264,45 +203,31 @@ joined_none p a made m base left can within stands none = record {
 
 -- ---- the row of the action is noted
 
-module _ (p : Program) (a : ActionId) (made : Bool) (r : ℕ) (old mid new : Joins) (up : IsUpToLast p a) (h : HasJoined p a made r old mid)
-    (joins : new.joins ≡ mid.joins) (needs : new.needs ≡ mid.needs) (lasts : new.lasts ≡ mid.lasts) (put : new.standing.items ≡ set mid.standing.items (row_place p a) r) where
-  at_own : row_of p new a ≡ r
-  at_own = ap (λ (xs : List ℕ). slice_index xs (row_place p a)) put ∙ get_or-set_same mid.standing.items (row_place p a) r 0 (omega (arith, row_within p a up, h.sound.room))
+module _ (p : Program) (a : ActionId) (made : Bool) (r : ℕ) (old mid : Joins) (up : IsUpToLast p a) (h : HasJoined p a made r old mid) (place : ℕ) (at : place ≡ row_place p a) where
+  abbrev noted : Joins
+  noted = record { joins = mid.joins; needs = mid.needs; standing = with_item mid.standing place r }
 
-  at_other : (x : ActionId) → row_place p x ≢ row_place p a → row_of p new x ≡ row_of p old x
-  at_other x ne =
-      ap (λ (xs : List ℕ). slice_index xs (row_place p x)) put
-      ∙ get_or-set_other mid.standing.items (row_place p a) (row_place p x) r 0 ne
-      ∙ ap (λ xs. slice_index xs.items (row_place p x)) h.standing
+  at_own : row_of p noted a ≡ r
+  at_own = ap (λ (x : ℕ). slice_index noted.standing.items x) (sym at) ∙ get_or-set_same mid.standing.items place r 0 (omega (arith, at, row_within p a up, h.sound.room))
 
-  same_joins : new.joins.items ≡ mid.joins.items
-  same_joins = ap (λ xs. xs.items) joins
+  at_other : (x : ActionId) → row_place p x ≢ row_place p a → row_of p noted x ≡ row_of p old x
+  at_other x ne = get_or-set_other mid.standing.items place (row_place p x) r 0 (λ e. ne (e ∙ at)) ∙ ap (λ xs. slice_index xs.items (row_place p x)) h.standing
 
-  sound_on : AreSound p new
-  sound_on = record {
-    joins = subst (λ (xs : List Join). AreJoins p xs new.needs.items) (sym same_joins) (subst (AreJoins p mid.joins.items) (sym (ap (λ xs. xs.items) needs)) h.sound.joins);
-    lasts = subst (λ (xs : List Join). AreLasts p xs new.needs.items new.lasts.items) (sym same_joins)
-        (subst (λ (xs : List Need). AreLasts p mid.joins.items xs new.lasts.items) (sym (ap (λ xs. xs.items) needs)) (subst (AreLasts p mid.joins.items mid.needs.items) (sym (ap (λ xs. xs.items) lasts)) h.sound.lasts));
-    room = ap (λ (xs : List ℕ). length xs) put ∙ length-set mid.standing.items (row_place p a) r ∙ h.sound.room;
-  }
-
-  pub added : IsAdded p a made old new
+  pub added : IsAdded p a made old noted
   added = record {
-    sound = sound_on;
-    grown = subst (HaveGrown a old.joins.items) (sym same_joins) h.grown;
+    sound = record { joins = h.sound.joins; room = length-set mid.standing.items place r ∙ h.sound.room };
+    grown = h.grown;
     kept = λ x ne s.
-        let e : row_of p new x ≡ row_of p old x = at_other x ne in
-        let l : row_of p old x ≤ length old.joins.items = s.within in
+        let e : row_of p noted x ≡ row_of p old x = at_other x ne in
         record {
-          within = omega (arith, e, l, h.grown.more, ap (λ (xs : List Join). length xs) same_joins);
-          stands = subst (λ (xs : List Join). StandsFor p xs (row_of p new x) x.agent x.number) (sym same_joins)
-              (subst (λ (s : ℕ). StandsFor p mid.joins.items s x.agent x.number) (sym e) (stands_kept p a old.joins.items mid.joins.items h.grown (row_of p old x) x.agent x.number s.stands));
+          within = omega (arith, e, s.within, h.grown.more);
+          stands = subst (λ (s : ℕ). StandsFor p mid.joins.items s x.agent x.number) (sym e) (stands_kept p a old.joins.items mid.joins.items h.grown (row_of p old x) x.agent x.number s.stands);
         };
     here = record {
-      within = omega (arith, at_own, h.within, ap (λ (xs : List Join). length xs) same_joins);
-      stands = subst (λ (xs : List Join). StandsFor p xs (row_of p new a) a.agent a.number) (sym same_joins) (subst (λ (s : ℕ). StandsFor p mid.joins.items s a.agent a.number) (sym at_own) h.stands);
+      within = omega (arith, at_own, h.within);
+      stands = subst (λ (s : ℕ). StandsFor p mid.joins.items s a.agent a.number) (sym at_own) h.stands;
     };
-    row = λ set. (r, subst (λ (xs : List Join). IsRow xs r a) (sym same_joins) (h.here set));
+    row = λ set. (r, h.here set);
   }
 
 -- ---- one action more

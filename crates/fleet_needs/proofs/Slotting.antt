@@ -1,89 +1,136 @@
--- Slots for rows: one row more.
-use Rattle.std.proofs.Common.{◌≡◌, ◌≢◌, ℕ, ◌+◌, ◌-◌, ◌<◌, ◌≤◌, List, [], ◌∷◌, ◌++◌, length, set, slice_index, refl, sym, ap, subst, ◌∙◌, arith, inl, inr}
+-- Slots for rows, from the last row back to the first.
+use Rattle.std.proofs.Common.{◌≡◌, ◌≢◌, ℕ, ◌+◌, ◌-◌, ◌<◌, ◌≤◌, List, [], ◌∷◌, ◌++◌, length, slice_index, refl, sym, ap, subst, ◌∙◌, arith, inl, inr}
 use Rattle.std.proofs.lemmas.Bool.{cases_lt, cases_eq}
-use Rattle.std.proofs.lemmas.List.{get_or-set_same, get_or-set_other, length-set, length_push, get_or_append_left, get_or_push}
-use Rattle.fleet_needs.specs.Slots.{SlotsOfRows, IsStill, AreStill, AreSlotted, IsTaken}
+use Rattle.std.proofs.lemmas.List.{get_or-set_other, get_or_past, length-set, length_push, get_or_append_left, get_or_push}
+use Rattle.fleet_model.specs.Program.{Program}
+use Rattle.fleet_needs.specs.Joins.{AreAllJoins, IsJoin, Takes, join_at, row_taken}
+use Rattle.fleet_needs.specs.Slots.{AreSlotted, HasEnded, HasSlotNow, IsFree, IsHeld, IsStill, TakesIn, owner_of, rows_in, slot_in, slots_in}
+use Rattle.fleet_needs.specs.declared.joins.Join.{Join}
+use Rattle.fleet_needs.specs.declared.joins.Joins.{Joins}
+use Rattle.fleet_needs.specs.declared.schedule.Slots.{Slots}
 
-module _ (lasts : List ℕ) (old new : SlotsOfRows) (slot : ℕ) (owners : List ℕ) (h : AreSlotted lasts old) (row : ℕ) (is : row ≡ length old.outs + 1)
-    (t : IsTaken lasts row slot old.owners owners) (owned : new.owners ≡ set owners slot row) (put : new.outs ≡ old.outs ++ slot ∷ []) where
-  pub long : length new.outs ≡ length old.outs + 1
-  long = ap (λ (xs : List ℕ). length xs) put ∙ length_push old.outs slot
+-- the slot of a row is one of them
+pub slot_within : (m : Slots) (r : ℕ) → 1 ≤ r → HasSlotNow m r → slot_in m r < slots_in m
+slot_within m r some has = elim (cases_lt (slot_in m r) (slots_in m)) [
+  | inl l ↦ l
+  | inr past ↦ absurd (omega (arith, has, some, get_or_past m.owners.items (slot_in m r) 0 past))
+]
 
-  before : (n : ℕ) → n < length old.outs → slice_index new.outs n ≡ slice_index old.outs n
-  before n l = ap (λ (xs : List ℕ). slice_index xs n) put ∙ get_or_append_left old.outs (slot ∷ []) 0 n l
+-- .. and that of no other row
+slots_apart : (m : Slots) (r x : ℕ) → r ≢ x → HasSlotNow m r → HasSlotNow m x → slot_in m r ≢ slot_in m x
+slots_apart m r x ne has other same = ne (sym has ∙ ap (owner_of m) same ∙ other)
 
-  here : slice_index new.outs (length old.outs) ≡ slot
-  here = ap (λ (xs : List ℕ). slice_index xs (length old.outs)) put ∙ get_or_push old.outs slot 0 (length old.outs) refl
+-- a new slot is free
+pub free_new : (old new : Slots) (slot : ℕ) → slot ≡ slots_in old → new.owners.items ≡ old.owners.items ++ 0 ∷ [] → IsFree slot old new
+free_new old new slot is put = record {
+  within = omega (arith, is, long);
+  none = same slot ∙ get_or_past old.owners.items slot 0 (omega (arith, is));
+  more = omega (arith, long);
+  same = same;
+}
+  where
+    long : slots_in new ≡ slots_in old + 1
+    long = ap (λ (xs : List ℕ). length xs) put ∙ length_push old.owners.items 0
 
-  wide : length new.owners ≡ length owners
-  wide = ap (λ (xs : List ℕ). length xs) owned ∙ length-set owners slot row
-
-  own : slice_index new.owners slot ≡ row
-  own = ap (λ (xs : List ℕ). slice_index xs slot) owned ∙ get_or-set_same owners slot row 0 t.within
-
-  other : (x : ℕ) → x ≢ slot → x < length old.owners → slice_index new.owners x ≡ slice_index old.owners x
-  other x ne l = ap (λ (xs : List ℕ). slice_index xs x) owned ∙ get_or-set_other owners slot x row 0 ne ∙ t.kept x l
-
-  last_still : (r : ℕ) → 1 ≤ r → r ≤ length old.outs → length old.outs + 1 ≤ slice_index lasts r → IsStill old.outs r (length old.outs)
-  last_still r some upto l m from less =
-      let y : ℕ = slice_index old.outs (r - 1) in
-      let at : slice_index old.owners y ≡ r = h.live r some upto l in
-      let within : y < length old.owners = h.within (r - 1) (omega arith) in
-      h.latest y m within (omega (arith, at, from)) less
-
-  still_on : AreStill lasts new.outs
-  still_on r n some upto less l m from low =
-      let a : slice_index new.outs m ≡ slice_index old.outs m = before m (omega (arith, long)) in
-      let b : slice_index new.outs (r - 1) ≡ slice_index old.outs (r - 1) = before (r - 1) (omega (arith, long)) in
-      λ same. elim (cases_lt n (length old.outs)) [
-        | inl lt ↦ h.still r n some upto lt l m from low (sym a ∙ same ∙ b)
-        | inr ge ↦ last_still r some (omega (arith, long)) (omega (arith, long, ge, l)) m from (omega (arith, long)) (sym a ∙ same ∙ b)
-      ]
-
-  within_on : (n : ℕ) → n < length new.outs → slice_index new.outs n < length new.owners
-  within_on n l = elim (cases_lt n (length old.outs)) [
-    | inl lt ↦ omega (arith, before n lt, h.within n lt, t.more, wide)
-    | inr ge ↦
-        let e : n ≡ length old.outs = omega (arith, long) in
-        omega (arith, ap (slice_index new.outs) e, here, t.within, wide)
-  ]
-
-  latest_on : (x n : ℕ) → x < length new.owners → slice_index new.owners x ≤ n → n < length new.outs → slice_index new.outs n ≢ x
-  latest_on x n l on less same = elim (cases_eq x slot) [
-    | inl e ↦ (let at : slice_index new.owners x ≡ row = ap (slice_index new.owners) e ∙ own in omega (arith, at, long, is))
-    | inr ne ↦ elim (t.last x (omega (arith, wide))) [
-      | inr e ↦ ne e
-      | inl within ↦ elim (cases_lt n (length old.outs)) [
-        | inl lt ↦ h.latest x n within (omega (arith, other x ne within)) lt (sym (before n lt) ∙ same)
-        | inr ge ↦ (let e : n ≡ length old.outs = omega (arith, long) in ne (sym same ∙ ap (slice_index new.outs) e ∙ here))
+    same : (x : ℕ) → owner_of new x ≡ owner_of old x
+    same x = ap (λ (xs : List ℕ). slice_index xs x) put ∙ elim (cases_lt x (slots_in old)) [
+      | inl low ↦ get_or_append_left old.owners.items (0 ∷ []) 0 x low
+      | inr high ↦ elim (cases_eq x (slots_in old)) [
+        | inl e ↦ ap (slice_index (old.owners.items ++ 0 ∷ [])) e ∙ get_or_push old.owners.items 0 0 (slots_in old) refl ∙ sym (get_or_past old.owners.items x 0 high)
+        | inr ne ↦ get_or_past (old.owners.items ++ 0 ∷ []) x 0 (omega (arith, high, ne, length_push old.owners.items 0)) ∙ sym (get_or_past old.owners.items x 0 high)
       ]
     ]
-  ]
 
-  live_on : (r : ℕ) → 1 ≤ r → r ≤ length new.outs → length new.outs + 1 ≤ slice_index lasts r → slice_index new.owners (slice_index new.outs (r - 1)) ≡ r
-  live_on r some upto l = elim (cases_lt (length old.outs) r) [
-    | inl newest ↦
-        let e : r - 1 ≡ length old.outs = omega (arith, long) in
-        ap (slice_index new.owners) (ap (slice_index new.outs) e ∙ here) ∙ own ∙ (let g : row ≡ r = omega (arith, long, is) in g)
-    | inr was ↦
-        let y : ℕ = slice_index old.outs (r - 1) in
-        let at : slice_index old.owners y ≡ r = h.live r some was (omega (arith, long)) in
-        let within : y < length old.owners = h.within (r - 1) (omega arith) in
-        ap (slice_index new.owners) (before (r - 1) (omega arith)) ∙ elim (cases_eq y slot) [
-          | inr ne ↦ other y ne within ∙ at
-          | inl e ↦
-              let low : slice_index lasts (slice_index old.owners slot) ≤ row = t.over (omega (arith, within, e)) in
-              let same : slice_index old.owners slot ≡ r = ap (slice_index old.owners) (sym e) ∙ at in
-              let less : slice_index lasts r ≤ row = subst (λ (z : ℕ). slice_index lasts z ≤ row) same low in
-              absurd (omega (arith, less, l, long, is))
-        ]
-  ]
-
-  pub slotted_on : AreSlotted lasts new
-  slotted_on = record {
-    still = still_on;
-    few = omega (arith, wide, t.few h.few);
-    within = within_on;
-    latest = latest_on;
-    live = live_on;
+module _ (Takes : ℕ → ℕ → Type 0) (from n : ℕ) where
+  -- a row that is taken, or the last one that is left
+  pub held_on : (r : ℕ) (old new : Slots) → r ≤ n → IsHeld r old new → AreSlotted Takes from n old → AreSlotted Takes from n new
+  held_on r old new low h was = record {
+    within = λ x after upto. (let w = was.within x after (omega (arith, upto, h.rows)) in omega (arith, w, h.more, settled x after));
+    taken = λ k x later takes some upto. (h.kept x some (was.taken k x later takes some upto)).0;
+    still = λ k x y later takes some less after upto same. was.still k x y later takes some less after upto (sym (settled y after) ∙ same ∙ stays k x later takes some);
   }
+    where
+      settled : (x : ℕ) → n < x → slot_in new x ≡ slot_in old x
+      settled x after = h.others x (omega arith) (λ e. omega (arith, e, after, low))
+
+      stays : (k x : ℕ) → from ≤ k → Takes k x → 1 ≤ x → slot_in new x ≡ slot_in old x
+      stays k x later takes some = elim (cases_lt n x) [ inl after ↦ settled x after | inr upto ↦ (h.kept x some (was.taken k x later takes some upto)).1 ]
+
+  -- no slots yet
+  pub slotted_none : (m : Slots) → rows_in m ≤ n → ((k r : ℕ) → from ≤ k → Takes k r → ⊥) → AreSlotted Takes from n m
+  slotted_none m few none = record {
+    within = λ x after upto. absurd (omega (arith, after, upto, few));
+    taken = λ k x later takes. absurd (none k x later takes);
+    still = λ k x y later takes. absurd (none k x later takes);
+  }
+
+  -- all that one join more takes has slots
+  pub slotted_more : (m : Slots) → from ≡ n → ((r : ℕ) → Takes n r → 1 ≤ r → r ≤ n → HasSlotNow m r) → AreSlotted Takes (from + 1) n m → AreSlotted Takes from n m
+  slotted_more m same here was = record {
+    within = was.within;
+    taken = λ k r later takes some upto. elim (cases_eq k n) [ inl e ↦ here r (subst (λ (i : ℕ). Takes i r) e takes) some upto | inr ne ↦ was.taken k r (omega (arith, later, ne, same)) takes some upto ];
+    still = λ k r x later takes some less after upto. was.still k r x (omega (arith, after, upto, same)) takes some less after upto;
+  }
+
+-- one row more is settled
+pub ended_on : (Takes : ℕ → ℕ → Type 0) (n : ℕ) (old new : Slots) → n + 1 ≤ rows_in old → HasEnded (n + 1) old new → AreSlotted Takes (n + 1) (n + 1) old → AreSlotted Takes (n + 1) n new
+ended_on Takes n old new upto h was = record {
+  within = λ x after last. elim (cases_eq x (n + 1)) [
+    | inl e ↦ omega (arith, ap (slot_in new) e, slot (n + 1), slot_within h.held (n + 1) (omega arith) own, wide)
+    | inr ne ↦ (let w = mid.within x (omega (arith, after, ne)) (omega (arith, last, rows)) in omega (arith, w, slot x, wide))
+  ];
+  taken = λ k r later takes some low. stays r some low (mid.taken k r later takes some (omega (arith, low)));
+  still = λ k r x later takes some less after last same. elim (cases_eq x (n + 1)) [
+    | inl e ↦ slots_apart h.held (n + 1) r (λ f. omega (arith, f, e, less)) own (mid.taken k r later takes some (omega (arith, e, less))) (sym (slot (n + 1)) ∙ ap (slot_in new) (sym e) ∙ same ∙ slot r)
+    | inr ne ↦ mid.still k r x later takes some less (omega (arith, after, ne)) last (sym (slot x) ∙ same ∙ slot r)
+  ];
+}
+  where
+    mid : AreSlotted Takes (n + 1) (n + 1) h.held
+    mid = held_on Takes (n + 1) (n + 1) (n + 1) old h.held (omega arith) h.is was
+
+    own : HasSlotNow h.held (n + 1)
+    own = h.is.here (omega arith)
+
+    rows : rows_in new ≡ rows_in h.held
+    rows = ap (λ xs. length xs.items) h.outs
+
+    slot : (x : ℕ) → slot_in new x ≡ slot_in h.held x
+    slot x = ap (λ xs. slice_index xs.items (x - 1)) h.outs
+
+    wide : slots_in new ≡ slots_in h.held
+    wide = ap (λ (xs : List ℕ). length xs) h.owners ∙ length-set h.held.owners.items (slot_in h.held (n + 1)) 0
+
+    stays : (r : ℕ) → 1 ≤ r → r ≤ n → HasSlotNow h.held r → HasSlotNow new r
+    stays r some low has =
+        ap (owner_of new) (slot r) ∙ ap (λ (xs : List ℕ). slice_index xs (slot_in h.held r)) h.owners
+        ∙ get_or-set_other h.held.owners.items (slot_in h.held (n + 1)) (slot_in h.held r) 0 0 (slots_apart h.held r (n + 1) (λ e. omega (arith, e, low)) has own) ∙ has
+
+-- ---- what a join takes
+
+module _ (p : Program) (joins : Joins) (h : AreAllJoins p joins) (n : ℕ) (within : n < length joins.joins.items) (j : Join) (same : j ≡ join_at joins.joins.items n) where
+  is_join : IsJoin p joins.joins.items joins.needs.items n j
+  is_join = subst (IsJoin p joins.joins.items joins.needs.items n) (sym same) (h.joins n within)
+
+  pub base_sooner : j.base ≤ n
+  base_sooner = is_join.sooner
+
+  pub need_there : (k : ℕ) → k < j.count → j.first + k < length joins.needs.items
+  need_there k l = omega (arith, l, is_join.count, is_join.within)
+
+  pub need_sooner : (k : ℕ) → k < j.count → row_taken joins.needs.items j k ≤ n
+  need_sooner k l = (is_join.each k (omega (arith, l, is_join.count))).sooner
+
+  module _ (m : Slots) (base : 1 ≤ j.base → HasSlotNow m j.base) (each : (k : ℕ) → k < j.count → 1 ≤ row_taken joins.needs.items j k → HasSlotNow m (row_taken joins.needs.items j k)) where
+    has_slot : (r : ℕ) → Takes p joins.needs.items j r → 1 ≤ r → HasSlotNow m r
+    has_slot r (inl e) some = subst (HasSlotNow m) (sym e) (base (omega (arith, e, some)))
+    has_slot r (inr (k, l, e)) some = subst (HasSlotNow m) (sym e) (each k (omega (arith, l, is_join.count)) (omega (arith, e, some)))
+
+    pub all_held : AreSlotted (TakesIn p joins) (n + 1) n m → AreSlotted (TakesIn p joins) n n m
+    all_held was = slotted_more (TakesIn p joins) n n m refl (λ r takes some upto. has_slot r (subst (λ (x : Join). Takes p joins.needs.items x r) (sym same) takes.1) some) was
+
+-- in the end each row is still in its slot whenever it is taken
+pub still_all : (Takes : ℕ → ℕ → Type 0) (m : Slots) → AreSlotted Takes 0 0 m → (k r : ℕ) → Takes k r → 1 ≤ r → IsStill m.outs.items r k
+still_all Takes m h k r takes some x from less =
+    let e : x + 1 - 1 ≡ x = omega arith in
+    λ same. h.still k r (x + 1) (omega arith) takes some (omega (arith, from)) (omega arith) (omega (arith, less)) (ap (slice_index m.outs.items) e ∙ same)

@@ -86,9 +86,9 @@ pub record IsFirstSet (p : Program) (implied : Option (Bor ImpliedAwaits)) (a : 
 abbrev pub IsPassed : Program → Option (Bor ImpliedAwaits) → ActionId → Type 0
 IsPassed p implied a = IfSome implied (λ m. AreSet p (flags_of m.now) a)
 
--- the action is to have a row: it has not one await alone whose flag is set
-abbrev pub NeedsRow : Program → Option (Bor ImpliedAwaits) → ActionId → Type 0
-NeedsRow p implied a = length (awaits_of p a.agent a.number) ≡ 1 → IsFirstSet p implied a → ⊥
+-- the action is to have no row: it has one await alone, whose flag is set
+abbrev pub IsLeftOut : Program → Option (Bor ImpliedAwaits) → ActionId → Type 0
+IsLeftOut p implied a = (length (awaits_of p a.agent a.number) ≡ 1) × IsFirstSet p implied a
 
 -- the flags of all awaits of the program say whether they are implied
 abbrev pub AreAllFlagged : Program → List Bool → Type 0

@@ -1,6 +1,5 @@
 -- Rows that are made, and the rows that they are joined of.
-use Rattle.std.specs.Prelude.{◌≡◌, ◌≢◌, ℕ, ◌+◌, ◌-◌, ◌<◌, ◌≤◌, ◌⊎◌, Bool, true, List, length, get_or, slice_index, slice_get, Some, min}
-use Rattle.std.specs.Option.{option_map_or}
+use Rattle.std.specs.Prelude.{◌≡◌, ◌≢◌, ℕ, ◌+◌, ◌-◌, ◌<◌, ◌≤◌, ◌⊎◌, Bool, true, List, length, get_or, slice_index, slice_get, Some}
 use Rattle.fleet_model.specs.declared.program.Await.{Await}
 use Rattle.fleet_model.specs.declared.program.ActionId.{ActionId}
 use Rattle.fleet_model.specs.Program.{Program, awaits_of, moves, total_awaits}
@@ -74,11 +73,6 @@ AreJoins p joins needs = (n : ℕ) → n < length joins → IsJoin p joins needs
 abbrev pub Takes : Program → List Need → Join → ℕ → Type 0
 Takes p needs j r = (r ≡ j.base) ⊎ ((k : ℕ) × (k < length (awaits_of p j.action.agent j.action.number)) × (r ≡ row_taken needs j k))
 
--- no row that is joined of a row comes after the last one
-pub record AreLasts (p : Program) (joins : List Join) (needs : List Need) (lasts : List ℕ) : Type 0 where
-  pub all : length lasts ≡ length joins + 1
-  pub each : (n r : ℕ) → n < length joins → Takes p needs (join_at joins n) r → n + 1 ≤ slice_index lasts r
-
 -- each of these actions has a row, or there is that to say of it
 abbrev pub HasRowOr : (ActionId → Type 0) → Program → List Join → (ActionId → Type 0) → Type 0
 HasRowOr Else p joins These = (a : ActionId) → IsAction p a → These a → ((r : ℕ) × IsRow joins r a) ⊎ Else a
@@ -106,29 +100,9 @@ joins_made m = m.joins.items
 abbrev pub rows_made : Joins → ℕ
 rows_made m = length m.joins.items
 
--- of how many rows it is known which is the last that is joined of them
-abbrev pub lasts_known : Joins → ℕ
-lasts_known m = length m.lasts.items
-
--- the last row that is joined of row r so far, or 0
-abbrev pub last_of : Joins → ℕ → ℕ
-last_of m r = slice_index m.lasts.items r
-
--- .. for each of them
-abbrev pub lasts_in : Joins → List ℕ
-lasts_in m = m.lasts.items
-
 -- for each action, by its place among rows, the row that stands for it
 abbrev pub standing_in : Joins → List ℕ
 standing_in m = m.standing.items
-
--- how many needs are listed
-abbrev pub needs_listed : Joins → ℕ
-needs_listed m = length m.needs.items
-
--- where the needs of the join after n others begin, or where those of all joins end
-abbrev pub needs_begin : Joins → ℕ → ℕ
-needs_begin m n = min (option_map_or (λ (j : Join). j.first) (slice_get m.joins.items n) (needs_listed m)) (needs_listed m)
 
 -- there is room to note the row that stands for each action
 abbrev pub HasRoom : Program → Joins → Type 0
@@ -137,10 +111,6 @@ HasRoom p m = length m.standing.items ≡ total_awaits p + length p
 -- row r of these stands for action n of agent i
 abbrev pub StandsIn : Program → Joins → ℕ → ℕ → ℕ → Type 0
 StandsIn p m r i n = StandsFor p m.joins.items r i n
-
--- no entry has become less
-abbrev pub AreRaised : List ℕ → List ℕ → Type 0
-AreRaised old new = (length new ≡ length old) × ((k : ℕ) → slice_index old k ≤ slice_index new k)
 
 -- the row noted for the action, or, with the number 0, for none of its agent
 abbrev pub row_of : Program → Joins → ActionId → ℕ
@@ -154,13 +124,11 @@ pub record IsStanding (p : Program) (m : Joins) (a : ActionId) : Type 0 where
 -- the joins so far are right, and there is room to note a row for each action
 pub record AreSound (p : Program) (m : Joins) : Type 0 where
   pub joins : AreJoins p m.joins.items m.needs.items
-  pub lasts : AreLasts p m.joins.items m.needs.items m.lasts.items
   pub room : HasRoom p m
 
 -- no row is made yet, and none is noted
 pub record AreNone (p : Program) (m : Joins) : Type 0 where
   pub joins : length m.joins.items ≡ 0
-  pub lasts : length m.lasts.items ≡ 1
   pub room : HasRoom p m
   pub standing : (k : ℕ) → slice_index m.standing.items k ≡ 0
 
@@ -215,9 +183,6 @@ pub record AreTaken (p : Program) (a : ActionId) (n : ℕ) (old new : Joins) : T
   pub kept : (k : ℕ) → k < length old.needs.items → need_at new.needs.items k ≡ need_at old.needs.items k
   pub each : (k : ℕ) (w : Await) → k < n → slice_get (awaits_of p a.agent a.number) k ≡ Some w
       → need_at new.needs.items (length old.needs.items + k) ≡ record { row = row_of p old (awaited w); wait = w }
-  pub lasts : AreRaised old.lasts.items new.lasts.items
-  pub noted : (k : ℕ) (w : Await) → k < n → slice_get (awaits_of p a.agent a.number) k ≡ Some w
-      → length old.joins.items + 1 ≤ slice_index new.lasts.items (row_of p old (awaited w))
 
 -- no join has gone, and one of the action may have come
 pub record HaveGrown (a : ActionId) (old new : List Join) : Type 0 where
@@ -245,7 +210,6 @@ pub record IsAdded (p : Program) (a : ActionId) (made : Bool) (old new : Joins) 
 -- the joins of all actions of the program, in which no action needs a later one of its agent
 pub record AreAllJoins (p : Program) (m : Joins) : Type 0 where
   pub joins : AreJoins p m.joins.items m.needs.items
-  pub lasts : AreLasts p m.joins.items m.needs.items m.lasts.items
   pub rows : HasAllRows p m.joins.items (IsAction p)
   pub rising : AreRising m.joins.items
   pub own : AreOwn p

@@ -1,32 +1,63 @@
--- Slots for rows, each of which is kept until it has been taken for the last time.
-use Rattle.std.specs.Prelude.{◌≡◌, ◌≢◌, ℕ, ◌+◌, ◌-◌, ◌<◌, ◌≤◌, ◌⊎◌, List, length, slice_index}
-
--- for each row, from row 1 on, its slot, and for each slot the last row so far that was put into it
-pub record SlotsOfRows : Type 0 where
-  pub outs : List ℕ
-  pub owners : List ℕ
+-- Slots for rows, given from the last row back to the first: each row is kept until it has been taken for the last time.
+use Rattle.std.specs.Prelude.{◌≡◌, ◌≢◌, ℕ, ◌-◌, ◌<◌, ◌≤◌, List, length, set, slice_index}
+use Rattle.fleet_model.specs.Program.{Program}
+use Rattle.fleet_needs.specs.Joins.{Takes, join_at}
+use Rattle.fleet_needs.specs.declared.joins.Joins.{Joins}
+use Rattle.fleet_needs.specs.declared.schedule.Slots.{Slots}
 
 -- no row after row r, among the first n, was put into its slot
 abbrev pub IsStill : List ℕ → ℕ → ℕ → Type 0
 IsStill outs r n = (m : ℕ) → r ≤ m → m < n → slice_index outs m ≢ slice_index outs (r - 1)
 
--- each row is still in its slot when the last row is made that is joined of it
-abbrev pub AreStill : List ℕ → List ℕ → Type 0
-AreStill lasts outs = (r n : ℕ) → 1 ≤ r → r ≤ n → n < length outs → n + 1 ≤ slice_index lasts r → IsStill outs r n
+-- how many rows there are
+abbrev pub rows_in : Slots → ℕ
+rows_in m = length m.outs.items
 
--- so far they are, and so they will be if no slot is used again whose row is still to be taken
-pub record AreSlotted (lasts : List ℕ) (m : SlotsOfRows) : Type 0 where
-  pub still : AreStill lasts m.outs
-  pub few : length m.owners ≤ 4294967295
-  pub within : (n : ℕ) → n < length m.outs → slice_index m.outs n < length m.owners
-  pub latest : (x n : ℕ) → x < length m.owners → slice_index m.owners x ≤ n → n < length m.outs → slice_index m.outs n ≢ x
-  pub live : (r : ℕ) → 1 ≤ r → r ≤ length m.outs → length m.outs + 1 ≤ slice_index lasts r → slice_index m.owners (slice_index m.outs (r - 1)) ≡ r
+-- the slot of row r, if it has one
+abbrev pub slot_in : Slots → ℕ → ℕ
+slot_in m r = slice_index m.outs.items (r - 1)
 
--- the slot is new, or its row is taken by none after this one
-pub record IsTaken (lasts : List ℕ) (row slot : ℕ) (old new : List ℕ) : Type 0 where
-  pub within : slot < length new
-  pub more : length old ≤ length new
-  pub kept : (x : ℕ) → x < length old → slice_index new x ≡ slice_index old x
-  pub last : (x : ℕ) → x < length new → (x < length old) ⊎ (x ≡ slot)
-  pub over : slot < length old → slice_index lasts (slice_index old slot) ≤ row
-  pub few : length old ≤ 4294967295 → length new ≤ 4294967295
+-- how many slots there are
+abbrev pub slots_in : Slots → ℕ
+slots_in m = length m.owners.items
+
+-- the row that has slot x, or 0
+abbrev pub owner_of : Slots → ℕ → ℕ
+owner_of m x = slice_index m.owners.items x
+
+-- row r has a slot
+abbrev pub HasSlotNow : Slots → ℕ → Type 0
+HasSlotNow m r = owner_of m (slot_in m r) ≡ r
+
+-- the join after k others takes row r
+abbrev pub TakesIn : Program → Joins → ℕ → ℕ → Type 0
+TakesIn p joins k r = (k < length joins.joins.items) × Takes p joins.needs.items (join_at joins.joins.items k) r
+
+-- the rows after the first n have their slots for good, in each of which what is taken stays as long as joins after the
+-- first `from` take it; and what these take of the first n has a slot
+pub record AreSlotted (Takes : ℕ → ℕ → Type 0) (from n : ℕ) (m : Slots) : Type 0 where
+  pub within : (r : ℕ) → n < r → r ≤ rows_in m → slot_in m r < slots_in m
+  pub taken : (k r : ℕ) → from ≤ k → Takes k r → 1 ≤ r → r ≤ n → HasSlotNow m r
+  pub still : (k r x : ℕ) → from ≤ k → Takes k r → 1 ≤ r → r < x → n < x → x ≤ k → slot_in m x ≢ slot_in m r
+
+-- no row has the slot, and no other has changed hands
+pub record IsFree (slot : ℕ) (old new : Slots) : Type 0 where
+  pub within : slot < slots_in new
+  pub none : owner_of new slot ≡ 0
+  pub more : slots_in old ≤ slots_in new
+  pub same : (x : ℕ) → owner_of new x ≡ owner_of old x
+
+-- row r has a slot, if it is not 0, and each that had one has kept it
+pub record IsHeld (r : ℕ) (old new : Slots) : Type 0 where
+  pub rows : rows_in new ≡ rows_in old
+  pub more : slots_in old ≤ slots_in new
+  pub here : 1 ≤ r → HasSlotNow new r
+  pub kept : (x : ℕ) → 1 ≤ x → HasSlotNow old x → HasSlotNow new x × (slot_in new x ≡ slot_in old x)
+  pub others : (x : ℕ) → 1 ≤ x → x ≢ r → slot_in new x ≡ slot_in old x
+
+-- .. and then row r no longer has it
+pub record HasEnded (r : ℕ) (old new : Slots) : Type 0 where
+  pub held : Slots
+  pub is : IsHeld r old held
+  pub outs : new.outs ≡ held.outs
+  pub owners : new.owners.items ≡ set held.owners.items (slot_in held r) 0

@@ -1,14 +1,13 @@
 //! Which rows are made, and of which rows each is joined: one for each action that awaits something, unless it awaits
 //! one action alone and needs it anyhow. The row of any other is that of its agent's action before.
 
-ghost use Rattle.std.specs.Prelude.{◌≡◌, ◌↔◌, ◌+◌, ◌-◌, ◌<◌, ◌≤◌, Bool, true, false, [], length, set, slice_range, IfOk, OnOk};
+ghost use Rattle.std.specs.Prelude.{◌≡◌, ◌↔◌, ◌+◌, ◌-◌, ◌<◌, ◌≤◌, Bool, true, false, length, IfOk, OnOk};
 ghost use Rattle.fleet_model.specs.Program.{AreInRange, awaits_of, moves};
-ghost use Rattle.fleet_model.specs.Chain.{IsAction};
 ghost use Rattle.fleet_needs.specs.Implied.{AreAwaitPlaces};
 ghost use Rattle.fleet_needs.specs.Places.{row_place};
-ghost use Rattle.fleet_needs.specs.Order.{IsAwaiting, IsItem, IsLevelOrder, action_of, levels_in};
-ghost use Rattle.fleet_needs.specs.Flags.{AreSureIf, IsPassed, IsFirstSet, NeedsRow};
-ghost use Rattle.fleet_needs.specs.Joins.{AddsNone, AreNone, AreJoinsBelow, AreJoinsEnd, CanJoin, AreTaken, HasJoined, HasRoom, IsAdded, AreRaised, rows_made, lasts_known, last_of, lasts_in, standing_in, needs_begin, row_of, StandsIn};
+ghost use Rattle.fleet_needs.specs.Order.{IsItem, IsLevelOrder, action_of, levels_in};
+ghost use Rattle.fleet_needs.specs.Flags.{AreSureIf, IsPassed, IsLeftOut};
+ghost use Rattle.fleet_needs.specs.Joins.{AddsNone, AreNone, AreJoinsBelow, AreJoinsEnd, CanJoin, AreTaken, HasJoined, HasRoom, IsAdded, need_of, rows_made, row_of, StandsIn};
 
 use crate::await_places::AwaitPlaces;
 use crate::implied::ImpliedAwaits;
@@ -40,8 +39,6 @@ pub(crate) struct Joins {
     pub(crate) joins: Vec<Join>,
     /// For each await of the joins what it needs.
     pub(crate) needs: Vec<Need>,
-    /// For each row, from 0 on, the last row that is joined of it, or 0.
-    pub(crate) lasts: Vec<u32>,
     /// For each action, by its place among rows, the row that stands for it.
     standing: Vec<u32>,
 }
@@ -85,7 +82,7 @@ fn add_level<P: ProgramView>(
     let mut left = order.last(level);
     while left > 0 {
         let item = order.item(left as usize - 1);
-        let is_made = needs_row(program, implied, item.action(), item.awaits);
+        let is_made = !is_left_out(program, implied, &item);
         joins.add_action(program, &order.places, &item, is_made)?;
         left = item.before;
     }
@@ -99,39 +96,12 @@ impl Joins {
     {
         let awaits = total_awaits(program);
         let rows = awaits.min(total_moves(program));
-        let mut lasts = Vec::with_capacity(alloc, rows as usize + 1)?;
-        lasts.push(0)?;
         let places = awaits as usize + usize::from(program.agents());
         Ok(Joins {
             joins: Vec::with_capacity(alloc, rows as usize)?,
             needs: Vec::with_capacity(alloc, awaits as usize)?,
-            lasts,
             standing: vec![in alloc; 0; places]?,
         })
-    }
-
-    /// The needs of the join after n others.
-    pub(crate) fn needs_of(&self, n: usize) -> &[Need]
-        ensures { result.now ≡ slice_range self.now.needs.items (needs_begin self.now n)
-            (needs_begin self.now (n + 1)) }
-    {
-        let from = self.first_need(n);
-        let end = self.first_need(n.saturating_add(1));
-        if from < end {
-            &self.needs[from..end]
-        } else {
-            &[]
-        }
-    }
-
-    /// Where the needs of the join after n others begin, or where those of all joins end.
-    fn first_need(&self, n: usize) -> usize
-        ensures { result ≡ needs_begin self.now n }
-    {
-        match self.joins.get(n) {
-            Some(join) => (join.first as usize).min(self.needs.len()),
-            None => self.needs.len(),
-        }
     }
 
     /// Adds an action, with a row if one is to be made.
@@ -151,14 +121,14 @@ impl Joins {
         ensures { OnOk result (IsAdded
             (P.program program.now) (action_of item.now) is_made self.old self.new) }
     {
-        let place = places.row_place(program, item.action());
+        let action = ActionId {
+            agent: item.agent,
+            number: item.number,
+        };
+        let place = places.row_place(program, action);
         let base = self.row_before(program, place, item);
-        if !is_made {
-            self.note(place, base);
-            return Ok(());
-        }
-        let row = self.add_join(program, places, item.action(), item.awaits, base)?;
-        self.note(place, row);
+        let row = self.add_join(program, places, item, base, is_made)?;
+        self.standing[place] = row;
         Ok(())
     }
 
@@ -174,17 +144,6 @@ impl Joins {
         // Of the program the contract alone speaks.
         let _ = program;
         self.standing[place - usize::from(item.awaits)]
-    }
-
-    /// Notes the row that stands for the action at this place.
-    fn note(&mut self, place: usize, row: u32)
-        requires { place < length (standing_in self.old) }
-        ensures joins { self.new.joins ≡ self.old.joins }
-        ensures needs { self.new.needs ≡ self.old.needs }
-        ensures lasts { self.new.lasts ≡ self.old.lasts }
-        ensures noted { standing_in self.new ≡ set (standing_in self.old) place row }
-    {
-        self.standing[place] = row;
     }
 
     /// The row that is noted for an action.
@@ -203,122 +162,99 @@ impl Joins {
         self.standing[places.row_place(program, action)]
     }
 
-    /// Adds a row for an action, after the row that stands for the agent's action before, and answers which it is.
+    /// Adds a row for an action, if one is to be made, and answers which row stands for the action. `base` stands for the
+    /// agent's action before.
     fn add_join<P: ProgramView>(
         &mut self,
         program: &P,
         places: &AwaitPlaces,
-        action: ActionId,
-        count: u16,
+        item: &Item,
         base: u32,
+        is_made: bool,
     ) -> Result<u32, OutOfMemory>
         requires range { AreInRange (P.program program.now) }
         requires places { AreAwaitPlaces (P.program program.now) places.now }
-        requires count { count ≡ length
-            (awaits_of (P.program program.now) action.agent action.number) }
-        requires can { CanJoin (P.program program.now) self.old action }
+        requires item { IsItem (P.program program.now) item.now }
+        requires can { CanJoin (P.program program.now) self.old (action_of item.now) }
+        requires none { is_made ≡ false
+            → AddsNone (P.program program.now) item.now.agent item.now.number }
         requires within { base ≤ rows_made self.old }
         requires stands { StandsIn (P.program program.now) self.old
-            base action.agent (action.number - 1) }
-        ensures { IfOk result (λ row. (made : Bool) → HasJoined
-            (P.program program.now) action made row self.old self.new) }
+            base item.now.agent (item.now.number - 1) }
+        ensures { IfOk result (λ row. HasJoined
+            (P.program program.now) (action_of item.now) is_made row self.old self.new) }
     {
+        if !is_made {
+            return Ok(base);
+        }
         let row = self.joins.len() + 1;
         let first = self.needs.len();
         if row > u32::MAX as usize || first > u32::MAX as usize {
             return Err(OutOfMemory);
         }
-        self.take_awaited(program, places, action, count, row as u32)?;
-        self.raise(base, row as u32);
-        self.lasts.push(0)?;
+        self.take_awaited(program, places, item)?;
         self.joins.push(Join {
-            action,
+            action: ActionId {
+                agent: item.agent,
+                number: item.number,
+            },
             base,
             first: first as u32,
-            count,
+            count: item.awaits,
         })?;
         Ok(row as u32)
     }
 
-    /// Lists what the awaits of the action need, for the row that is next.
+    /// Lists what the awaits of the action need.
     fn take_awaited<P: ProgramView>(
         &mut self,
         program: &P,
         places: &AwaitPlaces,
-        action: ActionId,
-        count: u16,
-        row: u32,
+        item: &Item,
     ) -> Result<(), OutOfMemory>
         requires range { AreInRange (P.program program.now) }
         requires places { AreAwaitPlaces (P.program program.now) places.now }
-        requires count { count ≡ length
-            (awaits_of (P.program program.now) action.agent action.number) }
-        requires can { CanJoin (P.program program.now) self.old action }
-        requires row { row ≡ rows_made self.old + 1 }
-        ensures { OnOk result (AreTaken (P.program program.now) action
-            (length (awaits_of (P.program program.now) action.agent action.number))
+        requires item { IsItem (P.program program.now) item.now }
+        requires can { CanJoin (P.program program.now) self.old (action_of item.now) }
+        ensures { OnOk result (AreTaken (P.program program.now) (action_of item.now)
+            (length (awaits_of (P.program program.now) item.now.agent item.now.number))
             self.old self.new) }
     {
-        for k in 0..count {
-            let wait = program.await_at(action.agent, action.number, k);
+        for k in 0..item.awaits {
+            let wait = program.await_at(item.agent, item.number, k);
             let awaited = ActionId {
                 agent: wait.agent,
                 number: wait.count,
             };
-            let taken = self.row_of(program, places, awaited);
-            self.needs.push(Need { row: taken, wait })?;
-            self.raise(taken, row);
+            let row = self.row_of(program, places, awaited);
+            self.needs.push(Need { row, wait })?;
         }
         Ok(())
     }
-
-    /// Notes that this row is joined of the taken one.
-    fn raise(&mut self, taken: u32, row: u32)
-        requires { taken < lasts_known self.old }
-        ensures joins { self.new.joins ≡ self.old.joins }
-        ensures needs { self.new.needs ≡ self.old.needs }
-        ensures standing { self.new.standing ≡ self.old.standing }
-        ensures raised { AreRaised (lasts_in self.old) (lasts_in self.new) }
-        ensures noted { row ≤ last_of self.new taken }
-    {
-        let last = self.lasts[taken as usize];
-        self.lasts[taken as usize] = last.max(row);
-    }
 }
 
-/// Whether the action, which has so many awaits, one or more, is to have a row. An action of one await that others imply
-/// needs no more than the agent's action before does.
-fn needs_row<P: ProgramView>(
-    program: &P,
-    implied: Option<&ImpliedAwaits>,
-    action: ActionId,
-    count: u16,
-) -> bool
-    requires range { AreInRange (P.program program.now) }
-    requires count { count ≡ length
-        (awaits_of (P.program program.now) action.agent action.number) }
-    requires sure { AreSureIf (P.program program.now) implied }
-    requires awaiting { IsAwaiting (P.program program.now) action }
-    ensures none { result ≡ false → AddsNone (P.program program.now) action.agent action.number }
-    ensures passed { result ≡ false → IsPassed (P.program program.now) implied.entry action }
-    ensures needed { (result ≡ true) ↔ NeedsRow (P.program program.now) implied.entry action }
+/// Need `k` of a join, of these.
+pub(crate) fn need_of(needs: &[Need], join: &Join, k: u16) -> Need
+    requires { join.now.first + k < length needs.now }
+    ensures { result ≡ need_of needs.now join.now k }
 {
-    count > 1 || !is_first_implied(program, implied, action)
+    needs[join.first as usize + usize::from(k)]
 }
 
-/// Whether the first await of the action is known to be implied.
-fn is_first_implied<P: ProgramView>(
-    program: &P,
-    implied: Option<&ImpliedAwaits>,
-    action: ActionId,
-) -> bool
+/// Whether the action is to have no row: it has one await alone, which is known to be implied, so it needs no more than
+/// the agent's action before does.
+fn is_left_out<P: ProgramView>(program: &P, implied: Option<&ImpliedAwaits>, item: &Item) -> bool
     requires sure { AreSureIf (P.program program.now) implied }
-    requires action { IsAction (P.program program.now) action }
-    requires some { 1 ≤ length (awaits_of (P.program program.now) action.agent action.number) }
-    ensures { (result ≡ true) ↔ IsFirstSet (P.program program.now) implied.entry action }
+    requires item { IsItem (P.program program.now) item.now }
+    ensures { (result ≡ true)
+        ↔ IsLeftOut (P.program program.now) implied.entry (action_of item.now) }
 {
+    let action = ActionId {
+        agent: item.agent,
+        number: item.number,
+    };
     match implied {
-        Some(implied) => implied.is_set(program, action, 0),
+        Some(implied) => item.awaits == 1 && implied.is_set(program, action, 0),
         None => false,
     }
 }

@@ -13,9 +13,9 @@
 //! It is made once, and serves all blocks of columns: each agent that is asked for has a column in one block. `joins`
 //! goes through the actions that await something, level by level: each has a row of its own, and the row of any other
 //! action is that of its agent's action before. So is that of an action with one await, if that is known to be implied:
-//! it adds no chain. What is noted is the row that stands for the action before, those that the awaits take, and for
-//! each row the last one that is joined of it. Each row gets a slot, and none is used again before its row was taken for
-//! the last time.
+//! it adds no chain. What is noted is the row that stands for the action before, and those that the awaits take. Then
+//! slots are given from the last row back to the first: a row that is taken, and has no slot yet, is taken there for the
+//! last time, so it gets one, which is free again before its own row is made.
 //!
 //! `join_pass` makes the rows in that order, in the columns of one block, and keeps their counts slot by slot. A row is
 //! made in two steps: first of the rows of all that its action needs, and then, for each await, with the awaited

@@ -173,7 +173,7 @@ impl<'a> ListedQuestions<'a> {
         ensures listed { IfOk result (λ l. AreListed
             (P.program program.now) (joins_made joins.now) l) }
     {
-        let mut lasts = vec![in alloc; 0; joins.lasts.len()]?;
+        let mut lasts = vec![in alloc; 0; joins.joins.len() + 1]?;
         let mut befores = Vec::with_capacity(alloc, questions.len())?;
         for question in questions {
             let row = joins.row_of(program, places, question.last) as usize;

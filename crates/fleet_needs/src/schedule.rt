@@ -1,21 +1,21 @@
 //! A schedule of rows, made once for all blocks of columns: which rows are made, in which order, of which rows each is
 //! joined, the slot in which it is kept, and the columns of the blocks, one block after another.
 
-ghost use Rattle.std.specs.Prelude.{◌≡◌, ◌+◌, ◌<◌, ◌≤◌, ℕ, true, All, length, IfOk, slice_index, OnOk, IsTrue, MatchOption};
+ghost use Rattle.std.specs.Prelude.{◌≡◌, ◌↔◌, ◌+◌, ◌<◌, ◌≤◌, ℕ, true, All, length, IfOk, OnOk, MatchOption};
 ghost use Rattle.fleet_model.specs.declared.limits.TheConstants.{MAX_AGENTS};
 ghost use Rattle.fleet_model.specs.Program.{AreInRange, moves};
 ghost use Rattle.fleet_model.specs.Chain.{IsAction};
 ghost use Rattle.fleet_needs.specs.Asked.{IsQuestion};
-ghost use Rattle.fleet_needs.specs.Joins.{AreAllJoins, HasRowOr, joins_made, lasts_in, rows_made};
+ghost use Rattle.fleet_needs.specs.Joins.{AreAllJoins, HasRowOr, joins_made, rows_made};
 ghost use Rattle.fleet_needs.specs.Flags.{AreSureIf, IsPassed};
 ghost use Rattle.fleet_needs.specs.Order.{IsLevelOrder};
 ghost use Rattle.fleet_needs.specs.Answering.{AreListed};
 ghost use Rattle.fleet_needs.specs.Schedule.{IsSchedule, IsNextJoin, IsNextNeed, joins_of, joins_in, next_action};
-ghost use Rattle.fleet_needs.specs.Slots.{AreSlotted, IsTaken};
+ghost use Rattle.fleet_needs.specs.Slots.{AreSlotted, HasEnded, HasSlotNow, IsFree, IsHeld, TakesIn, rows_in};
 ghost use Rattle.fleet_needs.specs.Columns.{AreColumns, IsNextBlock, agents_in, column_of};
 
 use crate::implied::ImpliedAwaits;
-use crate::joins::{Join, Joins, Need, joins_of};
+use crate::joins::{Join, Joins, Need, joins_of, need_of};
 use crate::level_order::LevelOrder;
 use crate::questions::{ListedQuestions, Question};
 use fleet_model::{MAX_AGENTS, OutOfMemory, ProgramView};
@@ -98,13 +98,16 @@ impl Schedule {
         ensures schedule { IfOk result (IsSchedule (P.program program.now)) }
         ensures joins { IfOk result (λ s. joins_of s ≡ joins_made joins) }
     {
-        let slots = slots_of(alloc, &joins)?;
-        let count = slots.count();
+        let slots = slots_of(alloc, program, &joins)?;
+        let count = slots.owners.len();
+        if count > u32::MAX as usize {
+            return Err(OutOfMemory);
+        }
         Ok(Schedule {
             joins: joins.joins,
             needs: joins.needs,
             outs: slots.outs,
-            slots: count,
+            slots: count as u32,
             is_narrow: is_narrow(program),
         })
     }
@@ -129,7 +132,7 @@ impl Schedule {
         ensures { IsNextNeed (P.program program.now)
             self.now n (next_action self.now n) k result }
     {
-        self.needs[join.first as usize + usize::from(k)]
+        need_of(&self.needs, join, k)
     }
 
     /// How many columns a block has at most: as many as there is room for in all slots, but at least 8, and no more
@@ -162,130 +165,121 @@ fn is_narrow<P: ProgramView>(program: &P) -> bool
     true
 }
 
-/// The slots of the first rows, and who has each slot.
+/// Slots for rows, which are given from the last row back to the first: what takes a row is made after it, so a row that
+/// has no slot yet when another takes it is taken there for the last time.
 #[derive(Drop)]
 pub(crate) struct Slots {
-    /// For each row, from row 1 on, its slot.
+    /// For each row, from row 1 on, its slot, once it has one.
     pub(crate) outs: Vec<u32>,
-    /// For each slot, the last row so far that was put into it.
-    owners: Vec<u32>,
-    /// Slots whose rows have been taken for the last time.
+    /// For each slot, the row that has it, or 0.
+    pub(crate) owners: Vec<u32>,
+    /// Slots that are free.
     free: Vec<u32>,
 }
 
-impl Model for Slots {
-    ghost use Rattle.fleet_needs.specs.Slots.{SlotsOfRows};
-
-    ghost Value = { SlotsOfRows };
-
-    ghost view = { λ m. record { outs = m.outs.items; owners = m.owners.items } };
-}
-
 /// The slots of all rows.
-fn slots_of(alloc: Global, joins: &Joins) -> Result<Slots, OutOfMemory>
-    ensures slotted { IfOk result (AreSlotted (lasts_in joins.now)) }
-    ensures all { IfOk result (λ m. length m.outs ≡ rows_made joins.now) }
+fn slots_of<P: ProgramView>(alloc: Global, program: &P, joins: &Joins) -> Result<Slots, OutOfMemory>
+    requires { AreAllJoins (P.program program.now) joins.now }
+    ensures all { IfOk result (λ m. rows_in m ≡ rows_made joins.now) }
+    ensures slotted { IfOk result (AreSlotted (TakesIn (P.program program.now) joins.now) 0 0) }
 {
     let rows = joins.joins.len();
+    if rows > u32::MAX as usize {
+        return Err(OutOfMemory);
+    }
     let mut slots = Slots {
-        outs: Vec::with_capacity(alloc, rows)?,
+        outs: vec![in alloc; 0; rows]?,
         owners: Vec::new(alloc),
         free: Vec::new(alloc),
     };
-    for n in 0..rows {
-        slots.free_taken(joins, n)?;
-        slots.add_row(&joins.lasts)?;
+    for n in (0..rows).rev() {
+        slots.end_row(n as u32 + 1)?;
+        slots.hold_taken(program, joins, n)?;
     }
     Ok(slots)
 }
 
 impl Slots {
-    /// How many slots there are.
-    pub(crate) fn count(&self) -> u32
-        requires { length self.now.owners ≤ u32.MAX }
-        ensures { result ≡ length self.now.owners }
+    /// Frees the slot of a row that no earlier one takes, after it was given one, if it had none.
+    fn end_row(&mut self, row: u32) -> Result<(), OutOfMemory>
+        requires some { 1 ≤ row }
+        requires within { row ≤ rows_in self.old }
+        ensures { OnOk result (HasEnded row self.old self.new) }
     {
-        self.owners.len() as u32
+        self.hold(row)?;
+        let slot = self.outs[row as usize - 1];
+        self.owners[slot as usize] = 0;
+        self.free.push(slot)?;
+        Ok(())
     }
 
-    /// Frees the slots of the rows that the join after n others takes for the last time, and of the row before if none
-    /// takes it. This decides when memory is used again, and nothing else.
-    fn free_taken(&mut self, joins: &Joins, n: usize) -> Result<(), OutOfMemory>
-        ensures { OnOk result (self.new ≡ self.old) }
+    /// Gives slots to the rows that the join after n others takes.
+    fn hold_taken<P: ProgramView>(
+        &mut self,
+        program: &P,
+        joins: &Joins,
+        n: usize,
+    ) -> Result<(), OutOfMemory>
+        requires joins { AreAllJoins (P.program program.now) joins.now }
+        requires within { n < rows_made joins.now }
+        requires rows { rows_in self.old ≡ rows_made joins.now }
+        requires slotted { AreSlotted (TakesIn (P.program program.now) joins.now)
+            (n + 1) n self.old }
+        ensures rows { OnOk result (rows_in self.new ≡ rows_in self.old) }
+        ensures slotted { OnOk result (AreSlotted (TakesIn (P.program program.now) joins.now)
+            n n self.new) }
     {
-        let row = (n as u64).saturating_add(1);
-        self.free_if(joins, n as u64, 0)?;
-        if let Some(join) = joins.joins.get(n) {
-            self.free_if(joins, u64::from(join.base), row)?;
-        }
-        for need in joins.needs_of(n) {
-            self.free_if(joins, u64::from(need.row), row)?;
+        // Of the program the contract alone speaks.
+        let _ = program;
+        let join = joins.joins[n];
+        self.hold(join.base)?;
+        for k in 0..join.count {
+            let need = need_of(&joins.needs, &join, k);
+            self.hold(need.row)?;
         }
         Ok(())
     }
 
-    /// Frees the slot of a row, if this one is the last that is joined of it.
-    fn free_if(&mut self, joins: &Joins, taken: u64, row: u64) -> Result<(), OutOfMemory>
-        ensures { OnOk result (self.new ≡ self.old) }
+    /// Gives a slot to a row, if it has none: a free one, or a new one if none is left. Row 0 gets none.
+    fn hold(&mut self, row: u32) -> Result<(), OutOfMemory>
+        requires { row ≤ rows_in self.old }
+        ensures { OnOk result (IsHeld row self.old self.new) }
     {
-        let is_last = match joins.lasts.get(taken as usize) {
-            Some(&last) => u64::from(last) == row,
-            None => false,
-        };
-        if taken > 0 && is_last {
-            if let Some(&slot) = self.outs.get(taken as usize - 1) {
-                self.free.push(slot)?;
-            }
+        if row == 0 || self.is_held(row) {
+            return Ok(());
         }
+        let slot = self.take_free()?;
+        self.owners[slot as usize] = row;
+        self.outs[row as usize - 1] = slot;
         Ok(())
     }
 
-    /// Gives a slot to the next row.
-    fn add_row(&mut self, lasts: &[u32]) -> Result<(), OutOfMemory>
-        requires { AreSlotted lasts.now self.old }
-        ensures slotted { OnOk result (AreSlotted lasts.now self.new) }
-        ensures more { OnOk result (length self.new.outs ≡ length self.old.outs + 1) }
+    /// Whether the row has a slot.
+    fn is_held(&self, row: u32) -> bool
+        requires some { 1 ≤ row }
+        requires within { row ≤ rows_in self.now }
+        ensures { (result ≡ true) ↔ HasSlotNow self.now row }
     {
-        let row = self.outs.len() + 1;
-        if row > u32::MAX as usize {
-            return Err(OutOfMemory);
-        }
-        let slot = self.take_slot(lasts, row as u32)?;
-        self.owners[slot as usize] = row as u32;
-        self.outs.push(slot)?;
-        Ok(())
+        let slot = self.outs[row as usize - 1] as usize;
+        slot < self.owners.len() && self.owners[slot] == row
     }
 
-    /// A slot whose row is taken by none after this one, which is new if no free one is left.
-    fn take_slot(&mut self, lasts: &[u32], row: u32) -> Result<u32, OutOfMemory>
+    /// A slot that no row has, which is new if no free one is left.
+    fn take_free(&mut self) -> Result<u32, OutOfMemory>
         ensures outs { IfOk result (λ slot. self.new.outs ≡ self.old.outs) }
-        ensures taken { IfOk result (λ slot. IsTaken lasts.now row slot
-            self.old.owners self.new.owners) }
+        ensures free { IfOk result (λ slot. IsFree slot self.old self.new) }
     {
         if let Some(slot) = self.free.pop() {
-            if self.is_over(lasts, slot, row) {
+            if (slot as usize) < self.owners.len() && self.owners[slot as usize] == 0 {
                 return Ok(slot);
             }
         }
         let slot = self.owners.len();
-        if slot >= u32::MAX as usize {
+        if slot > u32::MAX as usize {
             return Err(OutOfMemory);
         }
         self.owners.push(0)?;
         Ok(slot as u32)
-    }
-
-    /// Whether there is such a slot, and no row after this one takes what is in it.
-    fn is_over(&self, lasts: &[u32], slot: u32, row: u32) -> bool
-        ensures within { IsTrue result → slot < length self.now.owners }
-        ensures over { IsTrue result → slice_index lasts.now
-            (slice_index self.now.owners slot) ≤ row }
-    {
-        if slot as usize >= self.owners.len() {
-            return false;
-        }
-        let owner = self.owners[slot as usize] as usize;
-        owner < lasts.len() && lasts[owner] <= row
     }
 }
 

@@ -1,10 +1,11 @@
-use Rattle.std.proofs.Common.{◌≡◌, ◌-◌, sym, subst, ap, ◌∙◌, arith}
+use Rattle.std.proofs.Common.{◌≡◌, ◌-◌, false, not, rules, sym, subst, ap, arith}
 use Rattle.fleet_model.specs.declared.program.ActionId.{ActionId}
-use Rattle.fleet_needs.specs.Flags.{IsPassed}
-use Rattle.fleet_needs.specs.Joins.{AddsNone, AreJoinsFrom, CanJoin, IsAdded}
+use Rattle.fleet_needs.specs.Flags.{IsLeftOut, IsPassed}
+use Rattle.fleet_needs.specs.Joins.{AreJoinsFrom, CanJoin, IsAdded}
 use Rattle.fleet_needs.specs.Order.{action_of, item_at}
 use Rattle.fleet_needs.specs.declared.level_order.Item.{Item}
-use Rattle.fleet_needs.proofs.JoinLevels.{joins_begun, joins_over, joins_next, can_join}
+use Rattle.fleet_needs.proofs.Flagged.{is_set, none_if_set, passed_if_set}
+use Rattle.fleet_needs.proofs.JoinLevels.{joins_begun, joins_over, joins_next, can_join, next_item}
 use Rattle.fleet_needs.proofs.joins.add_level.Goals as goal
 
 pub loop-left-init : goal.loop-left-init
@@ -26,7 +27,8 @@ add_action-requires-clause-can g c =
 
 pub add_action-requires-clause-none : goal.add_action-requires-clause-none
 add_action-requires-clause-none g c = λ e.
-    subst (λ (a : ActionId). AddsNone (g.P.ProgramView.program c.args.program.now) a.agent a.number) c.action.ensures (c.needs_row-is_made.ensures.none e)
+    let out = c.is_left_out-is_made.ensures.0 (is_set c.is_left_out-is_made.result e) in
+    none_if_set (g.P.ProgramView.program c.args.program.now) c.args.implied (action_of c.item-item.result) c.requires.sure (search rules) out.0 out.1
 
 pub loop-left-preserved : goal.loop-left-preserved
 loop-left-preserved g c =
@@ -34,12 +36,13 @@ loop-left-preserved g c =
     let o = c.args.order.now in
     let left = c.loop-left.left in
     let item = c.item-item.ensures in
-    let made = c.needs_row-is_made.result in
-    let new = c.add_action.new.self in
-    let is : c.action.result ≡ action_of (item_at o (left - 1)) = c.action.ensures ∙ ap action_of item in
+    let a = action_of (item_at o (left - 1)) in
+    let is = next_item p (IsPassed p c.args.implied) o c.args.level left (left - 1) c.loop-left.joins c.loop-left.invariant.joins (omega (arith, c.loop-left-test.true)) in
+    let made = not c.is_left_out-is_made.result in
+    let out : made ≡ false → IsLeftOut p c.args.implied a = λ e. rw item at (c.is_left_out-is_made.ensures.0 (is_set c.is_left_out-is_made.result e)) in
     record {
-      joins = subst (λ (x : Item). AreJoinsFrom p (IsPassed p c.args.implied) o c.args.level x.before new) (sym item)
-          (joins_next p (IsPassed p c.args.implied) o c.args.level left (left - 1) c.loop-left.joins c.loop-left.invariant.joins (omega (arith, c.loop-left-test.true)) new made
-          (λ e. subst (λ (a : ActionId). AddsNone p a.agent a.number) is (c.needs_row-is_made.ensures.none e)) (λ e. subst (IsPassed p c.args.implied) is (c.needs_row-is_made.ensures.passed e))
-          (subst (λ (a : ActionId). IsAdded p a made c.loop-left.joins new) (ap action_of item) c.in_ok-add_action.ensures));
+      joins = subst (λ (x : Item). AreJoinsFrom p (IsPassed p c.args.implied) o c.args.level x.before c.add_action.new.self) (sym item)
+          (joins_next p (IsPassed p c.args.implied) o c.args.level left (left - 1) c.loop-left.joins c.loop-left.invariant.joins (omega (arith, c.loop-left-test.true)) c.add_action.new.self made
+          (λ e. none_if_set p c.args.implied a c.requires.sure is.awaiting.action (out e).0 (out e).1) (λ e. passed_if_set p c.args.implied a (out e).0 (out e).1)
+          (subst (λ (a : ActionId). IsAdded p a made c.loop-left.joins c.add_action.new.self) (ap action_of item) c.in_ok-add_action.ensures));
     }

@@ -1,14 +1,22 @@
-use Rattle.std.proofs.Common.{◌≡◌, ◌+◌, ℕ, length, refl, subst, arith}
+use Rattle.std.proofs.Common.{◌≡◌, ◌+◌, ℕ, length, subst, arith}
 use Rattle.fleet_needs.specs.Joins.{HasJoined}
+use Rattle.fleet_needs.specs.Order.{action_of}
 use Rattle.fleet_needs.specs.declared.joins.Joins.{Joins}
-use Rattle.fleet_needs.proofs.JoinLaws.{joined_by}
+use Rattle.fleet_needs.proofs.JoinLaws.{joined_none, joined_on}
 use Rattle.fleet_needs.proofs.joins.Joins.add_join.Goals as goal
+
+pub returns-then-not-is_made : goal.returns-then-not-is_made
+returns-then-not-is_made g c =
+    let none = c.if-not-is_made.true in
+    joined_none (g.P.ProgramView.program c.args.program.now) (action_of c.args.item.now) c.args.is_made c.args.self.now c.args.base none c.requires.can c.requires.within c.requires.stands (c.requires.none none)
 
 pub returns : goal.returns
 returns g c =
     let p = g.P.ProgramView.program c.args.program.now in
-    let e : length c.args.self.now.joins.items + 1 ≡ c.len-row.result + 1 = omega (arith, c.len-row.ensures) in
-    let new : Joins = record { joins = c.push-2.new.self; needs = c.raise.new.self.needs; lasts = c.push.new.self; standing = c.raise.new.self.standing } in
-    λ made. subst (λ (r : ℕ). HasJoined p c.args.action made r c.args.self.now new) e
-    (joined_by p c.args.action c.args.self.now c.take_awaited.new.self c.raise.new.self new c.args.base c.len-first.result c.args.count c.requires.can c.requires.within c.requires.stands c.in_ok-take_awaited.ensures
-    c.raise.ensures.joins c.raise.ensures.needs c.raise.ensures.standing c.raise.ensures.raised (omega (arith, e, c.raise.ensures.noted)) c.in_ok-push.ensures.items (omega (arith, c.len-first.ensures, c.args.self.now.needs.ok)) c.requires.count c.in_ok-push-2.ensures.items refl refl made)
+    let a = action_of c.args.item.now in
+    let old = c.args.self.now in
+    let mid = c.take_awaited.new.self in
+    let new : Joins = record { joins = c.push.new.self; needs = mid.needs; standing = mid.standing } in
+    let e : length old.joins.items + 1 ≡ c.len-row.result + 1 = omega (arith, c.len-row.ensures) in
+    subst (λ (r : ℕ). HasJoined p a c.args.is_made r old new) e
+    (joined_on p a old mid c.args.base c.len-first.result c.args.item.now.awaits c.push.new.self c.requires.can c.requires.within c.requires.stands c.requires.item.awaits (omega (arith, c.len-first.ensures, old.needs.ok)) c.in_ok-take_awaited.ensures c.in_ok-push.ensures.items c.args.is_made)

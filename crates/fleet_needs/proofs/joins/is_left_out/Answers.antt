@@ -3,15 +3,16 @@ use Rattle.std.specs.Borrow.{Bor}
 use Rattle.std.proofs.lemmas.Option.{same_Some}
 use Rattle.fleet_needs.specs.Flags.{flags_of}
 use Rattle.fleet_needs.specs.Implied.{first_await}
+use Rattle.fleet_needs.specs.Order.{action_of}
 use Rattle.fleet_needs.specs.declared.implied.ImpliedAwaits.{ImpliedAwaits}
-use Rattle.fleet_needs.proofs.joins.is_first_implied.Goals as goal
+use Rattle.fleet_needs.proofs.joins.is_left_out.Goals as goal
 
-pub returns-in-Some : goal.returns-in-Some
-returns-in-Some g c =
-    let first = first_await (g.P.ProgramView.program c.args.program.now) c.args.action in
+pub returns-then-item-eq1 : goal.returns-then-item-eq1
+returns-then-item-eq1 g c =
+    let first = first_await (g.P.ProgramView.program c.args.program.now) (action_of c.args.item.now) in
     let m = c.in-Some.implied in
     let e : first ≡ first + 0 = omega arith in
     let there : get_or (flags_of m.now) first false ≡ c.is_set.result = ap (λ (n : ℕ). get_or (flags_of m.now) n false) e ∙ sym c.is_set.ensures in (
-      (λ set. record { of = m; some = c.in-Some.is; set = there ∙ set }),
-      (λ is. sym there ∙ subst (λ (x : Bor ImpliedAwaits). get_or (flags_of x.now) first false ≡ true) (same_Some is.of m (sym is.some ∙ c.in-Some.is)) is.set),
+      (λ set. (omega (arith, c.if-item-eq1.true, c.requires.item.awaits), record { of = m; some = c.in-Some.is; set = there ∙ set })),
+      (λ is. sym there ∙ subst (λ (x : Bor ImpliedAwaits). get_or (flags_of x.now) first false ≡ true) (same_Some is.1.of m (sym is.1.some ∙ c.in-Some.is)) is.1.set),
     )

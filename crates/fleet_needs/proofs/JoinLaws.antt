@@ -1,9 +1,9 @@
 -- Rows that are made: one row more, one action more.
-use Rattle.std.proofs.Common.{◌≡◌, ◌≢◌, ℕ, ◌+◌, ◌-◌, ◌<◌, ◌≤◌, Bool, true, false, List, [], ◌∷◌, ◌++◌, length, get_or, slice_index, refl, sym, ap, subst, ◌∙◌, arith, inl, inr, ◌⊎◌}
+use Rattle.std.proofs.Common.{◌≡◌, ◌≢◌, ℕ, ◌+◌, ◌-◌, ◌<◌, ◌≤◌, Bool, false, List, [], ◌∷◌, ◌++◌, length, get_or, slice_index, refl, sym, ap, subst, ◌∙◌, arith, inl, inr, ◌⊎◌}
 use Rattle.std.specs.Prelude.{slice_get, Some, Vec}
 use Rattle.std.specs.Vec.{with_item}
 use Rattle.std.specs.declared.alloc.Global.{Global}
-use Rattle.std.proofs.lemmas.Bool.{cases_lt, cases_eq, false≢true}
+use Rattle.std.proofs.lemmas.Bool.{cases_lt, cases_eq}
 use Rattle.std.proofs.lemmas.Option.{slice_get-get_or, same_Some}
 use Rattle.std.proofs.lemmas.List.{get_or-set_same, get_or-set_other, length-set, length_push, get_or_append_left, get_or_push}
 use Rattle.fleet_model.specs.declared.program.ActionId.{ActionId}
@@ -186,7 +186,7 @@ module _ (p : Program) (a : ActionId) (old mid : Joins) (base first count : ℕ)
     grown = grown;
     within = omega (arith, long);
     stands = record { number = a.number; upto = omega arith; quiet = λ m from upto. absurd (omega arith); row = inr newest_row };
-    here = λ e. newest_row;
+    here = inl newest_row;
   }
 
 -- an action that adds no chain has no row of its own
@@ -198,7 +198,7 @@ joined_none p a made m base left can within stands none = record {
   grown = record { more = omega arith; same = λ n l. refl; last = λ n l. inl l };
   within = within;
   stands = stands_on p m.joins.items base a can.action.first none stands;
-  here = λ set. absurd (false≢true (sym left ∙ set));
+  here = inr left;
 }
 
 -- ---- the row of the action is noted
@@ -227,20 +227,15 @@ module _ (p : Program) (a : ActionId) (made : Bool) (r : ℕ) (old mid : Joins) 
       within = omega (arith, at_own, h.within);
       stands = subst (λ (s : ℕ). StandsFor p mid.joins.items s a.agent a.number) (sym at_own) h.stands;
     };
-    row = λ set. (r, h.here set);
+    row = elim h.here [ inl row ↦ inl (r, row) | inr left ↦ inr left ];
   }
 
 -- ---- one action more
 
--- what holds if a flag is set, or if it is not
-by_flag : (R S : Type 0) (flag : Bool) → (flag ≡ true → R) → (flag ≡ false → S) → R ⊎ S
-by_flag R S true f g = inl (f refl)
-by_flag R S false f g = inr (g refl)
-
 -- what has come, one more action, before which all of its agent have come that await something
 module _ (p : Program) (Passed Old New : ActionId → Type 0) (a : ActionId) (is : IsAwaiting p a) (back : (x : ActionId) → New x → Old x ⊎ (x ≡ a)) (on : (x : ActionId) → Old x → New x) (here : New a)
     (sooner : (x : ActionId) → IsAction p x → Old x → x.agent ≡ a.agent → x.number < a.number) (old new : Joins) (made : Bool)
-    (none : made ≡ false → AddsNone p a.agent a.number) (passed : made ≡ false → Passed a) (h : AreJoinsOf p Passed Old old) (added : IsAdded p a made old new) where
+    (none : made ≡ false → AddsNone p a.agent a.number × Passed a) (h : AreJoinsOf p Passed Old old) (added : IsAdded p a made old new) where
   kept : (x : ActionId) (r : ℕ) → IsRow old.joins.items r x → IsRow new.joins.items r x
   kept x r = row_kept a old.joins.items new.joins.items added.grown r x
 
@@ -260,11 +255,10 @@ module _ (p : Program) (Passed Old New : ActionId → Type 0) (a : ActionId) (is
         omega (arith, up, ap (λ (z : ActionId). z.number) same)
   ]
 
-  -- an action has a row, or it is so of it
-  rows_on : (Else : ActionId → Type 0) → (made ≡ false → Else a) → HasRowOr Else p old.joins.items Old → HasRowOr Else p new.joins.items New
-  rows_on Else or before x k done = elim (back x done) [
-    | inl was ↦ elim (before x k was) [ inl row ↦ inl (row.0, kept x row.0 row.1) | inr other ↦ inr other ]
-    | inr e ↦ subst (λ (y : ActionId). ((r : ℕ) × IsRow new.joins.items r y) ⊎ Else y) (sym e) (by_flag ((r : ℕ) × IsRow new.joins.items r a) (Else a) made added.row or)
+  rows_on : HasRowOr (λ x. AddsNone p x.agent x.number × Passed x) p new.joins.items New
+  rows_on x k done = elim (back x done) [
+    | inl was ↦ elim (h.rows x k was) [ inl row ↦ inl (row.0, kept x row.0 row.1) | inr other ↦ inr other ]
+    | inr e ↦ subst (λ (y : ActionId). ((r : ℕ) × IsRow new.joins.items r y) ⊎ (AddsNone p y.agent y.number × Passed y)) (sym e) (elim added.row [ inl row ↦ inl row | inr left ↦ inr (none left) ])
   ]
 
   -- up to an action of another agent, or up to one before
@@ -296,8 +290,7 @@ module _ (p : Program) (Passed Old New : ActionId → Type 0) (a : ActionId) (is
   joins_more = record {
     sound = added.sound;
     standing = standing_on;
-    rows = rows_on (λ x. AddsNone p x.agent x.number) none h.rows;
-    passed = rows_on Passed passed h.passed;
+    rows = rows_on;
     rising = rising_on;
     made = λ n l. elim (added.grown.last n l) [
       | inl low ↦ subst (λ (j : Join). New j.action) (sym (added.grown.same n low)) (on (join_at old.joins.items n).action (h.made n low))

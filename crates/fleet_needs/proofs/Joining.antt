@@ -1,7 +1,7 @@
 -- The column of an action is made of those of the actions that it directly needs.
 use Rattle.std.proofs.Common.{◌≡◌, ◌≢◌, ℕ, zero, suc, ◌+◌, ◌-◌, ◌<◌, ◌≤◌, length, max, refl, sym, ap, subst, ◌∙◌, arith, inl, inr, ◌⊎◌}
 use Rattle.std.specs.Prelude.{Contains, slice_get, Some}
-use Rattle.std.proofs.lemmas.Bool.{cases_lt}
+use Rattle.std.proofs.lemmas.Bool.{cases_lt, cases_eq}
 use Rattle.std.proofs.lemmas.Option.{slice_get-get_or, slice_get_within, get_or_from_slice_get, same_Some}
 use Rattle.fleet_model.specs.declared.program.ActionId.{ActionId}
 use Rattle.fleet_model.specs.declared.program.Await.{Await}
@@ -9,7 +9,7 @@ use Rattle.fleet_model.specs.Program.{Program, moves, awaits_of, AreInRange}
 use Rattle.fleet_model.specs.Chain.{IsAction, DirectlyNeeds, Reaches, awaited}
 use Rattle.fleet_needs.specs.Implied.{IsImplied}
 use Rattle.fleet_needs.specs.Joins.{AddsNone, AreQuiet}
-use Rattle.fleet_needs.specs.Rows.{IsColumn, action_before, ByOneOf, IsJoined, OfFirst}
+use Rattle.fleet_needs.specs.Rows.{IsColumn, IsMost, action_before, ByBeforeOr, ByOneOf, OfFirst, OfOthers, OfOwn, OfThese}
 use Rattle.fleet_model.proofs.Chains.{own_reach, chain_ends_by_step, Reaches-trans, Reaches-first, Reaches-last, Reaches-need}
 
 abbrev act : ℕ → ℕ → ActionId
@@ -31,50 +31,60 @@ column_none p i j c = (
 
 -- ---- joined awaits
 
-module _ (p : Program) (a : ActionId) (j : ℕ) where
-  pub one_of : (S T : ℕ → Await → Type 0) (x : ActionId) → ((k : ℕ) (w : Await) → slice_get (awaits_of p a.agent a.number) k ≡ Some w → S k w → T k w) → ByOneOf S p x a → ByOneOf T p x a
-  one_of S T x wider r = record { place = r.place; await = r.await; this = wider r.place r.await r.at r.this; at = r.at; reaches = r.reaches }
+-- an await that gives it, if it is also one of those
+pub one_of : (S T : ℕ → Await → Type 0) (p : Program) (x a : ActionId) → (by : ByOneOf S p x a) → T by.place by.await → ByOneOf T p x a
+one_of S T p x a by this = record { place = by.place; await = by.await; this = this; at = by.at; reaches = by.reaches }
 
-  pub joined_same : (S T : ℕ → Await → Type 0) (n : ℕ) → IsJoined S p a j n → ((k : ℕ) (w : Await) → slice_get (awaits_of p a.agent a.number) k ≡ Some w → S k w → T k w)
-      → ((k : ℕ) (w : Await) → slice_get (awaits_of p a.agent a.number) k ≡ Some w → T k w → S k w) → IsJoined T p a j n
-  joined_same S T n h there back = record {
-    into = λ c f l. elim (h.into c f l) [ inl r ↦ inl r | inr r ↦ inr (one_of S T (act j c) there r) ];
-    own = h.own;
-    awaits = λ c r. h.awaits c (one_of T S (act j c) back r);
-  }
+-- what is so by the first k of these awaits, or else
+module _ (p : Program) (a : ActionId) (j : ℕ) (Else : ℕ → Type 0) (These : Await → Type 0) where
+  abbrev pub BySome : ℕ → ℕ → Type 0
+  BySome k c = Else c ⊎ ByOneOf (OfThese These k) p (act j c) a
 
-  pub joined_more : (S T : ℕ → Await → Type 0) (n k : ℕ) (w : Await) (u : ℕ) → IsJoined S p a j n → slice_get (awaits_of p a.agent a.number) k ≡ Some w → IsColumn p (awaited w) j u → T k w
-      → ((m : ℕ) (v : Await) → slice_get (awaits_of p a.agent a.number) m ≡ Some v → S m v → T m v) → ((m : ℕ) (v : Await) → slice_get (awaits_of p a.agent a.number) m ≡ Some v → T m v → S m v ⊎ (m ≡ k))
-      → IsJoined T p a j (max n u)
-  joined_more S T n k w u h at col this there back = record { into = into; own = λ c r. (let l : c ≤ n = h.own c r in omega arith); awaits = awaits }
-    where
-      into : (c : ℕ) → 1 ≤ c → c ≤ max n u → Reaches p (act j c) (action_before a) ⊎ ByOneOf T p (act j c) a
-      into c f l = elim (cases_lt n c) [
-        | inr le ↦ elim (h.into c f le) [ inl r ↦ inl r | inr r ↦ inr (one_of S T (act j c) there r) ]
-        | inl lt ↦ inr (record { place = k; await = w; this = this; at = at; reaches = (col c).1 (f, omega arith) })
-      ]
+  pub some_first : (n : ℕ) → IsMost Else n → IsMost (BySome 0) n
+  some_first n h c = (
+    (λ s. elim s [ inl r ↦ (h c).0 r | inr by ↦ absurd (let l : by.place < 0 = by.this.0 in omega arith) ]),
+    (λ b. inl ((h c).1 b)),
+  )
 
-      awaits : (c : ℕ) → ByOneOf T p (act j c) a → c ≤ max n u
-      awaits c r = elim (back r.place r.await r.at r.this) [
-        | inl s ↦ (let le : c ≤ n = h.awaits c (record { place = r.place; await = r.await; this = s; at = r.at; reaches = r.reaches }) in omega arith)
-        | inr e ↦
-            let same : r.await ≡ w = same_Some _ _ (sym r.at ∙ ap (slice_get (awaits_of p a.agent a.number)) e ∙ at) in
-            let le : c ≤ u = ((col c).0 (subst (λ v. Reaches p (act j c) (awaited v)) same r.reaches)).1 in
-            omega arith
-      ]
+  module _ (k : ℕ) (w : Await) (at : slice_get (awaits_of p a.agent a.number) k ≡ Some w) where
+    some_still : (c : ℕ) → BySome k c → BySome (k + 1) c
+    some_still c (inl r) = inl r
+    some_still c (inr by) = inr (one_of (OfThese These k) (OfThese These (k + 1)) p (act j c) a by ((let l : by.place < k = by.this.0 in omega arith), by.this.1))
 
-  -- where there are none of these awaits
-  pub joined_none : (S : ℕ → Await → Type 0) (n : ℕ) → ((k : ℕ) (w : Await) → S k w → ⊥) → IsColumn p (action_before a) j n → IsJoined S p a j n
-  joined_none S n none h = record {
-    into = λ c f l. inl ((h c).1 (f, l));
-    own = λ c r. ((h c).0 r).1;
-    awaits = λ c r. absurd (none r.place r.await r.this);
-  }
+    some_back : (c : ℕ) → BySome (k + 1) c → BySome k c ⊎ (These w × Reaches p (act j c) (awaited w))
+    some_back c (inl r) = inl (inl r)
+    some_back c (inr by) = elim (cases_lt by.place k) [
+      | inl less ↦ inl (inr (one_of (OfThese These (k + 1)) (OfThese These k) p (act j c) a by (less, by.this.1)))
+      | inr more ↦
+          let e : by.place ≡ k = (let l : by.place < k + 1 = by.this.0 in omega arith) in
+          let same : by.await ≡ w = same_Some _ _ (sym by.at ∙ ap (slice_get (awaits_of p a.agent a.number)) e ∙ at) in
+          inr (subst These same by.this.1, subst (λ (v : Await). Reaches p (act j c) (awaited v)) same by.reaches)
+    ]
+
+    -- one await more that is one of these
+    pub some_more : (n u : ℕ) → These w → IsColumn p (awaited w) j u → IsMost (BySome k) n → IsMost (BySome (k + 1)) (max n u)
+    some_more n u this col h c = (
+      (λ s. elim (some_back c s) [
+        | inl was ↦ (let b = (h c).0 was in (b.0, (let l : c ≤ n = b.1 in omega arith)))
+        | inr by ↦ (let b = (col c).0 by.1 in (b.0, (let l : c ≤ u = b.1 in omega arith)))
+      ]),
+      (λ b. elim (cases_lt n c) [
+        | inr le ↦ some_still c ((h c).1 (b.0, le))
+        | inl lt ↦ inr (record { place = k; await = w; this = (omega arith, this); at = at; reaches = (col c).1 (b.0, (let l : c ≤ max n u = b.1 in omega arith)) })
+      ]),
+    )
+
+    -- .. or is not
+    pub some_same : (n : ℕ) → (These w → ⊥) → IsMost (BySome k) n → IsMost (BySome (k + 1)) n
+    some_same n none h c = (
+      (λ s. elim (some_back c s) [ inl was ↦ (h c).0 was | inr by ↦ absurd (none by.0) ]),
+      (λ b. some_still c ((h c).1 b)),
+    )
 
 -- ---- the last step of a chain
 
 -- from another agent an action is reached through the action before or through one of its awaits
-pub step_back : (p : Program) (x a : ActionId) → x.agent ≢ a.agent → Reaches p x a → Reaches p x (action_before a) ⊎ ByOneOf (OfFirst (length (awaits_of p a.agent a.number))) p x a
+pub step_back : (p : Program) (x a : ActionId) → x.agent ≢ a.agent → Reaches p x a → ByBeforeOr (OfFirst (length (awaits_of p a.agent a.number))) p x a
 step_back p x a apart (cs, h) = elim (chain_ends_by_step p x cs a h) [
   | inl e ↦ absurd (apart (ap (λ (y : ActionId). y.agent) e))
   | inr l ↦ elim l.needs [
@@ -84,7 +94,7 @@ step_back p x a apart (cs, h) = elim (chain_ends_by_step p x cs a h) [
 ]
 
 -- .. and so it is
-pub step_on : (p : Program) (x a : ActionId) → IsAction p a → Reaches p x (action_before a) ⊎ ByOneOf (OfFirst (length (awaits_of p a.agent a.number))) p x a → Reaches p x a
+pub step_on : (p : Program) (x a : ActionId) → IsAction p a → ByBeforeOr (OfFirst (length (awaits_of p a.agent a.number))) p x a → Reaches p x a
 step_on p x a is (inl r) =
     let m = Reaches-last p x (action_before a) r in
     let next : a.number ≡ a.number - 1 + 1 = (let some : 1 ≤ a.number = is.first in omega arith) in
@@ -94,12 +104,29 @@ step_on p x a is (inr r) =
     let known : Contains (awaits_of p a.agent a.number) r.await = (r.place, r.this, get_or_from_slice_get (awaits_of p a.agent a.number) r.place r.await r.await r.at) in
     Reaches-trans p x (awaited r.await) a r.reaches (Reaches-need p (awaited r.await) a m is (inr known))
 
--- so the column of an action is all of it, for another agent
-pub part_all : (p : Program) (a : ActionId) (j n : ℕ) → IsAction p a → j ≢ a.agent → IsJoined (OfFirst (length (awaits_of p a.agent a.number))) p a j n → IsColumn p a j n
+-- n is the greatest number of an action of agent j that reaches the action before, or one of the awaits of others, or
+-- one of the first k of those of agent j
+abbrev pub IsOwnTo : Program → ActionId → ℕ → ℕ → ℕ → Type 0
+IsOwnTo p a j k n = IsMost (BySome p a j (λ c. ByBeforeOr (OfOthers j (length (awaits_of p a.agent a.number))) p (act j c) a) (λ w. w.agent ≡ j) k) n
+
+-- with all of them it is the column
+pub part_all : (p : Program) (a : ActionId) (j n : ℕ) → IsAction p a → j ≢ a.agent → IsOwnTo p a j (length (awaits_of p a.agent a.number)) n → IsColumn p a j n
 part_all p a j n is other h c = (
-  (λ r. ((Reaches-first p (act j c) a r).first, elim (step_back p (act j c) a other r) [ inl own ↦ h.own c own | inr by ↦ h.awaits c by ])),
-  (λ b. step_on p (act j c) a is (h.into c b.0 b.1)),
+  (λ r. (h c).0 (elim (step_back p (act j c) a other r) [
+    | inl own ↦ inl (inl own)
+    | inr by ↦ elim (cases_eq by.await.agent j) [
+      | inl e ↦ inr (one_of (OfFirst all) (OfOwn j all) p (act j c) a by (by.this, e))
+      | inr ne ↦ inl (inr (one_of (OfFirst all) (OfOthers j all) p (act j c) a by (by.this, ne)))
+    ]
+  ])),
+  (λ b. step_on p (act j c) a is (elim ((h c).1 b) [
+    | inr by ↦ inr (one_of (OfOwn j all) (OfFirst all) p (act j c) a by by.this.0)
+    | inl else ↦ elim else [ inl own ↦ inl own | inr by ↦ inr (one_of (OfOthers j all) (OfFirst all) p (act j c) a by by.this.0) ]
+  ])),
 )
+  where
+    all : ℕ
+    all = length (awaits_of p a.agent a.number)
 
 -- and for its own, whose later actions do not reach it
 pub own_column : (p : Program) (i n : ℕ) → IsAction p (record { agent = i; number = n }) → ((c : ℕ) → Reaches p (record { agent = i; number = c }) (record { agent = i; number = n }) → c ≤ n)

@@ -5,7 +5,6 @@ pub mod Placed
 pub mod Counting
 pub mod NextBlock
 pub mod Answered
-pub mod OthersJoined
 mod Pushed
 pub mod PiecePairs
 pub mod Gathered

@@ -1,10 +1,10 @@
 -- An await is implied if its count is no more than that of all that the action needs beside it.
-use Rattle.fleet_needs.proofs.Words.{◌≡◌, ◌≢◌, ℕ, ◌+◌, ◌-◌, ◌≤◌, length, refl, sym, ap, subst, ◌∙◌, arith, inl, inr, ◌⊎◌, Contains, slice_get, Some, nat_le, cases_eq, leb-true, le-leb, slice_get-get_or, get_or_from_slice_get, same_Some, ActionId, Await, Program, awaits_of, AreInRange, AreAwaits, Reaches, awaited, Reaches-last, action_before, ByOneOf, IsJoined, OfOthers, IsImplied, IsImpliedFlag}
+use Rattle.fleet_needs.proofs.Words.{◌≡◌, ◌≢◌, ℕ, ◌+◌, ◌-◌, ◌≤◌, length, refl, sym, ap, subst, ◌∙◌, arith, inl, inr, ◌⊎◌, Contains, slice_get, Some, nat_le, cases_eq, leb-true, le-leb, slice_get-get_or, get_or_from_slice_get, same_Some, ActionId, Await, Program, awaits_of, AreInRange, AreAwaits, Reaches, awaited, Reaches-last, action_before, ByBeforeOr, IsJoined, OfOthers, IsImplied, IsImpliedFlag}
 use Rattle.fleet_needs.proofs.AwaitOrder.{other_agent}
 
 -- an await of an action is implied if what it awaits is reached through the action before, or through another await
 module _ (p : Program) (range : AreInRange p) (a : ActionId) (w : Await) (known : Contains (awaits_of p a.agent a.number) w) (rising : AreAwaits (length p) a.agent (awaits_of p a.agent a.number)) where
-  pub implied_by : 1 ≤ a.number → Reaches p (awaited w) (action_before a) ⊎ ByOneOf (OfOthers w.agent (length (awaits_of p a.agent a.number))) p (awaited w) a → IsImplied p a w
+  pub implied_by : 1 ≤ a.number → ByBeforeOr (OfOthers w.agent (length (awaits_of p a.agent a.number))) p (awaited w) a → IsImplied p a w
   implied_by some (inl r) =
       let next : a.number ≡ a.number - 1 + 1 = omega arith in
       (action_before a, (λ e. (range a.agent a.number w known).other (sym (ap (λ (x : ActionId). x.agent) e))), inl (refl, next, (Reaches-last p (awaited w) (action_before a) r).first), r)
@@ -15,7 +15,7 @@ module _ (p : Program) (range : AreInRange p) (a : ActionId) (w : Await) (known 
     by.reaches,
   )
 
-  pub implied_back : IsImplied p a w → Reaches p (awaited w) (action_before a) ⊎ ByOneOf (OfOthers w.agent (length (awaits_of p a.agent a.number))) p (awaited w) a
+  pub implied_back : IsImplied p a w → ByBeforeOr (OfOthers w.agent (length (awaits_of p a.agent a.number))) p (awaited w) a
   implied_back (x, apart, inl (same, number, some), r) =
       inl (subst (Reaches p (awaited w)) (λ t. record { agent = sym same t; number = (let e : x.number ≡ a.number - 1 = omega arith in e) t }) r)
   implied_back (x, apart, inr (m, l, e), r) =
@@ -30,6 +30,6 @@ module _ (p : Program) (range : AreInRange p) (a : ActionId) (w : Await) (known 
 
   pub flagged : (n : ℕ) → IsJoined (OfOthers w.agent (length (awaits_of p a.agent a.number))) p a w.agent n → 1 ≤ a.number → IsImpliedFlag p a w (nat_le w.count n)
   flagged n h some = (
-    (λ e. implied_by some (h.into w.count (range a.agent a.number w known).first (leb-true w.count n e))),
-    (λ s. le-leb w.count n (elim (implied_back s) [ inl r ↦ h.own w.count r | inr by ↦ h.awaits w.count by ])),
+    (λ e. implied_by some ((h w.count).1 ((range a.agent a.number w known).first, leb-true w.count n e))),
+    (λ s. le-leb w.count n ((h w.count).0 (implied_back s)).1),
   )

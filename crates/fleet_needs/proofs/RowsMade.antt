@@ -1,13 +1,12 @@
 -- The counts of rows that are made of rows in their slots.
-use Rattle.fleet_needs.proofs.Words.{◌≡◌, ◌≢◌, ℕ, ◌+◌, ◌-◌, ◌*◌, ◌<◌, ◌≤◌, List, length, max, slice_index, refl, sym, ap, subst, ◌∙◌, arith, inl, inr, ◌⊎◌, slice_get, Some, cases_lt, cases_eq, ActionId, Await, Program, AreInRange, awaits_of, moves, IsAction, awaited, HasColumn, counts_of, are_narrow, CanHold, AreAlike, IsColumn, IsJoined, OfOthers, OfOthersOrFirst, Columns, JoinRow, SlotRows, Schedule, IsJoinRow, IsMade, Counts}
+use Rattle.fleet_needs.proofs.Words.{◌≡◌, ◌≢◌, ℕ, ◌+◌, ◌-◌, ◌*◌, ◌<◌, ◌≤◌, List, length, max, slice_index, refl, sym, ap, subst, ◌∙◌, arith, inl, inr, ◌⊎◌, slice_get, Some, cases_lt, cases_eq, ActionId, Await, Program, AreInRange, awaits_of, moves, IsAction, awaited, HasColumn, counts_of, are_narrow, CanHold, AreAlike, Reaches, IsColumn, IsJoined, ByBeforeOr, OfOthers, action_before, Columns, JoinRow, SlotRows, Schedule, IsJoinRow, IsMade, Counts}
 use Rattle.fleet_needs.specs.Joins.{AreQuiet, join_at, need_of, row_taken, IsJoin, AreOwn}
 use Rattle.fleet_needs.specs.declared.joins.Need.{Need}
 use Rattle.fleet_needs.specs.Schedule.{joins_in, next_action, IsSchedule, AreColumnsOf, AreCounts, AreRowsTo, IsRowFor, IsThere, StandsThere, IsNextJoin, IsNextNeed, AreJoinedWith, count_in_slot}
 use Rattle.fleet_needs.specs.Slots.{IsStill}
 use Rattle.fleet_needs.specs.declared.joins.Join.{Join}
 use Rattle.fleet_needs.proofs.Placed.{row_ends}
-use Rattle.fleet_needs.proofs.Joining.{quiet_on, column_stays, column_none, joined_none, part_all, own_column, awaited_action}
-use Rattle.fleet_needs.proofs.OthersJoined.{others_more, others_same, first_none, first_more, first_same, first_all}
+use Rattle.fleet_needs.proofs.Joining.{quiet_on, column_stays, column_none, IsOwnTo, some_first, some_more, some_same, part_all, own_column, awaited_action}
 
 -- ---- actions that add no chain
 
@@ -87,9 +86,6 @@ module _ (p : Program) (s : Schedule) (is : IsSchedule p s) (n : ℕ) (l : n < j
     stands = record { agent = next_is.action.agent; last = (let m : (next_action s n).number ≤ moves p (next_action s n).agent = next_is.action.last in omega arith); stands = next_is.base };
   })
 
-  pub need_within : (k : ℕ) → k < length (awaits_of p (next_action s n).agent (next_action s n).number) → (join_at s.joins.items n).first + k < length s.needs.items
-  need_within k m = (let w = next_is.within in omega arith)
-
   pub next_need : AreInRange p → (k : ℕ) → k < length (awaits_of p (next_action s n).agent (next_action s n).number) → (x : Need) → x ≡ need_of s.needs.items (join_at s.joins.items n) k → IsNextNeed p s n (next_action s n) k x
   next_need range k m x e =
       let need = next_is.each k m in
@@ -137,37 +133,49 @@ AreOthersTo p columns a k row = (j m : ℕ) → HasColumn columns j m → j ≢ 
 
 -- .. and then of the awaited agents' own columns
 abbrev pub AreOwnTo : Program → Columns → ActionId → ℕ → List ℕ → Type 0
-AreOwnTo p columns a k row = (j m : ℕ) → HasColumn columns j m → j ≢ a.agent → IsJoined (OfOthersOrFirst j k) p a j (slice_index row m)
+AreOwnTo p columns a k row = (j m : ℕ) → HasColumn columns j m → j ≢ a.agent → IsOwnTo p a j k (slice_index row m)
 
 module _ (p : Program) (columns : Columns) (a : ActionId) where
-  pub others_first : (row : List ℕ) → AreCounts p columns a.agent (a.number - 1) (slice_index row) → AreOthersTo p columns a 0 row
-  others_first row h j m has ne = joined_none p a j (OfOthers j 0) (slice_index row m) (λ k w t. (let l : k < 0 = t.0 in omega arith)) ((h j m has).0 ne)
+  abbrev Before : ℕ → ℕ → Type 0
+  Before j c = Reaches p (record { agent = j; number = c }) (action_before a)
 
-  pub others_next : (k : ℕ) (w : Await) → slice_get (awaits_of p a.agent a.number) k ≡ Some w → (old new : List ℕ) → AreJoinedWith p columns w.agent w.count old new → AreOthersTo p columns a k old → AreOthersTo p columns a (k + 1) new
-  others_next k w at old new joined h j m has ne = elim (cases_eq w.agent j) [
-    | inl e ↦ subst (IsJoined (OfOthers j (k + 1)) p a j) (sym ((joined j m has).1 (sym e))) (others_same p a j (slice_index old m) k w (h j m has ne) at e)
-    | inr apart ↦
-        let made = (joined j m has).0 (λ e. apart (sym e)) in
-        subst (IsJoined (OfOthers j (k + 1)) p a j) (sym made.2) (others_more p a j (slice_index old m) k w made.0 (h j m has ne) at apart made.1)
-  ]
+  abbrev Others : ℕ → ℕ → Type 0
+  Others j c = ByBeforeOr (OfOthers j (length (awaits_of p a.agent a.number))) p (record { agent = j; number = c }) a
+
+  abbrev Other : ℕ → Await → Type 0
+  Other j w = w.agent ≢ j
+
+  abbrev Own : ℕ → Await → Type 0
+  Own j w = w.agent ≡ j
+
+  pub others_first : (row : List ℕ) → AreCounts p columns a.agent (a.number - 1) (slice_index row) → AreOthersTo p columns a 0 row
+  others_first row h j m has ne = some_first p a j (Before j) (Other j) (slice_index row m) ((h j m has).0 ne)
 
   pub own_first : (row : List ℕ) → AreOthersTo p columns a (length (awaits_of p a.agent a.number)) row → AreOwnTo p columns a 0 row
-  own_first row h j m has ne = first_none p a j (slice_index row m) (h j m has ne)
+  own_first row h j m has ne = some_first p a j (Others j) (Own j) (slice_index row m) (h j m has ne)
 
-  pub own_next : (own : AreOwn p) (k : ℕ) (w : Await) → slice_get (awaits_of p a.agent a.number) k ≡ Some w → IsAction p (awaited w) → (old new : List ℕ)
-      → ((m : ℕ) → HasColumn columns w.agent m → slice_index new m ≡ max (slice_index old m) w.count) → ((j m : ℕ) → j ≢ w.agent → HasColumn columns j m → slice_index new m ≡ slice_index old m)
-      → AreOwnTo p columns a k old → AreOwnTo p columns a (k + 1) new
-  own_next own k w at is old new here others h j m has ne = elim (cases_eq w.agent j) [
-    | inl e ↦
-        let col : IsColumn p (awaited w) j w.count = subst (λ (x : ℕ). IsColumn p (awaited w) x w.count) e (own_column p w.agent w.count is (λ c r. own (awaited w) c is r)) in
-        subst (IsJoined (OfOthersOrFirst j (k + 1)) p a j) (sym (here m (subst (λ (x : ℕ). HasColumn columns x m) (sym e) has))) (first_more p a j (slice_index old m) k w w.count (h j m has ne) at col)
-    | inr apart ↦ subst (IsJoined (OfOthersOrFirst j (k + 1)) p a j) (sym (others j m (λ e. apart (sym e)) has)) (first_same p a j (slice_index old m) k w (h j m has ne) at apart)
-  ]
+  module _ (k : ℕ) (w : Await) (at : slice_get (awaits_of p a.agent a.number) k ≡ Some w) (old new : List ℕ) where
+    pub others_next : AreJoinedWith p columns w.agent w.count old new → AreOthersTo p columns a k old → AreOthersTo p columns a (k + 1) new
+    others_next joined h j m has ne = elim (cases_eq w.agent j) [
+      | inl e ↦ subst (IsJoined (OfOthers j (k + 1)) p a j) (sym ((joined j m has).1 (sym e))) (some_same p a j (Before j) (Other j) k w at (slice_index old m) (λ apart. apart e) (h j m has ne))
+      | inr apart ↦
+          let made = (joined j m has).0 (λ e. apart (sym e)) in
+          subst (IsJoined (OfOthers j (k + 1)) p a j) (sym made.2) (some_more p a j (Before j) (Other j) k w at (slice_index old m) made.0 apart made.1 (h j m has ne))
+    ]
+
+    pub own_next : AreOwn p → IsAction p (awaited w) → ((m : ℕ) → HasColumn columns w.agent m → slice_index new m ≡ max (slice_index old m) w.count) → ((j m : ℕ) → j ≢ w.agent → HasColumn columns j m → slice_index new m ≡ slice_index old m)
+        → AreOwnTo p columns a k old → AreOwnTo p columns a (k + 1) new
+    own_next own is here others h j m has ne = elim (cases_eq w.agent j) [
+      | inl e ↦
+          let col : IsColumn p (awaited w) j w.count = subst (λ (x : ℕ). IsColumn p (awaited w) x w.count) e (own_column p w.agent w.count is (λ c r. own (awaited w) c is r)) in
+          subst (IsOwnTo p a j (k + 1)) (sym (here m (subst (λ (x : ℕ). HasColumn columns x m) (sym e) has))) (some_more p a j (Others j) (Own j) k w at (slice_index old m) w.count e col (h j m has ne))
+      | inr apart ↦ subst (IsOwnTo p a j (k + 1)) (sym (others j m (λ e. apart (sym e)) has)) (some_same p a j (Others j) (Own j) k w at (slice_index old m) apart (h j m has ne))
+    ]
 
   pub own_last : (row new : List ℕ) → IsAction p a → AreOwnTo p columns a (length (awaits_of p a.agent a.number)) row
       → ((m : ℕ) → HasColumn columns a.agent m → slice_index new m ≡ 0) → ((j m : ℕ) → j ≢ a.agent → HasColumn columns j m → slice_index new m ≡ slice_index row m) → AreCounts p columns a.agent a.number (slice_index new)
   own_last row new is h here others j m has = (
-    (λ ne. subst (λ (v : ℕ). IsColumn p a j v) (sym (others j m ne has)) (part_all p a j (slice_index row m) is ne (first_all p a j (slice_index row m) (h j m has ne)))),
+    (λ ne. subst (IsColumn p a j) (sym (others j m ne has)) (part_all p a j (slice_index row m) is ne (h j m has ne))),
     (λ e. here m (subst (λ (x : ℕ). HasColumn columns x m) e has)),
   )
 

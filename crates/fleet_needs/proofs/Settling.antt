@@ -1,8 +1,8 @@
 -- What is reached, and what is not, by the levels of actions and by what they directly need.
-use Rattle.fleet_needs.proofs.Words.{◌≡◌, ◌≢◌, ℕ, ◌+◌, ◌-◌, ◌<◌, ◌≤◌, Bool, true, false, List, length, get_or, set, refl, sym, ap, subst, ◌∙◌, arith, inl, inr, ◌⊎◌, Contains, slice_get, Some, None, Option, ◌↔◌, cases_lt, cases_eq, false≢true, true≢false, get_or-set_same, get_or-set_other, get_or_past, slice_get_within, get_or_from_slice_get, same_Some, ActionId, Await, Program, moves, awaits_of, AreInRange, IsWellFormed, IsAction, Reaches, IsNumbering, awaited, chain_ends_by_step, Reaches-rises, Reaches-last, IsImplied, IsSettled, AreSettledOf, AreMoreAsked, ReachesNeed, IsUpTo, action_before, ByOneOf, OfFirst, OfOthers}
+use Rattle.fleet_needs.proofs.Words.{◌≡◌, ◌≢◌, ℕ, ◌+◌, ◌-◌, ◌<◌, ◌≤◌, Bool, true, false, List, length, get_or, set, refl, sym, ap, subst, ◌∙◌, arith, inl, inr, ◌⊎◌, Contains, slice_get, Some, None, Option, ◌↔◌, cases_lt, cases_eq, false≢true, true≢false, get_or-set_same, get_or-set_other, get_or_past, slice_get_within, get_or_from_slice_get, same_Some, ActionId, Await, Program, moves, awaits_of, AreInRange, IsWellFormed, IsAction, Reaches, IsNumbering, awaited, chain_ends_by_step, Reaches-rises, Reaches-last, IsImplied, IsSettled, AreSettledOf, AreMoreAsked, ReachesNeed, IsUpTo, action_before, ByBeforeOr, ByOneOf, OfFirst, OfOthers}
 use Rattle.fleet_needs.proofs.AwaitOrder.{other_agent}
 use Rattle.fleet_needs.proofs.RowFlags.{implied_by, implied_back}
-use Rattle.fleet_needs.proofs.Joining.{own_first, by_await, step_back, step_on}
+use Rattle.fleet_needs.proofs.Joining.{one_of, own_first, by_await, step_back, step_on}
 
 -- the answer of a search that says yes is not the one that says no
 pub no_is_not_yes : Some false ≡ Some true → ⊥
@@ -67,10 +67,9 @@ none_need p first a but n all awaits own (inl r) = own r
 none_need p first a but n all awaits own (inr by) = awaits by.place by.await (omega (arith, all, slice_get_within (awaits_of p a.agent a.number) by.place by.await by.at)) by.this by.at by.reaches
 
 -- what one of these awaits gives, one of more gives
-by_more : (p : Program) (x a : ActionId) (These More : ℕ → Await → Type 0) → ((k : ℕ) (w : Await) → slice_get (awaits_of p a.agent a.number) k ≡ Some w → These k w → More k w) → Reaches p x (action_before a) ⊎ ByOneOf These p x a
-    → Reaches p x (action_before a) ⊎ ByOneOf More p x a
+by_more : (p : Program) (x a : ActionId) (These More : ℕ → Await → Type 0) → ((k : ℕ) (w : Await) → slice_get (awaits_of p a.agent a.number) k ≡ Some w → These k w → More k w) → ByBeforeOr These p x a → ByBeforeOr More p x a
 by_more p x a These More more (inl r) = inl r
-by_more p x a These More more (inr by) = inr (record { place = by.place; await = by.await; this = more by.place by.await by.at by.this; at = by.at; reaches = by.reaches })
+by_more p x a These More more (inr by) = inr (one_of These More p x a by (more by.place by.await by.at by.this))
 
 -- what reaches one of those that the action directly needs reaches the action
 pub need_on : (p : Program) (x a : ActionId) (but : ℕ) → IsAction p a → ReachesNeed p x a but → Reaches p x a

@@ -2,9 +2,12 @@
 use Rattle.std.proofs.Common.{◌≡◌, ◌≢◌, ℕ, ◌+◌, ◌-◌, ◌<◌, ◌≤◌, List, [], ◌∷◌, ◌++◌, length, slice_index, refl, sym, ap, subst, ◌∙◌, arith, inl, inr}
 use Rattle.std.proofs.lemmas.Bool.{cases_lt, cases_eq}
 use Rattle.std.proofs.lemmas.List.{get_or-set_other, get_or_past, length-set, length_push, get_or_append_left, get_or_push}
+use Rattle.std.specs.Prelude.{Vec}
+use Rattle.std.specs.Vec.{with_item}
+use Rattle.std.specs.declared.alloc.Global.{Global}
 use Rattle.fleet_model.specs.Program.{Program}
 use Rattle.fleet_needs.specs.Joins.{AreAllJoins, IsJoin, Takes, join_at, row_taken}
-use Rattle.fleet_needs.specs.Slots.{AreSlotted, HasEnded, HasSlotNow, IsFree, IsHeld, IsStill, TakesIn, owner_of, rows_in, slot_in, slots_in}
+use Rattle.fleet_needs.specs.Slots.{AreSlotted, HasSlotNow, IsFree, IsHeld, IsStill, TakesIn, owner_of, rows_in, slot_in, slots_in}
 use Rattle.fleet_needs.specs.declared.joins.Join.{Join}
 use Rattle.fleet_needs.specs.declared.joins.Joins.{Joins}
 use Rattle.fleet_needs.specs.declared.schedule.Slots.{Slots}
@@ -56,55 +59,37 @@ module _ (Takes : ℕ → ℕ → Type 0) (from n : ℕ) where
       stays : (k x : ℕ) → from ≤ k → Takes k x → 1 ≤ x → slot_in new x ≡ slot_in old x
       stays k x later takes some = elim (cases_lt n x) [ inl after ↦ settled x after | inr upto ↦ (h.kept x some (was.taken k x later takes some upto)).1 ]
 
-  -- no slots yet
-  pub slotted_none : (m : Slots) → rows_in m ≤ n → ((k r : ℕ) → from ≤ k → Takes k r → ⊥) → AreSlotted Takes from n m
-  slotted_none m few none = record {
-    within = λ x after upto. absurd (omega (arith, after, upto, few));
-    taken = λ k x later takes. absurd (none k x later takes);
-    still = λ k x y later takes. absurd (none k x later takes);
+-- one row more is settled: it has a slot, which is free before it is made
+module _ (Takes : ℕ → ℕ → Type 0) (n : ℕ) (old mid : Slots) (h : IsHeld (n + 1) old mid) (free : Vec ℕ Global) (slot : ℕ) (at : slot ≡ slice_index mid.outs.items n) (was : AreSlotted Takes (n + 1) (n + 1) old) where
+  abbrev new : Slots
+  new = record { outs = mid.outs; owners = with_item mid.owners slot 0; free = free }
+
+  own : HasSlotNow mid (n + 1)
+  own = h.here (omega arith)
+
+  slot_is : slot ≡ slot_in mid (n + 1)
+  slot_is = at ∙ ap (slice_index mid.outs.items) (let e : n ≡ n + 1 - 1 = omega arith in e)
+
+  held : AreSlotted Takes (n + 1) (n + 1) mid
+  held = held_on Takes (n + 1) (n + 1) (n + 1) old mid (omega arith) h was
+
+  wide : slots_in new ≡ slots_in mid
+  wide = length-set mid.owners.items slot 0
+
+  pub row_ended : AreSlotted Takes (n + 1) n new
+  row_ended = record {
+    within = λ x after last. elim (cases_eq x (n + 1)) [
+      | inl e ↦ omega (arith, ap (slot_in mid) e, slot_within mid (n + 1) (omega arith) own, wide)
+      | inr ne ↦ omega (arith, held.within x (omega (arith, after, ne)) last, wide)
+    ];
+    taken = λ k r later takes some low.
+        let has = held.taken k r later takes some (omega (arith, low)) in
+        get_or-set_other mid.owners.items slot (slot_in mid r) 0 0 (λ e. slots_apart mid r (n + 1) (λ f. omega (arith, f, low)) has own (e ∙ slot_is)) ∙ has;
+    still = λ k r x later takes some less after last. elim (cases_eq x (n + 1)) [
+      | inr ne ↦ held.still k r x later takes some less (omega (arith, after, ne)) last
+      | inl e ↦ (λ same. slots_apart mid (n + 1) r (λ f. omega (arith, f, e, less)) own (held.taken k r later takes some (omega (arith, e, less))) (ap (slot_in mid) (sym e) ∙ same))
+    ];
   }
-
-  -- all that one join more takes has slots
-  pub slotted_more : (m : Slots) → from ≡ n → ((r : ℕ) → Takes n r → 1 ≤ r → r ≤ n → HasSlotNow m r) → AreSlotted Takes (from + 1) n m → AreSlotted Takes from n m
-  slotted_more m same here was = record {
-    within = was.within;
-    taken = λ k r later takes some upto. elim (cases_eq k n) [ inl e ↦ here r (subst (λ (i : ℕ). Takes i r) e takes) some upto | inr ne ↦ was.taken k r (omega (arith, later, ne, same)) takes some upto ];
-    still = λ k r x later takes some less after upto. was.still k r x (omega (arith, after, upto, same)) takes some less after upto;
-  }
-
--- one row more is settled
-pub ended_on : (Takes : ℕ → ℕ → Type 0) (n : ℕ) (old new : Slots) → n + 1 ≤ rows_in old → HasEnded (n + 1) old new → AreSlotted Takes (n + 1) (n + 1) old → AreSlotted Takes (n + 1) n new
-ended_on Takes n old new upto h was = record {
-  within = λ x after last. elim (cases_eq x (n + 1)) [
-    | inl e ↦ omega (arith, ap (slot_in new) e, slot (n + 1), slot_within h.held (n + 1) (omega arith) own, wide)
-    | inr ne ↦ (let w = mid.within x (omega (arith, after, ne)) (omega (arith, last, rows)) in omega (arith, w, slot x, wide))
-  ];
-  taken = λ k r later takes some low. stays r some low (mid.taken k r later takes some (omega (arith, low)));
-  still = λ k r x later takes some less after last same. elim (cases_eq x (n + 1)) [
-    | inl e ↦ slots_apart h.held (n + 1) r (λ f. omega (arith, f, e, less)) own (mid.taken k r later takes some (omega (arith, e, less))) (sym (slot (n + 1)) ∙ ap (slot_in new) (sym e) ∙ same ∙ slot r)
-    | inr ne ↦ mid.still k r x later takes some less (omega (arith, after, ne)) last (sym (slot x) ∙ same ∙ slot r)
-  ];
-}
-  where
-    mid : AreSlotted Takes (n + 1) (n + 1) h.held
-    mid = held_on Takes (n + 1) (n + 1) (n + 1) old h.held (omega arith) h.is was
-
-    own : HasSlotNow h.held (n + 1)
-    own = h.is.here (omega arith)
-
-    rows : rows_in new ≡ rows_in h.held
-    rows = ap (λ xs. length xs.items) h.outs
-
-    slot : (x : ℕ) → slot_in new x ≡ slot_in h.held x
-    slot x = ap (λ xs. slice_index xs.items (x - 1)) h.outs
-
-    wide : slots_in new ≡ slots_in h.held
-    wide = ap (λ (xs : List ℕ). length xs) h.owners ∙ length-set h.held.owners.items (slot_in h.held (n + 1)) 0
-
-    stays : (r : ℕ) → 1 ≤ r → r ≤ n → HasSlotNow h.held r → HasSlotNow new r
-    stays r some low has =
-        ap (owner_of new) (slot r) ∙ ap (λ (xs : List ℕ). slice_index xs (slot_in h.held r)) h.owners
-        ∙ get_or-set_other h.held.owners.items (slot_in h.held (n + 1)) (slot_in h.held r) 0 0 (slots_apart h.held r (n + 1) (λ e. omega (arith, e, low)) has own) ∙ has
 
 -- ---- what a join takes
 
@@ -126,8 +111,16 @@ module _ (p : Program) (joins : Joins) (h : AreAllJoins p joins) (n : ℕ) (with
     has_slot r (inl e) some = subst (HasSlotNow m) (sym e) (base (omega (arith, e, some)))
     has_slot r (inr (k, l, e)) some = subst (HasSlotNow m) (sym e) (each k (omega (arith, l, is_join.count)) (omega (arith, e, some)))
 
-    pub all_held : AreSlotted (TakesIn p joins) (n + 1) n m → AreSlotted (TakesIn p joins) n n m
-    all_held was = slotted_more (TakesIn p joins) n n m refl (λ r takes some upto. has_slot r (subst (λ (x : Join). Takes p joins.needs.items x r) (sym same) takes.1) some) was
+    -- once all of it has slots
+    pub join_settled : AreSlotted (TakesIn p joins) (n + 1) n m → AreSlotted (TakesIn p joins) n n m
+    join_settled was = record {
+      within = was.within;
+      taken = λ k r later takes some upto. elim (cases_eq k n) [
+        | inl e ↦ has_slot r (subst (λ (x : Join). Takes p joins.needs.items x r) (ap (join_at joins.joins.items) e ∙ sym same) takes.1) some
+        | inr ne ↦ was.taken k r (omega (arith, later, ne)) takes some upto
+      ];
+      still = λ k r x later takes some less after upto. was.still k r x (omega (arith, after, upto)) takes some less after upto;
+    }
 
 -- in the end each row is still in its slot whenever it is taken
 pub still_all : (Takes : ℕ → ℕ → Type 0) (m : Slots) → AreSlotted Takes 0 0 m → (k r : ℕ) → Takes k r → 1 ≤ r → IsStill m.outs.items r k

@@ -28,7 +28,7 @@ pub use Rattle.fleet_needs.specs.JoinPass.{AreOthers, IsMade, IsJoinRow, HasOthe
 pub use Rattle.fleet_needs.specs.Kernels.{AreJoined}
 pub use Rattle.fleet_needs.specs.Pieces.{IsOf, IsTold, AreTold, key_of, AreSorted, IsLatest, AreLater, count_by}
 pub use Rattle.fleet_needs.specs.Places.{ArePlaces, action_place, ArePlacesOf, place_of_action}
-pub use Rattle.fleet_needs.specs.Rows.{IsColumn, IsJoined, OfFirst, OfOthers, OfOthersOrFirst, action_before, ByOneOf}
+pub use Rattle.fleet_needs.specs.Rows.{IsColumn, IsJoined, OfFirst, OfOthers, action_before, ByBeforeOr, ByOneOf}
 pub use Rattle.fleet_needs.specs.Settled.{AreSettled, IsSettled, AreSettledOf, AreMoreAsked, IsUpTo, AreSettledTo, ReachesNeed}
 pub use Rattle.fleet_needs.specs.declared.schedule.Columns.{Columns}
 pub use Rattle.fleet_needs.specs.declared.schedule.Schedule.{Schedule}

@@ -1,5 +1,5 @@
 -- Rows that are made, and the rows that they are joined of.
-use Rattle.std.specs.Prelude.{◌≡◌, ◌≢◌, ℕ, ◌+◌, ◌-◌, ◌<◌, ◌≤◌, ◌⊎◌, Bool, true, List, length, get_or, slice_index, slice_get, Some}
+use Rattle.std.specs.Prelude.{◌≡◌, ◌≢◌, ℕ, ◌+◌, ◌-◌, ◌<◌, ◌≤◌, ◌⊎◌, Bool, false, List, length, get_or, slice_index, slice_get, Some}
 use Rattle.fleet_model.specs.declared.program.Await.{Await}
 use Rattle.fleet_model.specs.declared.program.ActionId.{ActionId}
 use Rattle.fleet_model.specs.Program.{Program, awaits_of, moves, total_awaits}
@@ -146,8 +146,7 @@ AreUpTo p These a = (m : ℕ) → m ≤ a.number → IsAwaiting p (record { agen
 pub record AreJoinsOf (p : Program) (Passed These : ActionId → Type 0) (m : Joins) : Type 0 where
   pub sound : AreSound p m
   pub standing : (a : ActionId) → IsUpToLast p a → AreUpTo p These a → IsStanding p m a
-  pub rows : HasAllRows p m.joins.items These
-  pub passed : HasRowOr Passed p m.joins.items These
+  pub rows : HasRowOr (λ a. AddsNone p a.agent a.number × Passed a) p m.joins.items These
   pub rising : AreRising m.joins.items
   pub made : (n : ℕ) → n < length m.joins.items → These (join_at m.joins.items n).action
 
@@ -197,7 +196,7 @@ pub record HasJoined (p : Program) (a : ActionId) (made : Bool) (r : ℕ) (old n
   pub grown : HaveGrown a old.joins.items new.joins.items
   pub within : r ≤ length new.joins.items
   pub stands : StandsFor p new.joins.items r a.agent a.number
-  pub here : made ≡ true → IsRow new.joins.items r a
+  pub here : IsRow new.joins.items r a ⊎ (made ≡ false)
 
 -- the action has been added
 pub record IsAdded (p : Program) (a : ActionId) (made : Bool) (old new : Joins) : Type 0 where
@@ -205,7 +204,7 @@ pub record IsAdded (p : Program) (a : ActionId) (made : Bool) (old new : Joins) 
   pub grown : HaveGrown a old.joins.items new.joins.items
   pub kept : (x : ActionId) → row_place p x ≢ row_place p a → IsStanding p old x → IsStanding p new x
   pub here : IsStanding p new a
-  pub row : made ≡ true → (r : ℕ) × IsRow new.joins.items r a
+  pub row : ((r : ℕ) × IsRow new.joins.items r a) ⊎ (made ≡ false)
 
 -- the joins of all actions of the program, in which no action needs a later one of its agent
 pub record AreAllJoins (p : Program) (m : Joins) : Type 0 where

@@ -2,6 +2,10 @@
 use Rattle.std.specs.Prelude.{◌≡◌, ◌≢◌, ℕ, ◌-◌, ◌<◌, ◌≤◌, ◌↔◌, ◌⊎◌, slice_get, Some}
 use Rattle.fleet_needs.specs.Words.{ActionId, Await, Program, awaits_of, Reaches, awaited}
 
+-- n is the greatest number of which it is so, or 0; it is so of all from 1 up to there
+abbrev pub IsMost : (ℕ → Type 0) → ℕ → Type 0
+IsMost Is n = (c : ℕ) → Is c ↔ ((1 ≤ c) × (c ≤ n))
+
 -- n is the greatest c such that action c of agent j begins a chain that ends with the action, or 0
 abbrev pub IsColumn : Program → ActionId → ℕ → ℕ → Type 0
 IsColumn p a j n = (c : ℕ) → Reaches p (record { agent = j; number = c }) a ↔ ((1 ≤ c) × (c ≤ n))
@@ -18,20 +22,26 @@ pub record ByOneOf (These : ℕ → Await → Type 0) (p : Program) (x a : Actio
   pub at : slice_get (awaits_of p a.agent a.number) place ≡ Some await
   pub reaches : Reaches p x (awaited await)
 
+-- x is reached from the action before, or from one of these awaits
+abbrev pub ByBeforeOr : (ℕ → Await → Type 0) → Program → ActionId → ActionId → Type 0
+ByBeforeOr These p x a = Reaches p x (action_before a) ⊎ ByOneOf These p x a
+
 -- the column of agent j is that of the action before a and of these awaits of a
-pub record IsJoined (These : ℕ → Await → Type 0) (p : Program) (a : ActionId) (j n : ℕ) : Type 0 where
-  pub into : (c : ℕ) → 1 ≤ c → c ≤ n → Reaches p (record { agent = j; number = c }) (action_before a) ⊎ ByOneOf These p (record { agent = j; number = c }) a
-  pub own : (c : ℕ) → Reaches p (record { agent = j; number = c }) (action_before a) → c ≤ n
-  pub awaits : (c : ℕ) → ByOneOf These p (record { agent = j; number = c }) a → c ≤ n
+abbrev pub IsJoined : (ℕ → Await → Type 0) → Program → ActionId → ℕ → ℕ → Type 0
+IsJoined These p a j n = IsMost (λ c. ByBeforeOr These p (record { agent = j; number = c }) a) n
 
 -- the await is among the first k
 abbrev pub OfFirst : ℕ → ℕ → Await → Type 0
 OfFirst k place w = place < k
 
--- among the first k, those of other agents than j
-abbrev pub OfOthers : ℕ → ℕ → ℕ → Await → Type 0
-OfOthers j k place w = (place < k) × (w.agent ≢ j)
+-- .. and one of these
+abbrev pub OfThese : (Await → Type 0) → ℕ → ℕ → Await → Type 0
+OfThese These k place w = (place < k) × These w
 
--- those of other agents than j, and all among the first k
-abbrev pub OfOthersOrFirst : ℕ → ℕ → ℕ → Await → Type 0
-OfOthersOrFirst j k place w = (w.agent ≢ j) ⊎ (place < k)
+-- .. of another agent than j
+abbrev pub OfOthers : ℕ → ℕ → ℕ → Await → Type 0
+OfOthers j = OfThese (λ w. w.agent ≢ j)
+
+-- .. of agent j
+abbrev pub OfOwn : ℕ → ℕ → ℕ → Await → Type 0
+OfOwn j = OfThese (λ w. w.agent ≡ j)

@@ -2,7 +2,7 @@
 use Rattle.std.specs.Prelude.{◌≡◌, ◌≢◌, ℕ, ◌<◌, ◌≤◌, ◌⊎◌, Bool, true, false, List, length, get_or, Vec}
 use Rattle.std.specs.declared.alloc.Global.{Global}
 use Rattle.fleet_needs.specs.Words.{Await, ActionId, Program, IsAction, Reaches}
-use Rattle.fleet_needs.specs.Rows.{action_before, ByOneOf}
+use Rattle.fleet_needs.specs.Rows.{ByBeforeOr}
 use Rattle.fleet_needs.specs.Implied.{IsImplied, IsImpliedFlag, EachFlag, AreNoted}
 
 -- the flag says whether the await is implied; or its agent is asked for, and the flag is set only if it is
@@ -32,7 +32,7 @@ AreSettledTo p asked a n old new = AreNoted p a (λ k w flag. IsSettled p asked 
 
 -- x reaches the action before a, or what one of its awaits names, but not this one
 abbrev pub ReachesNeed : Program → ActionId → ActionId → ℕ → Type 0
-ReachesNeed p x a but = Reaches p x (action_before a) ⊎ ByOneOf (λ k w. k ≢ but) p x a
+ReachesNeed p x a but = ByBeforeOr (λ k w. k ≢ but) p x a
 
 -- the actions of the agents before this one, and its first ones, so many
 abbrev pub IsUpTo : ℕ → ℕ → ActionId → Type 0

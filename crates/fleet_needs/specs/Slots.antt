@@ -1,5 +1,5 @@
 -- Slots for rows, given from the last row back to the first: each row is kept until it has been taken for the last time.
-use Rattle.std.specs.Prelude.{◌≡◌, ◌≢◌, ℕ, ◌-◌, ◌<◌, ◌≤◌, List, length, set, slice_index}
+use Rattle.std.specs.Prelude.{◌≡◌, ◌≢◌, ℕ, ◌-◌, ◌<◌, ◌≤◌, List, length, slice_index}
 use Rattle.fleet_model.specs.Program.{Program}
 use Rattle.fleet_needs.specs.Joins.{Takes, join_at}
 use Rattle.fleet_needs.specs.declared.joins.Joins.{Joins}
@@ -54,10 +54,3 @@ pub record IsHeld (r : ℕ) (old new : Slots) : Type 0 where
   pub here : 1 ≤ r → HasSlotNow new r
   pub kept : (x : ℕ) → 1 ≤ x → HasSlotNow old x → HasSlotNow new x × (slot_in new x ≡ slot_in old x)
   pub others : (x : ℕ) → 1 ≤ x → x ≢ r → slot_in new x ≡ slot_in old x
-
--- .. and then row r no longer has it
-pub record HasEnded (r : ℕ) (old new : Slots) : Type 0 where
-  pub held : Slots
-  pub is : IsHeld r old held
-  pub outs : new.outs ≡ held.outs
-  pub owners : new.owners.items ≡ set held.owners.items (slot_in held r) 0

@@ -6,12 +6,12 @@ ghost use Rattle.fleet_model.specs.declared.limits.TheConstants.{MAX_AGENTS};
 ghost use Rattle.fleet_model.specs.Program.{AreInRange, moves};
 ghost use Rattle.fleet_model.specs.Chain.{IsAction};
 ghost use Rattle.fleet_needs.specs.Asked.{IsQuestion};
-ghost use Rattle.fleet_needs.specs.Joins.{AreAllJoins, HasRowOr, joins_made, rows_made};
+ghost use Rattle.fleet_needs.specs.Joins.{AreAllJoins, HasRowOr, join_at, joins_made, rows_made};
 ghost use Rattle.fleet_needs.specs.Flags.{AreSureIf, IsPassed};
 ghost use Rattle.fleet_needs.specs.Order.{IsLevelOrder};
 ghost use Rattle.fleet_needs.specs.Answering.{AreListed};
 ghost use Rattle.fleet_needs.specs.Schedule.{IsSchedule, IsNextJoin, IsNextNeed, joins_of, joins_in, next_action};
-ghost use Rattle.fleet_needs.specs.Slots.{AreSlotted, HasEnded, HasSlotNow, IsFree, IsHeld, TakesIn, rows_in};
+ghost use Rattle.fleet_needs.specs.Slots.{AreSlotted, HasSlotNow, IsFree, IsHeld, TakesIn, rows_in};
 ghost use Rattle.fleet_needs.specs.Columns.{AreColumns, IsNextBlock, agents_in, column_of};
 
 use crate::implied::ImpliedAwaits;
@@ -193,48 +193,41 @@ fn slots_of<P: ProgramView>(alloc: Global, program: &P, joins: &Joins) -> Result
         free: Vec::new(alloc),
     };
     for n in (0..rows).rev() {
-        slots.end_row(n as u32 + 1)?;
-        slots.hold_taken(program, joins, n)?;
+        slots.settle(program, joins, n, &joins.joins[n])?;
     }
     Ok(slots)
 }
 
 impl Slots {
-    /// Frees the slot of a row that no earlier one takes, after it was given one, if it had none.
-    fn end_row(&mut self, row: u32) -> Result<(), OutOfMemory>
-        requires some { 1 ≤ row }
-        requires within { row ≤ rows_in self.old }
-        ensures { OnOk result (HasEnded row self.old self.new) }
-    {
-        self.hold(row)?;
-        let slot = self.outs[row as usize - 1];
-        self.owners[slot as usize] = 0;
-        self.free.push(slot)?;
-        Ok(())
-    }
-
-    /// Gives slots to the rows that the join after n others takes.
-    fn hold_taken<P: ProgramView>(
+    /// Gives a slot to the row of the join after n others, if no later one took it, and frees it before the row is made.
+    /// Then gives slots to the rows that the join takes.
+    fn settle<P: ProgramView>(
         &mut self,
         program: &P,
         joins: &Joins,
         n: usize,
+        join: &Join,
     ) -> Result<(), OutOfMemory>
         requires joins { AreAllJoins (P.program program.now) joins.now }
         requires within { n < rows_made joins.now }
+        requires join { join.now ≡ join_at joins.now.joins.items n }
+        requires few { rows_made joins.now ≤ u32.MAX }
         requires rows { rows_in self.old ≡ rows_made joins.now }
         requires slotted { AreSlotted (TakesIn (P.program program.now) joins.now)
-            (n + 1) n self.old }
+            (n + 1) (n + 1) self.old }
         ensures rows { OnOk result (rows_in self.new ≡ rows_in self.old) }
         ensures slotted { OnOk result (AreSlotted (TakesIn (P.program program.now) joins.now)
             n n self.new) }
     {
         // Of the program the contract alone speaks.
         let _ = program;
-        let join = joins.joins[n];
+        self.hold(n as u32 + 1)?;
+        let slot = self.outs[n];
+        self.owners[slot as usize] = 0;
+        self.free.push(slot)?;
         self.hold(join.base)?;
         for k in 0..join.count {
-            let need = need_of(&joins.needs, &join, k);
+            let need = need_of(&joins.needs, join, k);
             self.hold(need.row)?;
         }
         Ok(())

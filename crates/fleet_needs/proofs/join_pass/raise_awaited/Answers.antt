@@ -12,8 +12,8 @@ loop-k-init g c = record {
 pub loop-k-preserved : goal.loop-k-preserved
 loop-k-preserved g c = record {
   row = row_alike c.args.rows.now c.loop-k.row c.raise_own.new.row c.raise_own.ensures.alike c.loop-k.invariant.row;
-  own = own_next (g.P.ProgramView.program c.args.program.now) c.args.rows.now.columns (next_action c.args.rows.now.schedule.now c.args.n) c.requires.rows.schedule.own c.loop-k.k c.need-need.result.wait c.need-need.ensures.await c.need-need.ensures.action
-      (counts_of c.loop-k.row) (counts_of c.raise_own.new.row) c.raise_own.ensures.own c.raise_own.ensures.others c.loop-k.invariant.own;
+  own = own_next (g.P.ProgramView.program c.args.program.now) c.args.rows.now.columns (next_action c.args.rows.now.schedule.now c.args.n) c.loop-k.k c.need-need.result.wait c.need-need.ensures.await (counts_of c.loop-k.row) (counts_of c.raise_own.new.row)
+      c.requires.rows.schedule.own c.need-need.ensures.action c.raise_own.ensures.own c.raise_own.ensures.others c.loop-k.invariant.own;
 }
 
 pub returns-clause-made : goal.returns-clause-made

@@ -43,6 +43,6 @@ loop-left-preserved g c =
     record {
       joins = subst (λ (x : Item). AreJoinsFrom p (IsPassed p c.args.implied) o c.args.level x.before c.add_action.new.self) (sym item)
           (joins_next p (IsPassed p c.args.implied) o c.args.level left (left - 1) c.loop-left.joins c.loop-left.invariant.joins (omega (arith, c.loop-left-test.true)) c.add_action.new.self made
-          (λ e. none_if_set p c.args.implied a c.requires.sure is.awaiting.action (out e).0 (out e).1) (λ e. passed_if_set p c.args.implied a (out e).0 (out e).1)
+          (λ e. (none_if_set p c.args.implied a c.requires.sure is.awaiting.action (out e).0 (out e).1, passed_if_set p c.args.implied a (out e).0 (out e).1))
           (subst (λ (a : ActionId). IsAdded p a made c.loop-left.joins c.add_action.new.self) (ap action_of item) c.in_ok-add_action.ensures));
     }

@@ -1,7 +1,7 @@
 use Rattle.std.proofs.Common.{◌≡◌, ◌+◌, ◌<◌, ◌≤◌, ℕ}
 use Rattle.fleet_needs.specs.Joins.{row_taken}
 use Rattle.fleet_needs.specs.Slots.{AreSlotted, HasSlotNow, TakesIn, rows_in}
-use Rattle.fleet_needs.proofs.schedule.Slots.hold_taken.Given as goal
+use Rattle.fleet_needs.proofs.schedule.Slots.settle.Given as goal
 
 abbrev pub invariant-loop-k : goal.invariant-loop-k
 invariant-loop-k g l = record {

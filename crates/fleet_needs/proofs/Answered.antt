@@ -1,31 +1,5 @@
 -- Answers of questions, one after another.
-use Rattle.std.proofs.Common.{◌≡◌, ◌≢◌, ℕ, ◌+◌, ◌-◌, ◌<◌, ◌≤◌, Bool, true, false, List, [], ◌∷◌, ◌++◌, length, get_or, set, Some, refl, sym, ap, subst, ◌∙◌, arith, inl, inr, ◌⊎◌}
-use Rattle.std.specs.Borrow.{Bor}
-use Rattle.std.specs.Prelude.{slice_get, slice_index, nat_lt, All, None, Vec}
-use Rattle.std.specs.declared.alloc.Global.{Global}
-use Rattle.std.proofs.lemmas.List.{get_or-set_same, get_or-set_other, length-set, get_or_append_left, get_or_push}
-use Rattle.std.proofs.lemmas.Option.{slice_get_within, get_or_from_slice_get, same_Some}
-use Rattle.std.proofs.lemmas.Bool.{cases_lt, cases_eq, cases_order, ltb-true, lt-ltb, false≢true}
-use Rattle.fleet_model.specs.declared.program.ActionId.{ActionId}
-use Rattle.fleet_model.specs.Program.{Program}
-use Rattle.fleet_model.specs.Chain.{Reaches}
-use Rattle.fleet_needs.specs.Rows.{IsColumn}
-use Rattle.fleet_needs.specs.Asked.{IsQuestion, AreAnswersIn, AreAskedTo}
-use Rattle.fleet_needs.specs.Block.{HasColumn, IsAnswer}
-use Rattle.fleet_needs.specs.Columns.{BlocksLeft, IsNextBlock, column_of}
-use Rattle.fleet_needs.specs.Counts.{counts_of}
-use Rattle.fleet_needs.specs.JoinPass.{IsJoinRow, HasWhole}
-use Rattle.fleet_needs.specs.Joins.{AreOwn, StandsFor, row_of}
-use Rattle.fleet_needs.specs.Schedule.{AreCounts, AreRowCounts, next_action}
-use Rattle.fleet_needs.specs.Order.{IsLastOf}
-use Rattle.fleet_needs.specs.Answering.{AreAnsweredTo, IsAnswering, IsAnsweringRow, AreOthersLeft, others_joined, questions_in}
-use Rattle.fleet_needs.specs.declared.schedule.Columns.{Columns}
-use Rattle.fleet_needs.specs.declared.schedule.Schedule.{Schedule}
-use Rattle.fleet_needs.specs.declared.join_pass.JoinRow.{JoinRow}
-use Rattle.fleet_needs.specs.declared.joins.Joins.{Joins}
-use Rattle.fleet_needs.specs.declared.questions.Answering.{Answering}
-use Rattle.fleet_needs.specs.declared.questions.ListedQuestions.{ListedQuestions}
-use Rattle.fleet_needs.specs.declared.questions.Question.{Question}
+use Rattle.fleet_needs.proofs.Words.{◌≡◌, ◌≢◌, ℕ, ◌+◌, ◌-◌, ◌<◌, ◌≤◌, Bool, true, false, List, [], ◌∷◌, ◌++◌, length, get_or, set, Some, refl, sym, ap, subst, ◌∙◌, arith, inl, inr, ◌⊎◌, Bor, slice_get, slice_index, nat_lt, All, None, Vec, Global, get_or-set_same, get_or-set_other, length-set, get_or_append_left, get_or_push, slice_get_within, get_or_from_slice_get, same_Some, cases_lt, cases_eq, cases_order, ltb-true, lt-ltb, false≢true, ActionId, Program, Reaches, IsColumn, IsQuestion, AreAnswersIn, AreAskedTo, HasColumn, IsAnswer, BlocksLeft, IsNextBlock, column_of, counts_of, IsJoinRow, HasWhole, AreOwn, StandsFor, row_of, AreCounts, AreRowCounts, next_action, IsLastOf, AreAnsweredTo, IsAnswering, IsAnsweringRow, AreOthersLeft, others_joined, questions_in, Columns, Schedule, JoinRow, Joins, Answering, ListedQuestions, Question}
 use Rattle.fleet_needs.proofs.Joining.{own_column}
 use Rattle.fleet_needs.proofs.NextBlock.{column_cases}
 use Rattle.fleet_needs.proofs.RowsMade.{counts_none, counts_row}

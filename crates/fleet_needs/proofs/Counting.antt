@@ -1,8 +1,5 @@
 -- Counts that are read, and lists of one value.
-use Rattle.std.proofs.Common.{◌≡◌, ℕ, ◌<◌, List, length, replicate, slice_index, ap, ◌∙◌, arith, inl, inr}
-use Rattle.std.proofs.lemmas.Bool.{cases_lt}
-use Rattle.std.proofs.lemmas.List.{get_or-replicate, get_or_past, length-replicate, get_or_read}
-use Rattle.std.specs.Prelude.{get_or}
+use Rattle.fleet_needs.proofs.Words.{◌≡◌, ℕ, ◌<◌, List, length, replicate, slice_index, ap, ◌∙◌, arith, inl, inr, cases_lt, get_or-replicate, get_or_past, length-replicate, get_or_read, get_or}
 
 -- a count that is read at a place
 pub count_read : (counts : List ℕ) (x y v : ℕ) → x ≡ y → y < length counts → v ≡ get_or counts x v → v ≡ get_or counts y 0

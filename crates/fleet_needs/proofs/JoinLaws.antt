@@ -1,21 +1,6 @@
 -- Rows that are made: one row more, one action more.
-use Rattle.std.proofs.Common.{◌≡◌, ◌≢◌, ℕ, ◌+◌, ◌-◌, ◌<◌, ◌≤◌, Bool, false, List, [], ◌∷◌, ◌++◌, length, get_or, slice_index, refl, sym, ap, subst, ◌∙◌, arith, inl, inr, ◌⊎◌}
-use Rattle.std.specs.Prelude.{slice_get, Some, Vec}
-use Rattle.std.specs.Vec.{with_item}
-use Rattle.std.specs.declared.alloc.Global.{Global}
-use Rattle.std.proofs.lemmas.Bool.{cases_lt, cases_eq}
-use Rattle.std.proofs.lemmas.Option.{slice_get-get_or, same_Some}
-use Rattle.std.proofs.lemmas.List.{get_or-set_same, get_or-set_other, length-set, length_push, get_or_append_left, get_or_push}
-use Rattle.fleet_model.specs.declared.program.ActionId.{ActionId}
-use Rattle.fleet_model.specs.declared.program.Await.{Await}
-use Rattle.fleet_model.specs.Program.{Program, awaits_of}
-use Rattle.fleet_model.specs.Chain.{IsAction, awaited}
-use Rattle.fleet_needs.specs.Order.{IsAwaiting}
-use Rattle.fleet_needs.specs.Places.{row_place}
-use Rattle.fleet_needs.specs.Joins.{AddsNone, HasRowOr, join_at, IsRow, StandsFor, need_at, IsNeed, IsJoin, Takes, row_of, IsStanding, IsUpToLast, AreUpTo, AreJoinsOf, CanJoin, AreTaken, HaveGrown, HasJoined, IsAdded}
-use Rattle.fleet_needs.specs.declared.joins.Join.{Join}
-use Rattle.fleet_needs.specs.declared.joins.Need.{Need}
-use Rattle.fleet_needs.specs.declared.joins.Joins.{Joins}
+use Rattle.fleet_needs.proofs.Words.{◌≡◌, ◌≢◌, ℕ, ◌+◌, ◌-◌, ◌<◌, ◌≤◌, Bool, false, List, [], ◌∷◌, ◌++◌, length, get_or, slice_index, refl, sym, ap, subst, ◌∙◌, arith, inl, inr, ◌⊎◌, slice_get, Some, Vec, with_item, Global, cases_lt, cases_eq, slice_get-get_or, same_Some, get_or-set_same, get_or-set_other, length-set, length_push, get_or_append_left, get_or_push, ActionId, Await, Program, awaits_of, IsAction, awaited, IsAwaiting, row_place, AddsNone, HasRowOr, join_at, IsRow, StandsFor, need_at, IsNeed, IsJoin, Takes, row_of, IsStanding, IsUpToLast, AreUpTo, AreJoinsOf, CanJoin, AreTaken, HasJoined, IsAdded, Join, Need, Joins}
+use Rattle.fleet_needs.specs.Joins.{HaveGrown}
 use Rattle.fleet_needs.proofs.Joining.{adds_none_if_quiet}
 use Rattle.fleet_needs.proofs.RowPlaces.{row_within, row_other, row_sooner, row_same, no_awaits}
 

@@ -1,16 +1,5 @@
 -- The column of an action is made of those of the actions that it directly needs.
-use Rattle.std.proofs.Common.{◌≡◌, ◌≢◌, ℕ, zero, suc, ◌+◌, ◌-◌, ◌<◌, ◌≤◌, length, max, refl, sym, ap, subst, ◌∙◌, arith, inl, inr, ◌⊎◌}
-use Rattle.std.specs.Prelude.{Contains, slice_get, Some}
-use Rattle.std.proofs.lemmas.Bool.{cases_lt, cases_eq}
-use Rattle.std.proofs.lemmas.Option.{slice_get-get_or, slice_get_within, get_or_from_slice_get, same_Some}
-use Rattle.fleet_model.specs.declared.program.ActionId.{ActionId}
-use Rattle.fleet_model.specs.declared.program.Await.{Await}
-use Rattle.fleet_model.specs.Program.{Program, moves, awaits_of, AreInRange}
-use Rattle.fleet_model.specs.Chain.{IsAction, DirectlyNeeds, Reaches, awaited}
-use Rattle.fleet_needs.specs.Implied.{IsImplied}
-use Rattle.fleet_needs.specs.Joins.{AddsNone, AreQuiet}
-use Rattle.fleet_needs.specs.Rows.{IsColumn, IsMost, action_before, ByBeforeOr, ByOneOf, OfFirst, OfOthers, OfOwn, OfThese}
-use Rattle.fleet_model.proofs.Chains.{own_reach, chain_ends_by_step, Reaches-trans, Reaches-first, Reaches-last, Reaches-need}
+use Rattle.fleet_needs.proofs.Words.{◌≡◌, ◌≢◌, ℕ, zero, suc, ◌+◌, ◌-◌, ◌<◌, ◌≤◌, length, max, refl, sym, ap, subst, ◌∙◌, arith, inl, inr, ◌⊎◌, Contains, slice_get, Some, cases_lt, cases_eq, slice_get-get_or, slice_get_within, get_or_from_slice_get, same_Some, ActionId, Await, Program, moves, awaits_of, AreInRange, IsAction, DirectlyNeeds, Reaches, awaited, IsImplied, AddsNone, AreQuiet, IsColumn, IsMost, action_before, ByBeforeOr, ByOneOf, OfFirst, OfOthers, OfOwn, OfThese, own_reach, chain_ends_by_step, Reaches-trans, Reaches-first, Reaches-last, Reaches-need}
 
 abbrev act : ℕ → ℕ → ActionId
 act j c = record { agent = j; number = c }

@@ -1,18 +1,5 @@
 -- The places of the rows that stand for actions.
-use Rattle.std.proofs.Common.{◌≡◌, ◌≢◌, ℕ, zero, suc, ◌+◌, ◌-◌, ◌<◌, ◌≤◌, length, take, sym, ap, subst, ◌∙◌, arith, inl, inr}
-use Rattle.std.specs.Prelude.{sum_by}
-use Rattle.std.proofs.lemmas.Bool.{cases_lt, cases_order}
-use Rattle.std.proofs.lemmas.List.Sums.{sum_by-take-le}
-use Rattle.fleet_model.specs.declared.program.Action.{Action}
-use Rattle.fleet_model.specs.declared.program.ActionId.{ActionId}
-use Rattle.fleet_model.specs.declared.program.AgentProgram.{AgentProgram}
-use Rattle.fleet_model.specs.Program.{Program, actions_of, agent_awaits, awaits_before, awaits_of, moves, total_awaits}
-use Rattle.fleet_model.proofs.Totals.{actions_more, awaits_more}
-use Rattle.fleet_needs.specs.Joins.{IsUpToLast}
-use Rattle.fleet_model.specs.Chain.{IsAction}
-use Rattle.fleet_needs.specs.Order.{IsAwaiting}
-use Rattle.fleet_needs.specs.Rows.{action_before}
-use Rattle.fleet_needs.specs.Places.{row_place}
+use Rattle.fleet_needs.proofs.Words.{◌≡◌, ◌≢◌, ℕ, zero, suc, ◌+◌, ◌-◌, ◌<◌, ◌≤◌, length, take, sym, ap, subst, ◌∙◌, arith, inl, inr, sum_by, cases_lt, cases_order, sum_by-take-le, Action, ActionId, AgentProgram, Program, actions_of, agent_awaits, awaits_before, awaits_of, moves, total_awaits, actions_more, awaits_more, IsUpToLast, IsAction, IsAwaiting, action_before, row_place}
 use Rattle.fleet_needs.proofs.Placed.{sums_rise}
 
 -- an action awaits nothing, if it is not that it awaits something

@@ -1,5 +1,4 @@
-use Rattle.fleet_needs.proofs.Words.{◌≡◌, ◌-◌, ℕ, length, subst, arith, awaits_of, counts_of}
-use Rattle.fleet_needs.specs.Schedule.{next_action}
+use Rattle.fleet_needs.proofs.Words.{◌≡◌, ◌-◌, ℕ, length, subst, arith, awaits_of, counts_of, next_action}
 use Rattle.fleet_needs.proofs.RowsMade.{AreOthersTo, others_first, others_next}
 use Rattle.fleet_needs.proofs.join_pass.join_others.Goals as goal
 

@@ -1,5 +1,4 @@
-use Rattle.fleet_needs.proofs.Words.{◌≡◌, ℕ, length, subst, arith, awaits_of, counts_of}
-use Rattle.fleet_needs.specs.Schedule.{next_action}
+use Rattle.fleet_needs.proofs.Words.{◌≡◌, ℕ, length, subst, arith, awaits_of, counts_of, next_action}
 use Rattle.fleet_needs.proofs.RowsMade.{AreOwnTo, own_first, own_next, own_last, held, row_alike}
 use Rattle.fleet_needs.proofs.join_pass.raise_awaited.Goals as goal
 

@@ -1,5 +1,4 @@
-use Rattle.fleet_needs.specs.Counts.{counts_of}
-use Rattle.fleet_needs.specs.Schedule.{IsRowFor, next_action}
+use Rattle.fleet_needs.proofs.Words.{counts_of, IsRowFor, next_action}
 use Rattle.fleet_needs.proofs.RowsMade.{AreOwnTo}
 use Rattle.fleet_needs.proofs.join_pass.raise_awaited.Given as goal
 

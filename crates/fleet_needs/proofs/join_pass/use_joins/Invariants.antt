@@ -1,5 +1,4 @@
-use Rattle.fleet_needs.proofs.Words.{◌≡◌}
-use Rattle.fleet_needs.specs.Schedule.{AreRowsTo, IsRowFor}
+use Rattle.fleet_needs.proofs.Words.{◌≡◌, AreRowsTo, IsRowFor}
 use Rattle.fleet_needs.proofs.join_pass.use_joins.Given as goal
 
 abbrev pub invariant-loop-n : goal.invariant-loop-n

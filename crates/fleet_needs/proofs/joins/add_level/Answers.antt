@@ -1,9 +1,4 @@
-use Rattle.std.proofs.Common.{◌≡◌, ◌-◌, false, not, rules, sym, subst, ap, arith}
-use Rattle.fleet_model.specs.declared.program.ActionId.{ActionId}
-use Rattle.fleet_needs.specs.Flags.{IsLeftOut, IsPassed}
-use Rattle.fleet_needs.specs.Joins.{AreJoinsFrom, CanJoin, IsAdded}
-use Rattle.fleet_needs.specs.Order.{action_of, item_at}
-use Rattle.fleet_needs.specs.declared.level_order.Item.{Item}
+use Rattle.fleet_needs.proofs.Words.{◌≡◌, ◌-◌, false, not, rules, sym, subst, ap, arith, ActionId, IsLeftOut, IsPassed, AreJoinsFrom, CanJoin, IsAdded, action_of, item_at, Item}
 use Rattle.fleet_needs.proofs.Flagged.{is_set, none_if_set, passed_if_set}
 use Rattle.fleet_needs.proofs.JoinLevels.{joins_begun, joins_over, joins_next, can_join, next_item}
 use Rattle.fleet_needs.proofs.joins.add_level.Goals as goal

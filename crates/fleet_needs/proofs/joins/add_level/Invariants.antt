@@ -1,5 +1,4 @@
-use Rattle.fleet_needs.specs.Flags.{IsPassed}
-use Rattle.fleet_needs.specs.Joins.{AreJoinsFrom}
+use Rattle.fleet_needs.proofs.Words.{IsPassed, AreJoinsFrom}
 use Rattle.fleet_needs.proofs.joins.add_level.Given as goal
 
 abbrev pub invariant-loop-left : goal.invariant-loop-left

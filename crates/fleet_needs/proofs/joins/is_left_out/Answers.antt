@@ -1,10 +1,4 @@
-use Rattle.std.proofs.Common.{◌≡◌, ◌+◌, ℕ, false, true, get_or, ap, subst, ◌∙◌, sym, arith}
-use Rattle.std.specs.Borrow.{Bor}
-use Rattle.std.proofs.lemmas.Option.{same_Some}
-use Rattle.fleet_needs.specs.Flags.{flags_of}
-use Rattle.fleet_needs.specs.Implied.{first_await}
-use Rattle.fleet_needs.specs.Order.{action_of}
-use Rattle.fleet_needs.specs.declared.implied.ImpliedAwaits.{ImpliedAwaits}
+use Rattle.fleet_needs.proofs.Words.{◌≡◌, ◌+◌, ℕ, false, true, get_or, ap, subst, ◌∙◌, sym, arith, Bor, same_Some, flags_of, first_await, action_of, ImpliedAwaits}
 use Rattle.fleet_needs.proofs.joins.is_left_out.Goals as goal
 
 pub returns-then-item-eq1 : goal.returns-then-item-eq1

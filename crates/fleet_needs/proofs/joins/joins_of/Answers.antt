@@ -1,5 +1,4 @@
-use Rattle.std.proofs.Common.{arith}
-use Rattle.fleet_needs.specs.Flags.{IsPassed}
+use Rattle.fleet_needs.proofs.Words.{arith, IsPassed}
 use Rattle.fleet_needs.proofs.Flagged.{passed_if_none}
 use Rattle.fleet_needs.proofs.JoinLevels.{joins_none, joins_end}
 use Rattle.fleet_needs.proofs.joins.joins_of.Goals as goal

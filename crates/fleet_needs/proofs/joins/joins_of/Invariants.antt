@@ -1,5 +1,4 @@
-use Rattle.fleet_needs.specs.Flags.{IsPassed}
-use Rattle.fleet_needs.specs.Joins.{AreJoinsBelow}
+use Rattle.fleet_needs.proofs.Words.{IsPassed, AreJoinsBelow}
 use Rattle.fleet_needs.proofs.joins.joins_of.Given as goal
 
 abbrev pub invariant-loop-level : goal.invariant-loop-level

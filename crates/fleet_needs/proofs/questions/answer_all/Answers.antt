@@ -1,6 +1,4 @@
-use Rattle.std.proofs.Common.{rules, ◌≤◌, length}
-use Rattle.std.specs.Prelude.{slice_index}
-use Rattle.fleet_needs.specs.Counts.{counts_of}
+use Rattle.fleet_needs.proofs.Words.{rules, ◌≤◌, length, slice_index, counts_of}
 use Rattle.fleet_needs.proofs.Answered.{answers_begun, answered_after, answered_end, none_counts}
 use Rattle.fleet_needs.proofs.questions.answer_all.Goals as goal
 

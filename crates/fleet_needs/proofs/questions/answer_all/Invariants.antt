@@ -1,5 +1,4 @@
-use Rattle.std.proofs.Common.{◌-◌, length}
-use Rattle.fleet_needs.specs.Answering.{AreAnsweredTo, questions_in}
+use Rattle.fleet_needs.proofs.Words.{◌-◌, length, AreAnsweredTo, questions_in}
 use Rattle.fleet_needs.proofs.questions.answer_all.Given as goal
 
 abbrev pub invariant-loop-answering : goal.invariant-loop-answering

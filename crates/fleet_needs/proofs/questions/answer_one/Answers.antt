@@ -1,7 +1,4 @@
-use Rattle.std.proofs.Common.{sym, ap, ◌∙◌}
-use Rattle.std.specs.Prelude.{slice_index}
-use Rattle.fleet_needs.specs.Block.{HasColumn}
-use Rattle.fleet_needs.specs.Counts.{counts_of}
+use Rattle.fleet_needs.proofs.Words.{sym, ap, ◌∙◌, slice_index, HasColumn, counts_of}
 use Rattle.fleet_needs.proofs.Answered.{answer_is, asked_column}
 use Rattle.fleet_needs.proofs.questions.answer_one.Goals as goal
 

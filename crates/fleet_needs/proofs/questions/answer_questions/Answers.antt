@@ -1,9 +1,4 @@
-use Rattle.std.proofs.Common.{◌≡◌, Bool, true, false, List, length, get_or, refl, sym, subst, ◌∙◌, ap, arith, inl, inr}
-use Rattle.std.proofs.lemmas.List.{length-replicate}
-use Rattle.std.proofs.lemmas.Option.{slice_get_within}
-use Rattle.std.specs.Prelude.{slice_get, All}
-use Rattle.fleet_needs.specs.Asked.{IsQuestion}
-use Rattle.fleet_needs.specs.declared.questions.Question.{Question}
+use Rattle.fleet_needs.proofs.Words.{◌≡◌, Bool, true, false, List, length, get_or, refl, sym, subst, ◌∙◌, ap, arith, inl, inr, length-replicate, slice_get_within, slice_get, All, IsQuestion, Question}
 use Rattle.fleet_needs.proofs.Answered.{near_answer, none_asked}
 use Rattle.fleet_needs.proofs.Counting.{always_at}
 use Rattle.fleet_needs.proofs.questions.answer_questions.Goals as goal

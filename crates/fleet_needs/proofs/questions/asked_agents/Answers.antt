@@ -1,11 +1,4 @@
-use Rattle.std.proofs.Common.{◌≡◌, ◌⊎◌, ℕ, ◌+◌, ◌<◌, Bool, true, false, List, length, get_or, set, sym, subst, ap, ◌∙◌, arith, inl, inr}
-use Rattle.std.specs.Prelude.{slice_get, Some}
-use Rattle.std.proofs.lemmas.Bool.{cases_lt}
-use Rattle.std.proofs.lemmas.List.{length-set, get_or-set_same}
-use Rattle.std.proofs.lemmas.Option.{get_or_from_slice_get}
-use Rattle.fleet_model.specs.Program.{Program}
-use Rattle.fleet_model.specs.Chain.{Reaches}
-use Rattle.fleet_needs.specs.declared.questions.Question.{Question}
+use Rattle.fleet_needs.proofs.Words.{◌≡◌, ◌⊎◌, ℕ, ◌+◌, ◌<◌, Bool, true, false, List, length, get_or, set, sym, subst, ap, ◌∙◌, arith, inl, inr, slice_get, Some, cases_lt, length-set, get_or-set_same, get_or_from_slice_get, Program, Reaches, Question}
 use Rattle.fleet_needs.proofs.Settling.{asked_more}
 use Rattle.fleet_needs.proofs.questions.asked_agents.Goals.{then-not-is_near, else-not-is_near}
 use Rattle.fleet_needs.proofs.questions.asked_agents.Goals as goal

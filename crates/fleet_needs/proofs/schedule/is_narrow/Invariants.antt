@@ -1,5 +1,4 @@
-use Rattle.std.proofs.Common.{ℕ, ◌<◌, ◌≤◌}
-use Rattle.fleet_model.specs.Program.{moves}
+use Rattle.fleet_needs.proofs.Words.{ℕ, ◌<◌, ◌≤◌, moves}
 use Rattle.fleet_needs.proofs.schedule.is_narrow.Given as goal
 
 abbrev pub invariant-loop-i : goal.invariant-loop-i

@@ -1,6 +1,4 @@
-use Rattle.std.proofs.Common.{◌≡◌}
-use Rattle.fleet_needs.specs.Joins.{rows_made}
-use Rattle.fleet_needs.specs.Slots.{AreSlotted, TakesIn, rows_in}
+use Rattle.fleet_needs.proofs.Words.{◌≡◌, rows_made, AreSlotted, TakesIn, rows_in}
 use Rattle.fleet_needs.proofs.schedule.slots_of.Given as goal
 
 abbrev pub invariant-loop-n : goal.invariant-loop-n

@@ -1,5 +1,4 @@
-use Rattle.fleet_needs.proofs.Words.{◌≤◌, ◌+◌, ◌*◌, ℕ, List, max, slice_index, sym, ap, ◌∙◌, arith, drop, get_or-drop, counts_of}
-use Rattle.fleet_needs.specs.Schedule.{count_in_slot, slot_of}
+use Rattle.fleet_needs.proofs.Words.{◌≤◌, ◌+◌, ◌*◌, ℕ, List, max, slice_index, sym, ap, ◌∙◌, arith, drop, get_or-drop, counts_of, count_in_slot, slot_of}
 use Rattle.fleet_needs.proofs.RowsMade.{slot_room, counts_some, counts_same, counts_joined}
 use Rattle.fleet_needs.proofs.join_pass.SlotRows.begin_joined.Goals as goal
 

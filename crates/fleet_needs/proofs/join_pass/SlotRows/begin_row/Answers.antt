@@ -1,5 +1,4 @@
-use Rattle.fleet_needs.proofs.Words.{◌≤◌, ◌+◌, ℕ, ap, ◌∙◌, arith, slice_index, counts_of}
-use Rattle.fleet_needs.specs.Schedule.{count_in_slot}
+use Rattle.fleet_needs.proofs.Words.{◌≤◌, ◌+◌, ℕ, ap, ◌∙◌, arith, slice_index, counts_of, count_in_slot}
 use Rattle.fleet_needs.proofs.RowsMade.{counts_none, counts_some, counts_same}
 use Rattle.fleet_needs.proofs.join_pass.SlotRows.begin_row.Goals as goal
 

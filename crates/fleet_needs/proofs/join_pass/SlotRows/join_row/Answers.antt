@@ -1,5 +1,4 @@
-use Rattle.fleet_needs.proofs.Words.{◌≤◌, ◌+◌, ℕ, max, slice_index, refl, ap, ◌∙◌, arith, counts_of}
-use Rattle.fleet_needs.specs.Schedule.{count_in_slot}
+use Rattle.fleet_needs.proofs.Words.{◌≤◌, ◌+◌, ℕ, max, slice_index, refl, ap, ◌∙◌, arith, counts_of, count_in_slot}
 use Rattle.fleet_needs.proofs.RowsMade.{counts_none, counts_some, counts_joined}
 use Rattle.fleet_needs.proofs.join_pass.SlotRows.join_row.Goals as goal
 

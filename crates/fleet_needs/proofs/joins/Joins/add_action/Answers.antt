@@ -1,5 +1,4 @@
-use Rattle.std.proofs.Common.{arith}
-use Rattle.fleet_needs.specs.Order.{action_of}
+use Rattle.fleet_needs.proofs.Words.{arith, action_of}
 use Rattle.fleet_needs.proofs.JoinLaws.{added}
 use Rattle.fleet_needs.proofs.RowPlaces.{upto}
 use Rattle.fleet_needs.proofs.joins.Joins.add_action.Goals as goal

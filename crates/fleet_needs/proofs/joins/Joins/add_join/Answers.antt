@@ -1,7 +1,4 @@
-use Rattle.std.proofs.Common.{◌≡◌, ◌+◌, ℕ, length, subst, arith}
-use Rattle.fleet_needs.specs.Joins.{HasJoined}
-use Rattle.fleet_needs.specs.Order.{action_of}
-use Rattle.fleet_needs.specs.declared.joins.Joins.{Joins}
+use Rattle.fleet_needs.proofs.Words.{◌≡◌, ◌+◌, ℕ, length, subst, arith, HasJoined, action_of, Joins}
 use Rattle.fleet_needs.proofs.JoinLaws.{joined_none, joined_on}
 use Rattle.fleet_needs.proofs.joins.Joins.add_join.Goals as goal
 

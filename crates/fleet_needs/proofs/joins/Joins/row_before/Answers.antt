@@ -1,8 +1,4 @@
-use Rattle.std.proofs.Common.{◌≡◌, ◌-◌, ◌<◌, ℕ, length, sym, subst, arith}
-use Rattle.fleet_needs.specs.Joins.{StandsFor}
-use Rattle.fleet_needs.specs.Order.{action_of}
-use Rattle.fleet_needs.specs.Places.{row_place}
-use Rattle.fleet_needs.specs.Rows.{action_before}
+use Rattle.fleet_needs.proofs.Words.{◌≡◌, ◌-◌, ◌<◌, ℕ, length, sym, subst, arith, StandsFor, action_of, row_place, action_before}
 use Rattle.fleet_needs.proofs.Counting.{count_read}
 use Rattle.fleet_needs.proofs.RowPlaces.{place_before, row_within, upto}
 use Rattle.fleet_needs.proofs.joins.Joins.row_before.Goals as goal

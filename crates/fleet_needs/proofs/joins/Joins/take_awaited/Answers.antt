@@ -1,7 +1,4 @@
-use Rattle.std.proofs.Common.{◌≡◌, ℕ, length, subst, ap, ◌∙◌, arith}
-use Rattle.fleet_model.specs.Program.{awaits_of}
-use Rattle.fleet_needs.specs.Joins.{AreTaken}
-use Rattle.fleet_needs.specs.Order.{action_of}
+use Rattle.fleet_needs.proofs.Words.{◌≡◌, ℕ, length, subst, ap, ◌∙◌, arith, awaits_of, AreTaken, action_of}
 use Rattle.fleet_needs.proofs.JoinLaws.{taken_first, taken_on}
 use Rattle.fleet_needs.proofs.joins.Joins.take_awaited.Goals as goal
 

@@ -1,5 +1,4 @@
-use Rattle.fleet_needs.specs.Joins.{AreTaken}
-use Rattle.fleet_needs.specs.Order.{action_of}
+use Rattle.fleet_needs.proofs.Words.{AreTaken, action_of}
 use Rattle.fleet_needs.proofs.joins.Joins.take_awaited.Given as goal
 
 abbrev pub invariant-loop-k : goal.invariant-loop-k

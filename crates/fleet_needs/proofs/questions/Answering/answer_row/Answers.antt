@@ -1,13 +1,4 @@
-use Rattle.std.proofs.Common.{◌≡◌, ◌+◌, ◌-◌, ◌<◌, ◌≤◌, ℕ, Some, None, false, length, get_or, refl, sym, subst, ◌∙◌, arith}
-use Rattle.std.specs.Prelude.{slice_get, slice_index}
-use Rattle.std.specs.Vec.{with_item}
-use Rattle.std.proofs.lemmas.List.{get_or_read}
-use Rattle.std.proofs.lemmas.Option.{slice_get-get_or}
-use Rattle.fleet_needs.specs.Answering.{IsAnsweringRow, others_same, others_joined}
-use Rattle.fleet_needs.specs.Columns.{column_of}
-use Rattle.fleet_needs.specs.Counts.{counts_of}
-use Rattle.fleet_needs.specs.declared.questions.Answering.{Answering}
-use Rattle.fleet_needs.specs.declared.questions.Question.{Question}
+use Rattle.fleet_needs.proofs.Words.{◌≡◌, ◌+◌, ◌-◌, ◌<◌, ◌≤◌, ℕ, Some, None, false, length, get_or, refl, sym, subst, ◌∙◌, arith, slice_get, slice_index, with_item, get_or_read, slice_get-get_or, IsAnsweringRow, others_same, others_joined, column_of, counts_of, Answering, Question}
 use Rattle.fleet_needs.proofs.Answered.{no_question, row_begun, row_counts, row_more, others_more}
 use Rattle.fleet_needs.proofs.questions.Answering.answer_row.Goals as goal
 

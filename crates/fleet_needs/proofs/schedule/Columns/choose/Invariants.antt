@@ -1,5 +1,4 @@
-use Rattle.std.proofs.Common.{◌≡◌, ◌<◌, ◌≤◌, ◌-◌, true, false, length, get_or, Some, None, ℕ}
-use Rattle.std.specs.Prelude.{◌≢◌}
+use Rattle.fleet_needs.proofs.Words.{◌≡◌, ◌<◌, ◌≤◌, ◌-◌, true, false, length, get_or, Some, None, ℕ, ◌≢◌}
 use Rattle.fleet_needs.proofs.schedule.Columns.choose.Given as goal
 
 abbrev pub invariant-loop-of_agent : goal.invariant-loop-of_agent

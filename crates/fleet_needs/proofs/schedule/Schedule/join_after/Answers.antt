@@ -1,6 +1,4 @@
-use Rattle.std.proofs.Common.{[]}
-use Rattle.std.proofs.lemmas.List.{get_or_read}
-use Rattle.fleet_needs.specs.Joins.{join_at}
+use Rattle.fleet_needs.proofs.Words.{[], get_or_read, join_at}
 use Rattle.fleet_needs.proofs.RowsMade.{next_join}
 use Rattle.fleet_needs.proofs.schedule.Schedule.join_after.Goals as goal
 

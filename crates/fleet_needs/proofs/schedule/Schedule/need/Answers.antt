@@ -1,6 +1,4 @@
-use Rattle.std.proofs.Common.{◌∙◌, ap, arith}
-use Rattle.fleet_needs.specs.Joins.{need_of}
-use Rattle.fleet_needs.specs.declared.joins.Join.{Join}
+use Rattle.fleet_needs.proofs.Words.{◌∙◌, ap, arith, need_of, Join}
 use Rattle.fleet_needs.proofs.RowsMade.{next_need}
 use Rattle.fleet_needs.proofs.schedule.Schedule.need.Goals as goal
 

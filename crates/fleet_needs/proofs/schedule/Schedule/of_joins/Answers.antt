@@ -1,6 +1,4 @@
-use Rattle.std.proofs.Common.{◌≡◌, ◌+◌, ◌-◌, ap, arith}
-use Rattle.std.specs.Prelude.{slice_index}
-use Rattle.fleet_needs.specs.Slots.{TakesIn}
+use Rattle.fleet_needs.proofs.Words.{◌≡◌, ◌+◌, ◌-◌, ap, arith, slice_index, TakesIn}
 use Rattle.fleet_needs.proofs.Slotting.{still_all}
 use Rattle.fleet_needs.proofs.schedule.Schedule.of_joins.Goals as goal
 

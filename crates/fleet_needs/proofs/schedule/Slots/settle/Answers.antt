@@ -1,8 +1,4 @@
-use Rattle.std.proofs.Common.{◌≡◌, ◌+◌, ℕ, arith, ◌∙◌, ap, refl, inl, inr, subst}
-use Rattle.std.proofs.lemmas.Bool.{cases_lt}
-use Rattle.fleet_needs.specs.Joins.{row_taken}
-use Rattle.fleet_needs.specs.Slots.{AreSlotted, HasSlotNow, TakesIn}
-use Rattle.fleet_needs.specs.declared.joins.Need.{Need}
+use Rattle.fleet_needs.proofs.Words.{◌≡◌, ◌+◌, ℕ, arith, ◌∙◌, ap, refl, inl, inr, subst, cases_lt, row_taken, AreSlotted, HasSlotNow, TakesIn, Need}
 use Rattle.fleet_needs.proofs.Counting.{count_read}
 use Rattle.fleet_needs.proofs.Slotting.{base_sooner, held_on, join_settled, need_sooner, need_there, row_ended}
 use Rattle.fleet_needs.proofs.schedule.Slots.settle.Goals as goal

@@ -1,6 +1,4 @@
-use Rattle.std.proofs.Common.{◌≡◌, ◌+◌, ◌<◌, ◌≤◌, ℕ}
-use Rattle.fleet_needs.specs.Joins.{row_taken}
-use Rattle.fleet_needs.specs.Slots.{AreSlotted, HasSlotNow, TakesIn, rows_in}
+use Rattle.fleet_needs.proofs.Words.{◌≡◌, ◌+◌, ◌<◌, ◌≤◌, ℕ, row_taken, AreSlotted, HasSlotNow, TakesIn, rows_in}
 use Rattle.fleet_needs.proofs.schedule.Slots.settle.Given as goal
 
 abbrev pub invariant-loop-k : goal.invariant-loop-k

@@ -688,7 +688,6 @@ pub enum Outlook {
 
 /// Whether all has been found right. Chains are asked for at open pairs alone, once the memory of all else is given
 /// back. If there are none, the levels are handed on.
-#[tactic(auto, using(crate::proofs::Asked::known_none))]
 fn judge_ahead<P: ProgramView>(
     alloc: Global,
     program: &P,
@@ -736,7 +735,6 @@ fn run_all<P: ProgramView>(alloc: Global, program: &P, grid: &Grid) -> Result<Ah
 }
 
 /// Whether the program is found to be accepted. If not, nothing is said of it but what was answered.
-#[tactic(auto, using(crate::proofs::Asked::known_none))]
 pub fn look_ahead<P: ProgramView>(
     alloc: Global,
     program: &P,

@@ -1,5 +1,6 @@
 use Rattle.fleet_verify.proofs.Words.{◌≡◌, ◌∙◌, subst, sym, arith, eqb-true, HasLevels}
 use Rattle.fleet_verify.proofs.Beginning.{done_counted, done_range, done_finish, done_visits, done_apart, done_levels, ahead_accepted}
+use Rattle.fleet_verify.proofs.Asked.{known_none}
 use Rattle.fleet_verify.proofs.ahead.judge_ahead.Goals as goal
 
 pub unless_chained-requires : goal.unless_chained-requires
@@ -42,3 +43,15 @@ returns-in-None-clause-outlook g c =
           (rw c.in-None.is at c.in_ok-unless_chained.ensures.chained),
       tt,
     )
+
+pub returns-in_default-clause-outlook : goal.returns-in_default-clause-outlook
+returns-in_default-clause-outlook g c = known_none (g.P.ProgramView.program c.args.program.now) c.none.result c.none.ensures.questions c.none.ensures.flags
+
+pub returns-in_default-clause-found : goal.returns-in_default-clause-found
+returns-in_default-clause-found g c = λ finished _. c.in_default.ensures.none finished
+
+pub returns-in-Some-2-clause-outlook : goal.returns-in-Some-2-clause-outlook
+returns-in-Some-2-clause-outlook g c = rw c.in-Some-2.is at c.in_ok-unless_chained.ensures.known
+
+pub returns-in-Some-2-clause-found : goal.returns-in-Some-2-clause-found
+returns-in-Some-2-clause-found g c = λ _ chained. (rw c.in-Some-2.is at c.in_ok-unless_chained.ensures.unchained) chained

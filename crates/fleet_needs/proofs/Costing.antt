@@ -1,5 +1,5 @@
 -- The costs of critical paths: that of an action from those of what it directly needs, one after another; and levels.
-use Rattle.fleet_needs.proofs.Words.{◌≡◌, ◌≢◌, ℕ, ◌+◌, ◌*◌, ◌<◌, ◌≤◌, List, [], ◌∷◌, length, set, slice_index, refl, ap, sym, subst, ◌∙◌, arith, inl, inr, ◌⊎◌, mul-le, sum_by, get_or-set_same, get_or-set_other, ActionId, Program, total_moves, AreInRange, IsAction, DirectlyNeeds, ChainFrom, IsCriticalCost, IsNumbering, unit_cost, need_action, but_last, ends_alone, ends_dearer, ends_within, ArePlacesOf, ActionPlaces, place_of_action, IsNumberedTo, IsNotedCost, AreNotedCosts, CostsByPlace, AreCriticalCosts, AreLevels, critical_cost, value_at, MAX_COST}
+use Rattle.fleet_needs.proofs.Words.{◌≡◌, ◌≢◌, ℕ, ◌+◌, ◌*◌, ◌<◌, ◌≤◌, List, [], ◌∷◌, length, set, slice_index, refl, ap, sym, subst, ◌∙◌, arith, inl, inr, ◌⊎◌, mul-le, sum_by, get_or-set_same, get_or-set_other, ActionId, Program, total_moves, AreInRange, IsAction, DirectlyNeeds, ChainFrom, IsCriticalCost, IsNumbering, unit_cost, need_action, but_last, ends_alone, ends_dearer, ends_within, ArePlaces, action_place, IsNumberedTo, IsNotedCost, AreNotedCosts, CostsByPlace, AreCriticalCosts, AreLevels, critical_cost, value_at, MAX_COST}
 use Rattle.fleet_needs.proofs.Placed.{place_apart, place_within}
 
 module _ (p : Program) (cost : ActionId → ℕ) where
@@ -51,14 +51,14 @@ module _ (p : Program) (cost : ActionId → ℕ) where
       times n l = mul-le (n + 1) MAX_COST (number b) MAX_COST (omega (arith, l)) (omega arith)
 
   -- the entries of one action more
-  pub noted_more : (number : ActionId → ℕ) (places : ActionPlaces) → ArePlacesOf p places → (Old New : ActionId → Type 0) (here : ActionId) → IsAction p here → ((a : ActionId) → IsAction p a → New a → Old a ⊎ (a ≡ here)) → (Old here → ⊥)
-      → (x : ℕ) → x ≡ place_of_action places here → (old : List ℕ) → length old ≡ total_moves p → (v : ℕ) → IsNotedCost p cost number here v → AreNotedCosts p cost number places Old old → AreNotedCosts p cost number places New (set old x v)
+  pub noted_more : (number : ActionId → ℕ) (places : List ℕ) → ArePlaces p places → (Old New : ActionId → Type 0) (here : ActionId) → IsAction p here → ((a : ActionId) → IsAction p a → New a → Old a ⊎ (a ≡ here)) → (Old here → ⊥)
+      → (x : ℕ) → x ≡ action_place places here → (old : List ℕ) → length old ≡ total_moves p → (v : ℕ) → IsNotedCost p cost number here v → AreNotedCosts p cost number places Old old → AreNotedCosts p cost number places New (set old x v)
   noted_more number places right Old New here is split not_before x place old all v noted before a k done = elim (split a k done) [
     | inl was ↦
-        let ne : place_of_action places a ≢ x = (λ same. place_apart p places right a here k is (λ e. not_before (subst Old e was)) (same ∙ place)) in
-        subst (IsNotedCost p cost number a) (sym (get_or-set_other old x (place_of_action places a) v 0 ne)) (before a k was)
+        let ne : action_place places a ≢ x = (λ same. place_apart p places right a here k is (λ e. not_before (subst Old e was)) (same ∙ place)) in
+        subst (IsNotedCost p cost number a) (sym (get_or-set_other old x (action_place places a) v 0 ne)) (before a k was)
     | inr same ↦
-        let there : place_of_action places a ≡ x = ap (place_of_action places) same ∙ sym place in
+        let there : action_place places a ≡ x = ap (action_place places) same ∙ sym place in
         let within : x < length old = omega (arith, place_within p places right here is, all, place) in
         let entry : value_at places (set old x v) a ≡ v = ap (slice_index (set old x v)) there ∙ get_or-set_same old x v 0 within in
         subst (IsNotedCost p cost number a) (sym entry) (subst (λ (y : ActionId). IsNotedCost p cost number y v) (sym same) noted)

@@ -45,9 +45,6 @@ module _ (p : Program) (firsts : List ℕ) (h : ArePlaces p firsts) where
 pub row_ends : (w x y : ℕ) → x < y → x * w + w ≤ y * w
 row_ends w x y l = let s : (x + 1) * w ≤ y * w = mul-le (x + 1) w y w (omega arith) (omega arith) in omega arith
 
-pub place_is : (firsts : List ℕ) (a : ActionId) (x : ℕ) → x + 1 ≡ slice_index firsts a.agent + a.number → x ≡ action_place firsts a
-place_is firsts a x e = omega arith
-
 -- the counts of a row are no counts of the row at another place
 pub outside : (w x y k : ℕ) → x ≢ y → k < w → (x * w + k < y * w) ⊎ (y * w + w ≤ x * w + k)
 outside w x y k n l = elim (cases_order x y) [

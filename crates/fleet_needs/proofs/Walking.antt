@@ -1,5 +1,5 @@
 -- Agents that go on as far as their awaits allow: that each step is right, and that they come to the end.
-use Rattle.fleet_needs.proofs.Words.{◌≡◌, ℕ, zero, suc, ◌+◌, ◌-◌, ◌*◌, ◌<◌, ◌≤◌, List, [], ◌∷◌, ◌++◌, length, max, cond, set, get_or, refl, sym, ap, subst, ◌∙◌, arith, inl, inr, ◌⊎◌, slice_get, nat_lt, Some, ◌≢◌, cases_lt, cases_eq, lt-ltb, le-ltb, mul-le, get_or-set_same, get_or-set_other, length-set, slice_get_within, get_or_from_slice_get, slice_get-get_or, get_or_append_left, get_or_push, length_push, ActionId, Await, Program, moves, awaits_of, total_moves, IsAction, DirectlyNeeds, IsCriticalCost, awaited, need_action, own_reach, Reaches-rises, place_of_action, IsNumberedTo, IsNotedCost, AreNotedCosts, value_at, Walked, after, IsGreatestTo, IsStage, IsReadyStage, IsFinished, HasAll, IsCostWalk, HaveGrown, IsUnmet, IsOpen, stage_in, finished_in, no_stage, gone_on, Stage, MAX_COST, MAX_LEVEL}
+use Rattle.fleet_needs.proofs.Words.{◌≡◌, ℕ, zero, suc, ◌+◌, ◌-◌, ◌*◌, ◌<◌, ◌≤◌, List, [], ◌∷◌, ◌++◌, length, max, cond, set, get_or, refl, sym, ap, subst, ◌∙◌, arith, inl, inr, ◌⊎◌, slice_get, nat_lt, Some, ◌≢◌, cases_lt, cases_eq, lt-ltb, le-ltb, mul-le, get_or-set_same, get_or-set_other, length-set, slice_get_within, get_or_from_slice_get, slice_get-get_or, get_or_append_left, get_or_push, length_push, ActionId, Await, Program, moves, awaits_of, total_moves, IsAction, DirectlyNeeds, IsCriticalCost, awaited, need_action, own_reach, Reaches-rises, action_place, IsNumberedTo, IsNotedCost, AreNotedCosts, value_at, Walked, after, IsGreatestTo, IsStage, IsReadyStage, IsFinished, HasAll, IsCostWalk, HaveGrown, IsUnmet, IsOpen, stage_in, finished_in, no_stage, gone_on, Stage, MAX_COST, MAX_LEVEL}
 use Rattle.fleet_needs.proofs.Costing.{noted_next, noted_more}
 
 -- ---- how far an agent has come
@@ -148,7 +148,7 @@ module _ (p : Program) (cost : ActionId → ℕ) where
             let times = mul-le (h.numbered.number (after i n)) MAX_COST MAX_LEVEL MAX_COST (h.numbered.upto (after i n) here_action) (omega arith) in
             omega (arith, noted.few, times)
 
-        pub finished : (m : ℕ) → IsNotedCost p cost h.numbered.number (after i n) m → (x : ℕ) → x ≡ place_of_action w.places (after i n) → IsCostWalk p cost offset (gone_on w i (record { finished = s.finished; met = 0; at = s.at; greatest = m }) (set w.costs x m))
+        pub finished : (m : ℕ) → IsNotedCost p cost h.numbered.number (after i n) m → (x : ℕ) → x ≡ action_place w.places (after i n) → IsCostWalk p cost offset (gone_on w i (record { finished = s.finished; met = 0; at = s.at; greatest = m }) (set w.costs x m))
         finished m here x place = comes there costs (omega (arith, ready.finished)) (record {
           finished = omega (arith, ready.finished, left);
           within = omega arith;

@@ -31,7 +31,7 @@ pub use Rattle.fleet_needs.specs.Implied.{EachFlag, AreNoted, first_await, IsImp
 pub use Rattle.fleet_needs.specs.JoinPass.{AreOthers, IsMade, IsJoinRow, HasOthers, HasWhole}
 pub use Rattle.fleet_needs.specs.Kernels.{AreJoined}
 pub use Rattle.fleet_needs.specs.Pieces.{IsOf, IsTold, AreTold, key_of, AreSorted, IsLatest, AreLater, count_by}
-pub use Rattle.fleet_needs.specs.Places.{ArePlaces, action_place, ArePlacesOf, place_of_action, row_place}
+pub use Rattle.fleet_needs.specs.Places.{ArePlaces, action_place, row_place}
 pub use Rattle.fleet_needs.specs.Rows.{IsColumn, IsJoined, OfFirst, OfOthers, action_before, ByBeforeOr, ByOneOf, IsMost, OfOwn, OfThese}
 pub use Rattle.fleet_needs.specs.Settled.{AreSettled, IsSettled, AreSettledOf, AreMoreAsked, IsUpTo, AreSettledTo, ReachesNeed}
 pub use Rattle.fleet_needs.specs.declared.schedule.Columns.{Columns}
@@ -42,7 +42,6 @@ pub use Rattle.fleet_needs.specs.declared.gather.Gathering.{Gathering}
 pub use Rattle.fleet_needs.specs.declared.gather.TheConstants.{AGENTS, NUMBERS}
 pub use Rattle.fleet_needs.specs.declared.cost_walk.Stage.{Stage}
 pub use Rattle.fleet_needs.specs.declared.critical.TheConstants.{MAX_COST, MAX_LEVEL}
-pub use Rattle.fleet_needs.specs.declared.await_places.ActionPlaces.{ActionPlaces}
 pub use Rattle.fleet_needs.specs.declared.join_pass.JoinRow.{JoinRow}
 pub use Rattle.fleet_needs.specs.declared.join_pass.SlotRows.{SlotRows}
 pub use Rattle.fleet_needs.specs.declared.counts.Counts.{Counts}

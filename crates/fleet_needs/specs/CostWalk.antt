@@ -1,7 +1,7 @@
 -- Actions finished in any order that respects needs, and the costs of their critical paths.
 use Rattle.std.specs.Prelude.{◌≡◌, ℕ, ◌+◌, ◌<◌, ◌≤◌, ◌⊎◌, List, length, set, get_or, Contains}
 use Rattle.fleet_needs.specs.Words.{ActionId, Await, Program, moves, awaits_of, total_moves, DirectlyNeeds, IsCriticalCost}
-use Rattle.fleet_needs.specs.Places.{ArePlacesOf}
+use Rattle.fleet_needs.specs.Places.{ArePlaces}
 use Rattle.fleet_needs.specs.Critical.{IsNumberedTo, AreNotedCosts}
 use Rattle.fleet_needs.specs.declared.critical.TheConstants.{MAX_LEVEL}
 use Rattle.fleet_needs.specs.declared.cost_walk.Stage.{Stage}
@@ -63,7 +63,7 @@ pub record IsReadyStage (p : Program) (cost : ActionId → ℕ) (offset : (i fin
 -- there is an entry for each agent of the program, and for each action
 pub record HasAll (p : Program) (w : Walked) : Type 0 where
   pub stages : length w.stages ≡ length p
-  pub places : ArePlacesOf p w.places
+  pub places : ArePlaces p w.places
   pub costs : length w.costs ≡ total_moves p
 
 -- the agents have come so far in a program whose actions have numbers, and the costs of what is finished are noted

@@ -1,8 +1,7 @@
 -- The cost of the critical path of each action, as it is noted.
 use Rattle.std.specs.Prelude.{◌≡◌, ℕ, ◌*◌, ◌≤◌, List, length, slice_index}
 use Rattle.fleet_needs.specs.Words.{ActionId, Program, total_moves, AreInRange, IsAction, IsCriticalCost, IsNumbering}
-use Rattle.fleet_needs.specs.Places.{ArePlacesOf, place_of_action}
-use Rattle.fleet_needs.specs.declared.await_places.ActionPlaces.{ActionPlaces}
+use Rattle.fleet_needs.specs.Places.{ArePlaces, action_place}
 use Rattle.fleet_needs.specs.declared.critical.TheConstants.{MAX_COST}
 
 -- the awaits of the program are in range, and its actions have numbers that rise along chains, of which none is greater
@@ -18,11 +17,11 @@ pub record IsNotedCost (p : Program) (cost number : ActionId → ℕ) (a : Actio
   pub few : m ≤ number a * MAX_COST
 
 -- the entry of an action
-abbrev pub value_at : ActionPlaces → List ℕ → ActionId → ℕ
-value_at places entries a = slice_index entries (place_of_action places a)
+abbrev pub value_at : List ℕ → List ℕ → ActionId → ℕ
+value_at places entries a = slice_index entries (action_place places a)
 
 -- the entries of these actions are the costs of their critical paths
-abbrev pub AreNotedCosts : Program → (cost number : ActionId → ℕ) → ActionPlaces → (ActionId → Type 0) → List ℕ → Type 0
+abbrev pub AreNotedCosts : Program → (cost number : ActionId → ℕ) → List ℕ → (ActionId → Type 0) → List ℕ → Type 0
 AreNotedCosts p cost number places These entries = (a : ActionId) → IsAction p a → These a → IsNotedCost p cost number a (value_at places entries a)
 
 -- the places of actions, and for each action, by its place, a cost
@@ -32,7 +31,7 @@ pub record CostsByPlace : Type 0 where
 
 -- there is an entry for each action of the program
 pub record HasEntries (p : Program) (m : CostsByPlace) : Type 0 where
-  pub places : ArePlacesOf p m.places
+  pub places : ArePlaces p m.places
   pub all : length m.costs ≡ total_moves p
 
 -- the entry of an action

@@ -1,6 +1,7 @@
 -- Awaits that others imply, and the places of their flags.
 use Rattle.std.specs.Prelude.{◌≡◌, ◌≢◌, ℕ, ◌+◌, ◌-◌, ◌<◌, ◌≤◌, ◌⊎◌, Bool, true, false, List, length, take, slice_index, slice_get, get_or, Some, ◌↔◌}
 use Rattle.fleet_needs.specs.Words.{Await, ActionId, Program, awaits_before, awaits_of, total_awaits, IsAction, DirectlyNeeds, Reaches, awaited}
+use Rattle.fleet_needs.specs.Places.{AreFirsts}
 
 -- the awaited action begins a chain that ends with another action that a directly needs
 abbrev pub IsImplied : Program → ActionId → Await → Type 0
@@ -15,9 +16,8 @@ abbrev pub first_await : Program → ActionId → ℕ
 first_await p a = total_awaits (take a.agent p) + awaits_before p a.agent (a.number - 1)
 
 -- for each agent, how many awaits those before it have together
-pub record AreAwaitPlaces (p : Program) (firsts : List ℕ) : Type 0 where
-  pub all : length firsts ≡ length p
-  pub each : (i : ℕ) → i < length p → slice_index firsts i ≡ total_awaits (take i p)
+abbrev pub AreAwaitPlaces : Program → List ℕ → Type 0
+AreAwaitPlaces p firsts = AreFirsts (λ i. total_awaits (take i p)) (length p) firsts
 
 -- this is so of each await of these actions, with its place and its flag
 abbrev pub EachFlag : Program → (ActionId → Type 0) → (ActionId → ℕ → Await → Bool → Type 0) → List Bool → Type 0

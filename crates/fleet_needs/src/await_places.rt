@@ -4,7 +4,7 @@ ghost use Rattle.std.specs.Prelude.{◌≡◌, ◌+◌, ◌<◌, ◌≤◌, leng
 ghost use Rattle.fleet_model.specs.Program.{awaits_of, moves, total_awaits, total_moves};
 ghost use Rattle.fleet_model.specs.Chain.{IsAction};
 ghost use Rattle.fleet_needs.specs.Implied.{AreAwaitPlaces, first_await};
-ghost use Rattle.fleet_needs.specs.Places.{ArePlacesOf, place_of_action, row_place};
+ghost use Rattle.fleet_needs.specs.Places.{ArePlaces, action_place, row_place};
 
 use fleet_model::{ActionId, OutOfMemory, ProgramView, agent_awaits};
 use std::alloc::Global;
@@ -84,7 +84,7 @@ impl Model for ActionPlaces {
 impl ActionPlaces {
     /// The places of the actions of a program.
     pub fn of<P: ProgramView>(alloc: Global, program: &P) -> Result<ActionPlaces, OutOfMemory>
-        ensures { IfOk result (ArePlacesOf (P.program program.now)) }
+        ensures { IfOk result (ArePlaces (P.program program.now)) }
     {
         let agents = program.agents();
         let mut firsts = Vec::with_capacity(alloc, usize::from(agents))?;
@@ -96,22 +96,13 @@ impl ActionPlaces {
         Ok(ActionPlaces { firsts })
     }
 
-    /// The place of an action. Places count from 0.
-    fn place(&self, agent: u16, number: u32) -> usize
-        requires agent { agent < length self.now }
-        requires number { 1 ≤ number }
-        ensures { result + 1 ≡ slice_index self.now agent + number }
-    {
-        self.firsts[usize::from(agent)] as usize + number as usize - 1
-    }
-
-    /// The place of an action of the program.
+    /// The place of an action of the program. Places count from 0.
     pub(crate) fn place_of<P: ProgramView>(&self, program: &P, action: ActionId) -> usize
-        requires places { ArePlacesOf (P.program program.now) self.now }
+        requires places { ArePlaces (P.program program.now) self.now }
         requires action { IsAction (P.program program.now) action }
         ensures within { result < total_moves (P.program program.now) }
-        ensures place { result ≡ place_of_action self.now action }
+        ensures place { result ≡ action_place self.now action }
     {
-        self.place(action.agent, action.number)
+        self.firsts[usize::from(action.agent)] as usize + action.number as usize - 1
     }
 }

@@ -57,7 +57,8 @@ impl ImpliedAwaits {
 }
 
 /// Which awaits of the program others imply: those whose awaited action begins a chain of needs that ends with another
-/// action which the same action directly needs. No level of the program is greater than `most`.
+/// action which the same action directly needs. No level of the program is greater than `most`. A few steps back settle
+/// most awaits, and rows those that are left.
 pub fn implied_awaits<P: ProgramView>(
     alloc: Global,
     program: &P,
@@ -66,36 +67,22 @@ pub fn implied_awaits<P: ProgramView>(
     requires { IsNumberedTo (P.program program.now) most }
     ensures { IfOk result (AreImplied (P.program program.now)) }
 {
-    let places = AwaitPlaces::of(alloc, program)?;
-    let flags = vec![in alloc; false; total_awaits(program) as usize]?;
-    let mut implied = ImpliedAwaits { places, flags };
-    flag_implied(alloc, program, most, &mut implied)?;
-    Ok(implied)
-}
-
-/// Flags the awaits that others imply: first by a few steps back, and then, for the agents of awaits that these leave
-/// open, by rows.
-fn flag_implied<P: ProgramView>(
-    alloc: Global,
-    program: &P,
-    most: u32,
-    implied: &mut ImpliedAwaits,
-) -> Result<(), OutOfMemory>
-    requires numbered { IsNumberedTo (P.program program.now) most }
-    requires flags { AreFlags (P.program program.now) implied.old }
-    ensures { OnOk result (AreImplied (P.program program.now) implied.new) }
-{
     let levels = CriticalCosts::levels(alloc, program, most)?;
-    let asked = settle_all(alloc, program, &levels, implied)?;
+    let mut implied = ImpliedAwaits {
+        places: AwaitPlaces::of(alloc, program)?,
+        flags: vec![in alloc; false; total_awaits(program) as usize]?,
+    };
+    let asked = settle_all(alloc, program, &levels, &mut implied)?;
     if !is_any(&asked) {
-        return Ok(());
+        return Ok(implied);
     }
     let order = LevelOrder::by_levels(alloc, program, &levels, most)?;
     drop(levels);
-    let schedule = Schedule::of(alloc, program, &order, Some(implied))?;
+    let schedule = Schedule::of(alloc, program, &order, Some(&implied))?;
     // The rows need its room.
     drop(order);
-    flag_all(alloc, program, &schedule, &asked, implied)
+    flag_all(alloc, program, &schedule, &asked, &mut implied)?;
+    Ok(implied)
 }
 
 /// Flags the awaits of the asked agents, block by block, each with as many columns as there is room for.

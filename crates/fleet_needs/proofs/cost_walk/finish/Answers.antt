@@ -1,4 +1,4 @@
-use Rattle.fleet_needs.proofs.Words.{◌+◌, ℕ, List, set, subst, sym, ap, ◌∙◌, arith, place_of_action, IsCostWalk, Stage}
+use Rattle.fleet_needs.proofs.Words.{◌+◌, ℕ, List, set, subst, sym, ap, ◌∙◌, arith, action_place, IsCostWalk, Stage}
 use Rattle.fleet_needs.proofs.Walking.{costs_here, costs_fit, finished}
 use Rattle.fleet_needs.proofs.cost_walk.finish.Goals as goal
 
@@ -27,4 +27,4 @@ returns-clause-walk g c =
     let here = costs_here p cost offset w c.requires.walk i c.requires.agent c.requires.left ready c.requires.ready c.from.result own (omega (arith, c.from.ensures, c.cost.ensures.most)) in
     let costs = c.set.ensures ∙ ap (λ (cs : List ℕ). set cs x m) c.in_ok-make_room_for.ensures.same ∙ (λ t. set (c.walk.view_is t).costs x m) in
     subst (IsCostWalk p cost offset) (sym (c.go_on.ensures ∙ (λ t. record { stages = set (c.walk.view_is t).stages i s; places = (c.walk.view_is t).places; costs = costs t })))
-    (finished p cost offset w c.requires.walk i c.requires.agent c.requires.left ready c.requires.ready m here x (c.place_of-place.ensures.place ∙ (λ t. place_of_action (c.walk.view_is t).places (record { agent = i; number = c.requires.ready.finished t }))))
+    (finished p cost offset w c.requires.walk i c.requires.agent c.requires.left ready c.requires.ready m here x (c.place_of-place.ensures.place ∙ (λ t. action_place (c.walk.view_is t).places (record { agent = i; number = c.requires.ready.finished t }))))

@@ -1,6 +1,6 @@
 use Rattle.fleet_needs.proofs.Words.{◌∙◌, Bool, false, List, get_or, sym, subst, ap, flags_of, AreSettled}
 use Rattle.fleet_needs.proofs.Flagged.{flagged_if_none, sure_of}
-use Rattle.fleet_needs.proofs.implied.flag_implied.Goals as goal
+use Rattle.fleet_needs.proofs.implied.implied_awaits.Goals as goal
 
 pub returns-then-not-is_any : goal.returns-then-not-is_any
 returns-then-not-is_any g c = record {
@@ -9,8 +9,8 @@ returns-then-not-is_any g c = record {
       (λ j. ap (λ (xs : List Bool). get_or xs j false) (sym c.deref.ensures.value) ∙ c.is_any.ensures.0 c.if-not-is_any.true j) c.in_ok-asked.ensures.asked.settled;
 }
 
-pub of-requires-clause-sure : goal.of-requires-clause-sure
-of-requires-clause-sure g c = record {
+pub of-requires-2-clause-sure : goal.of-requires-2-clause-sure
+of-requires-2-clause-sure g c = record {
   flags = c.in_ok-asked.ensures.flags;
   sure = sure_of (g.P.ProgramView.program c.args.program.now) c.in_ok-asked.asked.items _ c.in_ok-asked.ensures.asked.settled;
 }

@@ -1,4 +1,4 @@
-use Rattle.fleet_verify.proofs.Words.{ap, ◌∙◌, arith, length-set, is_held_by}
+use Rattle.fleet_verify.proofs.Words.{ap, ◌∙◌, arith, length-set, is_held_by, ℕ, filter, indices}
 use Rattle.fleet_verify.proofs.BreakingHolds.{those_more, those_same, tested_more}
 use Rattle.fleet_verify.proofs.breaking.held_agents.Goals as goal
 use Rattle.fleet_verify.proofs.breaking.held_agents.Goals.{then-is_held+in_ok-push, else-is_held}
@@ -16,3 +16,9 @@ loop-i-preserved g c =
       all = length-set c.loop-i.flags c.loop-i.i c.is_held-is_held.result ∙ old.all;
       flags = tested_more test c.loop-i.flags c.loop-i.i c.is_held-is_held.result (omega (arith, old.all)) is old.flags;
     }
+
+pub returns-clause-row : goal.returns-clause-row
+returns-clause-row g c =
+    let p = g.P.ProgramView.program c.args.program.now in
+    let test = is_held_by p c.args.machine.now.configuration c.args.needed.now in
+    c.loop-i.invariant.row ∙ ap (λ (n : ℕ). filter test (indices n)) (omega (arith, c.agents-i-end.ensures.count))

@@ -1,4 +1,4 @@
-use Rattle.fleet_verify.proofs.Words.{get_or, slice_get-get_or, Visit, nat_eq, get, OpenPair, IsFlagged}
+use Rattle.fleet_verify.proofs.Words.{get_or, slice_get-get_or, Visit, nat_eq, get, OpenPair, IsFlagged, ◌≡◌, ℕ, length, subst, arith, AnswersFirstBad}
 use Rattle.fleet_verify.proofs.OpenPairs.{first_next, first_skip}
 use Rattle.fleet_verify.proofs.order.first_flagged.Goals.{then-has_no_chain+in_ok-keep_first, else-has_no_chain}
 use Rattle.fleet_verify.proofs.order.first_flagged.Goals as goal
@@ -19,3 +19,9 @@ loop-k-preserved c = λ n.
           rw w.found-is
           (first_skip (IsFlagged c.args.flags.now) pairs k n (get nat_eq c.loop-k.found n) (c.loop-k.invariant n) (λ none o e f b. let no_flag = w.if-has_no_chain.false in absurd cc))
     ]
+
+pub returns : goal.returns
+returns c = λ n.
+    let pairs = c.args.pairs.now in
+    let all : c.loop-k.k ≡ length pairs = omega (arith, c.loop-k-test.false) in
+    subst (λ (k : ℕ). AnswersFirstBad (IsFlagged c.args.flags.now) pairs k n (get nat_eq c.loop-k.found n)) all (c.loop-k.invariant n)

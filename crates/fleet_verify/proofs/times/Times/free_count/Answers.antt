@@ -22,3 +22,12 @@ returns g c =
       free = λ m some l. c.loop-finished.invariant.free m some (omega (arith, l, c.loop-finished-test.false));
       next = λ l. absurd (omega (arith, l, same, c.moves-moves.ensures));
     }
+
+pub returns-then-is_late : goal.returns-then-is_late
+returns-then-is_late g c =
+    let same = ap (λ (t : TimesParts _ _). moves (g.P.ProgramView.program t.program) c.args.i) c.self.view_is in
+    record {
+      within = omega (arith, same, c.loop-finished-test.true, c.moves-moves.ensures);
+      free = c.loop-finished.invariant.free;
+      next = λ _. (c.end-end.result, omega (arith, c.if-is_late.true), c.end-end.ensures);
+    }

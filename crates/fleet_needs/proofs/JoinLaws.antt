@@ -1,5 +1,5 @@
 -- Rows that are made: one row more, one action more.
-use Rattle.fleet_needs.proofs.Words.{◌≡◌, ◌≢◌, ℕ, ◌+◌, ◌-◌, ◌<◌, ◌≤◌, Bool, false, List, [], ◌∷◌, ◌++◌, length, get_or, slice_index, refl, sym, ap, subst, ◌∙◌, arith, inl, inr, ◌⊎◌, slice_get, Some, Vec, with_item, Global, cases_lt, cases_eq, slice_get-get_or, same_Some, get_or-set_same, get_or-set_other, length-set, length_push, get_or_append_left, get_or_push, ActionId, Await, Program, awaits_of, IsAction, awaited, IsAwaiting, row_place, AddsNone, HasRowOr, join_at, IsRow, StandsFor, need_at, IsNeed, IsJoin, Takes, row_of, IsStanding, IsUpToLast, AreUpTo, AreJoinsOf, CanJoin, AreTaken, HasJoined, IsAdded, Join, Need, Joins}
+use Rattle.fleet_needs.proofs.Words.{◌≡◌, ◌≢◌, ℕ, ◌+◌, ◌-◌, ◌<◌, ◌≤◌, Bool, false, List, [], ◌∷◌, ◌++◌, length, get_or, slice_index, refl, sym, ap, subst, ◌∙◌, arith, inl, inr, ◌⊎◌, slice_get, Some, Vec, with_item, Global, cases_lt, cases_eq, slice_get-get_or, same_Some, get_or-set_same, get_or-set_other, length-set, length_push, get_or_append_left, get_or_push, ActionId, Await, Program, awaits_of, IsAction, awaited, IsAwaiting, row_place, AddsNone, HasRowOr, join_at, IsRow, StandsFor, need_at, IsNeed, IsJoin, Takes, row_of, IsStanding, IsUpToLast, AreUpTo, AreJoinsOf, CanJoin, AreTaken, HasJoined, IsAdded, Join, Need, Joins, action_before}
 use Rattle.fleet_needs.specs.Joins.{HaveGrown}
 use Rattle.fleet_needs.proofs.Joining.{adds_none_if_quiet}
 use Rattle.fleet_needs.proofs.RowPlaces.{row_within, row_other, row_sooner, row_same, no_awaits}
@@ -99,8 +99,10 @@ module _ (p : Program) (a : ActionId) (old : Joins) where
 
 -- ---- one row more
 
-module _ (p : Program) (a : ActionId) (old mid : Joins) (base first count : ℕ) (joins : Vec Join Global) (can : CanJoin p old a) (within : base ≤ length old.joins.items)
-    (stands : StandsFor p old.joins.items base a.agent (a.number - 1)) (many : count ≡ length (awaits_of p a.agent a.number)) (begin : first ≡ length old.needs.items)
+base_stands : (p : Program) (a : ActionId) (m : Joins) (base : ℕ) → base ≡ row_of p m (action_before a) → CanJoin p m a → StandsFor p m.joins.items base a.agent (a.number - 1)
+base_stands p a m base is can = subst (λ (r : ℕ). StandsFor p m.joins.items r a.agent (a.number - 1)) (sym is) can.before.stands
+
+module _ (p : Program) (a : ActionId) (old mid : Joins) (base first count : ℕ) (joins : Vec Join Global) (can : CanJoin p old a) (is : base ≡ row_of p old (action_before a)) (many : count ≡ length (awaits_of p a.agent a.number)) (begin : first ≡ length old.needs.items)
     (taken : AreTaken p a (length (awaits_of p a.agent a.number)) old mid) (pushed : joins.items ≡ mid.joins.items ++ record { action = a; base = base; first = first; count = count } ∷ []) where
   abbrev one : Join
   one = record { action = a; base = base; first = first; count = count }
@@ -148,8 +150,8 @@ module _ (p : Program) (a : ActionId) (old mid : Joins) (base first count : ℕ)
         })
     | inr e ↦ subst (λ (m : ℕ). IsJoin p joins.items mid.needs.items m (join_at joins.items m)) (sym e) (subst (IsJoin p joins.items mid.needs.items (length old.joins.items)) (sym newest) (record {
       action = can.action;
-      base = still_stands base a.agent (a.number - 1) stands;
-      sooner = within;
+      base = still_stands base a.agent (a.number - 1) (base_stands p a old base is can);
+      sooner = omega (arith, is, can.before.within);
       count = many;
       within = omega (arith, taken.all, begin);
       each = λ k m.
@@ -175,14 +177,13 @@ module _ (p : Program) (a : ActionId) (old mid : Joins) (base first count : ℕ)
   }
 
 -- an action that adds no chain has no row of its own
-pub joined_none : (p : Program) (a : ActionId) (made : Bool) (m : Joins) (base : ℕ) → made ≡ false → CanJoin p m a → base ≤ length m.joins.items → StandsFor p m.joins.items base a.agent (a.number - 1)
-    → AddsNone p a.agent a.number → HasJoined p a made base m m
-joined_none p a made m base left can within stands none = record {
+pub joined_none : (p : Program) (a : ActionId) (made : Bool) (m : Joins) (base : ℕ) → made ≡ false → CanJoin p m a → base ≡ row_of p m (action_before a) → AddsNone p a.agent a.number → HasJoined p a made base m m
+joined_none p a made m base left can is none = record {
   sound = can.sound;
   standing = refl;
   grown = record { more = omega arith; same = λ n l. refl; last = λ n l. inl l };
-  within = within;
-  stands = stands_on p m.joins.items base a can.action.first none stands;
+  within = omega (arith, is, can.before.within);
+  stands = stands_on p m.joins.items base a can.action.first none (base_stands p a m base is can);
   here = inr left;
 }
 

@@ -108,10 +108,6 @@ standing_in m = m.standing.items
 abbrev pub HasRoom : Program → Joins → Type 0
 HasRoom p m = length m.standing.items ≡ total_awaits p + length p
 
--- row r of these stands for action n of agent i
-abbrev pub StandsIn : Program → Joins → ℕ → ℕ → ℕ → Type 0
-StandsIn p m r i n = StandsFor p m.joins.items r i n
-
 -- the row noted for the action, or, with the number 0, for none of its agent
 abbrev pub row_of : Program → Joins → ActionId → ℕ
 row_of p m a = slice_index m.standing.items (row_place p a)

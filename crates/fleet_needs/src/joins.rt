@@ -5,9 +5,10 @@ ghost use Rattle.std.specs.Prelude.{◌≡◌, ◌↔◌, ◌+◌, ◌-◌, ◌<
 ghost use Rattle.fleet_model.specs.Program.{AreInRange, awaits_of, moves};
 ghost use Rattle.fleet_needs.specs.Implied.{AreAwaitPlaces};
 ghost use Rattle.fleet_needs.specs.Places.{row_place};
+ghost use Rattle.fleet_needs.specs.Rows.{action_before};
 ghost use Rattle.fleet_needs.specs.Order.{IsItem, IsLevelOrder, action_of, levels_in};
 ghost use Rattle.fleet_needs.specs.Flags.{AreSureIf, IsPassed, IsLeftOut};
-ghost use Rattle.fleet_needs.specs.Joins.{AddsNone, AreNone, AreJoinsBelow, AreJoinsEnd, CanJoin, AreTaken, HasJoined, HasRoom, IsAdded, need_of, rows_made, row_of, StandsIn};
+ghost use Rattle.fleet_needs.specs.Joins.{AddsNone, AreNone, AreJoinsBelow, AreJoinsEnd, CanJoin, AreTaken, HasJoined, HasRoom, IsAdded, need_of, row_of};
 
 use crate::await_places::AwaitPlaces;
 use crate::implied::ImpliedAwaits;
@@ -137,9 +138,8 @@ impl Joins {
         requires item { IsItem (P.program program.now) item.now }
         requires place { place ≡ row_place (P.program program.now) (action_of item.now) }
         requires can { CanJoin (P.program program.now) self.now (action_of item.now) }
-        ensures within { result ≤ rows_made self.now }
-        ensures stands { StandsIn (P.program program.now) self.now
-            result item.now.agent (item.now.number - 1) }
+        ensures { result ≡ row_of (P.program program.now) self.now
+            (action_before (action_of item.now)) }
     {
         // Of the program the contract alone speaks.
         let _ = program;
@@ -178,9 +178,8 @@ impl Joins {
         requires can { CanJoin (P.program program.now) self.old (action_of item.now) }
         requires none { is_made ≡ false
             → AddsNone (P.program program.now) item.now.agent item.now.number }
-        requires within { base ≤ rows_made self.old }
-        requires stands { StandsIn (P.program program.now) self.old
-            base item.now.agent (item.now.number - 1) }
+        requires base { base ≡ row_of (P.program program.now) self.old
+            (action_before (action_of item.now)) }
         ensures { IfOk result (λ row. HasJoined
             (P.program program.now) (action_of item.now) is_made row self.old self.new) }
     {

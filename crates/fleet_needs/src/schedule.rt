@@ -113,6 +113,7 @@ impl Schedule {
     }
 
     /// The join after n others.
+    #[tactic(auto, using(crate::proofs::RowsMade::next_join))]
     pub(crate) fn join_after<P: ProgramView>(&self, program: &P, n: usize) -> Join
         requires schedule { IsSchedule (P.program program.now) self.now }
         requires within { n < joins_in self.now }

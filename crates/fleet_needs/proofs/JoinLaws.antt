@@ -21,6 +21,10 @@ stands_kept p a old new h r i n s = record {
   row = elim s.row [ inl none ↦ inl none | inr k ↦ inr (row_kept a old new h r (record { agent = i; number = s.number }) k) ];
 }
 
+-- what stands for an action is one of the rows, or none
+pub stands_within : (p : Program) (joins : List Join) (r i n : ℕ) → StandsFor p joins r i n → r ≤ length joins
+stands_within p joins r i n s = elim s.row [ inl none ↦ omega (arith, none.0) | inr k ↦ k.upto ]
+
 -- an action that adds no chain has the row of the one before
 pub stands_on : (p : Program) (joins : List Join) (r : ℕ) (a : ActionId) → 1 ≤ a.number → AddsNone p a.agent a.number → StandsFor p joins r a.agent (a.number - 1) → StandsFor p joins r a.agent a.number
 stands_on p joins r a some none s = record {
@@ -48,11 +52,8 @@ stands_far p joins r i m n le none s = record {
 stands_later : (p : Program) (m : Joins) (a x : ActionId) → x.agent ≡ a.agent → a.number ≤ x.number → ((k : ℕ) → a.number < k → k ≤ x.number → length (awaits_of p a.agent k) ≡ 0) → IsStanding p m a → IsStanding p m x
 stands_later p m a x same le none s =
     let e : row_of p m x ≡ row_of p m a = ap (slice_index m.standing.items) (row_same p x a same le none) in
-    record {
-      within = omega (arith, e, s.within);
-      stands = subst (λ (r : ℕ). StandsFor p m.joins.items r x.agent x.number) (sym e)
-          (subst (λ (i : ℕ). StandsFor p m.joins.items (row_of p m a) i x.number) (sym same) (stands_far p m.joins.items (row_of p m a) a.agent a.number x.number le none s.stands));
-    }
+    subst (λ (r : ℕ). StandsFor p m.joins.items r x.agent x.number) (sym e)
+    (subst (λ (i : ℕ). StandsFor p m.joins.items (row_of p m a) i x.number) (sym same) (stands_far p m.joins.items (row_of p m a) a.agent a.number x.number le none s))
 
 -- ---- what the awaits of an action take
 
@@ -100,7 +101,7 @@ module _ (p : Program) (a : ActionId) (old : Joins) where
 -- ---- one row more
 
 base_stands : (p : Program) (a : ActionId) (m : Joins) (base : ℕ) → base ≡ row_of p m (action_before a) → CanJoin p m a → StandsFor p m.joins.items base a.agent (a.number - 1)
-base_stands p a m base is can = subst (λ (r : ℕ). StandsFor p m.joins.items r a.agent (a.number - 1)) (sym is) can.before.stands
+base_stands p a m base is can = subst (λ (r : ℕ). StandsFor p m.joins.items r a.agent (a.number - 1)) (sym is) can.before
 
 module _ (p : Program) (a : ActionId) (old mid : Joins) (base first count : ℕ) (joins : Vec Join Global) (can : CanJoin p old a) (is : base ≡ row_of p old (action_before a)) (many : count ≡ length (awaits_of p a.agent a.number)) (begin : first ≡ length old.needs.items)
     (taken : AreTaken p a (length (awaits_of p a.agent a.number)) old mid) (pushed : joins.items ≡ mid.joins.items ++ record { action = a; base = base; first = first; count = count } ∷ []) where
@@ -151,7 +152,7 @@ module _ (p : Program) (a : ActionId) (old mid : Joins) (base first count : ℕ)
     | inr e ↦ subst (λ (m : ℕ). IsJoin p joins.items mid.needs.items m (join_at joins.items m)) (sym e) (subst (IsJoin p joins.items mid.needs.items (length old.joins.items)) (sym newest) (record {
       action = can.action;
       base = still_stands base a.agent (a.number - 1) (base_stands p a old base is can);
-      sooner = omega (arith, is, can.before.within);
+      sooner = omega (arith, is, stands_within p old.joins.items _ _ _ can.before);
       count = many;
       within = omega (arith, taken.all, begin);
       each = λ k m.
@@ -159,7 +160,7 @@ module _ (p : Program) (a : ActionId) (old mid : Joins) (base first count : ℕ)
           let there = slice_get-get_or (awaits_of p a.agent a.number) k (record { agent = 0; count = 0 }) m in
           let is = (can.awaited k w there).1 in
           subst (IsNeed p joins.items (awaits_of p a.agent a.number) (length old.joins.items) k) (sym (ap (λ (n : ℕ). need_at mid.needs.items (n + k)) begin ∙ taken.each k w m there))
-          (record { await = there; sooner = is.within; stands = still_stands _ _ _ is.stands });
+          (record { await = there; sooner = stands_within p old.joins.items _ _ _ is; stands = still_stands _ _ _ is });
     }))
   ]
 
@@ -171,7 +172,6 @@ module _ (p : Program) (a : ActionId) (old mid : Joins) (base first count : ℕ)
     sound = record { joins = join_on; room = ap (λ xs. length xs.items) taken.standing ∙ can.sound.room };
     standing = taken.standing;
     grown = grown;
-    within = omega (arith, long);
     stands = record { number = a.number; upto = omega arith; quiet = λ m from upto. absurd (omega arith); row = inr newest_row };
     here = inl newest_row;
   }
@@ -182,7 +182,6 @@ joined_none p a made m base left can is none = record {
   sound = can.sound;
   standing = refl;
   grown = record { more = omega arith; same = λ n l. refl; last = λ n l. inl l };
-  within = omega (arith, is, can.before.within);
   stands = stands_on p m.joins.items base a can.action.first none (base_stands p a m base is can);
   here = inr left;
 }
@@ -205,14 +204,8 @@ module _ (p : Program) (a : ActionId) (made : Bool) (r : ℕ) (old mid : Joins) 
     grown = h.grown;
     kept = λ x ne s.
         let e : row_of p noted x ≡ row_of p old x = at_other x ne in
-        record {
-          within = omega (arith, e, s.within, h.grown.more);
-          stands = subst (λ (s : ℕ). StandsFor p mid.joins.items s x.agent x.number) (sym e) (stands_kept p a old.joins.items mid.joins.items h.grown (row_of p old x) x.agent x.number s.stands);
-        };
-    here = record {
-      within = omega (arith, at_own, h.within);
-      stands = subst (λ (s : ℕ). StandsFor p mid.joins.items s a.agent a.number) (sym at_own) h.stands;
-    };
+        subst (λ (s : ℕ). StandsFor p mid.joins.items s x.agent x.number) (sym e) (stands_kept p a old.joins.items mid.joins.items h.grown (row_of p old x) x.agent x.number s);
+    here = subst (λ (s : ℕ). StandsFor p mid.joins.items s a.agent a.number) (sym at_own) h.stands;
     row = elim h.here [ inl row ↦ inl (r, row) | inr left ↦ inr left ];
   }
 

@@ -1,5 +1,5 @@
 -- An await is implied if its count is no more than that of all that the action needs beside it.
-use Rattle.fleet_needs.proofs.Words.{◌≡◌, ◌≢◌, ℕ, ◌+◌, ◌-◌, ◌≤◌, length, refl, sym, ap, subst, ◌∙◌, arith, inl, inr, ◌⊎◌, Contains, slice_get, Some, nat_le, cases_eq, leb-true, le-leb, slice_get-get_or, get_or_from_slice_get, same_Some, ActionId, Await, Program, awaits_of, AreInRange, AreAwaits, Reaches, awaited, Reaches-last, action_before, ByBeforeOr, IsJoined, OfOthers, IsImplied, IsImpliedFlag}
+use Rattle.fleet_needs.proofs.Words.{◌≡◌, ◌≢◌, ℕ, ◌+◌, ◌-◌, ◌≤◌, length, refl, sym, ap, subst, ◌∙◌, arith, inl, inr, Contains, slice_get, Some, nat_le, cases_eq, leb-true, le-leb, slice_get-get_or, get_or_from_slice_get, same_Some, ActionId, Await, Program, awaits_of, AreInRange, AreAwaits, Reaches, awaited, Reaches-last, action_before, ByBeforeOr, IsJoined, OfOthers, IsImplied, IsImpliedFlag}
 use Rattle.fleet_needs.proofs.AwaitOrder.{other_agent}
 
 -- an await of an action is implied if what it awaits is reached through the action before, or through another await

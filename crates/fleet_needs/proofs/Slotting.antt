@@ -1,5 +1,5 @@
 -- Slots for rows, from the last row back to the first.
-use Rattle.fleet_needs.proofs.Words.{◌≡◌, ◌≢◌, ℕ, ◌+◌, ◌-◌, ◌<◌, ◌≤◌, List, [], ◌∷◌, ◌++◌, length, slice_index, refl, sym, ap, subst, ◌∙◌, arith, inl, inr, cases_lt, cases_eq, get_or-set_other, get_or_past, length-set, length_push, get_or_append_left, get_or_push, Vec, with_item, Global, Program, AreAllJoins, IsJoin, Takes, join_at, row_taken, AreSlotted, HasSlotNow, IsFree, IsHeld, IsStill, TakesIn, owner_of, rows_in, slot_in, slots_in, Join, Joins, Slots}
+use Rattle.fleet_needs.proofs.Words.{◌≡◌, ◌≢◌, ℕ, ◌+◌, ◌-◌, ◌<◌, ◌≤◌, List, [], ◌∷◌, ◌++◌, length, slice_index, refl, sym, ap, subst, ◌∙◌, arith, inl, inr, cases_lt, cases_eq, get_or-set_other, get_or_past, length-set, length_push, get_or_append_left, get_or_push, Vec, with_item, Global, Program, AreAllJoins, IsJoin, Takes, join_at, row_taken, AreSlotted, HasSlotNow, IsFree, IsHeld, IsStill, TakesIn, owner_of, slot_in, slots_in, Join, Joins, Slots}
 
 -- the slot of a row is one of them
 pub slot_within : (m : Slots) (r : ℕ) → 1 ≤ r → HasSlotNow m r → slot_in m r < slots_in m

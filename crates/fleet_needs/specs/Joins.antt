@@ -113,9 +113,8 @@ abbrev pub row_of : Program → Joins → ActionId → ℕ
 row_of p m a = slice_index m.standing.items (row_place p a)
 
 -- .. stands for it
-pub record IsStanding (p : Program) (m : Joins) (a : ActionId) : Type 0 where
-  pub within : row_of p m a ≤ length m.joins.items
-  pub stands : StandsFor p m.joins.items (row_of p m a) a.agent a.number
+abbrev pub IsStanding : Program → Joins → ActionId → Type 0
+IsStanding p m a = StandsFor p m.joins.items (row_of p m a) a.agent a.number
 
 -- the joins so far are right, and there is room to note a row for each action
 pub record AreSound (p : Program) (m : Joins) : Type 0 where
@@ -190,7 +189,6 @@ pub record HasJoined (p : Program) (a : ActionId) (made : Bool) (r : ℕ) (old n
   pub sound : AreSound p new
   pub standing : new.standing ≡ old.standing
   pub grown : HaveGrown a old.joins.items new.joins.items
-  pub within : r ≤ length new.joins.items
   pub stands : StandsFor p new.joins.items r a.agent a.number
   pub here : IsRow new.joins.items r a ⊎ (made ≡ false)
 

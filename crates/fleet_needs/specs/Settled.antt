@@ -1,7 +1,7 @@
 -- Awaits for which a few steps back show whether others imply them.
 use Rattle.std.specs.Prelude.{◌≡◌, ◌≢◌, ℕ, ◌<◌, ◌≤◌, ◌⊎◌, Bool, true, false, List, length, get_or, Vec}
 use Rattle.std.specs.declared.alloc.Global.{Global}
-use Rattle.fleet_needs.specs.Words.{Await, ActionId, Program, IsAction, Reaches}
+use Rattle.fleet_needs.specs.Words.{Await, ActionId, Program, IsAction}
 use Rattle.fleet_needs.specs.Rows.{ByBeforeOr}
 use Rattle.fleet_needs.specs.Implied.{IsImplied, IsImpliedFlag, EachFlag, AreNoted}
 

@@ -2,13 +2,13 @@
 //! one action alone and needs it anyhow. The row of any other is that of its agent's action before.
 
 ghost use Rattle.std.specs.Prelude.{◌≡◌, ◌↔◌, ◌+◌, ◌-◌, ◌<◌, ◌≤◌, Bool, true, false, length, IfOk, OnOk};
-ghost use Rattle.fleet_model.specs.Program.{AreInRange, awaits_of, moves};
+ghost use Rattle.fleet_model.specs.Program.{AreInRange, awaits_of};
 ghost use Rattle.fleet_needs.specs.Implied.{AreAwaitPlaces};
 ghost use Rattle.fleet_needs.specs.Places.{row_place};
 ghost use Rattle.fleet_needs.specs.Rows.{action_before};
 ghost use Rattle.fleet_needs.specs.Order.{IsItem, IsLevelOrder, action_of, levels_in};
 ghost use Rattle.fleet_needs.specs.Flags.{AreSureIf, IsPassed, IsLeftOut};
-ghost use Rattle.fleet_needs.specs.Joins.{AddsNone, AreNone, AreJoinsBelow, AreJoinsEnd, CanJoin, AreTaken, HasJoined, HasRoom, IsAdded, need_of, row_of};
+ghost use Rattle.fleet_needs.specs.Joins.{AddsNone, AreNone, AreJoinsBelow, AreJoinsEnd, CanJoin, AreTaken, HasJoined, HasRoom, IsAdded, IsUpToLast, need_of, row_of};
 
 use crate::await_places::AwaitPlaces;
 use crate::implied::ImpliedAwaits;
@@ -155,8 +155,7 @@ impl Joins {
     ) -> u32
         requires room { HasRoom (P.program program.now) self.now }
         requires places { AreAwaitPlaces (P.program program.now) places.now }
-        requires agent { action.agent < length (P.program program.now) }
-        requires last { action.number ≤ moves (P.program program.now) action.agent }
+        requires action { IsUpToLast (P.program program.now) action }
         ensures { result ≡ row_of (P.program program.now) self.now action }
     {
         self.standing[places.row_place(program, action)]

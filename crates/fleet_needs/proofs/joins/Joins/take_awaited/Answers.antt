@@ -1,5 +1,6 @@
-use Rattle.fleet_needs.proofs.Words.{◌≡◌, ℕ, length, subst, ap, ◌∙◌, arith, awaits_of, AreTaken, action_of}
+use Rattle.fleet_needs.proofs.Words.{◌≡◌, ℕ, length, subst, ap, ◌∙◌, arith, awaits_of, AreTaken, action_of, awaited}
 use Rattle.fleet_needs.proofs.JoinLaws.{taken_first, taken_on}
+use Rattle.fleet_needs.proofs.RowPlaces.{upto}
 use Rattle.fleet_needs.proofs.joins.Joins.take_awaited.Goals as goal
 
 pub loop-k-init : goal.loop-k-init
@@ -8,11 +9,8 @@ loop-k-init g c = record { taken = taken_first (g.P.ProgramView.program c.args.p
 pub row_of-row-requires-clause-room : goal.row_of-row-requires-clause-room
 row_of-row-requires-clause-room g c = ap (λ xs. length xs.items) c.loop-k.invariant.taken.standing ∙ c.requires.can.sound.room
 
-pub row_of-row-requires-clause-agent : goal.row_of-row-requires-clause-agent
-row_of-row-requires-clause-agent g c = (c.requires.can.awaited c.loop-k.k c.await_at-wait.result c.await_at-wait.ensures).0.agent
-
-pub row_of-row-requires-clause-last : goal.row_of-row-requires-clause-last
-row_of-row-requires-clause-last g c = (c.requires.can.awaited c.loop-k.k c.await_at-wait.result c.await_at-wait.ensures).0.last
+pub row_of-row-requires-clause-action : goal.row_of-row-requires-clause-action
+row_of-row-requires-clause-action g c = upto (g.P.ProgramView.program c.args.program.now) (awaited c.await_at-wait.result) (c.requires.can.awaited c.loop-k.k c.await_at-wait.result c.await_at-wait.ensures).0
 
 pub loop-k-preserved : goal.loop-k-preserved
 loop-k-preserved g c = record {

@@ -1,6 +1,6 @@
-use Rattle.fleet_needs.proofs.Words.{◌≡◌, ◌+◌, ℕ, arith, ◌∙◌, ap, refl, inl, inr, subst, cases_lt, row_taken, AreSlotted, HasSlotNow, TakesIn, Need}
+use Rattle.fleet_needs.proofs.Words.{◌≡◌, ◌+◌, arith, ◌∙◌, ap, refl, inl, inr, subst, cases_lt, row_taken, HasSlotNow, TakesIn, Need}
 use Rattle.fleet_needs.proofs.Counting.{count_read}
-use Rattle.fleet_needs.proofs.Slotting.{base_sooner, held_on, join_settled, need_sooner, need_there, row_ended}
+use Rattle.fleet_needs.proofs.Slotting.{base_sooner, held_on, join_settled, need_sooner, row_ended}
 use Rattle.fleet_needs.proofs.schedule.Slots.settle.Goals as goal
 
 pub loop-k-init : goal.loop-k-init

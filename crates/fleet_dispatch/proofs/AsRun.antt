@@ -1,25 +1,5 @@
 -- A dispatch that gives one order at a time is a run of the machine.
-use Rattle.std.proofs.Common.{◌≡◌, ℕ, zero, suc, ◌+◌, ◌<◌, ◌≤◌, Bool, true, false, not, ◌&&◌, cond, List, [], ◌∷◌, ◌++◌, length, Contains, get_or, take, refl, ap, sym, ◌∙◌, subst, arith, inl, inr, add-one, take_all, lt-ltb, ltb-true}
-use Rattle.std.specs.Prelude.{nat_lt, nat_le}
-use Rattle.std.specs.List.{list_all}
-use Rattle.std.proofs.lemmas.Bool.{cases_lt}
-use Rattle.std.proofs.lemmas.List.{ext_get_or, get_or_past}
-use Rattle.std.proofs.lemmas.List.FromFn.{get_or-map-range_with_len, length-map-range_with_len}
-use Rattle.fleet_model.specs.declared.geometry.Place.{Place}
-use Rattle.fleet_model.specs.declared.standing.Standing.{Standing}
-use Rattle.fleet_model.specs.Program.{Program, moves, path, awaits_of}
-use Rattle.fleet_model.specs.Machine.{Configuration, Holds, indices, is_among, is_held, run, standing_at, count_at, is_ready, is_finished}
-use Rattle.fleet_machine.specs.Confirmed.{AreAllReady}
-use Rattle.fleet_model.proofs.Tick.{length-run}
-use Rattle.fleet_verify.proofs.RunCounts.{count_opening, count_past, run_place, agents_held}
-use Rattle.fleet_verify.proofs.Claimed.{reports_hold}
-use Rattle.fleet_verify.proofs.Waiting.{IsReadyTo, ready_says, ready_from, step}
-use Rattle.fleet_dispatch.specs.declared.form.ReportForm.{ReportForm}
-use Rattle.fleet_dispatch.specs.Report.{Words, Counts, count_of, counts_after}
-use Rattle.fleet_dispatch.specs.Ahead.{told_to, told_at, is_all_done}
-use Rattle.fleet_dispatch.specs.Orders.{order_line, agent_orders, new_orders}
-use Rattle.fleet_dispatch.specs.Dispatch.{counts_by, told_by, configuration_at, AreTaken}
-use Rattle.fleet_dispatch.specs.Lead.{none_done, counts_at, movers, movers_by, holds_by, orders_in_run, IsRun}
+use Rattle.fleet_dispatch.proofs.Cited.{◌≡◌, ℕ, zero, suc, ◌+◌, ◌<◌, ◌≤◌, Bool, true, false, not, ◌&&◌, cond, List, [], ◌∷◌, ◌++◌, length, Contains, get_or, take, refl, ap, sym, ◌∙◌, subst, arith, inl, inr, add-one, take_all, lt-ltb, ltb-true, nat_lt, nat_le, list_all, cases_lt, ext_get_or, get_or_past, get_or-map-range_with_len, length-map-range_with_len, Place, Standing, Program, moves, path, awaits_of, Configuration, Holds, indices, is_among, is_held, run, standing_at, count_at, is_ready, is_finished, AreAllReady, length-run, count_opening, count_past, run_place, agents_held, reports_hold, IsReadyTo, ready_says, ready_from, step, ReportForm, Words, Counts, count_of, counts_after, told_to, told_at, is_all_done, order_line, agent_orders, new_orders, counts_by, told_by, configuration_at, AreTaken, none_done, counts_at, movers, movers_by, holds_by, orders_in_run, IsRun}
 use Rattle.fleet_dispatch.proofs.Leading.{none_first, long, grows, limited, within, may_told, next}
 use Rattle.fleet_dispatch.proofs.Telling.{told_cannot}
 use Rattle.fleet_dispatch.proofs.Texts.{flat_agree, orders_more, orders_none}

@@ -1,15 +1,5 @@
 -- A step back after a step.
-use Rattle.std.proofs.Common.{◌≡◌, ◌∙◌, ◌+◌, ℕ, Some, refl, ap, arith}
-use Rattle.std.specs.Prelude.{ℤ, ◌+ℤ◌, ◌-ℤ◌, pos}
-use Rattle.std.proofs.lemmas.Int.{ints}
-use Rattle.fleet_model.specs.declared.geometry.Place.{Place}
-use Rattle.fleet_model.specs.declared.geometry.Dir.TheVariants.{North, East, South, West}
-use Rattle.fleet_model.specs.declared.geometry.Step.{Step}
-use Rattle.fleet_model.specs.declared.geometry.Step.TheVariants.{Go, Dwell}
-use Rattle.fleet_model.specs.Geometry.{stepped}
-use Rattle.fleet_model.specs.Program.{Program, path, step_of}
-use Rattle.fleet_verify.proofs.Paths.{path_step}
-use Rattle.fleet_dispatch.specs.Progress.{back}
+use Rattle.fleet_dispatch.proofs.Cited.{◌≡◌, ◌∙◌, ◌+◌, ℕ, Some, refl, ap, arith, ℤ, ◌+ℤ◌, ◌-ℤ◌, pos, ints, Place, North, East, South, West, Step, Go, Dwell, stepped, Program, path, step_of, path_step, back}
 
 down_up : (x : ℤ) → (x -ℤ pos 1) +ℤ pos 1 ≡ x
 down_up x = omega (arith, ints)

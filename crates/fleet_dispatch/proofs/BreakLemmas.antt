@@ -1,14 +1,5 @@
 -- The breaks that words name.
-use Rattle.std.proofs.Common.{◌≡◌, ℕ, ◌+◌, ◌<◌, List, [], ◌∷◌, ◌++◌, length, take, set, Some, refl, sym, ap, subst, ◌∙◌, arith, inl, inr}
-use Rattle.std.specs.Prelude.{slice_get}
-use Rattle.std.proofs.lemmas.Bool.{cases_lt}
-use Rattle.std.proofs.lemmas.List.{take_more}
-use Rattle.std.proofs.lemmas.Option.{same_Some, slice_get_within, get_or_from_slice_get}
-use Rattle.fleet_model.specs.Program.{Program}
-use Rattle.fleet_model.specs.Chain.{IsAction}
-use Rattle.fleet_dispatch.specs.Report.{Words}
-use Rattle.fleet_dispatch.specs.declared.report.Reported.{Reported}
-use Rattle.fleet_dispatch.specs.Breaks.{named_action, breaks_from, NameActions}
+use Rattle.fleet_dispatch.proofs.Cited.{◌≡◌, ℕ, ◌+◌, ◌<◌, List, [], ◌∷◌, ◌++◌, length, take, set, Some, refl, sym, ap, subst, ◌∙◌, arith, inl, inr, slice_get, cases_lt, take_more, same_Some, slice_get_within, get_or_from_slice_get, Program, IsAction, Words, Reported, named_action, breaks_from, NameActions}
 
 breaks_push : (breaks : List ℕ) (ws : Words) (w : Reported) → breaks_from breaks (ws ++ w ∷ []) ≡ set (breaks_from breaks ws) w.agent (named_action w).number
 breaks_push breaks [] w = refl

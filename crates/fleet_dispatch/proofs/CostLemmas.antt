@@ -1,23 +1,6 @@
 -- What the lines of a text say that actions cost.
-use Rattle.std.proofs.Common.{◌≡◌, ℕ, ◌+◌, ◌<◌, ◌≤◌, Bool, true, false, ◌&&◌, ◌==◌, nat_le, unwrap_or, option_and_then, option_map, position, take, drop, cond, List, [], ◌∷◌, ◌++◌, length, map, set, get_or, replicate, Option, None, Some, Result, Ok, Err, refl, sym, ap, subst, ◌∙◌, arith, inl, inr, nat_lt, max}
-use Rattle.std.specs.Option.{option_map_or}
-use Rattle.std.proofs.lemmas.Bool.{cases_lt, cases_eq, eq-eqb, false_from_ne_true, eqb-true, and_parts, leb-true, ltb-true}
-use Rattle.std.proofs.lemmas.Option.{same_Some}
-use Rattle.fleet_run.specs.HoldText.{is_space}
-use Rattle.fleet_dispatch.specs.ReportText.{long_number}
-use Rattle.std.proofs.lemmas.Bool.Decides.{nat_tests}
-use Rattle.std.proofs.lemmas.List.FromFn.{get_or-map-range_with_len, map-range_with_len_more, length-range_with_len}
-use Rattle.std.proofs.lemmas.List.{length-replicate, get_or-set_same, get_or-set_other, length-set, get_or_past, get_or-replicate, length-map}
-use Rattle.fleet_model.specs.declared.program.ActionId.{ActionId}
-use Rattle.fleet_model.specs.Program.{Program, moves}
-use Rattle.fleet_needs.specs.declared.critical.TheConstants.{MAX_COST}
-use Rattle.fleet_model.specs.Machine.{indices}
-use Rattle.fleet_text.specs.Text.{Bytes, lines}
-use Rattle.fleet_dispatch.specs.declared.costs.CostLine.{CostLine}
-use Rattle.fleet_dispatch.specs.declared.times_fault.TimesFault.{TimesFault}
-use Rattle.fleet_dispatch.specs.declared.times_fault.TimesFault.TheVariants.{Cost}
-use Rattle.fleet_dispatch.specs.Breaks.{named_action}
-use Rattle.fleet_dispatch.specs.Costs.{whose_of, cost_of, cost_line_of, is_of, AreCostsOf, IsCostsFault, no_rows, cost_line_in, IsCostOf, AreRowsOf, AreLow, entry, noted, noted_by, is_named, last_cost, cost_by, cost_in, IsFirstNoCost}
+use Rattle.fleet_dispatch.proofs.Cited.{◌≡◌, ℕ, ◌+◌, ◌<◌, ◌≤◌, Bool, true, false, ◌&&◌, ◌==◌, nat_le, unwrap_or, option_and_then, option_map, position, take, drop, cond, List, [], ◌∷◌, ◌++◌, length, map, set, get_or, replicate, Option, None, Some, Result, Ok, Err, refl, sym, ap, subst, ◌∙◌, arith, inl, inr, nat_lt, max, option_map_or, cases_lt, cases_eq, eq-eqb, false_from_ne_true, eqb-true, and_parts, leb-true, ltb-true, same_Some, is_space, long_number, nat_tests, get_or-map-range_with_len, map-range_with_len_more, length-range_with_len, length-replicate, get_or-set_same, get_or-set_other, length-set, get_or_past, get_or-replicate, length-map, ActionId, Program, moves, MAX_COST, indices, Bytes, lines, CostLine, TimesFault, Cost, named_action, whose_of, cost_of, cost_line_of, is_of, AreCostsOf, IsCostsFault, no_rows, cost_line_in, IsCostOf, AreRowsOf, AreLow, entry, noted_by, is_named, last_cost, cost_by, cost_in, IsFirstNoCost}
+use Rattle.fleet_dispatch.specs.Costs.{noted}
 
 -- ---- one line more
 

@@ -1,8 +1,5 @@
 -- The first element that does not pass a test.
-use Rattle.std.proofs.Common.{◌≡◌, ℕ, zero, suc, Bool, true, false, not, List, [], ◌∷◌, take, Some, None, slice_get, refl}
-use Rattle.std.specs.List.{list_all, find}
-use Rattle.std.proofs.lemmas.Bool.{and_parts}
-use Rattle.std.proofs.lemmas.Option.{same_Some}
+use Rattle.fleet_dispatch.proofs.Cited.{◌≡◌, ℕ, zero, suc, Bool, true, false, not, List, [], ◌∷◌, take, Some, None, slice_get, refl, list_all, find, and_parts, same_Some}
 
 pub none_found : {A : Type 0} (test : A → Bool) (xs : List A) → list_all test xs ≡ true → None ≡ find (λ x. not (test x)) xs
 none_found test [] all = refl

@@ -1,13 +1,5 @@
 -- The words of a report, read one after another.
-use Rattle.std.proofs.Common.{◌≡◌, ◌∙◌, ℕ, ◌+◌, ◌-◌, ◌<◌, ◌≤◌, ◌++◌, Bool, true, false, ◌&&◌, List, [], ◌∷◌, length, get_or, Option, None, Some, refl, sym, ap, arith, append_assoc, append-nil, le-leb, lt-ltb, leb-true, ltb-true, length-append}
-use Rattle.std.specs.Prelude.{option_map, option_and_then, nat_le, nat_lt, if◌then◌else◌}
-use Rattle.std.proofs.Math.Seq.{get_or-append_seam}
-use Rattle.fleet_model.specs.declared.limits.TheConstants.{MAX_AGENTS}
-use Rattle.fleet_text.specs.Text.{Bytes}
-use Rattle.fleet_dispatch.specs.declared.form.ReportForm.{ReportForm}
-use Rattle.fleet_dispatch.specs.declared.report.Reported.{Reported}
-use Rattle.fleet_dispatch.specs.Report.{Words, IsBehind}
-use Rattle.fleet_dispatch.specs.ReportText.{word_of, words_of}
+use Rattle.fleet_dispatch.proofs.Cited.{◌≡◌, ◌∙◌, ℕ, ◌+◌, ◌-◌, ◌<◌, ◌≤◌, ◌++◌, Bool, true, false, ◌&&◌, List, [], ◌∷◌, length, get_or, Option, None, Some, refl, sym, ap, arith, append_assoc, append-nil, le-leb, lt-ltb, leb-true, ltb-true, length-append, option_map, option_and_then, nat_le, nat_lt, if◌then◌else◌, get_or-append_seam, MAX_AGENTS, Bytes, ReportForm, Reported, Words, IsBehind, word_of, words_of}
 
 -- the report has the first words of a line, and these are those behind them
 pub record IsReadTo (form : ReportForm) (total : Option Words) (report : Words) (rest : List Bytes) : Type 0 where

@@ -1,18 +1,6 @@
 -- A log, replayed, leads where the talk has led that left it.
-use Rattle.std.proofs.Common.{◌≡◌, ℕ, ◌+◌, ◌++◌, ◌∷◌, [], Bool, true, false, not, cond, List, length, Some, refl, ap, sym, ◌∙◌, subst, arith, inl, inr, append_assoc, append-nil}
-use Rattle.std.specs.List.{AllByRecursion}
-use Rattle.std.proofs.lemmas.Bool.{cases_Bool}
-use Rattle.std.proofs.lemmas.List.Elements.{recursion_from_All}
-use Rattle.fleet_model.specs.Program.{Program, total_moves}
-use Rattle.fleet_dispatch.specs.declared.form.ReportForm.{ReportForm}
-use Rattle.fleet_dispatch.specs.Report.{Words, Counts, counts_after, is_repeat, Line, Reports, Asks, words_in, is_taken}
-use Rattle.fleet_dispatch.specs.ReportText.{log_line, line_of}
-use Rattle.fleet_dispatch.specs.Ahead.{told_at, is_all_done}
-use Rattle.fleet_dispatch.specs.Orders.{new_orders, closing}
-use Rattle.fleet_dispatch.specs.Talk.{Talk, Told, Heard, Asked, Logged, Cut, Unlogged, Misheard, NoMore, Unheard}
-use Rattle.fleet_dispatch.specs.Dispatch.{Course, Left, left_by, counts_by, taken_by, turns_of, talk_before, reports_in, AreTaken, AreHeard, counts_now, taken_now, due_orders, said_before, said_by}
-use Rattle.fleet_dispatch.specs.Replay.{ReplaysTurns, IsReplayed, logged_in, AreRead}
-use Rattle.fleet_dispatch.specs.ReplayTalk.{replays_more}
+use Rattle.fleet_dispatch.proofs.Cited.{◌≡◌, ℕ, ◌+◌, ◌++◌, ◌∷◌, [], Bool, true, false, not, cond, List, length, Some, refl, ap, sym, ◌∙◌, subst, arith, inl, inr, append_assoc, append-nil, AllByRecursion, cases_Bool, recursion_from_All, Program, total_moves, ReportForm, Words, Counts, counts_after, is_repeat, Line, Reports, Asks, words_in, is_taken, log_line, line_of, told_at, is_all_done, new_orders, closing, Talk, Told, Heard, Asked, Logged, Cut, Unlogged, Misheard, NoMore, Unheard, Course, Left, left_by, counts_by, taken_by, turns_of, talk_before, reports_in, AreTaken, AreHeard, counts_now, taken_now, said_before, said_by, ReplaysTurns, IsReplayed, logged_in, AreRead, replays_more}
+use Rattle.fleet_dispatch.specs.Dispatch.{due_orders}
 use Rattle.fleet_dispatch.proofs.Words.{repeat_changes_nothing}
 use Rattle.fleet_dispatch.proofs.Spelling.{line_is, reads_again, first_of_log}
 

@@ -1,30 +1,5 @@
 -- Robots that are led by the orders and reports of a dispatch.
-use Rattle.std.proofs.Common.{◌≡◌, ℕ, zero, suc, ◌+◌, ◌-◌, ◌<◌, ◌≤◌, ◌⊎◌, Bool, true, false, List, [], ◌∷◌, length, get_or, take, replicate, Option, Some, None, refl, ap, sym, ◌∙◌, subst, arith, inl, inr, add-one, add-zero, le-leb, leb-true, lt-ltb}
-use Rattle.std.specs.Prelude.{option_map, IsTrue, nat_le}
-use Rattle.std.specs.List.{position, position_or_len}
-use Rattle.std.proofs.lemmas.Bool.{cases_lt, and_parts}
-use Rattle.std.proofs.lemmas.Option.{same_Some}
-use Rattle.std.proofs.lemmas.List.{take_more, get_or-replicate, length-replicate, get_or_past}
-use Rattle.std.proofs.lemmas.List.FromFn.{length-range_with_len, get_or-range_with_len}
-use Rattle.std.proofs.lemmas.List.Quantifiers.{position-Some}
-use Rattle.std.proofs.lemmas.List.Sums.{fails_before_first}
-use Rattle.fleet_model.specs.declared.geometry.Place.{Place}
-use Rattle.fleet_model.specs.declared.program.ActionId.{ActionId}
-use Rattle.fleet_model.specs.declared.task.Task.{Task}
-use Rattle.fleet_model.specs.Visit.{ComesAfterByChain}
-use Rattle.fleet_model.specs.Accepted.{IsAcceptedBy}
-use Rattle.fleet_model.specs.Program.{Program, moves, AreInRange}
-use Rattle.fleet_model.specs.Machine.{indices}
-use Rattle.fleet_model.specs.Chain.{IsAction, DirectlyNeeds, awaited}
-use Rattle.fleet_model.specs.Schedule.{Schedule, IsBy, IsSchedule}
-use Rattle.fleet_model.specs.Dispatch.{OrdersAwait, IsCarriedOut}
-use Rattle.fleet_verify.proofs.Timed.{no_two_on, ahead_schedule}
-use Rattle.fleet_dispatch.specs.declared.report.Reported.{Reported}
-use Rattle.fleet_dispatch.specs.Report.{Words, Counts, count_of, counts_after}
-use Rattle.fleet_dispatch.specs.Ahead.{told_to}
-use Rattle.fleet_dispatch.specs.Progress.{AreDone, MayBeTold}
-use Rattle.fleet_dispatch.specs.Dispatch.{counts_by, MayBeTaken, AreTaken}
-use Rattle.fleet_dispatch.specs.Lead.{none_done, counts_at, is_told_by, is_done_by, may_begin_by, first_time, dispatch_of, schedule_of, NeverFalls, IsSafelyLed, OrdersAtOnce}
+use Rattle.fleet_dispatch.proofs.Cited.{◌≡◌, ℕ, zero, suc, ◌+◌, ◌-◌, ◌<◌, ◌≤◌, ◌⊎◌, Bool, true, false, List, [], ◌∷◌, length, get_or, take, replicate, Option, Some, None, refl, ap, sym, ◌∙◌, subst, arith, inl, inr, add-one, add-zero, le-leb, leb-true, lt-ltb, option_map, IsTrue, nat_le, position, position_or_len, cases_lt, and_parts, same_Some, take_more, get_or-replicate, length-replicate, get_or_past, length-range_with_len, get_or-range_with_len, position-Some, fails_before_first, Place, ActionId, Task, ComesAfterByChain, IsAcceptedBy, Program, moves, AreInRange, indices, IsAction, DirectlyNeeds, awaited, Schedule, IsBy, IsSchedule, OrdersAwait, IsCarriedOut, no_two_on, ahead_schedule, Reported, Words, Counts, count_of, counts_after, told_to, AreDone, MayBeTold, counts_by, MayBeTaken, AreTaken, none_done, counts_at, is_told_by, is_done_by, may_begin_by, first_time, dispatch_of, schedule_of, NeverFalls, IsSafelyLed, OrdersAtOnce}
 use Rattle.fleet_dispatch.proofs.Telling.{told_may, told_cannot}
 use Rattle.fleet_dispatch.proofs.Reports.{counts_more}
 use Rattle.fleet_dispatch.proofs.Words.{length_after, after_grows, after_bounded}

@@ -1,3 +1,4 @@
+pub mod Cited
 pub mod Written
 pub mod Words
 pub mod Telling

@@ -1,11 +1,5 @@
 -- Lines of a log, written from their ends.
-use Rattle.std.proofs.Common.{◌≡◌, ℕ, ◌+◌, ◌<◌, ◌++◌, [], ◌∷◌, length, map, drop, refl, ap, sym, ◌∙◌, arith, append-nil}
-use Rattle.std.specs.List.{flat_map, join_with_byte}
-use Rattle.std.proofs.lemmas.List.{drop-drop}
-use Rattle.fleet_text.specs.Text.{Bytes}
-use Rattle.fleet_dispatch.specs.declared.report.Reported.{Reported}
-use Rattle.fleet_dispatch.specs.Report.{Words}
-use Rattle.fleet_dispatch.specs.ReportText.{word_text, log_line}
+use Rattle.fleet_dispatch.proofs.Cited.{◌≡◌, ℕ, ◌+◌, ◌<◌, ◌++◌, [], ◌∷◌, length, map, drop, refl, ap, sym, ◌∙◌, arith, append-nil, flat_map, join_with_byte, drop-drop, Bytes, Reported, Words, word_text, log_line}
 
 -- each word after a space
 abbrev pub spaced : Words → Bytes

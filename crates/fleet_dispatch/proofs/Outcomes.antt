@@ -1,20 +1,8 @@
 -- How a dispatch goes on, and how it ends.
-use Rattle.std.proofs.Common.{◌≡◌, ℕ, ◌+◌, ◌≤◌, ◌++◌, ◌∷◌, [], true, false, cond, List, length, take, Result, Ok, Err, refl, ap, sym, ◌∙◌, arith, subst, ◌⊎◌, inl, inr, append_assoc}
-use Rattle.std.specs.Prelude.{is_err}
-use Rattle.fleet_model.specs.Program.{Program, total_moves}
-use Rattle.fleet_dispatch.specs.declared.fault.DispatchFault.{DispatchFault}
+use Rattle.fleet_dispatch.proofs.Cited.{◌≡◌, ℕ, ◌+◌, ◌≤◌, ◌++◌, ◌∷◌, [], true, false, cond, List, length, take, Result, Ok, Err, refl, ap, sym, ◌∙◌, arith, subst, ◌⊎◌, inl, inr, append_assoc, is_err, Program, total_moves, DispatchFault, DispatchReport, Session, Pace, MAX_REPORTS, Words, IsRising, Counts, counts_after, is_repeat, Line, words_in, is_taken, standings_text, told_at, AreOrdered, IsFirstUnordered, is_all_done, Talk, Told, Cut, Asked, Tells, new_orders, closing, Course, left_by, Dispatches, MayBeTaken, AreHeard, told_by, reports_in, turns_of, counts_now, said_before, said_by, taken_now, Concludes, TakesLine, IsLineTaken, left_in}
 use Rattle.fleet_dispatch.specs.declared.fault.DispatchFault.TheVariants as f
-use Rattle.fleet_dispatch.specs.declared.run.DispatchReport.{DispatchReport}
-use Rattle.fleet_dispatch.specs.declared.run.Session.{Session}
-use Rattle.fleet_dispatch.specs.declared.pace.Pace.{Pace}
-use Rattle.fleet_dispatch.specs.declared.run.TheConstants.{MAX_REPORTS}
-use Rattle.fleet_dispatch.specs.Report.{Words, IsRising, Counts, counts_after, is_repeat, Line, words_in, is_taken}
-use Rattle.fleet_dispatch.specs.Standings.{standings_text}
-use Rattle.fleet_dispatch.specs.Ahead.{told_at, AreOrdered, IsFirstUnordered, is_all_done}
-use Rattle.fleet_dispatch.specs.Talk.{Talk, Told, Cut, Asked, Tells}
-use Rattle.fleet_dispatch.specs.Orders.{new_orders, closing}
-use Rattle.fleet_dispatch.specs.Dispatch.{Course, left_by, Dispatches, MayBeTaken, AreHeard, told_by, reports_in, turns_of, counts_now, due_orders, said_before, said_by, taken_now}
-use Rattle.fleet_dispatch.specs.Session.{Concludes, TakesLine, IsLineTaken, left_in, course_in as course_of}
+use Rattle.fleet_dispatch.specs.Dispatch.{due_orders}
+use Rattle.fleet_dispatch.specs.Session.{course_in as course_of}
 use Rattle.fleet_dispatch.proofs.Reports.{more, length_more, counts_now_more, taken_now_more, said_more, told_now_more, are_heard_more, talk_none}
 
 -- what was said in two stretches was said in both

@@ -1,34 +1,5 @@
 -- What is promised of a dispatch, by what is carried out after its reports.
-use Rattle.std.proofs.Common.{◌≡◌, ◌≢◌, ℕ, zero, suc, ◌+◌, ◌-◌, ◌<◌, ◌≤◌, ◌++◌, Bool, true, false, cond, List, [], ◌∷◌, length, get_or, sum_by, Option, Some, None, All, refl, ap, sym, ◌∙◌, subst, arith, inl, inr, add-zero, le-leb, leb-true, leb-false, ltb-true, eq-eqb, take_all}
-use Rattle.std.specs.Prelude.{IsTrue, nat_le, nat_lt, ◌==◌, if◌then◌else◌}
-use Rattle.std.specs.Option.{option_map_or}
-use Rattle.std.proofs.lemmas.Bool.{cases_lt, cases_eq, ne_eqb}
-use Rattle.std.proofs.lemmas.List.{get_or_past}
-use Rattle.std.proofs.lemmas.List.FromFn.{length-range_with_len, get_or-range_with_len, get_or-map-range_with_len}
-use Rattle.std.proofs.lemmas.List.Folds.{Any-from_list_any}
-use Rattle.std.proofs.lemmas.List.Sums.{sum_by-le-sum_by, AllPass-from_list_all}
-use Rattle.fleet_model.specs.declared.geometry.Place.{Place}
-use Rattle.fleet_model.specs.declared.program.ActionId.{ActionId}
-use Rattle.fleet_model.specs.declared.standing.Standing.{Standing}
-use Rattle.fleet_model.specs.declared.task.Task.{Task}
-use Rattle.fleet_model.specs.Geometry.{place_of}
-use Rattle.fleet_model.specs.Visit.{ComesAfterByChain}
-use Rattle.fleet_model.specs.Accepted.{IsAcceptedBy}
-use Rattle.fleet_model.specs.Program.{Program, origin, moves, total_moves, path}
-use Rattle.fleet_model.specs.Machine.{indices}
-use Rattle.fleet_model.specs.Chain.{IsAction}
-use Rattle.fleet_model.specs.Schedule.{Schedule, IsBy, MayBeOnAt}
-use Rattle.fleet_model.specs.Dispatch.{IsCarriedOut}
-use Rattle.fleet_model.proofs.Tick.{fails_at}
-use Rattle.fleet_verify.proofs.CriticalPaths.{never_stuck}
-use Rattle.fleet_verify.proofs.RunCounts.{sum_rises, sum_of_moves}
-use Rattle.fleet_dispatch.specs.declared.report.Reported.{Reported}
-use Rattle.fleet_dispatch.specs.Report.{Words, Counts, count_of, said_of, raised, counts_after, Line, words_in}
-use Rattle.fleet_dispatch.specs.Ahead.{told_to, told_at, is_all_done}
-use Rattle.fleet_dispatch.specs.Orders.{new_orders}
-use Rattle.fleet_dispatch.specs.Progress.{AreDone}
-use Rattle.fleet_dispatch.specs.Dispatch.{Course, counts_by, told_by, taken_by, reports_in, counts_now, AreTaken, AreHeard}
-use Rattle.fleet_dispatch.specs.Lead.{none_done, counts_at, dispatch_of, MayBeOnOrder, Arrive, is_news, news_by, LeadsWell, resumed, SaysAlike}
+use Rattle.fleet_dispatch.proofs.Cited.{◌≡◌, ◌≢◌, ℕ, zero, suc, ◌+◌, ◌-◌, ◌<◌, ◌≤◌, ◌++◌, Bool, true, false, cond, List, [], ◌∷◌, length, get_or, sum_by, Option, Some, None, All, refl, ap, sym, ◌∙◌, subst, arith, inl, inr, add-zero, le-leb, leb-true, leb-false, ltb-true, eq-eqb, take_all, IsTrue, nat_le, nat_lt, ◌==◌, if◌then◌else◌, option_map_or, cases_lt, cases_eq, ne_eqb, get_or_past, length-range_with_len, get_or-range_with_len, get_or-map-range_with_len, Any-from_list_any, sum_by-le-sum_by, AllPass-from_list_all, Place, ActionId, Standing, Task, place_of, ComesAfterByChain, IsAcceptedBy, Program, origin, moves, total_moves, path, indices, IsAction, Schedule, IsBy, MayBeOnAt, IsCarriedOut, fails_at, never_stuck, sum_rises, sum_of_moves, Reported, Words, Counts, count_of, said_of, raised, counts_after, Line, words_in, told_to, told_at, is_all_done, new_orders, AreDone, Course, counts_by, told_by, taken_by, reports_in, counts_now, AreTaken, AreHeard, none_done, counts_at, dispatch_of, MayBeOnOrder, Arrive, is_news, news_by, LeadsWell, resumed, SaysAlike}
 use Rattle.fleet_dispatch.proofs.Telling.{told_cannot}
 use Rattle.fleet_dispatch.proofs.Words.{length_after, length_raised, raised_here, raised_grows, after_grows}
 use Rattle.fleet_dispatch.proofs.Leading.{told_low, within, may_told, met_later, told_needs, grows, long, grown, due_told, told_by_time, report_is, safely_led}

@@ -1,20 +1,6 @@
 -- A dispatch over a log: its talk, how it ends, and what it has carried out.
-use Rattle.std.proofs.Common.{◌≡◌, ℕ, ◌++◌, List, [], ◌∷◌, length, Result, Ok, Err, ap, sym, ◌∙◌, subst, inl, inr, arith, take_all, append_assoc}
-use Rattle.std.specs.Result.{IsErrAnd}
-use Rattle.fleet_model.specs.Program.{Program, IsWellFormed}
-use Rattle.fleet_dispatch.specs.declared.fault.DispatchFault.{DispatchFault}
+use Rattle.fleet_dispatch.proofs.Cited.{◌≡◌, ℕ, ◌++◌, List, [], ◌∷◌, length, Result, Ok, Err, ap, sym, ◌∙◌, subst, inl, inr, arith, take_all, append_assoc, IsErrAnd, Program, IsWellFormed, DispatchFault, ReportForm, Pace, DispatchReport, Words, Counts, Line, AreCounts, Turn, Talk, Heard, Cut, Unlogged, Unheard, Course, Left, left_by, counts_by, reports_in, Dispatches, AreTaken, AreHeard, none_done, counts_at, ReplaysTurn, ReplaysTurns, IsReplay, IsReplayed, Replays, LeadsOn, replay_end, IsOpened, course_in, left_in, first_course, Session}
 use Rattle.fleet_dispatch.specs.declared.fault.DispatchFault.TheVariants as f
-use Rattle.fleet_dispatch.specs.declared.form.ReportForm.{ReportForm}
-use Rattle.fleet_dispatch.specs.declared.pace.Pace.{Pace}
-use Rattle.fleet_dispatch.specs.declared.run.DispatchReport.{DispatchReport}
-use Rattle.fleet_dispatch.specs.Report.{Words, Counts, Line}
-use Rattle.fleet_dispatch.specs.Progress.{AreCounts}
-use Rattle.fleet_dispatch.specs.Talk.{Turn, Talk, Heard, Cut, Unlogged, Unheard}
-use Rattle.fleet_dispatch.specs.Dispatch.{Course, Left, left_by, counts_by, reports_in, Dispatches, AreTaken, AreHeard}
-use Rattle.fleet_dispatch.specs.Lead.{none_done, counts_at}
-use Rattle.fleet_dispatch.specs.Replay.{ReplaysTurn, ReplaysTurns, IsReplay, IsReplayed, Replays, LeadsOn, replay_end}
-use Rattle.fleet_dispatch.specs.Session.{IsOpened, course_in, left_in, first_course}
-use Rattle.fleet_dispatch.specs.declared.run.Session.{Session}
 use Rattle.fleet_dispatch.proofs.Leading.{within, long}
 
 -- ---- turns that never come

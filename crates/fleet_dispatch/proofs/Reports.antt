@@ -1,12 +1,6 @@
 -- Lines that are heard one after another.
-use Rattle.std.proofs.Common.{◌≡◌, ℕ, ◌+◌, ◌++◌, ◌∷◌, [], cond, List, length, refl, ap, sym, ◌∙◌, arith, append_assoc, append-nil, length-append}
-use Rattle.fleet_model.specs.Program.{Program}
-use Rattle.fleet_dispatch.specs.declared.form.ReportForm.{ReportForm}
-use Rattle.fleet_dispatch.specs.Report.{Words, Counts, counts_after, Line, words_in, is_taken}
-use Rattle.fleet_dispatch.specs.Ahead.{told_at}
-use Rattle.fleet_dispatch.specs.Talk.{Talk, Told}
-use Rattle.fleet_dispatch.specs.Orders.{new_orders}
-use Rattle.fleet_dispatch.specs.Dispatch.{Course, counts_by, told_by, taken_by, turns_of, talk_before, MayBeTaken, AreTaken, AreHeard, reports_in, counts_now, due_orders, said_before, said_by, taken_now}
+use Rattle.fleet_dispatch.proofs.Cited.{◌≡◌, ℕ, ◌+◌, ◌++◌, ◌∷◌, [], cond, List, length, refl, ap, sym, ◌∙◌, arith, append_assoc, append-nil, length-append, Program, ReportForm, Words, Counts, counts_after, Line, words_in, is_taken, told_at, Talk, Told, new_orders, Course, counts_by, told_by, taken_by, turns_of, talk_before, MayBeTaken, AreTaken, AreHeard, reports_in, counts_now, said_before, said_by, taken_now}
+use Rattle.fleet_dispatch.specs.Dispatch.{due_orders}
 
 -- ---- one line more
 

@@ -1,16 +1,6 @@
 -- A dispatch, by what its talk gives.
-use Rattle.std.proofs.Common.{◌≡◌, ℕ, List, [], Result, Ok, Err, inl, inr, sym, subst}
-use Rattle.std.specs.Result.{IsErrAnd}
-use Rattle.fleet_model.specs.Program.{Program}
-use Rattle.fleet_dispatch.specs.declared.pace.Pace.{Pace}
-use Rattle.fleet_dispatch.specs.Session.{first_course}
-use Rattle.fleet_dispatch.specs.declared.fault.DispatchFault.{DispatchFault}
+use Rattle.fleet_dispatch.proofs.Cited.{◌≡◌, ℕ, List, [], Result, Ok, Err, inl, inr, sym, subst, IsErrAnd, Program, Pace, first_course, DispatchFault, DispatchReport, Line, Turn, Talk, Course, Left, StopsAtLine, Dispatches, IsCut, IsReplayed, course_from, GoesOn, DispatchesAfter, LeadsOn}
 use Rattle.fleet_dispatch.specs.declared.fault.DispatchFault.TheVariants as f
-use Rattle.fleet_dispatch.specs.declared.run.DispatchReport.{DispatchReport}
-use Rattle.fleet_dispatch.specs.Report.{Line}
-use Rattle.fleet_dispatch.specs.Talk.{Turn, Talk}
-use Rattle.fleet_dispatch.specs.Dispatch.{Course, Left, StopsAtLine, Dispatches, IsCut}
-use Rattle.fleet_dispatch.specs.Replay.{IsReplayed, course_from, GoesOn, DispatchesAfter, LeadsOn}
 
 -- ---- of every talk there is more to say
 module _ (talks talks' : Talk → Type 0) (more : (talk : Talk) → talks talk → talks' talk) (d : Course) where

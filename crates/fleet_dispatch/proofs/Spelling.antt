@@ -1,28 +1,5 @@
 -- A line that is read as a report is the line of that report, and no line's end is in it.
-use Rattle.std.proofs.Common.{◌≡◌, ◌∙◌, ℕ, suc, ◌+◌, ◌-◌, ◌<◌, ◌&&◌, cond, List, [], ◌∷◌, ◌++◌, length, map, get_or, take, drop, Option, None, Some, nat_le, nat_lt, refl, sym, ap, subst, inl, inr, arith, eqb-true, ltb-true, append_assoc, append-nil, decimal, ltb, add-one, length-append}
-use Rattle.std.specs.Prelude.{option_map, option_and_then, position}
-use Rattle.std.specs.List.{slice_split, join_with_byte, AllByRecursion, position_or_len}
-use Rattle.std.specs.Str.Lines.{strip_carriage_return}
-use Rattle.std.proofs.lemmas.Bool.{cases_Bool, ltb-false}
-use Rattle.std.proofs.lemmas.List.Sums.{position_or_len_is}
-use Rattle.std.proofs.Math.ListN.{get_or-append}
-use Rattle.std.proofs.Math.Seq.{get_or-append_seam}
-use Rattle.std.proofs.lemmas.Option.{same_Some}
-use Rattle.std.proofs.lemmas.List.{take-append-drop, take_more}
-use Rattle.std.proofs.lemmas.List.Quantifiers.{position-Some}
-use Rattle.std.proofs.lemmas.List.Splits.{join_with_byte-slice_split, length-slice_split}
-use Rattle.fleet_model.specs.declared.limits.TheConstants.{MAX_AGENTS}
-use Rattle.fleet_text.specs.Text.{Bytes, is_lf}
-use Rattle.fleet_text.proofs.WrittenLaws.{From, from_less, from_append, from_join, decimal_from, apart_from, at_from, keeps_end}
-use Rattle.fleet_run.specs.HoldText.{is_space, is_dash, plain_number}
-use Rattle.fleet_run.proofs.HoldLaws.{dash_is, plain_is_decimal}
-use Rattle.fleet_dispatch.specs.declared.form.ReportForm.{ReportForm}
-use Rattle.fleet_dispatch.specs.declared.form.ReportForm.TheVariants.{Numbered, Unnumbered}
-use Rattle.fleet_text.specs.declared.numbers.TheConstants.{TOO_LONG}
-use Rattle.fleet_dispatch.specs.declared.report.Reported.{Reported}
-use Rattle.fleet_dispatch.specs.Report.{Words, Reports, Asks}
-use Rattle.fleet_dispatch.specs.ReportText.{word_text, report_line, log_line, long_number, is_colon, word_of, words_of, report_of, is_question, line_of}
-use Rattle.fleet_dispatch.specs.Stream.{HasLine}
+use Rattle.fleet_dispatch.proofs.Cited.{◌≡◌, ◌∙◌, ℕ, suc, ◌+◌, ◌-◌, ◌<◌, ◌&&◌, cond, List, [], ◌∷◌, ◌++◌, length, map, get_or, take, drop, Option, None, Some, nat_le, nat_lt, refl, sym, ap, subst, inl, inr, arith, eqb-true, ltb-true, append_assoc, append-nil, decimal, ltb, add-one, length-append, option_map, option_and_then, position, slice_split, join_with_byte, AllByRecursion, position_or_len, strip_carriage_return, cases_Bool, ltb-false, position_or_len_is, get_or-append, get_or-append_seam, same_Some, take-append-drop, take_more, position-Some, join_with_byte-slice_split, length-slice_split, MAX_AGENTS, Bytes, is_lf, From, from_less, from_append, from_join, decimal_from, apart_from, at_from, keeps_end, is_space, is_dash, plain_number, dash_is, plain_is_decimal, ReportForm, Numbered, Unnumbered, TOO_LONG, Reported, Words, Reports, Asks, word_text, report_line, log_line, long_number, is_colon, word_of, words_of, report_of, is_question, line_of, HasLine}
 
 -- ---- numbers and words
 

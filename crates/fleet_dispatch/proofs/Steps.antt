@@ -1,27 +1,5 @@
 -- How progress goes on: agents are told more, and carry out more.
-use Rattle.std.proofs.Common.{◌≡◌, ◌≢◌, ℕ, zero, suc, ◌+◌, ◌<◌, ◌≤◌, Bool, true, false, not, List, [], ◌∷◌, length, get_or, set, take, All, Option, Some, None, Contains, refl, ap, sym, ◌∙◌, subst, arith, inl, inr, eq-eqb, leb-true, get_or-set_same, get_or-set_other, length-set}
-use Rattle.std.specs.Prelude.{nat_lt, nat_le, min, is_some, IfSome, IfNone, slice_get, MatchOption, MatchBool, ◌==◌}
-use Rattle.std.specs.Option.{option_map_or}
-use Rattle.std.specs.List.{count_by}
-use Rattle.std.proofs.lemmas.Bool.{cases_lt, cases_eq, ne_eqb, le-leb, lt-leb, leb-false, ltb-false, ltb-true}
-use Rattle.std.proofs.lemmas.List.{ext_get_or, take_more, take_all}
-use Rattle.std.proofs.lemmas.List.Elements.{All-append}
-use Rattle.std.proofs.lemmas.Option.{slice_get-get_or}
-use Rattle.std.proofs.lemmas.List.FromFn.{get_or-map-range_with_len, length-map-range_with_len, length-range_with_len, get_or-range_with_len}
-use Rattle.std.proofs.lemmas.List.Folds.{list_all_at}
-use Rattle.std.proofs.lemmas.List.Sums.{list_all-from_AllPass}
-use Rattle.fleet_model.specs.declared.geometry.Place.{Place}
-use Rattle.fleet_model.specs.declared.program.Await.{Await}
-use Rattle.fleet_model.specs.Program.{Program, moves, path, awaits_of}
-use Rattle.fleet_model.specs.Machine.{indices}
-use Rattle.fleet_machine.specs.AgentSet.{AreNoneFrom, IsNextFrom}
-use Rattle.fleet_machine.specs.Machine.{flag_of}
-use Rattle.fleet_machine.specs.WaitLists.{home_of}
-use Rattle.fleet_machine.proofs.Waking.{fewer}
-use Rattle.fleet_dispatch.specs.declared.report.Reported.{Reported}
-use Rattle.fleet_dispatch.specs.Report.{Words, Counts, count_of, said_of}
-use Rattle.fleet_dispatch.specs.Ahead.{told_to, told_at, IsOrdered, AreOrdered, IsFirstUnordered, is_all_done}
-use Rattle.fleet_dispatch.specs.Progress.{ProgressState, AreDone, MayBeTold, IsSettled, HasRows, LeadsBut, Leads, AreCounts, AreTold, IsWoken, is_woken}
+use Rattle.fleet_dispatch.proofs.Cited.{◌≡◌, ◌≢◌, ℕ, zero, suc, ◌+◌, ◌<◌, ◌≤◌, Bool, true, false, not, List, [], ◌∷◌, length, get_or, set, take, All, Option, Some, None, Contains, refl, ap, sym, ◌∙◌, subst, arith, inl, inr, eq-eqb, leb-true, get_or-set_same, get_or-set_other, length-set, nat_lt, nat_le, min, is_some, IfSome, IfNone, slice_get, MatchOption, MatchBool, ◌==◌, option_map_or, count_by, cases_lt, cases_eq, ne_eqb, le-leb, lt-leb, leb-false, ltb-false, ltb-true, ext_get_or, take_more, take_all, All-append, slice_get-get_or, get_or-map-range_with_len, length-map-range_with_len, length-range_with_len, get_or-range_with_len, list_all_at, list_all-from_AllPass, Place, Await, Program, moves, path, awaits_of, indices, AreNoneFrom, IsNextFrom, flag_of, home_of, fewer, Reported, Words, Counts, count_of, said_of, told_to, told_at, IsOrdered, AreOrdered, IsFirstUnordered, is_all_done, ProgressState, AreDone, MayBeTold, IsSettled, HasRows, LeadsBut, Leads, AreCounts, AreTold, IsWoken, is_woken}
 use Rattle.fleet_dispatch.proofs.Telling.{CannotBeTold, told_is}
 
 -- who is led has carried out no more than it is to

@@ -1,24 +1,5 @@
 -- What is carried out after reports that could be taken is what some run has finished at some time.
-use Rattle.std.proofs.Common.{◌≡◌, ℕ, zero, suc, ◌+◌, ◌<◌, ◌≤◌, Bool, true, false, not, ◌&&◌, List, [], ◌∷◌, ◌++◌, length, map, Contains, sym, ap, subst, ◌∙◌, arith, le-leb, inl, inr}
-use Rattle.std.specs.Prelude.{nat_le}
-use Rattle.std.proofs.lemmas.Bool.{cases_lt, cases_Bool, lt-leb}
-use Rattle.std.proofs.Math.Bool.{and-false}
-use Rattle.std.proofs.lemmas.List.{ext_get_or, take_all, get_or_past, get_or-replicate}
-use Rattle.std.proofs.lemmas.List.FromFn.{get_or-map-range_with_len, length-map-range_with_len, map-range_with_len_more}
-use Rattle.fleet_model.specs.declared.program.Await.{Await}
-use Rattle.fleet_model.specs.declared.standing.Standing.{Standing}
-use Rattle.fleet_model.specs.Program.{Program, moves, awaits_of, path}
-use Rattle.fleet_model.specs.Machine.{Configuration, standing_at, count_at, is_ready, tick, opening, indices, IsReached}
-use Rattle.fleet_model.proofs.Chains.{bound_below}
-use Rattle.fleet_model.proofs.Tick.{length-run, standing_at_tick, standing_at_opening, free_moves, other_stays, unready_waits}
-use Rattle.fleet_verify.proofs.RunCounts.{start_reached, tick_reached}
-use Rattle.fleet_verify.proofs.UnderWay.{on_path}
-use Rattle.fleet_dispatch.specs.Report.{Words, Counts, count_of}
-use Rattle.fleet_dispatch.specs.Dispatch.{AreTaken, Left, counts_by, configuration_at, reports_in}
-use Rattle.fleet_dispatch.specs.Replay.{IsReplayed}
-use Rattle.fleet_dispatch.specs.Standing.{log_course}
-use Rattle.fleet_dispatch.specs.declared.standing.TheConstants.{MOST_AHEAD}
-use Rattle.fleet_dispatch.specs.Lead.{none_done, counts_at}
+use Rattle.fleet_dispatch.proofs.Cited.{◌≡◌, ℕ, zero, suc, ◌+◌, ◌<◌, ◌≤◌, Bool, true, false, not, ◌&&◌, List, [], ◌∷◌, ◌++◌, length, map, Contains, sym, ap, subst, ◌∙◌, arith, le-leb, inl, inr, nat_le, cases_lt, cases_Bool, lt-leb, and-false, ext_get_or, take_all, get_or_past, get_or-replicate, get_or-map-range_with_len, length-map-range_with_len, map-range_with_len_more, Await, Standing, Program, moves, awaits_of, path, Configuration, standing_at, count_at, is_ready, tick, opening, indices, IsReached, bound_below, length-run, standing_at_tick, standing_at_opening, free_moves, other_stays, unready_waits, start_reached, tick_reached, on_path, Words, Counts, count_of, AreTaken, Left, counts_by, configuration_at, reports_in, IsReplayed, log_course, MOST_AHEAD, none_done, counts_at}
 use Rattle.fleet_dispatch.proofs.Leading.{long, grows, limited, may_told, told_needs}
 
 -- a configuration of a run, in which each agent has finished so many actions

@@ -1,26 +1,5 @@
 -- The next line among bytes that were read.
-use Rattle.std.proofs.Common.{◌≡◌, ℕ, ◌+◌, ◌≤◌, ◌<◌, ◌++◌, Bool, true, false, not, List, length, take, drop, Option, Some, None, Result, Ok, Err, ltb, refl, sym, ap, subst, ◌∙◌, arith, inl, inr}
-use Rattle.std.proofs.lemmas.List.{length-append, take-append-le, drop-append-le, take-append-drop, length-take-le, length-drop}
-use Rattle.std.proofs.lemmas.List.Folds.{prefix_len-append}
-use Rattle.std.proofs.lemmas.Bool.{cases_Bool, ltb-false, lt-ltb, le-ltb, eq-eqb, cond-true}
-use Rattle.std.proofs.lemmas.List.Quantifiers.{position-Some}
-use Rattle.std.proofs.lemmas.List.Sums.{position_or_len_is, fails_before_first, prefix_len-le-length}
-use Rattle.std.proofs.Math.ListN.{get_or-append}
-use Rattle.std.specs.Prelude.{position, IfSome}
-use Rattle.std.specs.List.{position_or_len}
-use Rattle.std.specs.Str.Lines.{strip_carriage_return}
-use Rattle.std.specs.Io.KnownBytes.{prepend_known, Keeps}
-use Rattle.std.specs.Result.{IsErrAnd}
-use Rattle.fleet_text.specs.Text.{is_lf}
-use Rattle.fleet_text.proofs.TextLaws.{found_at, found_nowhere}
-use Rattle.fleet_dispatch.specs.declared.form.ReportForm.{ReportForm}
-use Rattle.fleet_dispatch.specs.declared.window.TheConstants.{LINE_ROOM}
-use Rattle.fleet_dispatch.specs.Report.{Words, Line}
-use Rattle.fleet_dispatch.specs.ReportText.{line_of}
-use Rattle.fleet_dispatch.specs.declared.report_text.LineKind.{LineKind}
-use Rattle.fleet_dispatch.specs.Stream.{HasLine, GivesLine, IsMisheard}
-use Rattle.fleet_dispatch.specs.Hearing.{EndsLine, HearsLine}
-use Rattle.fleet_dispatch.specs.declared.floor.HearFault.{HearFault}
+use Rattle.fleet_dispatch.proofs.Cited.{◌≡◌, ℕ, ◌+◌, ◌≤◌, ◌<◌, ◌++◌, Bool, true, false, not, List, length, take, drop, Option, Some, None, Result, Ok, Err, ltb, refl, sym, ap, subst, ◌∙◌, arith, inl, inr, length-append, take-append-le, drop-append-le, take-append-drop, length-take-le, length-drop, prefix_len-append, cases_Bool, ltb-false, lt-ltb, le-ltb, eq-eqb, cond-true, position-Some, position_or_len_is, fails_before_first, prefix_len-le-length, get_or-append, position, IfSome, position_or_len, strip_carriage_return, prepend_known, Keeps, IsErrAnd, is_lf, found_at, found_nowhere, ReportForm, LINE_ROOM, Words, Line, line_of, LineKind, HasLine, GivesLine, IsMisheard, EndsLine, HearsLine, HearFault}
 use Rattle.fleet_dispatch.specs.declared.floor.HearFault.TheVariants as h
 
 -- where the first byte that passes stands, if none of the first k bytes passes

@@ -1,20 +1,7 @@
 -- A line that was heard, and what followed from it.
-use Rattle.std.proofs.Common.{◌≡◌, ℕ, ◌+◌, ◌++◌, ◌∷◌, [], Bool, true, false, not, cond, Option, Some, None, Result, Ok, Err, refl, ap, sym, ◌∙◌, subst, arith}
-use Rattle.std.specs.Prelude.{is_err}
-use Rattle.std.proofs.lemmas.List.Elements.{All-nil}
-use Rattle.fleet_model.specs.Program.{Program}
-use Rattle.fleet_dispatch.specs.declared.fault.DispatchFault.{DispatchFault}
+use Rattle.fleet_dispatch.proofs.Cited.{◌≡◌, ℕ, ◌+◌, ◌++◌, ◌∷◌, [], Bool, true, false, not, cond, Option, Some, None, Result, Ok, Err, refl, ap, sym, ◌∙◌, subst, arith, is_err, All-nil, Program, DispatchFault, LineKind, Pace, Session, Words, Counts, is_repeat, Reports, Asks, standings_text, IsOrdered, Talk, Heard, Asked, Tells, Hears, log_turns, IsReady, TakesLine, TakesReport, LogsReport}
 use Rattle.fleet_dispatch.specs.declared.fault.DispatchFault.TheVariants as f
-use Rattle.fleet_dispatch.specs.declared.report_text.LineKind.{LineKind}
 use Rattle.fleet_dispatch.specs.declared.report_text.LineKind.TheVariants as k
-use Rattle.fleet_dispatch.specs.declared.pace.Pace.{Pace}
-use Rattle.fleet_dispatch.specs.declared.run.Session.{Session}
-use Rattle.fleet_dispatch.specs.Report.{Words, Counts, is_repeat, Reports, Asks}
-use Rattle.fleet_dispatch.specs.Standings.{standings_text}
-use Rattle.fleet_dispatch.specs.Ahead.{IsOrdered}
-use Rattle.fleet_dispatch.specs.Talk.{Talk, Heard, Asked, Tells, Hears}
-use Rattle.fleet_dispatch.specs.Dispatch.{log_turns}
-use Rattle.fleet_dispatch.specs.Session.{IsReady, TakesLine, TakesReport, LogsReport}
 use Rattle.fleet_dispatch.proofs.Outcomes.{Joins}
 
 -- what was heard, of a report and of the question

@@ -1,11 +1,7 @@
 -- What is told and heard of two talks, of which one is said by the other.
-use Rattle.std.proofs.Common.{ℕ, List, Option, Some, None, Result, Ok, Err}
-use Rattle.fleet_dispatch.specs.declared.floor.HearFault.{HearFault}
+use Rattle.fleet_dispatch.proofs.Cited.{ℕ, List, Option, Some, None, Result, Ok, Err, HearFault, LineKind, Words, Talk, Tells, Hears}
 use Rattle.fleet_dispatch.specs.declared.floor.HearFault.TheVariants as h
-use Rattle.fleet_dispatch.specs.declared.report_text.LineKind.{LineKind}
 use Rattle.fleet_dispatch.specs.declared.report_text.LineKind.TheVariants as k
-use Rattle.fleet_dispatch.specs.Report.{Words}
-use Rattle.fleet_dispatch.specs.Talk.{Talk, Tells, Hears}
 
 module _ (talks talks' : Talk → Type 0) (works works' : Type 0) (more : (talk : Talk) → talks talk → talks' talk) (still : works → works') where
   pub tells_more : {T E : Type 0} (r : Result T E) (bytes : List ℕ) → Tells talks works r bytes → Tells talks' works' r bytes

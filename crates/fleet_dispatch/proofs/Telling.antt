@@ -1,19 +1,5 @@
 -- How many of its actions an agent is told.
-use Rattle.std.proofs.Common.{◌≡◌, ℕ, ◌+◌, ◌-◌, ◌<◌, ◌≤◌, Bool, true, false, not, List, [], length, get_or, drop, Contains, refl, ap, sym, ◌∙◌, subst, arith, add-one, leb-true, leb-false, length-take, length-drop}
-use Rattle.std.specs.Prelude.{min}
-use Rattle.std.specs.List.{position_or_len}
-use Rattle.std.proofs.lemmas.List.{get_or-take, get_or-drop}
-use Rattle.std.proofs.lemmas.List.Elements.{All-contains}
-use Rattle.std.proofs.lemmas.List.Sums.{AllPass-from_list_all, position_or_len_is, prefix_len-le-length, fails_before_first, passes_at_first}
-use Rattle.std.proofs.lemmas.Option.{slice_get-get_or}
-use Rattle.fleet_model.specs.declared.program.Action.{Action}
-use Rattle.fleet_model.specs.declared.geometry.Step.TheVariants.{Dwell}
-use Rattle.fleet_model.specs.declared.program.Await.{Await}
-use Rattle.fleet_model.specs.Program.{Program, actions_of, moves, awaits_of}
-use Rattle.fleet_model.proofs.Tick.{fails_at}
-use Rattle.fleet_dispatch.specs.Report.{Counts, count_of}
-use Rattle.fleet_dispatch.specs.Ahead.{is_done, is_open, next_actions, told_to}
-use Rattle.fleet_dispatch.specs.Progress.{AreDone, MayBeTold}
+use Rattle.fleet_dispatch.proofs.Cited.{◌≡◌, ℕ, ◌+◌, ◌-◌, ◌<◌, ◌≤◌, Bool, true, false, not, List, [], length, get_or, drop, Contains, refl, ap, sym, ◌∙◌, subst, arith, add-one, leb-true, leb-false, length-take, length-drop, min, position_or_len, get_or-take, get_or-drop, All-contains, AllPass-from_list_all, position_or_len_is, prefix_len-le-length, fails_before_first, passes_at_first, slice_get-get_or, Action, Dwell, Await, Program, actions_of, moves, awaits_of, fails_at, Counts, count_of, is_done, is_open, next_actions, told_to, AreDone, MayBeTold}
 
 any_action : Action
 any_action = record { step = Dwell; awaits = [] }

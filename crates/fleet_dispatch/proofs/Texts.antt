@@ -1,10 +1,5 @@
 -- Orders that are written one after another.
-use Rattle.std.proofs.Common.{◌≡◌, ◌≢◌, ℕ, zero, suc, ◌+◌, ◌-◌, ◌<◌, ◌≤◌, ◌++◌, List, [], length, refl, ap, sym, ◌∙◌, arith, append_assoc, append-nil}
-use Rattle.std.specs.List.{flat_map, range_with_len}
-use Rattle.fleet_model.specs.Program.{Program}
-use Rattle.fleet_dispatch.specs.declared.form.ReportForm.{ReportForm}
-use Rattle.fleet_dispatch.specs.Report.{Counts, count_of}
-use Rattle.fleet_dispatch.specs.Orders.{order_line, agent_orders, new_orders}
+use Rattle.fleet_dispatch.proofs.Cited.{◌≡◌, ◌≢◌, ℕ, zero, suc, ◌+◌, ◌-◌, ◌<◌, ◌≤◌, ◌++◌, List, [], length, refl, ap, sym, ◌∙◌, arith, append_assoc, append-nil, flat_map, range_with_len, Program, ReportForm, Counts, count_of, order_line, agent_orders, new_orders}
 
 -- one text more
 pub flat_more : (f : ℕ → List ℕ) (a n : ℕ) → flat_map f (range_with_len a (n + 1)) ≡ flat_map f (range_with_len a n) ++ f (a + n)

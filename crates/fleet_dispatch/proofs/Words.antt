@@ -1,14 +1,5 @@
 -- What is carried out by the words of a report, one after another.
-use Rattle.std.proofs.Common.{◌≡◌, ◌≢◌, ℕ, zero, suc, ◌+◌, ◌<◌, ◌≤◌, ◌⊎◌, ◌++◌, Bool, true, false, [], ◌∷◌, length, get_or, set, map, take, Option, Some, None, All, refl, ap, sym, ◌∙◌, subst, arith, inl, inr, add-one, leb-true, length-set, get_or-set_same, get_or-set_other}
-use Rattle.std.specs.Prelude.{nat_lt, nat_le, slice_get}
-use Rattle.std.specs.Option.{option_map_or}
-use Rattle.std.specs.List.{list_all}
-use Rattle.std.proofs.lemmas.Bool.{cases_lt, cases_eq, and_parts, lt-ltb, ltb-true}
-use Rattle.std.proofs.lemmas.List.{take_more, take_all, length-map, get_or-map, get_or-take, get_or_past, length-take}
-use Rattle.std.proofs.lemmas.List.Kept.{AllPairs-from_increasing}
-use Rattle.std.proofs.lemmas.Option.{slice_get_cases}
-use Rattle.fleet_dispatch.specs.declared.report.Reported.{Reported}
-use Rattle.fleet_dispatch.specs.Report.{Words, IsRising, Counts, count_of, said_of, raised, counts_after, is_repeat}
+use Rattle.fleet_dispatch.proofs.Cited.{◌≡◌, ◌≢◌, ℕ, zero, suc, ◌+◌, ◌<◌, ◌≤◌, ◌⊎◌, ◌++◌, Bool, true, false, [], ◌∷◌, length, get_or, set, map, take, Option, Some, None, All, refl, ap, sym, ◌∙◌, subst, arith, inl, inr, add-one, leb-true, length-set, get_or-set_same, get_or-set_other, nat_lt, nat_le, slice_get, option_map_or, list_all, cases_lt, cases_eq, and_parts, lt-ltb, ltb-true, take_more, take_all, length-map, get_or-map, get_or-take, get_or_past, length-take, AllPairs-from_increasing, slice_get_cases, Reported, Words, IsRising, Counts, count_of, said_of, raised, counts_after, is_repeat}
 
 -- ---- one word
 

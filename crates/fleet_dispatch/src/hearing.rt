@@ -41,13 +41,14 @@ fn find_line<R: Read>(input: &mut R, window: &mut Window) -> Result<Option<usize
 {
     let mut front = 0;
     'reads: loop {
-        if let Some(end) = end_behind(window.rest(), front) {
+        let rest = window.rest();
+        if let Some(end) = end_behind(rest, front) {
             return Ok(Some(end));
         }
-        if window.rest().len() >= LINE_ROOM {
+        front = rest.len();
+        if front >= LINE_ROOM {
             return Err(HearFault::Form);
         }
-        front = window.rest().len();
         window.move_to_front();
         match window.read_from(input) {
             Ok(0) => return Ok(None),

@@ -50,7 +50,6 @@ pub struct Order {
 }
 
 /// Writes an order so that it ends with the row, and answers where it begins.
-#[tactic(auto, using(crate::proofs::Written::five_joined))]
 fn write_order(form: ReportForm, order: Order, row: &mut [u8]) -> usize
     requires room { length row.old ≡ ORDER }
     ensures high { result ≤ ORDER }
@@ -73,8 +72,17 @@ pub fn add_order(form: ReportForm, order: Order, row: &mut [u8], at: usize) -> u
 {
     let mut text = [0; ORDER];
     let begin = write_order(form, order, &mut text);
-    let end = at + (ORDER - begin);
-    row[at..end].copy_from_slice(&text[begin..]);
+    add_text(&text[begin..], row, at)
+}
+
+/// Writes the text behind what ends at `at`, and answers where it ends.
+pub fn add_text(text: &[u8], row: &mut [u8], at: usize) -> usize
+    requires room { at + length text.now ≤ length row.old }
+    ensures end { result ≡ at + length text.now }
+    ensures written { take result row.new ≡ take at row.old ++ text.now }
+{
+    let end = at + text.len();
+    row[at..end].copy_from_slice(text);
     end
 }
 

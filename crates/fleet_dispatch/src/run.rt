@@ -58,12 +58,12 @@ pub fn start_session<P: ProgramView>(
     requires counts { AreCounts (P.program program.now) done.now }
     ensures { IfOk result (IsOpened (P.program program.now) pace done.now taken) }
 {
-    let progress = Progress::start(alloc, program, done)?;
     let report = Report::new(alloc)?;
     let room = ORDER * pace.ahead as usize * program.agents() as usize;
     let row = vec![in alloc; 0; room]?;
     let line = vec![in alloc; 0; LOG_LINE]?;
     let answer = vec![in alloc; 0; STANDING * program.agents() as usize]?;
+    let progress = Progress::start(alloc, program, done)?;
     Ok(Session {
         progress,
         report,

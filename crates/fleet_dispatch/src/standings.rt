@@ -4,6 +4,7 @@ ghost use Rattle.std.specs.Prelude.{◌≡◌, ◌+◌, ◌<◌, ◌≤◌, ◌+
 ghost use Rattle.std.specs.Option.{option_map_or};
 ghost use Rattle.fleet_dispatch.specs.Standings.{await_text, standing_text};
 
+use crate::orders::add_text;
 use fleet_model::{Await, Place};
 use fleet_run::{PLACE, write_bytes, write_count, write_place};
 use fleet_text::write_byte;
@@ -65,7 +66,5 @@ pub fn add_standing(whereabouts: Whereabouts, row: &mut [u8], at: usize) -> usiz
 {
     let mut text = [0; STANDING];
     let begin = write_standing(whereabouts, &mut text);
-    let end = at + (STANDING - begin);
-    row[at..end].copy_from_slice(&text[begin..]);
-    end
+    add_text(&text[begin..], row, at)
 }

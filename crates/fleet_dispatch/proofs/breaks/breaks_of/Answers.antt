@@ -1,7 +1,4 @@
-use Rattle.std.proofs.Common.{◌≡◌, ℕ, length, replicate, sym, ap, subst, ◌∙◌, Some, rules}
-use Rattle.std.proofs.lemmas.Option.{same_Some}
-use Rattle.fleet_dispatch.specs.Report.{Words}
-use Rattle.fleet_dispatch.specs.Breaks.{NameActions, breaks_from}
+use Rattle.fleet_dispatch.proofs.Cited.{◌≡◌, ℕ, length, replicate, sym, ap, subst, ◌∙◌, Some, rules, same_Some, Words, NameActions, breaks_from}
 use Rattle.fleet_dispatch.proofs.breaks.breaks_of.Goals as goal
 
 pub returns-then-note_breaks-clause-named : goal.returns-then-note_breaks-clause-named

@@ -1,11 +1,4 @@
-use Rattle.std.proofs.Common.{◌≡◌, ℕ, length, set, sym, ap, subst, ◌∙◌, None, arith}
-use Rattle.std.proofs.lemmas.Bool.{false≢true}
-use Rattle.std.specs.Prelude.{slice_index_or}
-use Rattle.std.proofs.lemmas.List.{take_all, length-set}
-use Rattle.std.proofs.lemmas.Option.{slice_get-get_or}
-use Rattle.fleet_model.specs.Chain.{IsAction}
-use Rattle.fleet_dispatch.specs.declared.report.Reported.{Reported}
-use Rattle.fleet_dispatch.specs.Breaks.{named_action, breaks_from}
+use Rattle.fleet_dispatch.proofs.Cited.{◌≡◌, ℕ, length, set, sym, ap, subst, ◌∙◌, None, arith, false≢true, slice_index_or, take_all, length-set, slice_get-get_or, IsAction, Reported, named_action, breaks_from}
 use Rattle.fleet_dispatch.proofs.BreakLemmas.{breaks_more, name_more, name_all}
 use Rattle.fleet_dispatch.proofs.breaks.note_breaks.Goals as goal
 

@@ -1,5 +1,4 @@
-use Rattle.std.proofs.Common.{◌≡◌, length, take}
-use Rattle.fleet_dispatch.specs.Breaks.{breaks_from}
+use Rattle.fleet_dispatch.proofs.Cited.{◌≡◌, length, take, breaks_from}
 use Rattle.fleet_dispatch.proofs.BreakLemmas.{NameFirst}
 use Rattle.fleet_dispatch.proofs.breaks.note_breaks.Given as goal
 

@@ -1,5 +1,4 @@
-use Rattle.std.proofs.Common.{rules}
-use Rattle.fleet_dispatch.specs.Costs.{cost_line_in}
+use Rattle.fleet_dispatch.proofs.Cited.{rules, cost_line_in}
 use Rattle.fleet_dispatch.proofs.CostLemmas.{said_is}
 use Rattle.fleet_dispatch.proofs.costs.cost_line_in.Goals as goal
 

@@ -1,6 +1,4 @@
-use Rattle.std.proofs.Common.{sym, subst}
-use Rattle.std.proofs.lemmas.Result.{err_from_is_err_and}
-use Rattle.fleet_dispatch.specs.Costs.{AreRowsOf, lists_of}
+use Rattle.fleet_dispatch.proofs.Cited.{sym, subst, err_from_is_err_and, AreRowsOf, lists_of}
 use Rattle.fleet_dispatch.proofs.CostLemmas.{none_are_rows, all_said, not_said}
 use Rattle.fleet_dispatch.proofs.costs.costs_of.Goals as goal
 

@@ -1,9 +1,4 @@
-use Rattle.std.proofs.Common.{ℕ, ◌+◌, [], ◌∷◌, replicate, ap, ◌∙◌}
-use Rattle.std.specs.Prelude.{Vec}
-use Rattle.std.specs.declared.alloc.Global.{Global}
-use Rattle.std.proofs.lemmas.List.{map-append}
-use Rattle.fleet_model.specs.Program.{moves}
-use Rattle.fleet_dispatch.specs.Costs.{lists_of}
+use Rattle.fleet_dispatch.proofs.Cited.{ℕ, ◌+◌, [], ◌∷◌, replicate, ap, ◌∙◌, Vec, Global, map-append, moves, lists_of}
 use Rattle.fleet_dispatch.proofs.CostLemmas.{row_more}
 use Rattle.fleet_dispatch.proofs.costs.first_rows.Goals as goal
 

@@ -1,7 +1,4 @@
-use Rattle.std.proofs.Common.{◌≡◌, ◌+◌, map, replicate}
-use Rattle.fleet_model.specs.Program.{moves}
-use Rattle.fleet_model.specs.Machine.{indices}
-use Rattle.fleet_dispatch.specs.Costs.{lists_of}
+use Rattle.fleet_dispatch.proofs.Cited.{◌≡◌, ◌+◌, map, replicate, moves, indices, lists_of}
 use Rattle.fleet_dispatch.proofs.costs.first_rows.Given as goal
 
 abbrev pub invariant-loop-i : goal.invariant-loop-i

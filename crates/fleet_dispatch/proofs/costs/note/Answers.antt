@@ -1,9 +1,4 @@
-use Rattle.std.proofs.Common.{◌≡◌, ℕ, List, [], get_or, set, unwrap_or, sym, ap, ◌∙◌}
-use Rattle.std.specs.Prelude.{Vec}
-use Rattle.std.specs.Vec.{with_item}
-use Rattle.std.specs.declared.alloc.Global.{Global}
-use Rattle.std.proofs.lemmas.List.{map-set, get_or-map}
-use Rattle.fleet_dispatch.specs.Costs.{lists_of}
+use Rattle.fleet_dispatch.proofs.Cited.{◌≡◌, ℕ, List, [], get_or, set, unwrap_or, sym, ap, ◌∙◌, Vec, with_item, Global, map-set, get_or-map, lists_of}
 use Rattle.fleet_dispatch.proofs.costs.note.Goals as goal
 
 pub returns : goal.returns

@@ -1,5 +1,4 @@
-use Rattle.std.proofs.Common.{◌≡◌, ◌+◌, length}
-use Rattle.fleet_dispatch.specs.Costs.{AreRowsOf, lists_of, noted_by}
+use Rattle.fleet_dispatch.proofs.Cited.{◌≡◌, ◌+◌, length, AreRowsOf, lists_of, noted_by}
 use Rattle.fleet_dispatch.proofs.costs.note_lines.Given as goal
 
 abbrev pub invariant-loop-text : goal.invariant-loop-text

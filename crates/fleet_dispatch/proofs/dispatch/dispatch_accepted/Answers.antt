@@ -1,11 +1,4 @@
-use Rattle.std.proofs.Common.{List, ap, subst}
-use Rattle.fleet_grid.specs.Ground.{is_passable}
-use Rattle.fleet_model.specs.Program.{Program}
-use Rattle.fleet_dispatch.specs.Report.{Words}
-use Rattle.fleet_dispatch.specs.Dispatch.{AreTaken}
-use Rattle.fleet_dispatch.specs.Session.{first_course, left_in}
-use Rattle.fleet_dispatch.specs.Replay.{DispatchesAfter}
-use Rattle.fleet_dispatch.specs.Lead.{none_done, LeadsWell}
+use Rattle.fleet_dispatch.proofs.Cited.{List, ap, subst, is_passable, Program, Words, AreTaken, first_course, left_in, DispatchesAfter, none_done, LeadsWell}
 use Rattle.fleet_dispatch.proofs.Said.{dispatch_gives, from_there, led_stops, after_err}
 use Rattle.fleet_dispatch.proofs.dispatch.dispatch_accepted.Goals as goal
 

@@ -1,7 +1,4 @@
-use Rattle.std.proofs.Common.{◌∙◌, ap, sym}
-use Rattle.std.specs.Prelude.{position}
-use Rattle.std.proofs.lemmas.List.{take_rest}
-use Rattle.fleet_text.specs.Text.{is_lf}
+use Rattle.fleet_dispatch.proofs.Cited.{◌∙◌, ap, sym, position, take_rest, is_lf}
 use Rattle.fleet_dispatch.proofs.StreamLemmas.{some_behind, none_behind}
 use Rattle.fleet_dispatch.proofs.hearing.end_behind.Goals as goal
 

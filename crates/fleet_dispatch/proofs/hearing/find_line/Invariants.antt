@@ -1,9 +1,4 @@
-use Rattle.std.proofs.Common.{◌≡◌, ◌-◌, ◌≤◌, None, length, take}
-use Rattle.std.specs.Prelude.{position}
-use Rattle.std.specs.Io.KnownBytes.{prepend_known, Keeps}
-use Rattle.fleet_text.specs.Text.{is_lf}
-use Rattle.fleet_dispatch.specs.Window.{window_rest}
-use Rattle.fleet_dispatch.specs.declared.window.TheConstants.{LINE_ROOM}
+use Rattle.fleet_dispatch.proofs.Cited.{◌≡◌, ◌-◌, ◌≤◌, None, length, take, position, prepend_known, Keeps, is_lf, window_rest, LINE_ROOM}
 use Rattle.fleet_dispatch.proofs.hearing.find_line.Given as goal
 
 abbrev pub invariant-reads : goal.invariant-reads

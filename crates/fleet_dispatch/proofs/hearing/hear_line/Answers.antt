@@ -1,11 +1,4 @@
-use Rattle.std.proofs.Common.{◌≡◌, ◌∙◌, List, ℕ, length, take, ap, sym, subst, arith}
-use Rattle.std.proofs.lemmas.List.Quantifiers.{position-Some}
-use Rattle.std.specs.Io.KnownBytes.{prepend_known}
-use Rattle.std.specs.Str.Lines.{strip_carriage_return}
-use Rattle.fleet_text.specs.Text.{is_lf}
-use Rattle.fleet_dispatch.specs.ReportText.{line_of, heard_line}
-use Rattle.fleet_dispatch.specs.Stream.{GivesLine}
-use Rattle.fleet_dispatch.specs.Window.{window_rest}
+use Rattle.fleet_dispatch.proofs.Cited.{◌≡◌, ◌∙◌, List, ℕ, length, take, ap, sym, subst, arith, position-Some, prepend_known, strip_carriage_return, is_lf, line_of, heard_line, GivesLine, window_rest}
 use Rattle.fleet_dispatch.proofs.StreamLemmas.{unfound, misheard, heard}
 use Rattle.fleet_dispatch.proofs.hearing.hear_line.Goals as goal
 

@@ -1,8 +1,4 @@
-use Rattle.std.proofs.Common.{◌≡◌, ◌≢◌, ◌∙◌, ◌∷◌, ◌++◌, [], ℕ, length, drop, arith, ap, sym, eqb-true}
-use Rattle.std.proofs.lemmas.Bool.{eqb-false}
-use Rattle.std.proofs.lemmas.List.{drop_all}
-use Rattle.fleet_dispatch.specs.Report.{Words}
-use Rattle.fleet_dispatch.specs.ReportText.{log_line}
+use Rattle.fleet_dispatch.proofs.Cited.{◌≡◌, ◌≢◌, ◌∙◌, ◌∷◌, ◌++◌, [], ℕ, length, drop, arith, ap, sym, eqb-true, eqb-false, drop_all, Words, log_line}
 use Rattle.fleet_dispatch.proofs.LogText.{spaced, empty_line, whole_line}
 use Rattle.fleet_dispatch.proofs.log_text.write_log_line.Goals as goal
 

@@ -1,8 +1,4 @@
-use Rattle.std.proofs.Common.{◌≡◌, ◌++◌, [], ℕ, List, arith, refl, append-nil}
-use Rattle.std.proofs.lemmas.List.{drop_all}
-use Rattle.std.specs.Prelude.{codes}
-use Rattle.fleet_run.specs.Text.{number_line}
-use Rattle.fleet_dispatch.specs.Orders.{closing}
+use Rattle.fleet_dispatch.proofs.Cited.{◌≡◌, ◌++◌, [], ℕ, List, arith, refl, append-nil, drop_all, codes, number_line, closing}
 use Rattle.fleet_dispatch.proofs.orders.write_closing.Goals as goal
 
 four_joined : (w a m r rest r1 r2 r3 r4 : List ℕ) → rest ≡ [] → r1 ≡ r ++ rest → r2 ≡ m ++ r1 → r3 ≡ a ++ r2 → r4 ≡ w ++ r3 → r4 ≡ w ++ (a ++ (m ++ r))

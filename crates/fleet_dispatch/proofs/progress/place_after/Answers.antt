@@ -1,5 +1,4 @@
-use Rattle.std.proofs.Common.{arith, sym, ◌∙◌}
-use Rattle.fleet_verify.proofs.Paths.{in_reach, step_from}
+use Rattle.fleet_dispatch.proofs.Cited.{arith, sym, ◌∙◌, in_reach, step_from}
 use Rattle.fleet_dispatch.proofs.progress.place_after.Goals as goal
 
 pub after-place-requires : goal.after-place-requires

@@ -1,5 +1,4 @@
-use Rattle.std.proofs.Common.{◌≡◌}
-use Rattle.fleet_model.specs.Program.{path}
+use Rattle.fleet_dispatch.proofs.Cited.{◌≡◌, path}
 use Rattle.fleet_dispatch.proofs.progress.place_after.Given as goal
 
 abbrev pub invariant-loop-n : goal.invariant-loop-n

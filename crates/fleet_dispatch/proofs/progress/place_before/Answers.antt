@@ -1,6 +1,4 @@
-use Rattle.std.proofs.Common.{◌≡◌, ◌+◌, ◌-◌, ◌∙◌, arith, ap, sym}
-use Rattle.fleet_model.specs.Program.{path}
-use Rattle.fleet_verify.proofs.Paths.{in_reach}
+use Rattle.fleet_dispatch.proofs.Cited.{◌≡◌, ◌+◌, ◌-◌, ◌∙◌, arith, ap, sym, path, in_reach}
 use Rattle.fleet_dispatch.proofs.BackLemmas.{leads_back}
 use Rattle.fleet_dispatch.proofs.progress.place_before.Goals as goal
 

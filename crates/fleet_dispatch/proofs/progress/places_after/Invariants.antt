@@ -1,7 +1,4 @@
-use Rattle.std.proofs.Common.{◌≡◌, ◌<◌, ℕ, length, get_or}
-use Rattle.fleet_model.specs.declared.geometry.Place.{Place}
-use Rattle.fleet_model.specs.Program.{path}
-use Rattle.fleet_dispatch.specs.Report.{count_of}
+use Rattle.fleet_dispatch.proofs.Cited.{◌≡◌, ◌<◌, ℕ, length, get_or, Place, path, count_of}
 use Rattle.fleet_dispatch.proofs.progress.places_after.Given as goal
 
 abbrev pub invariant-loop-i : goal.invariant-loop-i

@@ -1,7 +1,4 @@
-use Rattle.std.proofs.Common.{◌∙◌, ap, subst, replicate, Err}
-use Rattle.fleet_dispatch.specs.Dispatch.{Course}
-use Rattle.fleet_dispatch.specs.Session.{left_in}
-use Rattle.fleet_dispatch.specs.Replay.{Replays, IsReplayed}
+use Rattle.fleet_dispatch.proofs.Cited.{◌∙◌, ap, subst, replicate, Err, Course, left_in, Replays, IsReplayed}
 use Rattle.fleet_dispatch.proofs.Replaying.{replayed_counts, begins_so, led_or_stopped, led_err, went_on}
 use Rattle.fleet_dispatch.proofs.replay.lead_on.Goals as goal
 

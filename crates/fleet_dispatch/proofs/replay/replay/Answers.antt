@@ -1,5 +1,4 @@
-use Rattle.fleet_dispatch.specs.Session.{course_in, left_in}
-use Rattle.fleet_dispatch.specs.Replay.{IsReplay}
+use Rattle.fleet_dispatch.proofs.Cited.{course_in, left_in, IsReplay}
 use Rattle.fleet_dispatch.proofs.Replaying.{replays}
 use Rattle.fleet_dispatch.proofs.Said.{dispatches_more}
 use Rattle.fleet_dispatch.proofs.replay.replay.Goals as goal

@@ -1,11 +1,4 @@
-use Rattle.std.proofs.Common.{◌≡◌, ◌∷◌, [], List, Option, Some, None, sym, subst}
-use Rattle.std.specs.Prelude.{MatchOption}
-use Rattle.std.specs.List.{slice_split}
-use Rattle.fleet_model.specs.declared.limits.TheConstants.{MAX_AGENTS}
-use Rattle.fleet_run.specs.HoldText.{is_space}
-use Rattle.fleet_text.specs.Text.{Bytes}
-use Rattle.fleet_dispatch.specs.Report.{Words}
-use Rattle.fleet_dispatch.specs.ReportText.{words_of}
+use Rattle.fleet_dispatch.proofs.Cited.{◌≡◌, ◌∷◌, [], List, Option, Some, None, sym, subst, MatchOption, slice_split, MAX_AGENTS, is_space, Bytes, Words, words_of}
 use Rattle.fleet_dispatch.proofs.Heard.{IsReadTo, begun, no_word, not_behind, goes_on, all_read}
 use Rattle.fleet_dispatch.proofs.report_text.add_words.Goals as goal
 

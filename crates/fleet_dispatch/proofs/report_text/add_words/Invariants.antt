@@ -1,8 +1,4 @@
-use Rattle.std.proofs.Common.{length}
-use Rattle.std.specs.List.{slice_split}
-use Rattle.fleet_model.specs.declared.limits.TheConstants.{MAX_AGENTS}
-use Rattle.fleet_run.specs.HoldText.{is_space}
-use Rattle.fleet_dispatch.specs.ReportText.{words_of}
+use Rattle.fleet_dispatch.proofs.Cited.{length, slice_split, MAX_AGENTS, is_space, words_of}
 use Rattle.fleet_dispatch.proofs.Heard.{IsReadTo}
 use Rattle.fleet_dispatch.proofs.report_text.add_words.Given as goal
 

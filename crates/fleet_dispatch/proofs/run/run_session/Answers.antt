@@ -1,9 +1,4 @@
-use Rattle.std.proofs.Common.{◌≡◌, ◌+◌, [], refl, sym, ◌∙◌, subst, Result, Err, Ok}
-use Rattle.std.specs.Result.{IsErrAnd}
-use Rattle.fleet_dispatch.specs.Talk.{Talk}
-use Rattle.fleet_dispatch.specs.Dispatch.{Course, Left, Dispatches}
-use Rattle.fleet_dispatch.specs.declared.fault.DispatchFault.{DispatchFault}
-use Rattle.fleet_dispatch.specs.declared.run.DispatchReport.{DispatchReport}
+use Rattle.fleet_dispatch.proofs.Cited.{◌≡◌, ◌+◌, [], refl, sym, ◌∙◌, subst, Result, Err, Ok, IsErrAnd, Talk, Course, Left, Dispatches, DispatchFault, DispatchReport}
 use Rattle.fleet_dispatch.proofs.Reports.{more}
 use Rattle.fleet_dispatch.specs.Session.{course_in as course_of}
 use Rattle.fleet_dispatch.proofs.Outcomes.{Joins, at_start, write_stops, now_told, concludes, limit_stops, line_stops, one_line_on}

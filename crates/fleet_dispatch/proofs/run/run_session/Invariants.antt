@@ -1,7 +1,4 @@
-use Rattle.std.proofs.Common.{◌-◌, List}
-use Rattle.fleet_dispatch.specs.Report.{Line}
-use Rattle.fleet_dispatch.specs.Session.{IsReady}
-use Rattle.fleet_dispatch.specs.declared.run.TheConstants.{MAX_REPORTS}
+use Rattle.fleet_dispatch.proofs.Cited.{◌-◌, List, Line, IsReady, MAX_REPORTS}
 use Rattle.fleet_dispatch.specs.Session.{course_in as course_of}
 use Rattle.fleet_dispatch.proofs.Outcomes.{IsUnderWay}
 use Rattle.fleet_dispatch.proofs.run.run_session.Given as goal

@@ -1,5 +1,4 @@
-use Rattle.std.proofs.Common.{◌*◌, ◌∙◌, refl, ap, rules, length, ℕ}
-use Rattle.std.proofs.lemmas.List.{length-replicate}
+use Rattle.fleet_dispatch.proofs.Cited.{◌*◌, ◌∙◌, refl, ap, rules, length, ℕ, length-replicate}
 use Rattle.fleet_dispatch.proofs.run.start_session.Goals as goal
 
 pub returns : goal.returns

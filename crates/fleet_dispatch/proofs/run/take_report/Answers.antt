@@ -1,6 +1,5 @@
-use Rattle.std.proofs.Common.{◌≡◌, ◌+◌, ◌∙◌, ◌++◌, cond, length, take, drop, sym, ap, arith}
-use Rattle.std.proofs.lemmas.Grind.{common_steps}
-use Rattle.fleet_dispatch.proofs.Steps.{words_told}
+use Rattle.fleet_dispatch.proofs.Cited.{◌≡◌, ◌+◌, ◌∙◌, ◌++◌, cond, false, length, take, drop, sym, ap, arith, common_steps}
+use Rattle.fleet_dispatch.proofs.Steps.{led_counts, words_told}
 use Rattle.fleet_dispatch.proofs.Taking.{logged_turns}
 use Rattle.fleet_dispatch.proofs.run.take_report.Goals as goal
 
@@ -24,3 +23,15 @@ returns g c =
       told = c.take.ensures.told;
       taken = c.counted-session.ensures ∙ ap (λ b. s.taken + cond b 0 1) c.is_repeat-is_repeat.ensures;
     }
+
+pub first_unordered-requires-clause-counts : goal.first_unordered-requires-clause-counts
+first_unordered-requires-clause-counts g c =
+    led_counts (g.P.ProgramView.program c.args.program.now) (λ i. false) c.args._pace.ahead c.args.session.now.progress c.requires.ready.leads
+
+pub is_repeat-is_repeat-requires-clause-counts : goal.is_repeat-is_repeat-requires-clause-counts
+is_repeat-is_repeat-requires-clause-counts g c =
+    led_counts (g.P.ProgramView.program c.args.program.now) (λ i. false) c.args._pace.ahead c.args.session.now.progress c.requires.ready.leads
+
+pub is_repeat-is_repeat-requires-clause-agents : goal.is_repeat-is_repeat-requires-clause-agents
+is_repeat-is_repeat-requires-clause-agents g c = λ k w h.
+    (words_told (g.P.ProgramView.program c.args.program.now) c.args._pace.ahead c.args.session.now.progress c.args.session.now.report c.requires.told (c.in_default.ensures.first c.args._pace.ahead c.requires.told) k w h).0

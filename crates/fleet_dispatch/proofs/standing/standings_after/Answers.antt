@@ -1,6 +1,4 @@
-use Rattle.std.proofs.Common.{◌∙◌, ap, arith}
-use Rattle.fleet_dispatch.specs.Dispatch.{configuration_at}
-use Rattle.fleet_dispatch.specs.Session.{left_in}
+use Rattle.fleet_dispatch.proofs.Cited.{◌∙◌, ap, arith, configuration_at, left_in}
 use Rattle.fleet_dispatch.proofs.Stood.{replay_reached}
 use Rattle.fleet_dispatch.proofs.standing.standings_after.Goals as goal
 

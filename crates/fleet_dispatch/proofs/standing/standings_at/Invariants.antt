@@ -1,7 +1,4 @@
-use Rattle.std.proofs.Common.{◌≡◌, map}
-use Rattle.fleet_model.specs.Program.{path}
-use Rattle.fleet_model.specs.Machine.{indices}
-use Rattle.fleet_dispatch.specs.Report.{count_of}
+use Rattle.fleet_dispatch.proofs.Cited.{◌≡◌, map, path, indices, count_of}
 use Rattle.fleet_dispatch.proofs.standing.standings_at.Given as goal
 
 abbrev pub invariant-loop-i : goal.invariant-loop-i

@@ -1,10 +1,4 @@
-use Rattle.std.proofs.Common.{[], arith}
-use Rattle.std.proofs.lemmas.List.{drop_all}
-use Rattle.std.specs.Prelude.{codes}
-use Rattle.std.specs.Fmt.{decimal}
-use Rattle.std.specs.Option.{option_map_or}
-use Rattle.fleet_run.specs.Text.{place_text}
-use Rattle.fleet_dispatch.specs.Standings.{await_text}
+use Rattle.fleet_dispatch.proofs.Cited.{[], arith, drop_all, codes, decimal, option_map_or, place_text, await_text}
 use Rattle.fleet_dispatch.proofs.Written.{nine_joined}
 use Rattle.fleet_dispatch.proofs.standings.write_standing.Goals as goal
 

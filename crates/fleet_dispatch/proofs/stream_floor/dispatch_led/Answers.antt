@@ -1,7 +1,4 @@
-use Rattle.std.proofs.Common.{◌≡◌, rules, subst}
-use Rattle.fleet_dispatch.specs.Talk.{Talk}
-use Rattle.fleet_dispatch.specs.Window.{window_rest}
-use Rattle.fleet_dispatch.specs.declared.form.ReportForm.{ReportForm}
+use Rattle.fleet_dispatch.proofs.Cited.{◌≡◌, rules, subst, Talk, window_rest, ReportForm}
 use Rattle.fleet_dispatch.proofs.Said.{dispatches_more, dispatch_gives}
 use Rattle.fleet_dispatch.proofs.stream_floor.dispatch_led.Goals as goal
 

@@ -1,6 +1,4 @@
-use Rattle.std.proofs.Common.{[]}
-use Rattle.fleet_dispatch.specs.Session.{first_course, left_in}
-use Rattle.fleet_dispatch.specs.Talk.{IsLogged}
+use Rattle.fleet_dispatch.proofs.Cited.{[], first_course, left_in, IsLogged}
 use Rattle.fleet_dispatch.proofs.Said.{from_there, led_stops, after_err}
 use Rattle.fleet_dispatch.proofs.stream_floor.dispatch_logged.Goals as goal
 

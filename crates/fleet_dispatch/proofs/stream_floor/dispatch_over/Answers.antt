@@ -1,6 +1,4 @@
-use Rattle.std.proofs.Common.{None, true, false}
-use Rattle.fleet_text.specs.Sink.{SinkState}
-use Rattle.fleet_dispatch.specs.Talk.{IsSaid}
+use Rattle.fleet_dispatch.proofs.Cited.{None, true, false, SinkState, IsSaid}
 use Rattle.fleet_dispatch.proofs.Said.{after_more}
 use Rattle.fleet_dispatch.proofs.stream_floor.dispatch_over.Goals as goal
 

@@ -1,7 +1,4 @@
-use Rattle.std.proofs.Common.{◌≡◌, ◌≤◌, sym, subst, rules, arith}
-use Rattle.std.proofs.lemmas.Grind.{common_steps}
-use Rattle.fleet_needs.specs.declared.critical.TheConstants.{MAX_COST}
-use Rattle.fleet_dispatch.specs.Costs.{entry, lists_of}
+use Rattle.fleet_dispatch.proofs.Cited.{◌≡◌, ◌≤◌, sym, subst, rules, arith, common_steps, MAX_COST, entry, lists_of}
 use Rattle.fleet_dispatch.proofs.costs.CostTable.entry.Goals as goal
 
 pub returns-in-Some-get-clause-low : goal.returns-in-Some-get-clause-low

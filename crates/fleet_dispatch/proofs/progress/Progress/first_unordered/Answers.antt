@@ -1,6 +1,4 @@
-use Rattle.std.proofs.Common.{None}
-use Rattle.fleet_dispatch.specs.Ahead.{IsOrdered}
-use Rattle.fleet_dispatch.specs.declared.report.Reported.{Reported}
+use Rattle.fleet_dispatch.proofs.Cited.{None, IsOrdered, Reported}
 use Rattle.fleet_dispatch.proofs.Steps.{all_take_more, all_taken, first_is_unordered}
 use Rattle.fleet_dispatch.proofs.progress.Progress.first_unordered.Goals as goal
 

@@ -1,5 +1,4 @@
-use Rattle.std.proofs.Common.{◌≡◌, ℕ, take}
-use Rattle.fleet_dispatch.specs.Ahead.{told_at, AreOrdered}
+use Rattle.fleet_dispatch.proofs.Cited.{◌≡◌, ℕ, take, told_at, AreOrdered}
 use Rattle.fleet_dispatch.proofs.progress.Progress.first_unordered.Given as goal
 
 abbrev pub invariant-loop-word : goal.invariant-loop-word

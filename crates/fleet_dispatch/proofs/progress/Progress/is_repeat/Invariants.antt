@@ -1,7 +1,4 @@
-use Rattle.std.proofs.Common.{◌≡◌, true, take}
-use Rattle.std.specs.Prelude.{nat_le}
-use Rattle.std.specs.List.{list_all}
-use Rattle.fleet_dispatch.specs.Report.{count_of, said_of}
+use Rattle.fleet_dispatch.proofs.Cited.{◌≡◌, true, take, nat_le, list_all, count_of, said_of}
 use Rattle.fleet_dispatch.proofs.progress.Progress.is_repeat.Given as goal
 
 abbrev pub invariant-loop-word : goal.invariant-loop-word

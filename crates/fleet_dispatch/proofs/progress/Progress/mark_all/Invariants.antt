@@ -1,9 +1,4 @@
-use Rattle.std.proofs.Common.{◌≡◌, ◌<◌, ℕ, true}
-use Rattle.std.specs.Prelude.{nat_lt}
-use Rattle.fleet_model.specs.Program.{moves}
-use Rattle.fleet_machine.specs.Machine.{flag_of}
-use Rattle.fleet_dispatch.specs.Report.{count_of}
-use Rattle.fleet_dispatch.specs.Progress.{HasRows}
+use Rattle.fleet_dispatch.proofs.Cited.{◌≡◌, ◌<◌, ℕ, true, nat_lt, moves, flag_of, count_of, HasRows}
 use Rattle.fleet_dispatch.proofs.progress.Progress.mark_all.Given as goal
 
 abbrev pub invariant-loop-i : goal.invariant-loop-i

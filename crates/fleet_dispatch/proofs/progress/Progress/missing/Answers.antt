@@ -1,15 +1,4 @@
-use Rattle.std.proofs.Common.{◌≡◌, ◌∙◌, true, get_or, sym, ap, arith, le-leb, leb-true, rules}
-use Rattle.std.specs.List.{list_all}
-use Rattle.std.proofs.lemmas.Bool.{lt-leb}
-use Rattle.std.proofs.lemmas.List.{take_all}
-use Rattle.std.proofs.lemmas.List.Elements.{All-contains}
-use Rattle.std.proofs.lemmas.List.Folds.{list_all_more}
-use Rattle.std.proofs.lemmas.List.Sums.{AllPass-from_list_all}
-use Rattle.std.proofs.lemmas.Option.{slice_get_within, get_or_from_slice_get}
-use Rattle.fleet_model.specs.declared.program.Await.{Await}
-use Rattle.fleet_model.specs.Program.{awaits_of}
-use Rattle.fleet_machine.proofs.Ready.{awaited_agent}
-use Rattle.fleet_dispatch.specs.Ahead.{is_done}
+use Rattle.fleet_dispatch.proofs.Cited.{◌≡◌, ◌∙◌, true, get_or, sym, ap, arith, le-leb, leb-true, rules, list_all, lt-leb, take_all, All-contains, list_all_more, AllPass-from_list_all, slice_get_within, get_or_from_slice_get, Await, awaits_of, awaited_agent, is_done}
 use Rattle.fleet_dispatch.proofs.Found.{first_found, none_found}
 use Rattle.fleet_dispatch.proofs.progress.Progress.missing.Goals as goal
 

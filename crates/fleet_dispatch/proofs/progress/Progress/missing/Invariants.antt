@@ -1,7 +1,4 @@
-use Rattle.std.proofs.Common.{◌≡◌, true, take}
-use Rattle.std.specs.List.{list_all}
-use Rattle.fleet_model.specs.Program.{awaits_of}
-use Rattle.fleet_dispatch.specs.Ahead.{is_done}
+use Rattle.fleet_dispatch.proofs.Cited.{◌≡◌, true, take, list_all, awaits_of, is_done}
 use Rattle.fleet_dispatch.proofs.progress.Progress.missing.Given as goal
 
 abbrev pub invariant-loop-k : goal.invariant-loop-k

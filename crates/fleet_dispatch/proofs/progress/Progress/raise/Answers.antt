@@ -1,8 +1,4 @@
-use Rattle.std.proofs.Common.{◌≡◌, ◌<◌, ◌∙◌, ap, sym, arith, set}
-use Rattle.std.specs.Prelude.{nat_lt}
-use Rattle.fleet_model.specs.Program.{moves}
-use Rattle.fleet_dispatch.specs.Report.{count_of}
-use Rattle.fleet_dispatch.specs.Progress.{ProgressState}
+use Rattle.fleet_dispatch.proofs.Cited.{◌≡◌, ◌<◌, ◌∙◌, ap, sym, arith, set, nat_lt, moves, count_of, ProgressState}
 use Rattle.fleet_dispatch.proofs.Words.{raised_same, raised_set}
 use Rattle.fleet_dispatch.proofs.Steps.{raised_leads}
 use Rattle.fleet_dispatch.proofs.progress.Progress.raise.Goals as goal

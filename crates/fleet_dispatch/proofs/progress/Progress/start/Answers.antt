@@ -1,9 +1,4 @@
-use Rattle.std.proofs.Common.{◌≡◌, ◌∙◌, ap, sym, subst, get_or}
-use Rattle.fleet_model.specs.Program.{path}
-use Rattle.fleet_machine.specs.WaitLists.{home_of, WaitState}
-use Rattle.fleet_machine.proofs.Opened.{home_of_nobody}
-use Rattle.fleet_dispatch.specs.Report.{Counts, count_of}
-use Rattle.fleet_dispatch.specs.Progress.{ProgressState, AreCounts}
+use Rattle.fleet_dispatch.proofs.Cited.{◌≡◌, ◌∙◌, ap, sym, subst, get_or, path, home_of, WaitState, home_of_nobody, Counts, count_of, ProgressState, AreCounts}
 use Rattle.fleet_dispatch.proofs.Steps.{started}
 use Rattle.fleet_dispatch.proofs.progress.Progress.start.Goals as goal
 
@@ -20,3 +15,6 @@ returns-clause-leads g c = λ k.
     (λ i q a. ap (λ (x : ProgressState). get_or x.places i q) c.mark_all.ensures.same ∙ c.in_ok-places.ensures.places i q a ∙ ap (λ (x : Counts). path p i (count_of x i)) (sym done))
     (λ i. ap (λ (x : ProgressState). home_of x.waiting.homes i) c.mark_all.ensures.same ∙ ap (λ (x : WaitState). home_of x.homes i) c.in_ok-waiting.ensures ∙ home_of_nobody c.agents-agents.result i)
     c.mark_all.ensures.due c.mark_all.ensures.left
+
+pub returns-clause-done : goal.returns-clause-done
+returns-clause-done g c = ap (λ (x : ProgressState). x.done) c.mark_all.ensures.same ∙ c.in_ok-done.ensures

@@ -1,7 +1,4 @@
-use Rattle.std.proofs.Common.{◌≡◌, ℕ, ◌<◌, ◌≤◌, ◌∙◌, None, length, get_or, ap, sym, subst, arith, false}
-use Rattle.std.proofs.lemmas.List.{get_or_default}
-use Rattle.fleet_dispatch.specs.Report.{Words, Counts, IsRising, count_of, said_of, raised}
-use Rattle.fleet_dispatch.specs.declared.report.Reported.{Reported}
+use Rattle.fleet_dispatch.proofs.Cited.{◌≡◌, ℕ, ◌<◌, ◌≤◌, ◌∙◌, None, length, get_or, ap, sym, subst, arith, false, get_or_default, Words, Counts, IsRising, count_of, said_of, raised, Reported}
 use Rattle.fleet_dispatch.proofs.Words.{said_then, after_one_more}
 use Rattle.fleet_dispatch.proofs.Steps.{led_counts}
 use Rattle.fleet_dispatch.proofs.progress.Progress.take.Goals as goal

@@ -1,6 +1,4 @@
-use Rattle.std.proofs.Common.{◌≡◌, ℕ, take}
-use Rattle.fleet_dispatch.specs.Report.{counts_after}
-use Rattle.fleet_dispatch.specs.Progress.{Leads}
+use Rattle.fleet_dispatch.proofs.Cited.{◌≡◌, ℕ, take, counts_after, Leads}
 use Rattle.fleet_dispatch.proofs.progress.Progress.take.Given as goal
 
 abbrev pub invariant-loop-word : goal.invariant-loop-word

@@ -1,8 +1,4 @@
-use Rattle.std.proofs.Common.{◌≢◌, ◌+◌, ◌*◌, ◌<◌, ◌≤◌, ◌∙◌, false, length, set, ap, arith, inl, inr, get_or-set_same, get_or-set_other}
-use Rattle.std.proofs.Math.Nat.{mul-le-mul_left}
-use Rattle.std.proofs.lemmas.Bool.{cases_lt, cases_eq}
-use Rattle.fleet_machine.specs.Machine.{flag_of}
-use Rattle.fleet_dispatch.specs.Ahead.{told_at}
+use Rattle.fleet_dispatch.proofs.Cited.{◌≢◌, ◌+◌, ◌*◌, ◌<◌, ◌≤◌, ◌∙◌, false, length, set, ap, arith, inl, inr, get_or-set_same, get_or-set_other, mul-le-mul_left, cases_lt, cases_eq, flag_of, told_at}
 use Rattle.fleet_dispatch.proofs.Steps.{all_told}
 use Rattle.fleet_dispatch.proofs.Texts.{one_agent_more, all_written}
 use Rattle.fleet_dispatch.proofs.progress.Progress.tell.Goals as goal

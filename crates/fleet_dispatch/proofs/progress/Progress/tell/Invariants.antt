@@ -1,9 +1,4 @@
-use Rattle.std.proofs.Common.{◌≡◌, ◌-◌, ◌*◌, ◌≤◌, ◌<◌, ℕ, false, length, take}
-use Rattle.std.specs.List.{flat_map, range_with_len}
-use Rattle.fleet_machine.specs.Machine.{flag_of}
-use Rattle.fleet_dispatch.specs.Report.{count_of}
-use Rattle.fleet_dispatch.specs.Orders.{agent_orders}
-use Rattle.fleet_dispatch.specs.Progress.{Leads}
+use Rattle.fleet_dispatch.proofs.Cited.{◌≡◌, ◌-◌, ◌*◌, ◌≤◌, ◌<◌, ℕ, false, length, take, flat_map, range_with_len, flag_of, count_of, agent_orders, Leads}
 use Rattle.fleet_dispatch.proofs.progress.Progress.tell.Given as goal
 
 abbrev pub invariant-agents : goal.invariant-agents

@@ -1,10 +1,4 @@
-use Rattle.std.proofs.Common.{◌≡◌, ℕ, List, [], false, length-set, ◌+◌, ◌<◌, ◌≤◌, ◌++◌, ◌∙◌, Some, None, Contains, length, take, refl, sym, ap, subst, arith, append_assoc, append-nil, get_or-set_same}
-use Rattle.std.specs.Prelude.{min}
-use Rattle.fleet_model.specs.Program.{moves, path, awaits_of}
-use Rattle.fleet_machine.specs.WaitLists.{home_of, WaitState}
-use Rattle.fleet_dispatch.specs.Report.{Counts, count_of}
-use Rattle.fleet_dispatch.specs.Orders.{agent_orders, order_line}
-use Rattle.fleet_dispatch.specs.Progress.{AreDone, MayBeTold, HasRows, ProgressState}
+use Rattle.fleet_dispatch.proofs.Cited.{◌≡◌, ℕ, List, [], false, length-set, ◌+◌, ◌<◌, ◌≤◌, ◌++◌, ◌∙◌, Some, None, Contains, length, take, refl, sym, ap, subst, arith, append_assoc, append-nil, get_or-set_same, min, moves, path, awaits_of, home_of, WaitState, Counts, count_of, agent_orders, order_line, AreDone, MayBeTold, HasRows, ProgressState}
 use Rattle.fleet_dispatch.proofs.Steps.{IsAgentTold, not_yet_told, one_told, told_waits, agent_told, lacks_now, full_now, may_one_more}
 use Rattle.fleet_dispatch.proofs.Texts.{orders_more, orders_none}
 use Rattle.fleet_dispatch.proofs.progress.Progress.tell_agent.Goals as goal
@@ -104,3 +98,34 @@ actions-preserved g c =
           ∙ ap (λ (xs : List ℕ). take c.args.at c.args.row.now ++ xs) (sym (orders_more p form i (count_of s.told i) n rises))
           ∙ ap (λ m. take c.args.at c.args.row.now ++ agent_orders p form i (count_of s.told i) m) (sym here);
     }
+
+pub returns-clause-high : goal.returns-clause-high
+returns-clause-high g c =
+    let at = c.actions.invariant.at in
+    let few = c.actions.invariant.may.few in
+    let from = (c.requires.leads.told c.args.i c.requires.agent).from in
+    omega arith
+
+pub returns-in-Some-clause-high : goal.returns-in-Some-clause-high
+returns-in-Some-clause-high g c =
+    let at = c.actions.invariant.at in
+    let few = c.actions.invariant.may.few in
+    let from = (c.requires.leads.told c.args.i c.requires.agent).from in
+    omega arith
+
+pub returns-in-Some-clause-told : goal.returns-in-Some-clause-told
+returns-in-Some-clause-told g c =
+    let inv = c.actions.invariant in
+    let now = told_waits (g.P.ProgramView.program c.args.program.now) c.args.i (count_of c.actions.self.told c.args.i) c.in-Some.awaited.agent c.args.self.now c.actions.self c.wait_for.new.self inv.told c.wait_for.ensures in
+    record { done = now.done; left = now.left; rises = omega (arith, inv.rises, now.told_here); others = now.told_there }
+
+pub tell_next-at-requires-clause-room : goal.tell_next-at-requires-clause-room
+tell_next-at-requires-clause-room g c =
+    let inv = c.actions.invariant in
+    let few = ap (λ (x : ProgressState). count_of x.done c.args.i) c.set_due.ensures in
+    let from = (c.requires.leads.told c.args.i c.requires.agent).from in
+    omega (arith, inv.at, inv.row, c.requires.room, c.actions-test.true, c.told_of.ensures, c.last_told-last.ensures, few, from, ap (λ (x : Counts). count_of x c.args.i) inv.told.done)
+
+pub wait_for-requires-clause-nowhere : goal.wait_for-requires-clause-nowhere
+wait_for-requires-clause-nowhere g c =
+    ap (λ (x : WaitState). home_of x.homes c.args.i) c.actions.invariant.waiting ∙ c.requires.leads.nowhere c.args.i c.requires.agent c.requires.due

@@ -1,7 +1,4 @@
-use Rattle.std.proofs.Common.{◌≡◌, ◌+◌, ◌-◌, ◌*◌, ◌≤◌, ◌++◌, length, take}
-use Rattle.fleet_dispatch.specs.Report.{count_of}
-use Rattle.fleet_dispatch.specs.Orders.{agent_orders}
-use Rattle.fleet_dispatch.specs.Progress.{MayBeTold, HasRows}
+use Rattle.fleet_dispatch.proofs.Cited.{◌≡◌, ◌+◌, ◌-◌, ◌*◌, ◌≤◌, ◌++◌, length, take, count_of, agent_orders, MayBeTold, HasRows}
 use Rattle.fleet_dispatch.proofs.Steps.{IsAgentTold}
 use Rattle.fleet_dispatch.proofs.progress.Progress.tell_agent.Given as goal
 

@@ -1,9 +1,4 @@
-use Rattle.std.proofs.Common.{◌≡◌, ◌+◌, ◌∙◌, refl, sym, ap, arith, take, ◌++◌}
-use Rattle.fleet_model.specs.declared.geometry.Place.{Place}
-use Rattle.fleet_model.specs.Program.{path}
-use Rattle.fleet_verify.proofs.Paths.{in_reach, step_from}
-use Rattle.fleet_dispatch.specs.Report.{count_of}
-use Rattle.fleet_dispatch.specs.Orders.{order_text, order_line}
+use Rattle.fleet_dispatch.proofs.Cited.{◌≡◌, ◌+◌, ◌∙◌, refl, sym, ap, arith, take, ◌++◌, Place, path, in_reach, step_from, count_of, order_text, order_line}
 use Rattle.fleet_dispatch.proofs.progress.Progress.tell_next.Goals as goal
 
 pub after-to-requires : goal.after-to-requires

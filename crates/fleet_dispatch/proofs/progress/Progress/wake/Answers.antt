@@ -1,6 +1,4 @@
-use Rattle.std.proofs.Common.{◌∙◌, sym, subst, refl}
-use Rattle.fleet_machine.specs.WaitLists.{home_of}
-use Rattle.fleet_dispatch.specs.Progress.{ProgressState, LeadsBut, is_woken}
+use Rattle.fleet_dispatch.proofs.Cited.{◌∙◌, sym, subst, refl, home_of, ProgressState, LeadsBut, is_woken}
 use Rattle.fleet_dispatch.proofs.Steps.{some_woken, rows_woken, same_woken, fewer_stand, nobody_waits, some_home, no_home, waits_settled, looked_settled}
 use Rattle.fleet_dispatch.proofs.progress.Progress.wake.Goals as goal
 

@@ -1,7 +1,4 @@
-use Rattle.std.proofs.Common.{◌≡◌, ℕ}
-use Rattle.std.specs.Prelude.{is_some}
-use Rattle.std.specs.List.{count_by}
-use Rattle.fleet_dispatch.specs.Progress.{LeadsBut, is_woken, HasRows}
+use Rattle.fleet_dispatch.proofs.Cited.{◌≡◌, ℕ, is_some, count_by, LeadsBut, is_woken, HasRows}
 use Rattle.fleet_dispatch.proofs.progress.Progress.wake.Given as goal
 
 abbrev pub invariant-woken : goal.invariant-woken

@@ -1,6 +1,4 @@
-use Rattle.std.proofs.Common.{◌≡◌, ◌+◌, ◌∙◌, ◌++◌, ℕ, List, length, ap, sym, arith}
-use Rattle.std.specs.List.{flat_map, range_with_len}
-use Rattle.fleet_dispatch.specs.Standings.{left_line, standings_text}
+use Rattle.fleet_dispatch.proofs.Cited.{◌≡◌, ◌+◌, ◌∙◌, ◌++◌, ℕ, List, length, ap, sym, arith, flat_map, range_with_len, left_line, standings_text}
 use Rattle.fleet_dispatch.proofs.Texts.{flat_more}
 use Rattle.fleet_dispatch.proofs.progress.Progress.write_standings.Goals as goal
 

@@ -1,6 +1,4 @@
-use Rattle.std.proofs.Common.{◌≡◌, ◌*◌, ◌≤◌, length, take}
-use Rattle.std.specs.List.{flat_map, range_with_len}
-use Rattle.fleet_dispatch.specs.Standings.{left_line}
+use Rattle.fleet_dispatch.proofs.Cited.{◌≡◌, ◌*◌, ◌≤◌, length, take, flat_map, range_with_len, left_line}
 use Rattle.fleet_dispatch.proofs.progress.Progress.write_standings.Given as goal
 
 abbrev pub invariant-loop-i : goal.invariant-loop-i

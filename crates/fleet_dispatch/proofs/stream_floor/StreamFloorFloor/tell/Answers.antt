@@ -1,7 +1,4 @@
-use Rattle.std.proofs.Common.{◌≡◌, refl}
-use Rattle.fleet_text.specs.Sink.{IsWorking}
-use Rattle.fleet_dispatch.specs.Talk.{Talk}
-use Rattle.fleet_dispatch.specs.Window.{window_rest}
+use Rattle.fleet_dispatch.proofs.Cited.{◌≡◌, refl, IsWorking, Talk, window_rest}
 use Rattle.fleet_dispatch.proofs.TalkLaws.{tells_more}
 use Rattle.fleet_dispatch.proofs.stream_floor.StreamFloorFloor.tell.Goals as goal
 

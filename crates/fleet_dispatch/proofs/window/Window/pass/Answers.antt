@@ -1,5 +1,4 @@
-use Rattle.std.proofs.Common.{ℕ, arith}
-use Rattle.std.proofs.lemmas.List.{length-take, length-drop}
+use Rattle.fleet_dispatch.proofs.Cited.{ℕ, arith, length-take, length-drop}
 use Rattle.fleet_dispatch.proofs.WindowLemmas.{consumed}
 use Rattle.fleet_dispatch.proofs.window.Window.pass.Goals as goal
 

@@ -1,5 +1,4 @@
-use Rattle.std.proofs.Common.{◌≤◌, length, take, sym, arith}
-use Rattle.std.proofs.lemmas.Result.{err_from_is_err_and}
+use Rattle.fleet_dispatch.proofs.Cited.{◌≤◌, length, take, sym, arith, err_from_is_err_and}
 use Rattle.fleet_dispatch.proofs.WindowLemmas.{grown, kept}
 use Rattle.fleet_dispatch.proofs.window.Window.read_from.Goals as goal
 

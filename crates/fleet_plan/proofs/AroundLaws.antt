@@ -1,7 +1,5 @@
 -- A walk once round a ring.
-use Rattle.std.proofs.Common.{◌≡◌, ◌≢◌, ℕ, ◌+◌, ◌≤◌, List, [], ◌∷◌, ◌++◌, length, Option, Some, ◌⊎◌, inl, inr, refl, sym, ◌∙◌, subst, arith}
-use Rattle.std.specs.List.{AllByRecursion}
-use Rattle.fleet_plan.specs.Rings.{NamesAgents, ahead_of, Leads, LeadsTo, IsOnRing}
+use Rattle.fleet_plan.proofs.Words.{◌≡◌, ◌≢◌, ℕ, ◌+◌, ◌≤◌, List, [], ◌∷◌, ◌++◌, length, Option, Some, ◌⊎◌, inl, inr, refl, sym, ◌∙◌, subst, arith, AllByRecursion, NamesAgents, ahead_of, Leads, LeadsTo, IsOnRing}
 use Rattle.fleet_plan.proofs.RingLaws.{some_is, leads-append, reaches-itself, short_way, all_round}
 
 -- after so many steps ahead from the first agent, of which least is the least so far

@@ -1,17 +1,5 @@
 -- A cell that is read byte by byte is the one that the word in front spells.
-use Rattle.std.proofs.Common.{◌≡◌, ℕ, ◌+◌, ◌-◌, ◌*◌, true, false, cond, eqb, ltb, List, [], ◌∷◌, ◌++◌, filter, Option, Some, None, refl, sym, ap, subst, ◌∙◌, inl, inr}
-use Rattle.std.specs.Prelude.{option_map, option_and_then, ◌⊎◌}
-use Rattle.std.specs.List.{AllByRecursion, slice_split, onto_first}
-use Rattle.std.proofs.lemmas.Bool.{cases_Bool, eqb-true}
-use Rattle.std.proofs.lemmas.List.{append-nil}
-use Rattle.std.proofs.lemmas.Option.{none-some, same_Some}
-use Rattle.fleet_model.specs.declared.geometry.Cell.{Cell}
-use Rattle.fleet_text.specs.Text.{Bytes, is_blank, is_word, starts_blank, is_digit, words, digits_front, number_front, number_after, number, small_number, small_number_front}
-use Rattle.fleet_text.proofs.TextLaws.{words_blank, digit_no_blank, small_number_is}
-use Rattle.fleet_plan.specs.PlanText.{cell_of_parts, spelled_cell}
-use Rattle.fleet_plan.specs.PlanReading.{spelled_cells}
-use Rattle.fleet_plan.specs.CellReading.{after_comma, after_blanks, after_word, cell_front, begins_with_word}
-use Rattle.fleet_plan.specs.declared.reading.TheConstants.{MAX_CELLS}
+use Rattle.fleet_plan.proofs.Words.{◌≡◌, ℕ, ◌+◌, ◌-◌, ◌*◌, true, false, cond, eqb, ltb, List, [], ◌∷◌, ◌++◌, filter, Option, Some, None, refl, sym, ap, subst, ◌∙◌, inl, inr, option_map, option_and_then, ◌⊎◌, AllByRecursion, slice_split, onto_first, cases_Bool, eqb-true, append-nil, none-some, same_Some, Cell, Bytes, is_blank, is_word, starts_blank, is_digit, words, digits_front, number_front, number_after, number, small_number, small_number_front, words_blank, digit_no_blank, small_number_is, cell_of_parts, spelled_cell, spelled_cells, after_comma, after_blanks, after_word, cell_front, begins_with_word, MAX_CELLS}
 
 -- ---- the word in front
 

@@ -1,16 +1,6 @@
 -- Steps that are counted, those in which an agent moves and those in which it stays, and the time at which it rests.
-use Rattle.std.proofs.Common.{◌≡◌, ℕ, ◌+◌, ◌-◌, ◌<◌, ◌≤◌, Bool, true, false, cond, not, List, [], ◌∷◌, ◌++◌, length, get_or, take, take_all, Some, sum_by, count_by, sym, ap, ◌∙◌, arith, map-id}
-use Rattle.std.proofs.lemmas.List.Sums.{sum_by-cons, sum_by_push, sum_by_more, suffix_len_is}
-use Rattle.std.proofs.lemmas.List.FromFn.{length-range_with_len, map-range_with_len_more}
-use Rattle.fleet_model.specs.Geometry.{is_same_cell}
-use Rattle.fleet_model.specs.Machine.{indices}
-use Rattle.fleet_model.specs.Program.{origin}
-use Rattle.std.specs.Prelude.{slice_get}
-use Rattle.std.proofs.lemmas.Option.{get_or_from_slice_get, slice_get_within}
-use Rattle.fleet_model.specs.declared.geometry.Cell.{Cell}
-use Rattle.fleet_plan.specs.Plan.{Path, Plan, cell_at}
+use Rattle.fleet_plan.proofs.Words.{◌≡◌, ℕ, ◌+◌, ◌-◌, ◌<◌, ◌≤◌, Bool, true, false, cond, not, List, [], ◌∷◌, ◌++◌, length, get_or, take, take_all, Some, sum_by, count_by, sym, ap, ◌∙◌, arith, map-id, sum_by-cons, sum_by_push, sum_by_more, suffix_len_is, length-range_with_len, map-range_with_len_more, is_same_cell, indices, origin, slice_get, get_or_from_slice_get, slice_get_within, Cell, Path, Plan, cell_at, end_of, cost_of, stays_in, moves_before, stays_before}
 use Rattle.fleet_plan.proofs.PathLaws.{at_within}
-use Rattle.fleet_plan.specs.Numbers.{end_of, cost_of, stays_in, moves_before, stays_before}
 
 -- ---- sums
 

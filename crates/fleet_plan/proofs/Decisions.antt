@@ -1,29 +1,11 @@
 -- Whether a plan has a fault, and which one is the first, is decided: by search among finitely many agents and times.
-use Rattle.std.proofs.Common.{◌≡◌, ◌≢◌, ℕ, zero, suc, ◌+◌, ◌-◌, ◌<◌, ◌≤◌, min, Bool, List, [], ◌∷◌, length, get_or, map, slice_index, slice_get, Option, Some, None, ◌⊎◌, inl, inr, refl, sym, ap, ◌∙◌, subst, arith}
-use Rattle.std.specs.Prelude.{EachIndex}
-use Rattle.std.specs.Int.{abs_diff}
-use Rattle.std.proofs.lemmas.Bool.{cases_eq, cases_lt, cases_Bool}
-use Rattle.fleet_model.specs.declared.geometry.Cell.{Cell}
-use Rattle.fleet_model.specs.declared.geometry.Place.{Place}
-use Rattle.fleet_model.specs.declared.task.Task.{Task}
-use Rattle.fleet_model.specs.Geometry.{place_of}
-use Rattle.fleet_model.specs.Program.{IsCell, origin}
-use Rattle.fleet_model.proofs.Cells.{cell_cases}
-use Rattle.fleet_grid.specs.Ground.{Ground, cell_index}
-use Rattle.fleet_plan.specs.declared.plan_fault.Conflict.{Conflict}
-use Rattle.fleet_plan.specs.declared.plan_fault.Conflict.TheVariants.{Vertex, Swapping, Cycle}
-use Rattle.fleet_plan.specs.declared.plan_fault.PlanFault.{PlanFault}
+use Rattle.fleet_plan.proofs.Words.{◌≡◌, ◌≢◌, ℕ, zero, suc, ◌+◌, ◌-◌, ◌<◌, ◌≤◌, min, Bool, List, [], ◌∷◌, length, get_or, map, slice_index, slice_get, Option, Some, None, ◌⊎◌, inl, inr, refl, sym, ap, ◌∙◌, subst, arith, EachIndex, abs_diff, cases_eq, cases_lt, cases_Bool, Cell, Place, Task, place_of, IsCell, origin, cell_cases, Ground, cell_index, Conflict, Vertex, Swapping, Cycle, PlanFault, Plan, Path, cell_at, cell_of, last_cell, steps, IsPath, IsWithinLimits, IsConflictFree, IsFirstFaultyAgent, StartsOnStart, EndsOnGoal, IsRightAt, GoesOver, GoesRight, IsFirstTime, IsFirstStep, path_of, HasConflict, HasNoConflict, HasStartsAndGoals, time_of, IsFirstConflict, IsFirstPlanFault, ahead_of, Leads, IsOnRing, IsLeastOnRing, StandOnMap, StandOnPlaces, Meet, IsFirstMeeting, IsAhead, AreAhead, Exchange, IsFirstExchange, HasNoMeeting, IsFirstIn, IsFreeIn, MAX_CELLS}
 use Rattle.fleet_plan.specs.declared.plan_fault.PlanFault.TheVariants as fault
-use Rattle.fleet_plan.specs.Plan.{Plan, Path, cell_at, cell_of, last_cell, steps, IsPath, IsWithinLimits, IsConflictFree}
-use Rattle.fleet_plan.specs.FirstFault.{IsFirstFaultyAgent, StartsOnStart, EndsOnGoal, IsRightAt, GoesOver, GoesRight, IsFirstTime, IsFirstStep, path_of, HasConflict, HasNoConflict, HasStartsAndGoals, time_of, IsFirstConflict, IsFirstPlanFault}
-use Rattle.fleet_plan.specs.Rings.{ahead_of, Leads, IsOnRing, IsLeastOnRing}
-use Rattle.fleet_plan.specs.Sweep.{StandOnMap, StandOnPlaces, Meet, IsFirstMeeting, IsAhead, AreAhead, Exchange, IsFirstExchange, HasNoMeeting, IsFirstIn, IsFreeIn}
 use Rattle.fleet_plan.proofs.PathLaws.{beside_if, beside_only, right_at, not_on_ground, not_beside, right_all}
 use Rattle.fleet_plan.proofs.RingLaws.{some_is, none_is_not, ahead_within, short_way}
 use Rattle.fleet_plan.proofs.MeetLaws.{ahead_agents}
 use Rattle.fleet_plan.proofs.SweepLaws.{HavePlaces, first_is, none_here, swept_all}
 use Rattle.fleet_plan.proofs.FaultLaws.{free_from}
-use Rattle.fleet_plan.specs.declared.reading.TheConstants.{MAX_CELLS}
 
 -- it is so or not
 abbrev pub Decided : Type 0 → Type 0

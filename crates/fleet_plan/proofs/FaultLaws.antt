@@ -1,17 +1,6 @@
 -- Freedom of conflict, and first faults.
-use Rattle.std.proofs.Common.{◌≡◌, ℕ, zero, suc, ◌+◌, ◌<◌, ◌≤◌, Bool, List, [], ◌∷◌, length, get_or, All, Contains, ◌⊎◌, inl, inr, refl, sym, ap, subst, arith}
-use Rattle.std.specs.Prelude.{EachIndex}
-use Rattle.std.proofs.lemmas.Bool.{cases_lt, cases_order}
-use Rattle.std.proofs.lemmas.Option.{slice_get_within}
-use Rattle.fleet_model.specs.declared.geometry.Place.{Place}
-use Rattle.fleet_model.specs.declared.task.Task.{Task}
-use Rattle.fleet_model.specs.Conflict.{HasVertexConflict, HasSwappingConflict}
-use Rattle.fleet_plan.specs.declared.plan_fault.Conflict.{Conflict}
-use Rattle.fleet_plan.specs.declared.plan_fault.Conflict.TheVariants.{Vertex, Swapping, Cycle}
-use Rattle.fleet_plan.specs.declared.plan_fault.PlanFault.{PlanFault}
+use Rattle.fleet_plan.proofs.Words.{◌≡◌, ℕ, zero, suc, ◌+◌, ◌<◌, ◌≤◌, Bool, List, [], ◌∷◌, length, get_or, All, Contains, ◌⊎◌, inl, inr, refl, sym, ap, subst, arith, EachIndex, cases_lt, cases_order, slice_get_within, Place, Task, HasVertexConflict, HasSwappingConflict, Conflict, Vertex, Swapping, Cycle, PlanFault, Plan, cell_at, cell_of, motion_of, AreNeighbours, IsConflictFree, IsFirstFaultyAgent, StartsOnStart, EndsOnGoal, IsRightAt, GoesRight, IsFirstStep, HasNoConflict, HasStartsAndGoals, time_of, IsPairUpTo, IsKindUpTo, IsConflictUpTo, IsFirstConflict, IsFirstPlanFault, path_of}
 use Rattle.fleet_plan.specs.declared.plan_fault.PlanFault.TheVariants as fault
-use Rattle.fleet_plan.specs.Plan.{Plan, cell_at, cell_of, motion_of, AreNeighbours, IsConflictFree}
-use Rattle.fleet_plan.specs.FirstFault.{IsFirstFaultyAgent, StartsOnStart, EndsOnGoal, IsRightAt, GoesRight, IsFirstStep, HasNoConflict, HasStartsAndGoals, time_of, IsPairUpTo, IsKindUpTo, IsConflictUpTo, IsFirstConflict, IsFirstPlanFault, path_of}
 
 -- the least of numbers
 abbrev HasLeast : List ℕ → Type 0

@@ -1,7 +1,5 @@
 -- Reading the front of a text byte by byte, as the loops do.
-use Rattle.std.proofs.Common.{◌≡◌, ◌≤◌, ◌<◌, true, false, [], ◌∷◌, length, get_or, drop, refl, arith}
-use Rattle.fleet_text.specs.Text.{Bytes, is_blank}
-use Rattle.fleet_plan.specs.CellReading.{after_blanks}
+use Rattle.fleet_plan.proofs.Words.{◌≡◌, ◌≤◌, ◌<◌, true, false, [], ◌∷◌, length, get_or, drop, refl, arith, Bytes, is_blank, after_blanks}
 
 -- ---- blanks
 

@@ -1,17 +1,6 @@
 -- Reading the words of a line, and the lines of a text, as the loops do.
-use Rattle.std.proofs.Common.{◌≡◌, ℕ, ◌+◌, ◌≤◌, ◌<◌, true, false, ltb, List, [], ◌∷◌, ◌++◌, length, Option, Some, None, option_map, is_some, cond, Result, Ok, Err, refl, sym, ap, ◌∙◌, append_assoc, arith, inl, inr}
-use Rattle.std.proofs.lemmas.Bool.{cases_Bool, lt-ltb, le-ltb, le-leb, lt-leb}
-use Rattle.std.proofs.lemmas.List.{append-nil, length-append}
-use Rattle.fleet_model.specs.declared.geometry.Cell.{Cell}
-use Rattle.fleet_text.specs.Text.{Bytes, is_blank, starts_blank, words, words_from_front}
-use Rattle.fleet_plan.specs.Plan.{Path, Plan}
-use Rattle.fleet_plan.specs.declared.text_fault.TextFault.{TextFault}
-use Rattle.fleet_plan.specs.declared.text_fault.TextFault.TheVariants.{Form, Length, AgentCount}
-use Rattle.fleet_plan.specs.CellReading.{cell_front, begins_with_word}
-use Rattle.fleet_plan.specs.PlanReading.{spelled_cells, some_cells, too_long, path_at, enough_paths, paths_at}
+use Rattle.fleet_plan.proofs.Words.{◌≡◌, ℕ, ◌+◌, ◌≤◌, ◌<◌, true, false, ltb, List, [], ◌∷◌, ◌++◌, length, Option, Some, None, option_map, is_some, cond, Result, Ok, Err, refl, sym, ap, ◌∙◌, append_assoc, arith, inl, inr, cases_Bool, lt-ltb, le-ltb, le-leb, lt-leb, append-nil, length-append, Cell, Bytes, is_blank, starts_blank, words, words_from_front, Path, Plan, TextFault, Form, Length, AgentCount, cell_front, begins_with_word, spelled_cells, some_cells, too_long, path_at, enough_paths, paths_at, MAX_CELLS, MAX_AGENTS}
 use Rattle.fleet_plan.proofs.CellLaws.{Passes, passes, cells_next, cells_none}
-use Rattle.fleet_plan.specs.declared.reading.TheConstants.{MAX_CELLS}
-use Rattle.fleet_model.specs.declared.limits.TheConstants.{MAX_AGENTS}
 
 -- ---- words
 

@@ -1,14 +1,5 @@
 -- Agents entered one after another in their places, and who is ahead of whom.
-use Rattle.std.proofs.Common.{◌≡◌, ◌≢◌, ℕ, ◌+◌, ◌<◌, ◌≤◌, List, length, set, slice_index, Option, Some, None, IfSome, IfNone, ◌⊎◌, inl, inr, refl, sym, ap, ◌∙◌, subst, arith}
-use Rattle.std.proofs.lemmas.Bool.{cases_eq, cases_lt}
-use Rattle.std.proofs.lemmas.List.{get_or-set_same, get_or-set_other}
-use Rattle.fleet_grid.specs.declared.table.Table.{Table}
-use Rattle.fleet_grid.specs.Table.{value_in, IsSet}
-use Rattle.fleet_plan.specs.FirstFault.{IsPairUpTo}
-use Rattle.fleet_plan.specs.Rings.{NamesAgents, ahead_of}
-use Rattle.fleet_plan.specs.Sweep.{IsAhead, AreAhead, IsEntered, Exchange, HasNone, HasNoMeeting, IsFirstIn, IsFreeIn, IsFirstAhead, IsFreeAhead, IsAgentSettled}
-use Rattle.fleet_plan.specs.declared.plan_fault.Conflict.{Conflict}
-use Rattle.fleet_plan.specs.declared.plan_fault.Conflict.TheVariants.{Vertex, Swapping, Cycle}
+use Rattle.fleet_plan.proofs.Words.{◌≡◌, ◌≢◌, ℕ, ◌+◌, ◌<◌, ◌≤◌, List, length, set, slice_index, Option, Some, None, IfSome, IfNone, ◌⊎◌, inl, inr, refl, sym, ap, ◌∙◌, subst, arith, cases_eq, cases_lt, get_or-set_same, get_or-set_other, Table, value_in, IsSet, IsPairUpTo, NamesAgents, ahead_of, IsAhead, AreAhead, IsEntered, Exchange, HasNone, HasNoMeeting, IsFirstIn, IsFreeIn, IsFirstAhead, IsFreeAhead, IsAgentSettled, Conflict, Vertex, Swapping, Cycle}
 use Rattle.fleet_plan.proofs.RingLaws.{ahead_within, some_is, none_is_not}
 use Rattle.fleet_plan.proofs.RowLaws.{IsSoBut, but_more}
 

@@ -1,20 +1,5 @@
 -- Paths, step by step.
-use Rattle.std.proofs.Common.{◌≡◌, ◌↔◌, ℕ, ◌+◌, ◌-◌, ◌<◌, ◌≤◌, min, Bool, true, false, IsTrue, [], length, get_or, slice_get, Some, ◌⊎◌, inl, inr, sym, ap, ◌∙◌, subst, pos, arith, ◌+ℤ◌, ◌-ℤ◌}
-use Rattle.std.specs.Int.{abs_diff}
-use Rattle.std.proofs.lemmas.Bool.{cases_lt, cases_eq}
-use Rattle.std.proofs.lemmas.Int.{ints}
-use Rattle.std.proofs.lemmas.List.{get_or_default}
-use Rattle.std.proofs.lemmas.Option.{get_or_from_slice_get}
-use Rattle.fleet_model.specs.declared.geometry.Cell.{Cell}
-use Rattle.fleet_model.specs.declared.geometry.Place.{Place}
-use Rattle.fleet_model.specs.declared.geometry.Dir.{Dir}
-use Rattle.fleet_model.specs.declared.geometry.Dir.TheVariants.{North, East, South, West}
-use Rattle.fleet_model.specs.Geometry.{place_of, moved}
-use Rattle.fleet_model.specs.Program.{origin}
-use Rattle.fleet_model.proofs.Cells.{cell_from_parts}
-use Rattle.fleet_plan.specs.Plan.{Path, Plan, cell_at, cell_of, last_cell, AreNeighbours}
-use Rattle.fleet_plan.specs.Numbers.{end_of}
-use Rattle.fleet_plan.specs.FirstFault.{IsRightAt, GoesOver}
+use Rattle.fleet_plan.proofs.Words.{◌≡◌, ◌↔◌, ℕ, ◌+◌, ◌-◌, ◌<◌, ◌≤◌, min, Bool, true, false, IsTrue, [], length, get_or, slice_get, Some, ◌⊎◌, inl, inr, sym, ap, ◌∙◌, subst, pos, arith, ◌+ℤ◌, ◌-ℤ◌, abs_diff, cases_lt, cases_eq, ints, get_or_default, get_or_from_slice_get, Cell, Place, Dir, North, East, South, West, place_of, moved, origin, cell_from_parts, Path, Plan, cell_at, cell_of, last_cell, AreNeighbours, end_of, IsRightAt, GoesOver}
 
 -- ---- equal or neighbouring cells
 

@@ -1,11 +1,5 @@
 -- What the calls of a plan read.
-use Rattle.std.proofs.Common.{◌≡◌, ℕ, ◌+◌, ◌-◌, ◌<◌, ◌≤◌, min, max, List, [], ◌∷◌, ◌++◌, length, get_or, take, All, sym, ap, ◌∙◌, subst, arith}
-use Rattle.std.proofs.lemmas.List.{get_or_read, take_more, take_all}
-use Rattle.std.proofs.lemmas.List.Elements.{All-more}
-use Rattle.fleet_model.specs.declared.geometry.Cell.{Cell}
-use Rattle.fleet_model.specs.Program.{IsCell, origin}
-use Rattle.fleet_plan.specs.Plan.{Plan, IsPath, IsFleet, IsWithinLimits, cell_at, steps}
-use Rattle.fleet_plan.specs.declared.reading.TheConstants.{MAX_CELLS}
+use Rattle.fleet_plan.proofs.Words.{◌≡◌, ℕ, ◌+◌, ◌-◌, ◌<◌, ◌≤◌, min, max, List, [], ◌∷◌, ◌++◌, length, get_or, take, All, sym, ap, ◌∙◌, subst, arith, get_or_read, take_more, take_all, All-more, Cell, IsCell, origin, Plan, IsPath, IsFleet, IsWithinLimits, cell_at, steps, MAX_CELLS}
 
 pub cell_read : (xs : List Cell) (t n last : ℕ) (x : Cell) → last + 1 ≡ length xs → n ≡ min t last → x ≡ get_or xs n x → x ≡ cell_at xs t
 unfolding cell_at

@@ -1,22 +1,6 @@
 -- Reading a plan's lines fails with a fault exactly where the fault is the first.
-use Rattle.std.proofs.Common.{◌≡◌, ◌≢◌, ℕ, zero, suc, ◌+◌, ◌≤◌, ◌<◌, false, ltb, leb, List, [], ◌∷◌, ◌++◌, length, take, drop, Option, Some, None, Result, Ok, Err, refl, sym, ap, subst, ◌∙◌, arith, inl, inr}
-use Rattle.std.specs.Prelude.{All, ◌⊎◌}
-use Rattle.std.specs.List.{AllByRecursion}
-use Rattle.std.proofs.lemmas.Bool.{ltb-true, ltb-false, leb-false, lt-ltb, le-ltb, lt-leb}
-use Rattle.std.proofs.lemmas.List.{length-append, length-drop}
-use Rattle.std.proofs.lemmas.List.Elements.{All-from_recursion, recursion_from_All}
-use Rattle.fleet_model.specs.Answer.{IsDueUnless}
-use Rattle.fleet_text.specs.Text.{Bytes}
-use Rattle.fleet_text.specs.Steps.{◌>>=◌, ◌>>◌, right_or, some_or}
-use Rattle.fleet_text.proofs.StepLaws.{some_ok, bind_err, right_err, some_err, err_is, ok_err, none_some, Tells, heads_are, next_is, next_again}
-use Rattle.fleet_plan.specs.Plan.{Path, Plan}
-use Rattle.fleet_plan.specs.declared.text_fault.TextFault.{TextFault}
-use Rattle.fleet_plan.specs.declared.text_fault.TextFault.TheVariants.{OutOfMemory, Form, Length, AgentCount}
-use Rattle.fleet_plan.specs.PlanText.{SpellsPath, ArePlanLines, IsRightLine, ReachesPlanLine, IsFirstPlanLineFault}
-use Rattle.fleet_plan.specs.PlanReading.{path_at, enough_paths, paths_at}
+use Rattle.fleet_plan.proofs.Words.{◌≡◌, ◌≢◌, ℕ, zero, suc, ◌+◌, ◌≤◌, ◌<◌, false, ltb, leb, List, [], ◌∷◌, ◌++◌, length, take, drop, Option, Some, None, Result, Ok, Err, refl, sym, ap, subst, ◌∙◌, arith, inl, inr, All, ◌⊎◌, AllByRecursion, ltb-true, ltb-false, leb-false, lt-ltb, le-ltb, lt-leb, length-append, length-drop, All-from_recursion, recursion_from_All, IsDueUnless, Bytes, ◌>>=◌, ◌>>◌, right_or, some_or, some_ok, bind_err, right_err, some_err, err_is, ok_err, none_some, Tells, heads_are, next_is, next_again, Path, Plan, TextFault, OutOfMemory, Form, Length, AgentCount, SpellsPath, ArePlanLines, IsRightLine, ReachesPlanLine, IsFirstPlanLineFault, path_at, enough_paths, paths_at, MAX_CELLS, MAX_AGENTS}
 use Rattle.fleet_plan.proofs.PlanLaws.{path_in, spells_again, spells_is, judged, path_is, path_again, paths_next, is_found, is_read}
-use Rattle.fleet_plan.specs.declared.reading.TheConstants.{MAX_CELLS}
-use Rattle.fleet_model.specs.declared.limits.TheConstants.{MAX_AGENTS}
 
 -- ---- a line
 

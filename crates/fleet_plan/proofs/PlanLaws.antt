@@ -1,24 +1,6 @@
 -- Reading a plan's lines gives a plan exactly where they stand for it.
-use Rattle.std.proofs.Common.{◌≡◌, ℕ, ◌+◌, ◌≤◌, ◌<◌, true, ltb, leb, List, [], ◌∷◌, ◌++◌, length, map, Option, Some, None, Result, Ok, Err, refl, sym, ap, subst, ◌∙◌, append_assoc, arith, inl, inr}
-use Rattle.std.specs.Prelude.{option_and_then, ◌==◌}
-use Rattle.std.specs.List.{AllZip, AllByRecursion, slice_split}
-use Rattle.std.proofs.lemmas.Bool.{cases_Bool, ltb-true, leb-true, lt-ltb, le-leb}
-use Rattle.std.proofs.lemmas.List.{append-nil, length-append}
-use Rattle.std.proofs.lemmas.List.Elements.{All-from_recursion}
-use Rattle.std.proofs.lemmas.Option.{same_Some, none-some}
-use Rattle.fleet_model.specs.declared.geometry.Cell.{Cell}
-use Rattle.fleet_model.specs.Program.{IsCell}
-use Rattle.fleet_text.specs.Text.{Bytes, words_from_front, number, small, small_number}
-use Rattle.fleet_text.specs.Steps.{◌>>=◌, ◌>>◌, right_or, some_or}
-use Rattle.fleet_text.proofs.StepLaws.{bind_ok, right_ok, some_ok, ok_is}
-use Rattle.fleet_plan.specs.Plan.{Path, Plan, IsPath, IsFleet, IsWithinLimits}
-use Rattle.fleet_plan.specs.declared.text_fault.TextFault.{TextFault}
-use Rattle.fleet_plan.specs.declared.text_fault.TextFault.TheVariants.{Form, Length, AgentCount}
-use Rattle.fleet_plan.specs.PlanText.{cell_of_parts, spelled_cell, SpellsPath, StandsForPath, ArePlanLines}
-use Rattle.fleet_plan.specs.PlanReading.{spelled_cells, some_cells, path_at, enough_paths, paths_at}
-use Rattle.fleet_plan.specs.declared.reading.TheConstants.{MAX_CELLS}
+use Rattle.fleet_plan.proofs.Words.{◌≡◌, ℕ, ◌+◌, ◌≤◌, ◌<◌, true, ltb, leb, List, [], ◌∷◌, ◌++◌, length, map, Option, Some, None, Result, Ok, Err, refl, sym, ap, subst, ◌∙◌, append_assoc, arith, inl, inr, option_and_then, ◌==◌, AllZip, AllByRecursion, slice_split, cases_Bool, ltb-true, leb-true, lt-ltb, le-leb, append-nil, length-append, All-from_recursion, same_Some, none-some, Cell, IsCell, Bytes, words_from_front, number, small, small_number, ◌>>=◌, ◌>>◌, right_or, some_or, bind_ok, right_ok, some_ok, ok_is, Path, Plan, IsPath, IsFleet, IsWithinLimits, TextFault, Form, Length, AgentCount, cell_of_parts, spelled_cell, SpellsPath, StandsForPath, ArePlanLines, spelled_cells, some_cells, path_at, enough_paths, paths_at, MAX_CELLS, MAX_AGENTS}
 use Rattle.fleet_plan.proofs.LineLoop.{some_path}
-use Rattle.fleet_model.specs.declared.limits.TheConstants.{MAX_AGENTS}
 
 -- ---- the cells of words
 

@@ -1,12 +1,6 @@
 -- Rings along those who are ahead.
-use Rattle.std.proofs.Common.{◌≡◌, ℕ, zero, suc, ◌+◌, ◌-◌, ◌<◌, ◌≤◌, true, false, List, [], ◌∷◌, ◌++◌, length, get_or, Option, Some, None, Contains, ◌⊎◌, inl, inr, refl, sym, ap, ◌∙◌, subst, arith, ◌==◌, eqb}
-use Rattle.std.specs.List.{IsDistinct, AllByRecursion, list_any}
-use Rattle.std.proofs.lemmas.Bool.{cases_eq, cases_lt, ne_eqb, eqb-true, or_cases}
-use Rattle.std.proofs.lemmas.List.{get_or_past, get_or_default}
-use Rattle.std.proofs.lemmas.Map.Keys.{IsDistinct-tail}
-use Rattle.std.proofs.lemmas.Map.Steps.{length-le_from_distinct_below}
-use Rattle.fleet_model.specs.Conflict.{after_in}
-use Rattle.fleet_plan.specs.Rings.{NamesAgents, ahead_of, Leads, LeadsTo, IsOnRing}
+use Rattle.fleet_plan.proofs.Words.{◌≡◌, ℕ, zero, suc, ◌+◌, ◌-◌, ◌<◌, ◌≤◌, true, false, List, [], ◌∷◌, ◌++◌, length, get_or, Option, Some, None, Contains, ◌⊎◌, inl, inr, refl, sym, ap, ◌∙◌, subst, arith, ◌==◌, eqb, AllByRecursion, list_any, cases_eq, cases_lt, ne_eqb, eqb-true, or_cases, get_or_past, get_or_default, IsDistinct-tail, length-le_from_distinct_below, after_in, NamesAgents, ahead_of, Leads, LeadsTo, IsOnRing}
+use Rattle.std.specs.List.{IsDistinct}
 
 pub some_is : (j k : ℕ) (o : Option ℕ) → o ≡ Some j → o ≡ Some k → j ≡ k
 some_is j k o a b = let e : Some j ≡ Some k = sym a ∙ b in cc

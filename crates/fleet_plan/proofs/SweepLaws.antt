@@ -1,28 +1,10 @@
 -- What the places of agents at two times say of the conflicts of their plan.
-use Rattle.std.proofs.Common.{◌≡◌, ◌≢◌, ℕ, zero, suc, ◌+◌, ◌<◌, ◌≤◌, Bool, true, false, IsTrue, List, [], ◌∷◌, length, get_or, slice_index, All, Option, Some, None, IfSome, IfNone, inl, inr, refl, sym, ap, ◌∙◌, subst, arith, map, ◌==◌}
-use Rattle.std.specs.Prelude.{EachIndex}
-use Rattle.std.specs.List.{IsDistinct, range_with_len}
-use Rattle.std.proofs.lemmas.Bool.{cases_eq, cases_lt, cases_order}
-use Rattle.std.proofs.lemmas.List.{get_or_past, get_or_default}
-use Rattle.std.proofs.lemmas.List.FromFn.{length-map-range_with_len, get_or-map-range_with_len}
-use Rattle.fleet_model.specs.declared.geometry.Cell.{Cell}
-use Rattle.fleet_model.specs.Geometry.{place_of}
-use Rattle.fleet_model.specs.Conflict.{after_in}
-use Rattle.fleet_model.proofs.Cells.{place_of-injective}
-use Rattle.fleet_grid.specs.declared.table.Table.{Table}
-use Rattle.fleet_grid.specs.Table.{value_in}
-use Rattle.fleet_grid.specs.Ground.{Ground, IsGround, is_passable, cell_index, is_ground_at as ground_at}
-use Rattle.fleet_plan.specs.declared.plan_fault.Conflict.{Conflict}
-use Rattle.fleet_plan.specs.declared.plan_fault.Conflict.TheVariants.{Vertex, Swapping, Cycle}
-use Rattle.fleet_plan.specs.Plan.{Plan, cell_of, motion_of, steps, IsPath}
-use Rattle.fleet_plan.specs.FirstFault.{GoesRight, path_of, HasConflict, HasNoConflict, time_of, IsKindUpTo, IsConflictUpTo, IsFirstConflict}
-use Rattle.fleet_plan.specs.Rings.{NamesAgents, ahead_of, walk_of, Leads, IsOnRing, IsLeastOnRing}
-use Rattle.fleet_plan.specs.Sweep.{StandOnMap, StandOnPlaces, Meet, IsFirstMeeting, IsAhead, AreAhead, Exchange, IsFirstExchange, HasNoMeeting, HasNoExchange, IsFirstIn, IsFreeIn, IsEntered, IsAgentSettled, NamesMovers, IsSweep, IsSwept, SweepRows, AreFresh, HasComeTo, HaveArrived}
-use Rattle.fleet_plan.specs.UnderWay.{IsSoForOthers, Covers}
+use Rattle.fleet_plan.proofs.Words.{◌≡◌, ◌≢◌, ℕ, zero, suc, ◌+◌, ◌<◌, ◌≤◌, Bool, true, false, IsTrue, List, [], ◌∷◌, length, get_or, slice_index, All, Option, Some, None, IfSome, IfNone, inl, inr, refl, sym, ap, ◌∙◌, subst, arith, map, ◌==◌, EachIndex, range_with_len, cases_eq, cases_lt, cases_order, get_or_past, get_or_default, length-map-range_with_len, get_or-map-range_with_len, Cell, place_of, after_in, place_of-injective, Table, value_in, Ground, IsGround, is_passable, cell_index, Conflict, Vertex, Swapping, Cycle, Plan, cell_of, motion_of, steps, IsPath, GoesRight, path_of, HasConflict, HasNoConflict, time_of, IsKindUpTo, IsConflictUpTo, IsFirstConflict, NamesAgents, ahead_of, walk_of, Leads, IsOnRing, IsLeastOnRing, StandOnMap, StandOnPlaces, Meet, IsFirstMeeting, IsAhead, AreAhead, Exchange, IsFirstExchange, HasNoMeeting, HasNoExchange, IsFirstIn, IsFreeIn, IsEntered, IsAgentSettled, NamesMovers, IsSweep, IsSwept, SweepRows, AreFresh, HasComeTo, HaveArrived, IsSoForOthers, Covers, MAX_HORIZON}
+use Rattle.std.specs.List.{IsDistinct}
+use Rattle.fleet_grid.specs.Ground.{is_ground_at as ground_at}
 use Rattle.fleet_plan.proofs.RingLaws.{some_is, none_is_not, shortened, each_ahead, each_reached, ends_with, each_on_ring, ring-reaches}
 use Rattle.fleet_plan.proofs.PathLaws.{at_past}
 use Rattle.fleet_plan.proofs.MeetLaws.{ahead_agents, nobody_ahead}
-use Rattle.fleet_model.specs.declared.limits.TheConstants.{MAX_HORIZON}
 
 -- ---- cells on the map
 

@@ -1,10 +1,5 @@
 -- A walk ahead from one agent after another.
-use Rattle.std.proofs.Common.{◌≡◌, ◌≢◌, ℕ, ◌+◌, ◌<◌, ◌≤◌, List, [], ◌∷◌, length, get_or, slice_index, set, Option, Some, None, IfSome, IfNone, ◌⊎◌, inl, inr, refl, sym, ap, ◌∙◌, subst, arith, sum_by}
-use Rattle.std.proofs.lemmas.Bool.{cases_eq}
-use Rattle.std.proofs.lemmas.List.{get_or-set_same, get_or-set_other, length-set}
-use Rattle.std.proofs.lemmas.List.Sums.{sum_by-set}
-use Rattle.fleet_plan.specs.Rings.{NamesAgents, ahead_of, Leads, LeadsTo, IsOnRing, IsLeastOnRing, walk_of, IsWalked, AreClosed}
-use Rattle.fleet_plan.specs.UnderWay.{IsSoForOthers}
+use Rattle.fleet_plan.proofs.Words.{◌≡◌, ◌≢◌, ℕ, ◌+◌, ◌<◌, ◌≤◌, List, [], ◌∷◌, length, get_or, slice_index, set, Option, Some, None, IfSome, IfNone, ◌⊎◌, inl, inr, refl, sym, ap, ◌∙◌, subst, arith, sum_by, cases_eq, get_or-set_same, get_or-set_other, length-set, sum_by-set, NamesAgents, ahead_of, Leads, LeadsTo, IsOnRing, IsLeastOnRing, walk_of, IsWalked, AreClosed, IsSoForOthers}
 use Rattle.fleet_plan.proofs.RowLaws.{IsSoBut, but_more, but_ends}
 use Rattle.fleet_plan.proofs.RingLaws.{some_is, none_is_not, ahead_within, reaches-on, reaches-next, ring-reaches}
 

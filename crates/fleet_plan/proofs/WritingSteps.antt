@@ -1,11 +1,5 @@
 -- Writing paths one after the other.
-use Rattle.std.proofs.Common.{◌≡◌, ℕ, ◌+◌, [], ◌∷◌, ◌++◌, take, sym, ap, ◌∙◌}
-use Rattle.std.specs.Prelude.{slice_get, Some}
-use Rattle.std.proofs.lemmas.Option.{slice_get_within, get_or_from_slice_get}
-use Rattle.fleet_text.specs.Text.{Bytes}
-use Rattle.fleet_text.proofs.WrittenLaws.{line_more}
-use Rattle.fleet_plan.specs.Plan.{Path, Plan}
-use Rattle.fleet_plan.specs.PlanText.{path_text, plan_text}
+use Rattle.fleet_plan.proofs.Words.{◌≡◌, ℕ, ◌+◌, [], ◌∷◌, ◌++◌, take, sym, ap, ◌∙◌, slice_get, Some, slice_get_within, get_or_from_slice_get, Bytes, line_more, Path, Plan, path_text, plan_text}
 
 pub path_more : (front all : Bytes) (plan : Plan) (i : ℕ) (path : Path) → slice_get plan i ≡ Some path → front ≡ plan_text (take i plan) → all ≡ front ++ path_text path ++ 10 ∷ [] → all ≡ plan_text (take (i + 1) plan)
 path_more front all plan i path is e f =

@@ -1,16 +1,5 @@
 -- Written cells and paths are read again.
-use Rattle.std.proofs.Common.{◌≡◌, ℕ, ◌≤◌, false, eqb, List, [], ◌∷◌, ◌++◌, map, Option, Some, refl, sym, ap, subst, ◌∙◌, arith}
-use Rattle.std.specs.Prelude.{decimal}
-use Rattle.std.specs.List.{AllByRecursion, AllZip, slice_split}
-use Rattle.std.proofs.lemmas.List.{length-map}
-use Rattle.std.proofs.lemmas.List.Elements.{recursion_from_All}
-use Rattle.fleet_model.specs.declared.geometry.Cell.{Cell}
-use Rattle.fleet_model.specs.declared.limits.TheConstants.{MAX_COORDINATE}
-use Rattle.fleet_model.specs.Program.{IsCell}
-use Rattle.fleet_text.specs.Text.{Bytes, lines}
-use Rattle.fleet_text.proofs.WrittenLaws.{spells, small_is, From, apart_from, from_less, from_append, from_join, decimal_from, split_first, split_last, IsToken, tokens_from, word_some, front_join, lines_written}
-use Rattle.fleet_plan.specs.Plan.{Path, Plan, IsPath, IsWithinLimits}
-use Rattle.fleet_plan.specs.PlanText.{cell_of_parts, spelled_cell, StandsForPath, ArePlanLines, cell_text, path_text, plan_text}
+use Rattle.fleet_plan.proofs.Words.{◌≡◌, ℕ, ◌≤◌, false, eqb, List, [], ◌∷◌, ◌++◌, map, Option, Some, refl, sym, ap, subst, ◌∙◌, arith, decimal, AllByRecursion, AllZip, slice_split, length-map, recursion_from_All, Cell, MAX_COORDINATE, IsCell, Bytes, lines, spells, small_is, From, apart_from, from_less, from_append, from_join, decimal_from, split_first, split_last, IsToken, tokens_from, word_some, front_join, lines_written, Path, Plan, IsPath, IsWithinLimits, cell_of_parts, spelled_cell, StandsForPath, ArePlanLines, cell_text, path_text, plan_text}
 
 -- ---- cells
 

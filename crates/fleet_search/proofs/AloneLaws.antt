@@ -1,22 +1,7 @@
 -- Agents that are alone on the map, and the sum of their distances.
-use Rattle.std.proofs.Common.{◌≡◌, ◌≢◌, ℕ, ◌+◌, ◌<◌, Bool, List, [], ◌∷◌, ◌++◌, length, get_or, Some, inl, inr, refl, sym, ap, ◌∙◌, subst, arith}
-use Rattle.std.specs.Prelude.{slice_get, option_map}
-use Rattle.fleet_grid.specs.Ground.{Ground, is_passable}
-use Rattle.fleet_plan.specs.Checked.{IsCheckedFor}
+use Rattle.fleet_search.proofs.Words.{◌≡◌, ◌≢◌, ℕ, ◌+◌, ◌<◌, Bool, List, [], ◌∷◌, ◌++◌, length, get_or, Some, inl, inr, refl, sym, ap, ◌∙◌, subst, arith, slice_get, option_map, Ground, is_passable, IsCheckedFor, cases_eq, slice_get_within, length_push, get_or_push, get_or_append_left, sum_by_push, Cell, Place, Task, Plan, cell_at, cell_of, last_cell, IsConflictFree, IsPath, Fits, Follow, IsFeasiblePath, IsEarliest, IsInfeasible, MAX_HORIZON, IsDistance, IsSumOfDistances}
 use Rattle.fleet_search.proofs.InTurnLaws.{task_of, read_task}
-use Rattle.std.proofs.lemmas.Bool.{cases_eq}
-use Rattle.std.proofs.lemmas.Option.{slice_get_within}
-use Rattle.std.proofs.lemmas.List.{length_push, get_or_push, get_or_append_left}
-use Rattle.std.proofs.lemmas.List.Sums.{sum_by_push}
-use Rattle.fleet_model.specs.declared.geometry.Cell.{Cell}
-use Rattle.fleet_model.specs.declared.geometry.Place.{Place}
-use Rattle.fleet_model.specs.declared.task.Task.{Task}
-use Rattle.fleet_plan.specs.Plan.{Plan, cell_at, cell_of, last_cell, IsConflictFree, IsPath}
-use Rattle.fleet_search.specs.Way.{Fits, Follow}
 use Rattle.fleet_search.proofs.Steps.{from_each_step}
-use Rattle.fleet_search.specs.Earliest.{IsFeasiblePath, IsEarliest, IsInfeasible}
-use Rattle.fleet_model.specs.declared.limits.TheConstants.{MAX_HORIZON}
-use Rattle.fleet_search.specs.Bound.{IsDistance, IsSumOfDistances}
 
 -- ---- alone
 

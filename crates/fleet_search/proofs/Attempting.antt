@@ -1,16 +1,5 @@
 -- What comes of planning in one order, step by step.
-use Rattle.std.proofs.Common.{◌≡◌, ℕ, suc, ◌+◌, ◌<◌, true, false, List, [], ◌∷◌, ◌++◌, length, take, get_or, sym, ap, ◌∙◌, subst}
-use Rattle.std.specs.Prelude.{slice_get}
-use Rattle.std.proofs.lemmas.Option.{slice_get-get_or}
-use Rattle.std.proofs.lemmas.List.{length-map}
-use Rattle.fleet_model.specs.declared.task.Task.{Task}
-use Rattle.fleet_grid.specs.Ground.{is_passable}
-use Rattle.fleet_plan.specs.Plan.{Plan}
-use Rattle.fleet_search.specs.Way.{Fits}
-use Rattle.fleet_search.specs.InTurn.{IsPrioritisedPlan}
-use Rattle.fleet_search.specs.Orders.{no_task, tasks_by, IsStuckInOrder}
-use Rattle.fleet_search.specs.Attempts.{IsOrderOf, IsPathAdded, ArePathsKept, IsMadeAfterFirst, IsOldPath}
-use Rattle.fleet_search.specs.declared.orders.Problem.{Problem}
+use Rattle.fleet_search.proofs.Words.{◌≡◌, ℕ, suc, ◌+◌, ◌<◌, true, false, List, [], ◌∷◌, ◌++◌, length, take, get_or, sym, ap, ◌∙◌, subst, slice_get, slice_get-get_or, length-map, Task, is_passable, Plan, Fits, IsPrioritisedPlan, no_task, tasks_by, IsStuckInOrder, IsOrderOf, IsPathAdded, ArePathsKept, IsMadeAfterFirst, IsOldPath, Problem}
 use Rattle.fleet_search.proofs.OrderLaws.{agents_below, task_in_order}
 use Rattle.fleet_search.proofs.KeptPaths.{later_task, kept_made, none_made, in_turn-added, stuck_here}
 

@@ -1,28 +1,8 @@
 -- Orders that are tried one after another, and the best of their plans.
-use Rattle.std.proofs.Common.{◌≡◌, ℕ, zero, suc, ◌+◌, ◌-◌, ◌<◌, ◌≤◌, Bool, List, [], ◌∷◌, ◌++◌, length, take, get_or, Option, Some, None, ◌⊎◌, inl, inr, refl, sym, ap, ◌∙◌, subst, arith, true, false, not, is_some}
-use Rattle.std.specs.Prelude.{slice_get}
-use Rattle.std.proofs.lemmas.Bool.{cases_lt}
-use Rattle.std.proofs.lemmas.List.{length_push}
-use Rattle.std.proofs.lemmas.Option.{slice_get_within}
-use Rattle.fleet_model.specs.Machine.{indices}
-use Rattle.fleet_model.specs.declared.geometry.Place.{Place}
-use Rattle.fleet_model.specs.declared.task.Task.{Task}
-use Rattle.fleet_plan.specs.Plan.{Plan}
-use Rattle.std.specs.Prelude.{IfSome, IfNone}
-use Rattle.std.proofs.lemmas.List.{take_more, take-take, get_or-take, length-take}
-use Rattle.fleet_grid.specs.Ground.{is_passable}
-use Rattle.fleet_model.specs.declared.geometry.Cell.{Cell}
-use Rattle.fleet_search.specs.Earliest.{IsEarliest}
-use Rattle.fleet_search.specs.InTurn.{IsPrioritisedPlan}
-use Rattle.fleet_search.specs.Orders.{tasks_by, IsOrderAfter, IsStuckInTries}
-use Rattle.fleet_search.specs.Attempts.{IsOrderOf, AreReservedInOrder, IsMadeBefore, IsFor}
-use Rattle.fleet_search.specs.Trying.{outcome_of, IsTried, IsBestSoFar}
-use Rattle.fleet_search.specs.declared.orders.Problem.{Problem}
-use Rattle.fleet_search.specs.declared.best.Measured.{Measured}
+use Rattle.fleet_search.proofs.Words.{◌≡◌, ℕ, zero, suc, ◌+◌, ◌-◌, ◌<◌, ◌≤◌, Bool, List, [], ◌∷◌, ◌++◌, length, take, get_or, Option, Some, None, ◌⊎◌, inl, inr, refl, sym, ap, ◌∙◌, subst, arith, true, false, not, is_some, slice_get, cases_lt, length_push, slice_get_within, indices, Place, Task, Plan, IfSome, IfNone, take_more, take-take, get_or-take, length-take, is_passable, Cell, IsEarliest, IsPrioritisedPlan, tasks_by, IsOrderAfter, IsStuckInTries, IsOrderOf, AreReservedInOrder, IsMadeBefore, IsFor, outcome_of, IsTried, IsBestSoFar, Problem, Measured, Outcome, Planned, NoPathAt, order_after, order_after_all, IsOutcome, AreOutcomes, IsFirstLeast}
 use Rattle.fleet_search.specs.declared.best.Tried.TheVariants as t
 use Rattle.fleet_search.proofs.OrderLaws.{order_after-more}
 use Rattle.fleet_search.proofs.TurnLaws.{first_after_none, stuck_in_turn}
-use Rattle.fleet_search.specs.Best.{Outcome, Planned, NoPathAt, order_after, order_after_all, IsOutcome, AreOutcomes, IsFirstLeast}
 
 -- ---- one outcome more
 

@@ -1,16 +1,5 @@
 -- The agents that make room for one another in a step, followed one by one.
-use Rattle.std.proofs.Common.{◌≡◌, ◌≢◌, ℕ, ◌+◌, ◌<◌, ◌≤◌, ◌⊎◌, Bool, true, false, IsTrue, ◌==◌, List, [], ◌∷◌, ◌++◌, length, get_or, ◌↔◌, inl, inr, sym, ap, ◌∙◌, subst, arith}
-use Rattle.std.specs.List.{list_any}
-use Rattle.std.specs.Prelude.{Option, None, Some, is_some, not, IfNone, IfSome}
-use Rattle.std.proofs.lemmas.Bool.{cases_eq, eqb-true, or_cases}
-use Rattle.std.proofs.lemmas.List.{get_or_read}
-use Rattle.std.proofs.lemmas.Map.Steps.{length-le_from_distinct_below}
-use Rattle.fleet_model.specs.declared.geometry.Cell.{Cell}
-use Rattle.fleet_model.specs.Geometry.{place_of, is_same_cell}
-use Rattle.fleet_model.proofs.Cells.{is_same_cell-true, is_same_cell-false}
-use Rattle.fleet_plan.specs.Plan.{Plan, cell_at, cell_of}
-use Rattle.fleet_search.specs.Way.{FitTogether, Follow, StepFits}
-use Rattle.fleet_search.specs.Reserved.{StandsOn, IsUnoccupied, LeadsBack}
+use Rattle.fleet_search.proofs.Words.{◌≡◌, ◌≢◌, ℕ, ◌+◌, ◌<◌, ◌≤◌, ◌⊎◌, Bool, true, false, IsTrue, ◌==◌, List, [], ◌∷◌, ◌++◌, length, get_or, ◌↔◌, inl, inr, sym, ap, ◌∙◌, subst, arith, list_any, Option, None, Some, is_some, not, IfNone, IfSome, cases_eq, eqb-true, or_cases, get_or_read, length-le_from_distinct_below, Cell, place_of, is_same_cell, is_same_cell-true, is_same_cell-false, Plan, cell_at, cell_of, FitTogether, Follow, StepFits, StandsOn, IsUnoccupied, LeadsBack}
 use Rattle.fleet_search.proofs.Steps.{shortened, Follow-append}
 use Rattle.fleet_search.proofs.OneByOne.{one_by_one}
 

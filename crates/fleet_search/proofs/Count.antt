@@ -1,12 +1,5 @@
 -- How many states there are to be reached.
-use Rattle.std.proofs.Common.{◌≡◌, ℕ, ◌+◌, ◌*◌, ◌<◌, ◌≤◌, List, length, Option, arith}
-use Rattle.std.proofs.lemmas.Nat.{mul-add-lt, same_from_place}
-use Rattle.fleet_search.specs.declared.frontier.State.{State}
-use Rattle.fleet_search.specs.declared.frontier.Query.{Query}
-use Rattle.fleet_search.specs.Labels.{Times}
-use Rattle.fleet_search.specs.declared.frontier.Node.{Node}
-use Rattle.fleet_search.specs.Search.{IsFrontier, state_in}
-use Rattle.fleet_model.proofs.Pigeon.{pigeonhole}
+use Rattle.fleet_search.proofs.Words.{◌≡◌, ℕ, ◌+◌, ◌*◌, ◌<◌, ◌≤◌, List, length, Option, arith, mul-add-lt, same_from_place, State, Query, Times, Node, IsFrontier, state_in, pigeonhole}
 use Rattle.fleet_search.proofs.Spread.{on_map}
 
 -- the states up to a time on a map of so many columns and rows, by numbers

@@ -1,19 +1,8 @@
 -- The occupancies of one path are added, one after another.
-use Rattle.std.proofs.Common.{◌≡◌, ◌≢◌, ℕ, ◌+◌, ◌≤◌, List, length, ◌⊎◌, inl, inr, sym, ap, ◌∙◌, subst, arith}
-use Rattle.std.specs.Prelude.{Result, Ok, Err, OnOk, OnErr}
-use Rattle.std.proofs.lemmas.Bool.{cases_lt, cases_eq}
-use Rattle.fleet_model.specs.declared.geometry.Cell.{Cell}
-use Rattle.fleet_model.proofs.Cells.{cell_cases}
-use Rattle.fleet_model.specs.declared.limits.TheConstants.{MAX_HORIZON}
-use Rattle.fleet_plan.specs.Plan.{Plan, cell_at}
-use Rattle.fleet_search.specs.declared.intervals.Occupancy.{Occupancy}
-use Rattle.fleet_search.specs.declared.reservation_table.ReservationTable.{ReservationTable}
-use Rattle.fleet_search.specs.Way.{Fits, with_path, arrival}
-use Rattle.fleet_search.specs.Occupancies.{occupancies_of, IsDuring, IsOccupancyAdded, AreInOrder, AreOccupanciesOn, HaveOccupancies, without}
+use Rattle.fleet_search.proofs.Words.{◌≡◌, ◌≢◌, ℕ, ◌+◌, ◌≤◌, List, length, ◌⊎◌, inl, inr, sym, ap, ◌∙◌, subst, arith, Result, Ok, Err, OnOk, OnErr, cases_lt, cases_eq, Cell, cell_cases, MAX_HORIZON, Plan, cell_at, Occupancy, ReservationTable, Fits, with_path, arrival, occupancies_of, IsDuring, IsOccupancyAdded, AreInOrder, AreOccupanciesOn, HaveOccupancies, without, FOREVER}
 use Rattle.fleet_search.proofs.Occupants.{cell_at-late}
 use Rattle.fleet_search.proofs.ReservationTables.{AreOccupanciesTo, AreInOrder-to, to-none, to-other, to-all_other, to-placed, to-last}
 use Rattle.fleet_search.proofs.WithoutAgent.{without-placed, without-others}
-use Rattle.fleet_search.specs.declared.intervals.TheConstants.{FOREVER}
 
 -- what follows from both answers of a call
 pub from_ok_or_err : {T E P Q X : Type 0} (r : Result T E) → OnOk r P → OnErr r Q → (P → X) → (Q → X) → X

@@ -1,13 +1,6 @@
 -- What a search has come to: its open list holds places of nodes.
-use Rattle.std.proofs.Common.{◌≡◌, ◌≢◌, ℕ, ◌+◌, ◌==◌, cond, List, [], ◌∷◌, ◌++◌, length, Contains, Option, Some, None, IfSome, IfNone, inl, inr, refl, sym, ap, ◌∙◌, subst, arith}
-use Rattle.std.specs.Prelude.{Vec}
-use Rattle.std.specs.declared.alloc.Global.{Global}
-use Rattle.std.proofs.lemmas.Bool.{cases_eq, eqb-true, eq-eqb, false_from_ne_true}
-use Rattle.std.proofs.lemmas.List.Elements.{Contains-append_left, Contains-push, Contains-push_cases}
-use Rattle.fleet_search.specs.declared.frontier.Node.{Node}
-use Rattle.fleet_search.specs.Rows.{bucket_of, lists_of, IsPut}
-use Rattle.fleet_search.specs.Frontier.{Exploration, AreNodePlaces, IsNodeTaken}
-use Rattle.fleet_grid.proofs.Pages.{items-past}
+use Rattle.fleet_search.proofs.Words.{◌≡◌, ◌≢◌, ℕ, ◌+◌, ◌==◌, cond, List, [], ◌∷◌, ◌++◌, length, Contains, Option, Some, None, IfSome, IfNone, inl, inr, refl, sym, ap, ◌∙◌, subst, arith, Vec, Global, cases_eq, eqb-true, eq-eqb, false_from_ne_true, Contains-append_left, Contains-push, Contains-push_cases, Node, bucket_of, lists_of, Exploration, AreNodePlaces, IsNodeTaken, items-past}
+use Rattle.fleet_search.specs.Rows.{IsPut}
 
 pub no-places : (nodes : List Node) (rows : List (Vec ℕ Global)) → rows ≡ [] → AreNodePlaces nodes (lists_of rows)
 no-places nodes rows e k i h = absurd (let l = (subst (λ z. Contains z i) (items-past rows k (let none = ap length e in omega arith)) h).1 in omega arith)

@@ -1,10 +1,5 @@
 -- Whether a whole path fits, step by step.
-use Rattle.std.proofs.Common.{◌≡◌, ℕ, zero, suc, ◌+◌, ◌<◌, ◌≤◌, List, inl, inr, sym, ◌∙◌, arith, add-one}
-use Rattle.std.proofs.lemmas.Bool.{cases_lt}
-use Rattle.fleet_model.specs.declared.geometry.Cell.{Cell}
-use Rattle.fleet_plan.specs.Plan.{Plan, cell_at}
-use Rattle.fleet_search.specs.Way.{Fits, StepFits, arrival}
-use Rattle.fleet_search.specs.Reserved.{StandsOn, IsUnoccupied, IsFreeFrom}
+use Rattle.fleet_search.proofs.Words.{◌≡◌, ℕ, zero, suc, ◌+◌, ◌<◌, ◌≤◌, List, inl, inr, sym, ◌∙◌, arith, add-one, cases_lt, Cell, Plan, cell_at, Fits, StepFits, arrival, StandsOn, IsUnoccupied, IsFreeFrom}
 use Rattle.fleet_search.proofs.Steps.{each_step, from_each_step}
 use Rattle.fleet_search.proofs.Occupants.{cell_at-late}
 

@@ -1,19 +1,6 @@
 -- Plans that are made agent by agent are free of conflict.
-use Rattle.std.proofs.Common.{◌≡◌, ℕ, ◌+◌, ◌<◌, ◌≤◌, Bool, List, [], ◌∷◌, ◌++◌, length, take, get_or, Some, inl, inr, sym, ap, ◌∙◌, subst, arith}
-use Rattle.std.specs.Prelude.{slice_get, option_map}
-use Rattle.std.proofs.lemmas.Bool.{cases_eq}
-use Rattle.std.proofs.lemmas.Option.{slice_get_within, slice_get-get_or, same_Some}
-use Rattle.std.proofs.lemmas.List.{get_or_append_left, get_or_push, take-append-le, take_at, length_push}
-use Rattle.fleet_model.specs.declared.geometry.Cell.{Cell}
-use Rattle.fleet_model.specs.declared.geometry.Place.{Place}
-use Rattle.fleet_model.specs.Program.{origin}
-use Rattle.fleet_model.specs.declared.task.Task.{Task}
-use Rattle.fleet_plan.specs.Plan.{Plan, cell_of, last_cell, IsConflictFree}
-use Rattle.fleet_search.specs.Way.{FitTogether}
-use Rattle.fleet_search.specs.Earliest.{IsEarliest, IsInfeasible}
-use Rattle.fleet_search.specs.InTurn.{IsPrioritisedPlan, HasNoPathFor}
-use Rattle.fleet_search.specs.declared.fault.PlanStop.{PlanStop}
-use Rattle.fleet_search.specs.declared.fault.PlanStop.TheVariants.{OutOfMemory, NoPath}
+use Rattle.fleet_search.proofs.Words.{◌≡◌, ℕ, ◌+◌, ◌<◌, ◌≤◌, Bool, List, [], ◌∷◌, ◌++◌, length, take, get_or, Some, inl, inr, sym, ap, ◌∙◌, subst, arith, slice_get, option_map, cases_eq, slice_get_within, slice_get-get_or, same_Some, get_or_append_left, get_or_push, take-append-le, take_at, length_push, Cell, Place, origin, Task, Plan, cell_of, last_cell, IsConflictFree, FitTogether, IsEarliest, IsInfeasible, IsPrioritisedPlan, HasNoPathFor, PlanStop, OutOfMemory}
+use Rattle.fleet_search.specs.declared.fault.PlanStop.TheVariants.{NoPath}
 use Rattle.fleet_search.proofs.OneByOne.{one_by_one}
 
 nobody : Task

@@ -1,16 +1,5 @@
 -- Safe intervals between the occupancies of a cell.
-use Rattle.std.proofs.Common.{◌≡◌, ℕ, zero, suc, ◌+◌, ◌-◌, ◌<◌, ◌≤◌, inl, inr, List, length, ap, arith}
-use Rattle.std.specs.Prelude.{Option, None, Some, IfNone}
-use Rattle.std.specs.List.Sorted.{IsPartitionPoint}
-use Rattle.std.proofs.lemmas.Bool.{cases_eq, cases_lt}
-use Rattle.fleet_model.specs.declared.geometry.Cell.{Cell}
-use Rattle.fleet_model.specs.declared.limits.TheConstants.{MAX_HORIZON}
-use Rattle.fleet_plan.specs.Plan.{Plan}
-use Rattle.fleet_search.specs.declared.intervals.Occupancy.{Occupancy}
-use Rattle.fleet_search.specs.Occupancies.{occupancy_at, no_occupancy, IsDuring, AreOccupanciesOn}
-use Rattle.fleet_search.specs.Intervals.{AreSuccessive, IsInInterval, AreBegun, IsEndAfter}
-use Rattle.fleet_search.specs.Reserved.{IsUnoccupied, IsFreeOn}
-use Rattle.fleet_search.specs.declared.intervals.TheConstants.{FOREVER}
+use Rattle.fleet_search.proofs.Words.{◌≡◌, ℕ, zero, suc, ◌+◌, ◌-◌, ◌<◌, ◌≤◌, inl, inr, List, length, ap, arith, Option, None, Some, IfNone, IsPartitionPoint, cases_eq, cases_lt, Cell, MAX_HORIZON, Plan, Occupancy, occupancy_at, no_occupancy, IsDuring, AreOccupanciesOn, AreSuccessive, IsInInterval, AreBegun, IsEndAfter, IsUnoccupied, IsFreeOn, FOREVER}
 
 -- ---- lists of occupancies
 

@@ -1,17 +1,5 @@
 -- Paths that are still the earliest if one more is reserved, and they fit it.
-use Rattle.std.proofs.lemmas.Bool.{cases_lt}
-use Rattle.std.proofs.Common.{inl, inr, ◌≡◌, ℕ, zero, suc, ◌+◌, ◌<◌, ◌≤◌, Bool, List, [], ◌∷◌, ◌++◌, length, map, take, drop, get_or, remove, Some, refl, sym, ap, ◌∙◌, subst, arith}
-use Rattle.std.specs.Prelude.{slice_get, option_map}
-use Rattle.std.proofs.lemmas.Option.{slice_get-map}
-use Rattle.std.proofs.lemmas.List.{take-take, get_or-take, length-take-le}
-use Rattle.fleet_model.specs.declared.geometry.Cell.{Cell}
-use Rattle.fleet_model.specs.declared.geometry.Place.{Place}
-use Rattle.fleet_model.specs.declared.task.Task.{Task}
-use Rattle.fleet_plan.specs.Plan.{Plan, cell_of}
-use Rattle.fleet_search.specs.Way.{arrival, Fits, Follow}
-use Rattle.fleet_search.specs.Earliest.{IsFeasiblePath, IsEarliest, IsInfeasible}
-use Rattle.fleet_search.specs.InTurn.{IsPrioritisedPlan, HasNoPathFor}
-use Rattle.fleet_search.specs.Orders.{no_task, tasks_by, to_front}
+use Rattle.fleet_search.proofs.Words.{cases_lt, inl, inr, ◌≡◌, ℕ, zero, suc, ◌+◌, ◌<◌, ◌≤◌, Bool, List, [], ◌∷◌, ◌++◌, length, map, take, drop, get_or, remove, Some, refl, sym, ap, ◌∙◌, subst, arith, slice_get, option_map, slice_get-map, take-take, get_or-take, length-take-le, Cell, Place, Task, Plan, cell_of, arrival, Fits, Follow, IsFeasiblePath, IsEarliest, IsInfeasible, IsPrioritisedPlan, HasNoPathFor, no_task, tasks_by, to_front}
 use Rattle.fleet_search.proofs.Steps.{each_step, from_each_step}
 use Rattle.fleet_search.proofs.InTurnLaws.{task_of, in_turn-more, stuck_at}
 

@@ -1,9 +1,5 @@
 -- Labels of safe intervals.
-use Rattle.std.proofs.Common.{◌≡◌, ◌≢◌, ℕ, ◌+◌, ◌≤◌, ◌==◌, ◌⊎◌, cond, inl, inr, refl, ap, ◌∙◌, arith, Some, None, Option}
-use Rattle.std.proofs.lemmas.Bool.{cases_eq, eq-eqb, eqb-true, false_from_ne_true}
-use Rattle.fleet_search.specs.declared.labels.IntervalLabel.{IntervalLabel}
-use Rattle.fleet_search.specs.declared.labels.LabelTable.{LabelTable}
-use Rattle.fleet_search.specs.Labels.{LabelState, no_interval_label, interval_label, earliest_in, AreLabels, IsLabelPut, IsLabelSet}
+use Rattle.fleet_search.proofs.Words.{◌≡◌, ◌≢◌, ℕ, ◌+◌, ◌≤◌, ◌==◌, ◌⊎◌, cond, inl, inr, refl, ap, ◌∙◌, arith, Some, None, Option, cases_eq, eq-eqb, eqb-true, false_from_ne_true, IntervalLabel, LabelTable, LabelState, no_interval_label, interval_label, earliest_in, AreLabels, IsLabelPut, IsLabelSet}
 
 -- what a label says to a search
 abbrev said : ℕ → IntervalLabel → Option ℕ

@@ -1,10 +1,5 @@
 -- Where agents are once they have arrived, and what tests say.
-use Rattle.std.proofs.Common.{◌≡◌, ℕ, ◌≤◌, Bool, true, false, IsTrue, List, get_or, ◌↔◌, ap, arith}
-use Rattle.std.proofs.lemmas.Bool.{both_ways}
-use Rattle.fleet_model.specs.declared.geometry.Cell.{Cell}
-use Rattle.fleet_model.specs.Program.{origin}
-use Rattle.fleet_plan.specs.Plan.{cell_at}
-use Rattle.fleet_search.specs.Way.{arrival}
+use Rattle.fleet_search.proofs.Words.{◌≡◌, ℕ, ◌≤◌, Bool, true, false, IsTrue, List, get_or, ◌↔◌, ap, arith, both_ways, Cell, origin, cell_at, arrival}
 
 -- ---- times
 

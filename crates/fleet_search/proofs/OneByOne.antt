@@ -1,12 +1,5 @@
 -- Paths that each fit those before them are free of conflict.
-use Rattle.std.proofs.Common.{◌≡◌, ◌≢◌, ℕ, zero, suc, ◌+◌, ◌<◌, ◌≤◌, List, [], ◌∷◌, length, get_or, take, All, Contains, ◌⊎◌, inl, inr, sym, ap, ◌∙◌, subst, arith, add-one}
-use Rattle.std.proofs.lemmas.Bool.{cases_eq, cases_lt}
-use Rattle.std.proofs.lemmas.List.{get_or_past, get_or_push, take_more, take_all, take_at, take-append-le, get_or_append_left}
-use Rattle.fleet_model.specs.declared.geometry.Cell.{Cell}
-use Rattle.fleet_model.specs.Geometry.{place_of}
-use Rattle.fleet_model.specs.Conflict.{Motion, HasVertexConflict, HasSwappingConflict, HasCycleConflict, after_in}
-use Rattle.fleet_plan.specs.Plan.{Plan, motion_of}
-use Rattle.fleet_search.specs.Way.{with_path, Fits, FitTogether, AreConflictFree}
+use Rattle.fleet_search.proofs.Words.{◌≡◌, ◌≢◌, ℕ, zero, suc, ◌+◌, ◌<◌, ◌≤◌, List, [], ◌∷◌, length, get_or, take, All, Contains, ◌⊎◌, inl, inr, sym, ap, ◌∙◌, subst, arith, add-one, cases_eq, cases_lt, get_or_past, get_or_push, take_more, take_all, take_at, take-append-le, get_or_append_left, Cell, place_of, Motion, HasVertexConflict, HasSwappingConflict, HasCycleConflict, after_in, Plan, motion_of, with_path, Fits, FitTogether, AreConflictFree}
 use Rattle.fleet_search.proofs.Steps.{with_path-old, length-with_path}
 
 -- ---- conflicts among agents that move alike

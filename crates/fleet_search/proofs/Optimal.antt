@@ -1,21 +1,5 @@
 -- No way arrives before the paths that the search is looking at.
-use Rattle.std.proofs.Common.{◌≡◌, ℕ, zero, suc, ◌+◌, ◌-◌, ◌<◌, ◌≤◌, Bool, IsTrue, List, length, Option, Some, None, ◌⊎◌, inl, inr, sym, ap, ◌∙◌, subst, arith, add-one}
-use Rattle.std.specs.Prelude.{Contains}
-use Rattle.std.proofs.lemmas.Bool.{cases_lt}
-use Rattle.std.proofs.lemmas.Option.{none-some, same_Some}
-use Rattle.fleet_model.specs.declared.geometry.Cell.{Cell}
-use Rattle.fleet_model.specs.declared.geometry.Place.{Place}
-use Rattle.fleet_model.specs.Geometry.{place_of}
-use Rattle.fleet_plan.specs.Plan.{Plan, cell_at, AreNeighbours}
-use Rattle.fleet_search.specs.declared.frontier.Query.{Query}
-use Rattle.fleet_search.specs.Labels.{Times}
-use Rattle.fleet_search.specs.declared.frontier.Node.{Node}
-use Rattle.fleet_grid.specs.Ground.{is_passable}
-use Rattle.fleet_search.specs.Way.{arrival, StepFits}
-use Rattle.fleet_search.specs.Earliest.{IsFeasiblePath, IsEarliest, IsInfeasible}
-use Rattle.fleet_search.specs.Rows.{bucket_of}
-use Rattle.fleet_search.specs.Reserved.{IsUnoccupied, IsFreeFrom, IsFreeOn}
-use Rattle.fleet_search.specs.Search.{heuristic_of, IsMeasured, IsStep, IsBucket, IsGoalState, state_in, IsKnown, IsCovered, IsExpanded, IsSuperseded, IsStateSettled, IsFrontier, IsPosed, IsTrail}
+use Rattle.fleet_search.proofs.Words.{◌≡◌, ℕ, zero, suc, ◌+◌, ◌-◌, ◌<◌, ◌≤◌, Bool, IsTrue, List, length, Option, Some, None, ◌⊎◌, inl, inr, sym, ap, ◌∙◌, subst, arith, add-one, Contains, cases_lt, none-some, same_Some, Cell, Place, place_of, Plan, cell_at, AreNeighbours, Query, Times, Node, is_passable, arrival, StepFits, IsFeasiblePath, IsEarliest, IsInfeasible, bucket_of, IsUnoccupied, IsFreeFrom, IsFreeOn, heuristic_of, IsMeasured, IsStep, IsBucket, IsGoalState, state_in, IsKnown, IsCovered, IsExpanded, IsSuperseded, IsStateSettled, IsFrontier, IsPosed, IsTrail}
 use Rattle.fleet_search.proofs.Steps.{each_step, from_each_step}
 use Rattle.fleet_search.proofs.FitCode.{fits-free}
 use Rattle.fleet_search.proofs.Occupants.{cell_at-late}

@@ -1,18 +1,6 @@
 -- What is free of conflict in one order of the agents is so in each.
-use Rattle.std.proofs.Common.{◌≡◌, ◌≢◌, ◌==◌, ℕ, suc, ◌+◌, ◌-◌, ◌<◌, ◌≤◌, Bool, false, IsTrue, List, [], ◌∷◌, length, map, get_or, All, IsPermutation, Some, ◌⊎◌, inl, inr, sym, ap, ◌∙◌, subst, arith}
-use Rattle.std.specs.Prelude.{slice_get}
-use Rattle.std.specs.List.{AllByRecursion, IsDistinct}
-use Rattle.std.proofs.lemmas.Bool.{cases_lt, eqb-false, ne_eqb}
-use Rattle.std.proofs.lemmas.Option.{slice_get-get_or, slice_get_within}
-use Rattle.std.proofs.lemmas.List.{get_or-map, get_or_default, get_or_past, length-map}
-use Rattle.fleet_model.specs.Machine.{indices}
-use Rattle.fleet_model.specs.declared.geometry.Place.{Place}
-use Rattle.fleet_model.specs.Geometry.{place_of}
-use Rattle.fleet_model.specs.declared.task.Task.{Task}
-use Rattle.fleet_model.specs.Conflict.{Motion, HasVertexConflict, HasSwappingConflict, HasCycleConflict, after_in}
-use Rattle.fleet_plan.specs.Plan.{Plan, cell_at, cell_of, last_cell, motion_of, AreNeighbours, IsConflictFree}
-use Rattle.fleet_search.specs.Orders.{no_task, tasks_by, paths_by, IsMadeInOrder}
-use Rattle.fleet_search.specs.InTurn.{IsPrioritisedPlan}
+use Rattle.fleet_search.proofs.Words.{◌≡◌, ◌≢◌, ◌==◌, ℕ, suc, ◌+◌, ◌-◌, ◌<◌, ◌≤◌, Bool, false, IsTrue, List, [], ◌∷◌, length, map, get_or, All, IsPermutation, Some, ◌⊎◌, inl, inr, sym, ap, ◌∙◌, subst, arith, slice_get, AllByRecursion, cases_lt, eqb-false, ne_eqb, slice_get-get_or, slice_get_within, get_or-map, get_or_default, get_or_past, length-map, indices, Place, place_of, Task, Motion, HasVertexConflict, HasSwappingConflict, HasCycleConflict, after_in, Plan, cell_at, cell_of, last_cell, motion_of, AreNeighbours, IsConflictFree, no_task, tasks_by, paths_by, IsMadeInOrder, IsPrioritisedPlan}
+use Rattle.std.specs.List.{IsDistinct}
 use Rattle.fleet_search.proofs.InTurnLaws.{in_turn_free}
 use Rattle.fleet_search.proofs.OrderLaws.{order-length, place_of_agent, task_in_order, get_or-by}
 

@@ -1,20 +1,6 @@
 -- Orders in which each agent is once, and what is planned in them.
-use Rattle.std.proofs.Common.{◌≡◌, ◌≢◌, ℕ, zero, suc, ◌+◌, ◌-◌, ◌<◌, ◌≤◌, Bool, false, List, [], ◌∷◌, ◌++◌, length, map, take, drop, get_or, All, Contains, IsPermutation, insert, remove, eqb, Some, inl, inr, refl, sym, ap, ◌∙◌, subst, arith, add-one, take-append-drop, append_assoc, zero-add, suc-add, take_at, ext_get_or, set, ◌⊎◌, get_or-set_same, get_or-set_other}
-use Rattle.std.specs.Prelude.{slice_get, option_map}
-use Rattle.std.specs.List.{range_with_len, AllByRecursion, IsDistinct}
-use Rattle.std.proofs.lemmas.Bool.{cases_eq, eqb-false, ne_eqb}
-use Rattle.std.proofs.lemmas.Option.{slice_get-get_or, slice_get-map, get_or_from_slice_get, slice_get_within}
-use Rattle.std.proofs.lemmas.List.{get_or-map, length-map, length_push, get_or_push, get_or_append_left}
-use Rattle.std.proofs.lemmas.List.FromFn.{length-range_with_len, get_or-range_with_len}
-use Rattle.std.proofs.lemmas.List.Sorted.{length_permutation, All-permutation, Contains-permutation, IsPermutation-sym, IsPermutation-trans, IsPermutation-insert}
-use Rattle.std.proofs.lemmas.Map.Keys.{IsDistinct-IsPermutation, apart_from_distinct}
-use Rattle.fleet_model.specs.Machine.{indices}
-use Rattle.fleet_model.specs.declared.geometry.Cell.{Cell}
-use Rattle.fleet_model.specs.declared.geometry.Place.{Place}
-use Rattle.fleet_model.specs.declared.task.Task.{Task}
-use Rattle.fleet_plan.specs.Plan.{Plan}
-use Rattle.fleet_search.specs.InTurn.{IsPrioritisedPlan, HasNoPathFor}
-use Rattle.fleet_search.specs.Orders.{no_task, tasks_by, paths_by, to_front, IsMadeInOrder, IsStuckInOrder, IsOrderAfter, IsMadeInTries, IsStuckInTries}
+use Rattle.fleet_search.proofs.Words.{◌≡◌, ◌≢◌, ℕ, zero, suc, ◌+◌, ◌-◌, ◌<◌, ◌≤◌, Bool, false, List, [], ◌∷◌, ◌++◌, length, map, take, drop, get_or, All, Contains, IsPermutation, insert, remove, eqb, Some, inl, inr, refl, sym, ap, ◌∙◌, subst, arith, add-one, take-append-drop, append_assoc, zero-add, suc-add, take_at, ext_get_or, set, ◌⊎◌, get_or-set_same, get_or-set_other, slice_get, option_map, range_with_len, AllByRecursion, cases_eq, eqb-false, ne_eqb, slice_get-get_or, slice_get-map, get_or_from_slice_get, slice_get_within, get_or-map, length-map, length_push, get_or_push, get_or_append_left, length-range_with_len, get_or-range_with_len, length_permutation, All-permutation, Contains-permutation, IsPermutation-sym, IsPermutation-trans, IsPermutation-insert, IsDistinct-IsPermutation, apart_from_distinct, indices, Cell, Place, Task, Plan, IsPrioritisedPlan, HasNoPathFor, no_task, tasks_by, paths_by, to_front, IsMadeInOrder, IsStuckInOrder, IsOrderAfter, IsMadeInTries, IsStuckInTries}
+use Rattle.std.specs.List.{IsDistinct}
 
 -- ---- each agent once
 

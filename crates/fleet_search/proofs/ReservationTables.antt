@@ -1,18 +1,6 @@
 -- Occupancies of a cell, in the order of time, and who stands there.
-use Rattle.std.proofs.Common.{◌≡◌, ◌≢◌, ℕ, zero, suc, ◌+◌, ◌-◌, ◌<◌, ◌≤◌, List, length, get_or, ◌⊎◌, ◌↔◌, inl, inr, sym, ap, ◌∙◌, subst, arith}
-use Rattle.std.specs.List.Sorted.{IsPartitionPoint}
-use Rattle.std.proofs.lemmas.Bool.{cases_lt, cases_eq}
-use Rattle.std.proofs.lemmas.List.{get_or_default}
-use Rattle.std.proofs.lemmas.List.Edits.{length-insert, get_or-insert_below, get_or-insert_at, get_or-insert_above}
-use Rattle.fleet_model.specs.declared.geometry.Cell.{Cell}
-use Rattle.fleet_model.specs.declared.limits.TheConstants.{MAX_HORIZON}
-use Rattle.fleet_plan.specs.Plan.{Plan, cell_at, cell_of}
-use Rattle.fleet_search.specs.declared.intervals.Occupancy.{Occupancy}
-use Rattle.fleet_search.specs.Way.{Fits, with_path}
-use Rattle.fleet_search.specs.Reserved.{StandsOn, IsUnoccupied, IsFreeFrom}
-use Rattle.fleet_search.specs.Occupancies.{IsDuring, IsOccupancyOn, AreOccupanciesOn, AreInOrder, IsPutIn, no_occupancy, occupancy_at}
+use Rattle.fleet_search.proofs.Words.{◌≡◌, ◌≢◌, ℕ, zero, suc, ◌+◌, ◌-◌, ◌<◌, ◌≤◌, List, length, get_or, ◌⊎◌, ◌↔◌, inl, inr, sym, ap, ◌∙◌, subst, arith, IsPartitionPoint, cases_lt, cases_eq, get_or_default, length-insert, get_or-insert_below, get_or-insert_at, get_or-insert_above, Cell, MAX_HORIZON, Plan, cell_at, cell_of, Occupancy, Fits, with_path, StandsOn, IsUnoccupied, IsFreeFrom, IsDuring, IsOccupancyOn, AreOccupanciesOn, AreInOrder, IsPutIn, no_occupancy, occupancy_at, FOREVER}
 use Rattle.fleet_search.proofs.Steps.{each_step, with_path-old, with_path-new, length-with_path}
-use Rattle.fleet_search.specs.declared.intervals.TheConstants.{FOREVER}
 
 -- ---- the order of time
 

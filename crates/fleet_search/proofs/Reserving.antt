@@ -1,10 +1,5 @@
 -- The reservations, as paths are added.
-use Rattle.std.proofs.Common.{◌≡◌, List, [], ◌∷◌, ◌++◌, sym, ap, ◌∙◌, subst, arith}
-use Rattle.fleet_model.specs.declared.geometry.Cell.{Cell}
-use Rattle.fleet_plan.specs.Plan.{Plan}
-use Rattle.fleet_search.specs.declared.reservation_table.ReservationTable.{ReservationTable}
-use Rattle.fleet_search.specs.Way.{with_path, Fits}
-use Rattle.fleet_search.specs.Occupancies.{AreReserved, AreOccupanciesOn, HaveOccupancies, occupancies_of}
+use Rattle.fleet_search.proofs.Words.{◌≡◌, List, [], ◌∷◌, ◌++◌, sym, ap, ◌∙◌, subst, arith, Cell, Plan, ReservationTable, with_path, Fits, AreReserved, AreOccupanciesOn, HaveOccupancies, occupancies_of}
 use Rattle.fleet_search.proofs.OneByOne.{FitTogether-push}
 
 -- nobody was on the cell

@@ -1,11 +1,6 @@
 -- Rows of numbers: buckets.
-use Rattle.std.proofs.Common.{◌≡◌, ℕ, ◌<◌, ◌==◌, cond, List, [], ◌∷◌, ◌++◌, length, get_or, Option, None, Some, option_to_list, inl, inr, refl, sym, ap, ◌∙◌, arith}
-use Rattle.std.specs.Prelude.{Vec, set, MatchOption, IfSome, IfNone}
-use Rattle.std.specs.declared.alloc.Global.{Global}
-use Rattle.std.proofs.lemmas.Bool.{cases_eq, eqb-true, eq-eqb, false_from_ne_true}
-use Rattle.fleet_grid.specs.Table.{items_at}
-use Rattle.fleet_grid.proofs.Pages.{items-read, items-set, items-other}
-use Rattle.fleet_search.specs.Rows.{lists_of, IsPut}
+use Rattle.fleet_search.proofs.Words.{◌≡◌, ℕ, ◌<◌, ◌==◌, cond, List, [], ◌∷◌, ◌++◌, length, get_or, Option, None, Some, option_to_list, inl, inr, refl, sym, ap, ◌∙◌, arith, Vec, set, MatchOption, IfSome, IfNone, Global, cases_eq, eqb-true, eq-eqb, false_from_ne_true, items_at, items-read, items-set, items-other, lists_of}
+use Rattle.fleet_search.specs.Rows.{IsPut}
 
 -- a number is put last in a row
 pub is_put : (old wide : List (Vec ℕ Global)) (key : ℕ) (m : ℕ) (v w : Vec ℕ Global) → ((k : ℕ) → items_at wide k ≡ items_at old k) → key < length wide → v ≡ get_or wide key v → w.items ≡ v.items ++ m ∷ [] → IsPut (lists_of old) (lists_of (set wide key w)) key m

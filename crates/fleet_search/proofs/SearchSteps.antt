@@ -1,29 +1,6 @@
 -- The search, step by step.
-use Rattle.std.proofs.Common.{◌≡◌, ◌≢◌, ℕ, ◌+◌, ◌-◌, ◌<◌, ◌≤◌, ◌==◌, cond, IsTrue, List, [], ◌∷◌, ◌++◌, length, get_or, Contains, Option, Some, None, ◌⊎◌, inl, inr, refl, sym, ap, ◌∙◌, subst, arith}
-use Rattle.std.proofs.lemmas.Bool.{cases_eq, cases_lt, eqb-true, eq-eqb, false_from_ne_true}
-use Rattle.std.proofs.lemmas.Option.{none-some, same_Some}
-use Rattle.std.proofs.lemmas.List.{length_push, get_or_push, get_or_append_left}
-use Rattle.std.proofs.lemmas.List.Elements.{Contains-append_left, Contains-push, Contains-push_cases}
-use Rattle.fleet_model.proofs.Cells.{place_of-injective}
-use Rattle.fleet_model.specs.declared.geometry.Cell.{Cell}
-use Rattle.fleet_model.specs.declared.geometry.Dir.{Dir}
-use Rattle.fleet_model.specs.declared.geometry.Dir.TheVariants.{North, East, South, West}
-use Rattle.fleet_model.specs.Geometry.{place_of, moved}
-use Rattle.fleet_model.specs.declared.limits.TheConstants.{MAX_HORIZON}
-use Rattle.fleet_grid.specs.Ground.{is_passable, cell_index}
-use Rattle.fleet_search.specs.declared.frontier.State.{State}
-use Rattle.fleet_search.specs.declared.frontier.Link.{Link}
-use Rattle.fleet_search.specs.declared.frontier.Query.{Query}
-use Rattle.fleet_search.specs.declared.frontier.Node.{Node}
-use Rattle.fleet_search.specs.declared.frontier.Expansion.{Expansion}
-use Rattle.fleet_search.specs.Frontier.{Exploration, AreNodePlaces, IsNodeTaken, IsBucketDone}
-use Rattle.fleet_search.specs.Reserved.{IsUnoccupied, IsFreeOn}
-use Rattle.fleet_search.specs.Intervals.{IsInInterval, IsEarliestWithin}
-use Rattle.fleet_search.specs.Links.{place_in}
-use Rattle.fleet_search.specs.Rows.{bucket_of, IsPut}
-use Rattle.fleet_plan.specs.Plan.{AreBeside}
-use Rattle.fleet_search.specs.Labels.{Times, earliest_in, IsLabelSet, IsSeen}
-use Rattle.fleet_search.specs.Search.{heuristic_of, occupancies_on, IsMeasured, IsStep, least_arrival, IsBucket, IsGoalState, no_node, state_in, parent_in, IsKnown, IsMove, IsReachedFrom, IsSoundNode, IsCovered, IsExpanded, IsSuperseded, IsStateSettled, earliest_of, IsFrontier, IsPosed, IsFrontierOf, WasOpen, IsExpansion, Grows, ExpandsOn, IsFreeUntil, IsFoundAt, IsFoundIn, IsFoundFrom}
+use Rattle.fleet_search.proofs.Words.{◌≡◌, ◌≢◌, ℕ, ◌+◌, ◌-◌, ◌<◌, ◌≤◌, ◌==◌, cond, IsTrue, List, [], ◌∷◌, ◌++◌, length, get_or, Contains, Option, Some, None, ◌⊎◌, inl, inr, refl, sym, ap, ◌∙◌, subst, arith, cases_eq, cases_lt, eqb-true, eq-eqb, false_from_ne_true, none-some, same_Some, length_push, get_or_push, get_or_append_left, Contains-append_left, Contains-push, Contains-push_cases, place_of-injective, Cell, Dir, North, East, South, West, place_of, moved, MAX_HORIZON, is_passable, cell_index, State, Link, Query, Node, Expansion, Exploration, AreNodePlaces, IsNodeTaken, IsBucketDone, IsUnoccupied, IsFreeOn, IsInInterval, IsEarliestWithin, place_in, bucket_of, AreBeside, Times, earliest_in, IsLabelSet, IsSeen, heuristic_of, occupancies_on, IsMeasured, IsStep, least_arrival, IsBucket, IsGoalState, no_node, state_in, parent_in, IsKnown, IsMove, IsReachedFrom, IsSoundNode, IsCovered, IsExpanded, IsSuperseded, IsStateSettled, earliest_of, IsFrontier, IsPosed, IsFrontierOf, WasOpen, IsExpansion, Grows, ExpandsOn, IsFreeUntil, IsFoundAt, IsFoundIn, IsFoundFrom}
+use Rattle.fleet_search.specs.Rows.{IsPut}
 use Rattle.fleet_search.proofs.Spread.{AreNeighbours-sym, one_place}
 use Rattle.fleet_search.proofs.Chase.{step_ok-alone}
 use Rattle.fleet_search.proofs.IntervalLaws.{occupancies-apart, one_gap, interval-free_on, interval-since}

@@ -1,30 +1,6 @@
 -- Cells are labelled with their distances from a goal.
-use Rattle.std.proofs.Common.{◌≡◌, ◌≢◌, ℕ, zero, suc, ◌+◌, ◌<◌, ◌≤◌, ◌/◌, ◌%◌, ◌==◌, true, false, cond, List, [], ◌∷◌, ◌++◌, length, get_or, Contains, Option, Some, None, ◌⊎◌, inl, inr, refl, sym, ap, ◌∙◌, subst, arith}
-use Rattle.std.proofs.Math.Dec.{ltb}
-use Rattle.std.specs.Bool.{IsTrue}
-use Rattle.std.specs.Prelude.{◌↔◌, Bool}
-use Rattle.std.specs.Int.{abs_diff}
-use Rattle.std.specs.List.{sum_by}
-use Rattle.std.proofs.lemmas.List.Sums.{sum_by-set}
-use Rattle.std.specs.Prelude.{unwrap_or, min, set}
-use Rattle.std.proofs.lemmas.Int.{ints}
-use Rattle.std.proofs.lemmas.Nat.{div-mul-add, mod-mul-add}
-use Rattle.std.proofs.lemmas.Bool.{cases_lt, cases_eq, lt-ltb, ltb-true, eqb-true, eq-eqb, false_from_ne_true}
-use Rattle.std.proofs.lemmas.Option.{none-some, same_Some}
-use Rattle.std.proofs.lemmas.List.{get_or-set_same, get_or-set_other, length-set, get_or_past, length-append}
-use Rattle.std.proofs.lemmas.List.Elements.{Contains-append_left, Contains-push, Contains-push_cases}
-use Rattle.fleet_model.specs.declared.geometry.Cell.{Cell}
-use Rattle.fleet_model.specs.declared.geometry.Place.{Place}
-use Rattle.fleet_model.specs.declared.geometry.Dir.{Dir}
-use Rattle.fleet_model.specs.declared.geometry.Dir.TheVariants.{North, East, South, West}
-use Rattle.fleet_model.specs.Geometry.{place_of, moved}
-use Rattle.fleet_model.proofs.Cells.{place_of-injective}
-use Rattle.fleet_model.specs.declared.limits.TheConstants.{MAX_HORIZON}
-use Rattle.fleet_grid.specs.Ground.{Ground, IsGround, cell_index}
-use Rattle.fleet_grid.proofs.StoredLaws.{off_map}
-use Rattle.fleet_plan.specs.Plan.{AreNeighbours}
-use Rattle.fleet_search.specs.declared.distances.Label.{Label}
-use Rattle.fleet_search.specs.Distance.{DistanceTable, no_label, label_in, label_of_search, manhattan, least_moves, heuristic, with_label, IsReady, AreDistances, IsOnGround, IsClosed, IsWaiting, IsSpread, IsSpreadOf, IsOnBound, IsLabelled, LabelsFall, IsFoundTowards, IsPutFrom, IsLabelNear, IsLabelledTowards, label_weight, work_left}
+use Rattle.fleet_search.proofs.Words.{◌≡◌, ◌≢◌, ℕ, zero, suc, ◌+◌, ◌<◌, ◌≤◌, ◌/◌, ◌%◌, ◌==◌, true, false, cond, List, [], ◌∷◌, ◌++◌, length, get_or, Contains, Option, Some, None, ◌⊎◌, inl, inr, refl, sym, ap, ◌∙◌, subst, arith, ltb, IsTrue, ◌↔◌, Bool, abs_diff, sum_by, sum_by-set, unwrap_or, min, set, ints, div-mul-add, mod-mul-add, cases_lt, cases_eq, lt-ltb, ltb-true, eqb-true, eq-eqb, false_from_ne_true, none-some, same_Some, get_or-set_same, get_or-set_other, length-set, get_or_past, length-append, Contains-append_left, Contains-push, Contains-push_cases, Cell, Place, Dir, North, East, South, West, place_of, moved, place_of-injective, MAX_HORIZON, Ground, IsGround, cell_index, off_map, AreNeighbours, Label, DistanceTable, no_label, label_in, label_of_search, manhattan, least_moves, heuristic, with_label, IsReady, AreDistances, IsOnGround, IsClosed, IsWaiting, IsSpread, IsSpreadOf, IsOnBound, LabelsFall, IsFoundTowards, IsPutFrom, IsLabelNear, IsLabelledTowards, label_weight, work_left}
+use Rattle.fleet_search.specs.Distance.{IsLabelled}
 
 -- ---- the places of cells in a table
 

@@ -1,15 +1,6 @@
 -- Whether a path fits depends on each of its steps and the reserved paths alone.
-use Rattle.std.proofs.Common.{◌≡◌, ◌≢◌, ℕ, zero, suc, ◌+◌, ◌-◌, ◌<◌, ◌≤◌, false, List, [], ◌∷◌, ◌++◌, length, get_or, All, ◌⊎◌, inl, inr, refl, sym, ap, ◌∙◌, subst, arith, add-one, ◌==◌, length-append}
-use Rattle.std.specs.List.{IsDistinct, AllByRecursion}
-use Rattle.std.proofs.lemmas.Bool.{cases_eq, cases_lt, ne_eqb, eqb-false}
-use Rattle.std.proofs.lemmas.List.{get_or_append_left, get_or_push, get_or_past, get_or_default}
-use Rattle.std.proofs.lemmas.Map.Keys.{IsDistinct-head, IsDistinct-tail}
-use Rattle.fleet_model.specs.declared.geometry.Cell.{Cell}
-use Rattle.fleet_model.specs.Geometry.{place_of}
-use Rattle.fleet_model.specs.Conflict.{HasSwappingConflict, HasCycleConflict, after_in}
-use Rattle.fleet_plan.specs.Plan.{Plan, cell_at, cell_of, motion_of}
-use Rattle.fleet_model.proofs.Cells.{place_of-injective}
-use Rattle.fleet_search.specs.Way.{with_path, Fits, Follow, EachStepFits}
+use Rattle.fleet_search.proofs.Words.{◌≡◌, ◌≢◌, ℕ, zero, suc, ◌+◌, ◌-◌, ◌<◌, ◌≤◌, false, List, [], ◌∷◌, ◌++◌, length, get_or, All, ◌⊎◌, inl, inr, refl, sym, ap, ◌∙◌, subst, arith, add-one, ◌==◌, length-append, AllByRecursion, cases_eq, cases_lt, ne_eqb, eqb-false, get_or_append_left, get_or_push, get_or_past, get_or_default, IsDistinct-head, IsDistinct-tail, Cell, place_of, HasSwappingConflict, HasCycleConflict, after_in, Plan, cell_at, cell_of, motion_of, place_of-injective, with_path, Fits, Follow, EachStepFits}
+use Rattle.std.specs.List.{IsDistinct}
 
 -- ---- the cells of the plan with one more path
 

@@ -1,18 +1,5 @@
 -- The path to a state, read backwards from what was noted.
-use Rattle.std.proofs.Common.{◌≡◌, ◌≢◌, ℕ, ◌+◌, ◌-◌, ◌<◌, ◌≤◌, min, IsTrue, List, [], ◌∷◌, ◌++◌, length, get_or, reverse, Option, inl, inr, ◌⊎◌, refl, sym, ap, ◌∙◌, subst, arith}
-use Rattle.std.proofs.lemmas.Bool.{cases_eq}
-use Rattle.std.proofs.lemmas.List.{get_or_append_left, get_or_push, length_push, get_or-reverse, length-reverse}
-use Rattle.fleet_model.specs.declared.geometry.Cell.{Cell}
-use Rattle.fleet_model.specs.Geometry.{place_of}
-use Rattle.fleet_model.specs.Program.{origin}
-use Rattle.fleet_plan.specs.Plan.{cell_at}
-use Rattle.fleet_search.specs.declared.frontier.Query.{Query}
-use Rattle.fleet_search.specs.Labels.{Times}
-use Rattle.fleet_search.specs.declared.frontier.Node.{Node}
-use Rattle.fleet_search.specs.declared.frontier.State.{State}
-use Rattle.fleet_grid.specs.Ground.{is_passable}
-use Rattle.fleet_search.specs.Reserved.{IsUnoccupied, IsFreeOn}
-use Rattle.fleet_search.specs.Search.{IsStep, state_in, parent_in, IsReachedFrom, IsFrontier, IsTrail}
+use Rattle.fleet_search.proofs.Words.{◌≡◌, ◌≢◌, ℕ, ◌+◌, ◌-◌, ◌<◌, ◌≤◌, min, IsTrue, List, [], ◌∷◌, ◌++◌, length, get_or, reverse, Option, inl, inr, ◌⊎◌, refl, sym, ap, ◌∙◌, subst, arith, cases_eq, get_or_append_left, get_or_push, length_push, get_or-reverse, length-reverse, Cell, place_of, origin, cell_at, Query, Times, Node, State, is_passable, IsUnoccupied, IsFreeOn, IsStep, state_in, parent_in, IsReachedFrom, IsFrontier, IsTrail}
 use Rattle.fleet_search.proofs.Chase.{step_ok-same}
 
 -- one step before the time of a visit the agent is on this one, from which the step leads there

@@ -1,14 +1,5 @@
 -- Turns of orders, one after another.
-use Rattle.std.proofs.Common.{◌≡◌, ℕ, ◌+◌, ◌-◌, ◌<◌, ◌≤◌, max, List, [], length, drop, get_or, IsPermutation, ◌⊎◌, refl, sym, ap, ◌∙◌, subst, arith}
-use Rattle.std.proofs.lemmas.List.FromFn.{length-range_with_len}
-use Rattle.std.proofs.lemmas.List.Sorted.{IsPermutation-refl}
-use Rattle.fleet_model.specs.Machine.{indices}
-use Rattle.fleet_grid.specs.Ground.{is_passable}
-use Rattle.fleet_plan.specs.Plan.{Plan}
-use Rattle.fleet_search.specs.InTurn.{IsPrioritisedPlan}
-use Rattle.fleet_search.specs.Orders.{tasks_by, to_front, IsMadeInOrder, IsOrderAfter, IsStuckInOrder, IsMadeInTry, IsStuckInTries}
-use Rattle.fleet_search.specs.Attempts.{IsOrderOf, IsMadeBefore, IsTurnOf}
-use Rattle.fleet_search.specs.declared.orders.Problem.{Problem}
+use Rattle.fleet_search.proofs.Words.{◌≡◌, ℕ, ◌+◌, ◌-◌, ◌<◌, ◌≤◌, max, List, [], length, drop, get_or, IsPermutation, ◌⊎◌, refl, sym, ap, ◌∙◌, subst, arith, length-range_with_len, IsPermutation-refl, indices, is_passable, Plan, IsPrioritisedPlan, tasks_by, to_front, IsMadeInOrder, IsOrderAfter, IsStuckInOrder, IsMadeInTry, IsStuckInTries, IsOrderOf, IsMadeBefore, IsTurnOf, Problem}
 use Rattle.fleet_search.proofs.OrderLaws.{order-length, order_with_raised, order_after-none, stuck_in_tries, stuck_within}
 use Rattle.fleet_search.proofs.KeptPaths.{none_made, made_after_raise}
 

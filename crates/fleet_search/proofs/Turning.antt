@@ -1,13 +1,5 @@
 -- A cell is left for a neighbour, in each safe interval there.
-use Rattle.std.proofs.Common.{ℕ, ◌+◌, ◌-◌, ◌<◌, ◌≤◌, length, inl, inr, refl, sym, subst, arith}
-use Rattle.std.proofs.lemmas.Bool.{cases_eq, cases_lt}
-use Rattle.fleet_model.specs.declared.geometry.Cell.{Cell}
-use Rattle.fleet_search.specs.declared.frontier.Query.{Query}
-use Rattle.fleet_search.specs.Frontier.{Exploration}
-use Rattle.fleet_search.specs.declared.frontier.Expansion.{Expansion}
-use Rattle.fleet_search.specs.Occupancies.{occupancy_at}
-use Rattle.fleet_search.specs.Intervals.{AreBegun}
-use Rattle.fleet_search.specs.Search.{occupancies_on, IsMeasured, IsExpansion, ExpandsOn, IsFoundIn, IsFoundFrom}
+use Rattle.fleet_search.proofs.Words.{ℕ, ◌+◌, ◌-◌, ◌<◌, ◌≤◌, length, inl, inr, refl, sym, subst, arith, cases_eq, cases_lt, Cell, Query, Exploration, Expansion, occupancy_at, AreBegun, occupancies_on, IsMeasured, IsExpansion, ExpandsOn, IsFoundIn, IsFoundFrom}
 use Rattle.fleet_search.proofs.IntervalLaws.{occupancies-apart, apart-from, some_gap}
 use Rattle.fleet_search.proofs.SearchSteps.{ExpandsOn-then, found_in-stays}
 

@@ -1,13 +1,5 @@
 -- Occupancies without those of one agent.
-use Rattle.std.proofs.Common.{◌≡◌, ℕ, ◌+◌, ◌<◌, ◌==◌, Bool, cond, List, [], ◌∷◌, ◌++◌, length, take, drop, refl, sym, ap, ◌∙◌, arith, add-one}
-use Rattle.std.specs.Prelude.{not}
-use Rattle.std.proofs.lemmas.Bool.{ne_eqb, eq-eqb}
-use Rattle.std.proofs.lemmas.List.{take-append-drop}
-use Rattle.std.proofs.lemmas.List.Elements.{filter-append}
-use Rattle.fleet_model.specs.declared.geometry.Cell.{Cell}
-use Rattle.fleet_plan.specs.Plan.{Plan}
-use Rattle.fleet_search.specs.declared.intervals.Occupancy.{Occupancy}
-use Rattle.fleet_search.specs.Occupancies.{IsPutIn, AreOccupanciesOn, without, occupancy_at}
+use Rattle.fleet_search.proofs.Words.{◌≡◌, ℕ, ◌+◌, ◌<◌, ◌==◌, Bool, cond, List, [], ◌∷◌, ◌++◌, length, take, drop, refl, sym, ap, ◌∙◌, arith, add-one, not, ne_eqb, eq-eqb, take-append-drop, filter-append, Cell, Plan, Occupancy, IsPutIn, AreOccupanciesOn, without, occupancy_at}
 
 -- one of them was put in
 pub without-placed : (old new : List Occupancy) (occupancy : Occupancy) (agent : ℕ) → IsPutIn old new occupancy → occupancy.agent ≡ agent → without agent new ≡ without agent old

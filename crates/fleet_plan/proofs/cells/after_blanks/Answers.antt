@@ -1,5 +1,4 @@
-use Rattle.std.proofs.Common.{◌∙◌, sym}
-use Rattle.std.proofs.lemmas.List.{take_rest}
+use Rattle.fleet_plan.proofs.Words.{◌∙◌, sym, take_rest}
 use Rattle.fleet_plan.proofs.FrontSteps.{blanks_end, no_blank_stays, blank_goes}
 use Rattle.fleet_plan.proofs.cells.after_blanks.Goals as goal
 

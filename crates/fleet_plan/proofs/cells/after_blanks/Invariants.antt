@@ -1,5 +1,4 @@
-use Rattle.std.proofs.Common.{◌≡◌, length}
-use Rattle.fleet_plan.specs.CellReading.{after_blanks}
+use Rattle.fleet_plan.proofs.Words.{◌≡◌, length, after_blanks}
 use Rattle.fleet_plan.proofs.cells.after_blanks.Given as goal
 
 abbrev pub invariant-loop-rest : goal.invariant-loop-rest

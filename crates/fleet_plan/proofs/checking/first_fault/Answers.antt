@@ -1,6 +1,4 @@
-use Rattle.std.proofs.Common.{arith, subst, IfNone}
-use Rattle.fleet_grid.specs.Ground.{is_passable}
-use Rattle.fleet_plan.specs.FirstFault.{HasNoConflict}
+use Rattle.fleet_plan.proofs.Words.{arith, subst, IfNone, is_passable, HasNoConflict}
 use Rattle.fleet_plan.proofs.FaultLaws.{free_from}
 use Rattle.fleet_plan.proofs.checking.first_fault.Goals as goal
 

@@ -1,5 +1,4 @@
-use Rattle.std.proofs.Common.{ℕ, ◌<◌}
-use Rattle.fleet_plan.specs.FirstFault.{EndsOnGoal}
+use Rattle.fleet_plan.proofs.Words.{ℕ, ◌<◌, EndsOnGoal}
 use Rattle.fleet_plan.proofs.checking.first_wrong_goal.Given as goal
 
 abbrev pub invariant-loop-i : goal.invariant-loop-i

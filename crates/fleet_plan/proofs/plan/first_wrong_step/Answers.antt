@@ -1,7 +1,4 @@
-use Rattle.std.proofs.Common.{[], sym, subst, below_more, arith}
-use Rattle.std.proofs.lemmas.Option.{get_or_from_slice_get}
-use Rattle.fleet_grid.specs.Ground.{is_passable}
-use Rattle.fleet_plan.specs.FirstFault.{IsFirstTime, GoesOver, GoesRight}
+use Rattle.fleet_plan.proofs.Words.{[], sym, subst, below_more, arith, get_or_from_slice_get, is_passable, IsFirstTime, GoesOver, GoesRight}
 use Rattle.fleet_plan.proofs.plan.first_wrong_step.Goals as goal
 
 pub loop-i-preserved : goal.loop-i-preserved

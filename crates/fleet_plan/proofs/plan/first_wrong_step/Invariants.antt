@@ -1,6 +1,4 @@
-use Rattle.std.proofs.Common.{ℕ, ◌<◌}
-use Rattle.fleet_grid.specs.Ground.{is_passable}
-use Rattle.fleet_plan.specs.FirstFault.{GoesRight}
+use Rattle.fleet_plan.proofs.Words.{ℕ, ◌<◌, is_passable, GoesRight}
 use Rattle.fleet_plan.proofs.plan.first_wrong_step.Given as goal
 
 abbrev pub invariant-loop-i : goal.invariant-loop-i

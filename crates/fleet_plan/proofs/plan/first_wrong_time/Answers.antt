@@ -1,9 +1,4 @@
-use Rattle.std.proofs.Common.{◌≡◌, ◌<◌, ◌≤◌, ◌+◌, ◌-◌, length, get_or, sym, ap, ◌∙◌, subst, below_more, arith}
-use Rattle.std.proofs.lemmas.Bool.{iff_false}
-use Rattle.fleet_model.specs.Program.{origin}
-use Rattle.fleet_grid.specs.Ground.{is_passable}
-use Rattle.fleet_plan.specs.Plan.{cell_at}
-use Rattle.fleet_plan.specs.FirstFault.{IsRightAt}
+use Rattle.fleet_plan.proofs.Words.{◌≡◌, ◌<◌, ◌≤◌, ◌+◌, ◌-◌, length, get_or, sym, ap, ◌∙◌, subst, below_more, arith, iff_false, origin, is_passable, cell_at, IsRightAt}
 use Rattle.fleet_plan.proofs.PathLaws.{at_within, right_at, not_on_ground, not_beside, right_all}
 use Rattle.fleet_plan.proofs.plan.first_wrong_time.Goals as goal
 use Rattle.fleet_plan.proofs.plan.first_wrong_time.Goals.{then-not-passable-via-then-not-passable, then-not-passable-via-else-not-passable+then-not-is_beside}

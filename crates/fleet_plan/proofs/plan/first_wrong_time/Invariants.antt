@@ -1,7 +1,4 @@
-use Rattle.std.proofs.Common.{ℕ, ◌<◌, ◌-◌, ◌≡◌}
-use Rattle.fleet_grid.specs.Ground.{is_passable}
-use Rattle.fleet_plan.specs.Plan.{cell_at}
-use Rattle.fleet_plan.specs.FirstFault.{IsRightAt}
+use Rattle.fleet_plan.proofs.Words.{ℕ, ◌<◌, ◌-◌, ◌≡◌, is_passable, cell_at, IsRightAt}
 use Rattle.fleet_plan.proofs.plan.first_wrong_time.Given as goal
 
 abbrev pub invariant-loop-time : goal.invariant-loop-time

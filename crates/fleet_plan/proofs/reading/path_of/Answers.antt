@@ -1,9 +1,7 @@
-use Rattle.std.proofs.Common.{◌≡◌, ◌≤◌, ◌<◌, ◌∙◌, [], ◌∷◌, length, sym, rules, arith}
-use Rattle.std.proofs.lemmas.List.{length-append}
+use Rattle.fleet_plan.proofs.Words.{◌≡◌, ◌≤◌, ◌<◌, ◌∙◌, [], ◌∷◌, length, sym, rules, arith, length-append, MAX_CELLS}
 use Rattle.fleet_plan.proofs.CellLaws.{passes}
 use Rattle.fleet_plan.proofs.LineLoop.{fewer_words, no_blank_after, begins_with_no_word, cells_end, cells_fail, cells_more, too_many_cells}
 use Rattle.fleet_plan.proofs.reading.path_of.Goals as goal
-use Rattle.fleet_plan.specs.declared.reading.TheConstants.{MAX_CELLS}
 
 pub returns-then-not-begins_with_word : goal.returns-then-not-begins_with_word
 returns-then-not-begins_with_word c = λ other. begins_with_no_word c.args.number c.args.line.now (sym c.begins_with_word.ensures ∙ c.if-not-begins_with_word.true)

@@ -1,8 +1,5 @@
-use Rattle.std.proofs.Common.{◌≡◌, ◌+◌, ◌≤◌, false, ◌++◌, length, option_map}
-use Rattle.fleet_text.specs.Text.{starts_blank, words, words_from_front}
-use Rattle.fleet_plan.specs.PlanReading.{spelled_cells}
+use Rattle.fleet_plan.proofs.Words.{◌≡◌, ◌+◌, ◌≤◌, false, ◌++◌, length, option_map, starts_blank, words, words_from_front, spelled_cells, MAX_CELLS}
 use Rattle.fleet_plan.proofs.reading.path_of.Given as goal
-use Rattle.fleet_plan.specs.declared.reading.TheConstants.{MAX_CELLS}
 
 abbrev pub invariant-loop-rest : goal.invariant-loop-rest
 invariant-loop-rest l = record {

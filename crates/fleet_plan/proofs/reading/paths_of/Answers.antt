@@ -1,9 +1,6 @@
-use Rattle.std.proofs.Common.{◌≡◌, ◌<◌, ◌∙◌, [], ◌∷◌, length, rules, arith}
-use Rattle.std.proofs.lemmas.List.{length-append}
-use Rattle.std.proofs.lemmas.Result.{err_from_is_err_and}
+use Rattle.fleet_plan.proofs.Words.{◌≡◌, ◌<◌, ◌∙◌, [], ◌∷◌, length, rules, arith, length-append, err_from_is_err_and, MAX_AGENTS}
 use Rattle.fleet_plan.proofs.LineLoop.{lines_end, too_many, fails, goes_on, none_ended, some_ended}
 use Rattle.fleet_plan.proofs.reading.paths_of.Goals as goal
-use Rattle.fleet_model.specs.declared.limits.TheConstants.{MAX_AGENTS}
 
 pub returns-then-is_full : goal.returns-then-is_full
 returns-then-is_full c =

@@ -1,7 +1,5 @@
-use Rattle.std.proofs.Common.{◌≡◌, ◌≤◌, [], length}
-use Rattle.fleet_plan.specs.PlanReading.{paths_at}
+use Rattle.fleet_plan.proofs.Words.{◌≡◌, ◌≤◌, [], length, paths_at, MAX_AGENTS}
 use Rattle.fleet_plan.proofs.reading.paths_of.Given as goal
-use Rattle.fleet_model.specs.declared.limits.TheConstants.{MAX_AGENTS}
 
 abbrev pub invariant-loop-line : goal.invariant-loop-line
 invariant-loop-line l = record {

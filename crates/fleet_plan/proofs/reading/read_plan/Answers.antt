@@ -1,5 +1,4 @@
-use Rattle.std.proofs.lemmas.Result.{err_from_is_err_and}
-use Rattle.fleet_text.specs.Text.{lines}
+use Rattle.fleet_plan.proofs.Words.{err_from_is_err_and, lines}
 use Rattle.fleet_plan.proofs.PlanLaws.{is_found}
 use Rattle.fleet_plan.proofs.PlanFaults.{read, reported_is_first}
 use Rattle.fleet_plan.proofs.reading.read_plan.Goals as goal

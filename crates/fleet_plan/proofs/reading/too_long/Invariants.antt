@@ -1,6 +1,4 @@
-use Rattle.std.proofs.Common.{◌≡◌, false, length}
-use Rattle.fleet_text.specs.Text.{starts_blank, words}
-use Rattle.fleet_plan.specs.PlanReading.{too_long}
+use Rattle.fleet_plan.proofs.Words.{◌≡◌, false, length, starts_blank, words, too_long}
 use Rattle.fleet_plan.proofs.reading.too_long.Given as goal
 
 abbrev pub invariant-loop-rest : goal.invariant-loop-rest

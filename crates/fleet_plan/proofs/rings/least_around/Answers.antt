@@ -1,5 +1,4 @@
-use Rattle.std.proofs.Common.{◌≡◌, ◌≤◌, ◌⊎◌, Some, sym, ap, ◌∙◌, inl, inr, arith}
-use Rattle.fleet_plan.specs.Rings.{ahead_of}
+use Rattle.fleet_plan.proofs.Words.{◌≡◌, ◌≤◌, ◌⊎◌, Some, sym, ap, ◌∙◌, inl, inr, arith, ahead_of}
 use Rattle.fleet_plan.proofs.RingLaws.{ring-reaches}
 use Rattle.fleet_plan.proofs.AroundLaws.{around-none, around-back, around-more}
 use Rattle.fleet_plan.proofs.rings.least_around.Goals as goal

@@ -1,5 +1,4 @@
-use Rattle.std.proofs.Common.{◌≡◌, Some, None, sym, ap, ◌∙◌, arith}
-use Rattle.fleet_plan.specs.Rings.{ahead_of, walk_of}
+use Rattle.fleet_plan.proofs.Words.{◌≡◌, Some, None, sym, ap, ◌∙◌, arith, ahead_of, walk_of}
 use Rattle.fleet_plan.proofs.RingLaws.{some_is}
 use Rattle.fleet_plan.proofs.WalkLaws.{fewer, walk_begins, walk-more, end-closed, end-walked, end-none, stop-closed, stop-walked, stop-ring, stop-some, stop-none}
 use Rattle.fleet_plan.proofs.rings.walk.Goals as goal

@@ -1,5 +1,4 @@
-use Rattle.std.proofs.Common.{ap, ◌∙◌}
-use Rattle.std.specs.List.{range_with_len}
+use Rattle.fleet_plan.proofs.Words.{ap, ◌∙◌, range_with_len}
 use Rattle.fleet_plan.proofs.RowLaws.{covers_all}
 use Rattle.fleet_plan.proofs.sweep.agents_of.Goals as goal
 

@@ -1,5 +1,4 @@
-use Rattle.std.proofs.Common.{◌≡◌, ℕ, length, slice_index}
-use Rattle.fleet_grid.specs.Table.{value_in}
+use Rattle.fleet_plan.proofs.Words.{◌≡◌, ℕ, length, slice_index, value_in}
 use Rattle.fleet_plan.proofs.RowLaws.{but_begins, but_more, but_ends}
 use Rattle.fleet_plan.proofs.sweep.enter.Goals as goal
 

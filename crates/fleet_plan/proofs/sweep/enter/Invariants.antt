@@ -1,5 +1,4 @@
-use Rattle.std.proofs.Common.{◌≡◌, length, slice_index}
-use Rattle.fleet_grid.specs.Table.{value_in}
+use Rattle.fleet_plan.proofs.Words.{◌≡◌, length, slice_index, value_in}
 use Rattle.fleet_plan.proofs.RowLaws.{IsSoBut}
 use Rattle.fleet_plan.proofs.sweep.enter.Given as goal
 

@@ -1,7 +1,4 @@
-use Rattle.std.proofs.Common.{◌≡◌, ℕ, ◌<◌, Bool, true, false, length, set, slice_index, Option, Some, None, IfSome, sym, subst, ◌∙◌, arith, inl, inr}
-use Rattle.std.specs.Prelude.{◌≢◌}
-use Rattle.fleet_plan.specs.Rings.{ahead_of}
-use Rattle.fleet_plan.specs.Sweep.{IsAhead, Exchange, HasNone}
+use Rattle.fleet_plan.proofs.Words.{◌≡◌, ℕ, ◌<◌, Bool, true, false, length, set, slice_index, Option, Some, None, IfSome, sym, subst, ◌∙◌, arith, inl, inr, ◌≢◌, ahead_of, IsAhead, Exchange, HasNone}
 use Rattle.fleet_plan.proofs.RingLaws.{none_is_not}
 use Rattle.fleet_plan.proofs.RowLaws.{but_begins, but_ends}
 use Rattle.fleet_plan.proofs.MeetLaws.{ahead_more, ahead_other, no_exchange_more}

@@ -1,6 +1,4 @@
-use Rattle.std.proofs.Common.{length, IsTrue}
-use Rattle.fleet_plan.specs.Rings.{ahead_of}
-use Rattle.fleet_plan.specs.Sweep.{IsAhead, Exchange, HasNone}
+use Rattle.fleet_plan.proofs.Words.{length, IsTrue, ahead_of, IsAhead, Exchange, HasNone}
 use Rattle.fleet_plan.proofs.RowLaws.{IsSoBut}
 use Rattle.fleet_plan.proofs.sweep.fill_ahead.Given as goal
 

@@ -1,6 +1,4 @@
-use Rattle.std.proofs.Common.{◌≡◌, length, slice_index}
-use Rattle.fleet_grid.specs.Ground.{cell_index}
-use Rattle.fleet_plan.specs.Plan.{cell_of}
+use Rattle.fleet_plan.proofs.Words.{◌≡◌, length, slice_index, cell_index, cell_of}
 use Rattle.fleet_plan.proofs.RowLaws.{IsSoBut}
 use Rattle.fleet_plan.proofs.sweep.fill_next.Given as goal
 

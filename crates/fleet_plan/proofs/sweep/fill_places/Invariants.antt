@@ -1,6 +1,4 @@
-use Rattle.std.proofs.Common.{◌≡◌, ℕ, ◌<◌, slice_index}
-use Rattle.fleet_grid.specs.Ground.{cell_index}
-use Rattle.fleet_plan.specs.Plan.{cell_of}
+use Rattle.fleet_plan.proofs.Words.{◌≡◌, ℕ, ◌<◌, slice_index, cell_index, cell_of}
 use Rattle.fleet_plan.proofs.sweep.fill_places.Given as goal
 
 abbrev pub invariant-loop-i : goal.invariant-loop-i

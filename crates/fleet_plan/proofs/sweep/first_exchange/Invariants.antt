@@ -1,5 +1,4 @@
-use Rattle.std.proofs.Common.{ℕ, ◌<◌}
-use Rattle.fleet_plan.specs.Sweep.{Exchange}
+use Rattle.fleet_plan.proofs.Words.{ℕ, ◌<◌, Exchange}
 use Rattle.fleet_plan.proofs.sweep.first_exchange.Given as goal
 
 abbrev pub invariant-loop-i : goal.invariant-loop-i

@@ -1,5 +1,4 @@
-use Rattle.std.proofs.Common.{ℕ, ◌<◌, length, get_or, slice_index, ap, arith}
-use Rattle.fleet_plan.specs.Sweep.{IsAgentSettled}
+use Rattle.fleet_plan.proofs.Words.{ℕ, ◌<◌, length, get_or, slice_index, ap, arith, IsAgentSettled}
 use Rattle.fleet_plan.proofs.RowLaws.{but_begins, but_ends}
 use Rattle.fleet_plan.proofs.MeetLaws.{settled_more}
 use Rattle.fleet_plan.proofs.sweep.settle.Goals as goal

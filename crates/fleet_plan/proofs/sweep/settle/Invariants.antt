@@ -1,5 +1,4 @@
-use Rattle.std.proofs.Common.{length}
-use Rattle.fleet_plan.specs.Sweep.{IsAgentSettled}
+use Rattle.fleet_plan.proofs.Words.{length, IsAgentSettled}
 use Rattle.fleet_plan.proofs.RowLaws.{IsSoBut}
 use Rattle.fleet_plan.proofs.sweep.settle.Given as goal
 

@@ -1,5 +1,4 @@
-use Rattle.fleet_text.specs.Text.{lines}
-use Rattle.fleet_text.proofs.StepLaws.{one_value}
+use Rattle.fleet_plan.proofs.Words.{lines, one_value}
 use Rattle.fleet_plan.proofs.PlanLaws.{limits}
 use Rattle.fleet_plan.proofs.PlanFaults.{tells}
 use Rattle.fleet_plan.proofs.text_laws.a_plan_text_is_one_plan.Goals as goal

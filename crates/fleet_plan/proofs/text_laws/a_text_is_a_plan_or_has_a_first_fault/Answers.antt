@@ -1,5 +1,4 @@
-use Rattle.fleet_text.specs.Text.{lines}
-use Rattle.fleet_text.proofs.StepLaws.{one_verdict}
+use Rattle.fleet_plan.proofs.Words.{lines, one_verdict}
 use Rattle.fleet_plan.proofs.PlanFaults.{tells}
 use Rattle.fleet_plan.proofs.text_laws.a_text_is_a_plan_or_has_a_first_fault.Goals as goal
 

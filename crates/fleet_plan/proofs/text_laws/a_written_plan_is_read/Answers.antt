@@ -1,7 +1,4 @@
-use Rattle.std.proofs.Common.{subst, sym}
-use Rattle.fleet_text.specs.Text.{Bytes, lines}
-use Rattle.fleet_text.proofs.StepLaws.{one_value}
-use Rattle.fleet_plan.specs.PlanText.{plan_text, IsPlanText}
+use Rattle.fleet_plan.proofs.Words.{subst, sym, Bytes, lines, one_value, plan_text, IsPlanText}
 use Rattle.fleet_plan.proofs.PlanFaults.{tells}
 use Rattle.fleet_plan.proofs.Written.{plan_again}
 use Rattle.fleet_plan.proofs.text_laws.a_written_plan_is_read.Goals as goal

@@ -1,8 +1,4 @@
-use Rattle.std.proofs.Common.{◌++◌, [], ◌∷◌, ◌∙◌, sym, ap}
-use Rattle.std.proofs.lemmas.List.{take_all}
-use Rattle.fleet_text.proofs.WrittenLaws.{each_spaced, spaced_more, line_written}
-use Rattle.fleet_model.specs.declared.geometry.Cell.{Cell}
-use Rattle.fleet_plan.specs.PlanText.{cell_text, path_text}
+use Rattle.fleet_plan.proofs.Words.{◌++◌, [], ◌∷◌, ◌∙◌, sym, ap, take_all, each_spaced, spaced_more, line_written, Cell, cell_text, path_text}
 use Rattle.fleet_plan.proofs.writing.put_path.Goals as goal
 
 pub returns : goal.returns

@@ -1,6 +1,4 @@
-use Rattle.std.proofs.Common.{◌≡◌, ◌++◌, take}
-use Rattle.fleet_text.proofs.WrittenLaws.{each_spaced}
-use Rattle.fleet_plan.specs.PlanText.{cell_text}
+use Rattle.fleet_plan.proofs.Words.{◌≡◌, ◌++◌, take, each_spaced, cell_text}
 use Rattle.fleet_plan.proofs.writing.put_path.Given as goal
 
 abbrev pub invariant-loop-cell : goal.invariant-loop-cell

@@ -1,6 +1,4 @@
-use Rattle.std.proofs.Common.{ap, ◌∙◌, arith}
-use Rattle.std.proofs.lemmas.List.{take_all}
-use Rattle.fleet_plan.specs.PlanText.{plan_text}
+use Rattle.fleet_plan.proofs.Words.{ap, ◌∙◌, arith, take_all, plan_text}
 use Rattle.fleet_plan.proofs.WritingSteps.{path_more}
 use Rattle.fleet_plan.proofs.writing.write_plan.Goals as goal
 

@@ -1,5 +1,4 @@
-use Rattle.std.proofs.Common.{◌≡◌, take}
-use Rattle.fleet_plan.specs.PlanText.{plan_text}
+use Rattle.fleet_plan.proofs.Words.{◌≡◌, take, plan_text}
 use Rattle.fleet_plan.proofs.writing.write_plan.Given as goal
 
 abbrev pub invariant-loop-i : goal.invariant-loop-i

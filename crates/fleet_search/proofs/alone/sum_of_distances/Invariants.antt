@@ -1,7 +1,4 @@
-use Rattle.std.proofs.Common.{◌≡◌, ◌≤◌, ◌*◌, []}
-use Rattle.fleet_model.specs.declared.limits.TheConstants.{MAX_HORIZON}
-use Rattle.fleet_grid.specs.Ground.{is_passable}
-use Rattle.fleet_search.specs.Bound.{IsSumOfDistances}
+use Rattle.fleet_search.proofs.Words.{◌≡◌, ◌≤◌, ◌*◌, [], MAX_HORIZON, is_passable, IsSumOfDistances}
 use Rattle.fleet_search.proofs.alone.sum_of_distances.Given as goal
 
 abbrev pub invariant-loop-agent : goal.invariant-loop-agent

@@ -1,10 +1,4 @@
-use Rattle.std.proofs.Common.{◌+◌, ◌-◌, ◌<◌, ◌≤◌, max, length, inl, inr, sym, ◌∙◌, subst, arith}
-use Rattle.std.specs.Prelude.{IfNone}
-use Rattle.std.proofs.lemmas.Bool.{cases_lt}
-use Rattle.std.proofs.lemmas.List.{get_or_default}
-use Rattle.fleet_grid.specs.Ground.{is_passable}
-use Rattle.fleet_search.specs.Orders.{IsStuckInTries}
-use Rattle.fleet_search.specs.Trying.{IsBestSoFar}
+use Rattle.fleet_search.proofs.Words.{◌+◌, ◌-◌, ◌<◌, ◌≤◌, max, length, inl, inr, sym, ◌∙◌, subst, arith, IfNone, cases_lt, get_or_default, is_passable, IsStuckInTries, IsBestSoFar}
 use Rattle.fleet_search.proofs.InTurnLaws.{same_agent}
 use Rattle.fleet_search.proofs.Occupants.{no_from_false}
 use Rattle.fleet_search.proofs.BestLaws.{best_planned, best_stuck, stuck_at_last, if_none, if_some}

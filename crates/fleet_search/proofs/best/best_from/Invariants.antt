@@ -1,7 +1,4 @@
-use Rattle.std.proofs.Common.{◌<◌, max}
-use Rattle.std.specs.Prelude.{IfNone}
-use Rattle.fleet_search.specs.Attempts.{AreTables, IsTurn}
-use Rattle.fleet_search.specs.Trying.{IsBestSoFar}
+use Rattle.fleet_search.proofs.Words.{◌<◌, max, IfNone, AreTables, IsTurn, IsBestSoFar}
 use Rattle.fleet_search.proofs.best.best_from.Given as goal
 
 abbrev pub invariant-loop-tried : goal.invariant-loop-tried

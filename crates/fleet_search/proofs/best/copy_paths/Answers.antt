@@ -1,5 +1,4 @@
-use Rattle.std.proofs.Common.{◌∙◌}
-use Rattle.std.proofs.lemmas.List.{take_all}
+use Rattle.fleet_search.proofs.Words.{◌∙◌, take_all}
 use Rattle.fleet_search.proofs.BestLaws.{copied_more}
 use Rattle.fleet_search.proofs.best.copy_paths.Goals as goal
 

@@ -1,5 +1,4 @@
-use Rattle.std.proofs.Common.{ap, ◌∙◌}
-use Rattle.fleet_model.specs.Geometry.{place_of, moved}
+use Rattle.fleet_search.proofs.Words.{ap, ◌∙◌, place_of, moved}
 use Rattle.fleet_search.proofs.Spread.{nearer-north, nearer-east, nearer-south, nearer-west}
 use Rattle.fleet_search.proofs.distances.leads_nearer.Goals as goal
 

@@ -1,7 +1,5 @@
-use Rattle.std.proofs.Common.{◌≡◌, IfErr, subst}
-use Rattle.fleet_grid.specs.Ground.{is_passable}
+use Rattle.fleet_search.proofs.Words.{◌≡◌, IfErr, subst, is_passable, IsInfeasible}
 use Rattle.fleet_search.specs.declared.fault.SearchFault.TheVariants.{NoPath}
-use Rattle.fleet_search.specs.Earliest.{IsInfeasible}
 use Rattle.fleet_search.proofs.earliest_path.earliest.Goals as goal
 
 pub returns-clause-no_path : goal.returns-clause-no_path

@@ -1,7 +1,4 @@
-use Rattle.std.proofs.Common.{subst}
-use Rattle.fleet_grid.specs.Ground.{is_passable}
-use Rattle.fleet_search.specs.Distance.{IsOnGround}
-use Rattle.fleet_search.specs.Earliest.{IsInfeasible}
+use Rattle.fleet_search.proofs.Words.{subst, is_passable, IsOnGround, IsInfeasible}
 use Rattle.fleet_search.proofs.earliest_path.earliest_over.Goals as goal
 
 pub compute-requires-clause-start : goal.compute-requires-clause-start

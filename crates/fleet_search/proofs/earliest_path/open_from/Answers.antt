@@ -1,8 +1,4 @@
-use Rattle.std.proofs.Common.{◌≤◌, sym, ap, ◌∙◌, arith}
-use Rattle.std.proofs.lemmas.Bool.{both_ways}
-use Rattle.fleet_model.specs.Geometry.{place_of}
-use Rattle.fleet_grid.specs.Ground.{is_passable}
-use Rattle.fleet_search.specs.Way.{arrival}
+use Rattle.fleet_search.proofs.Words.{◌≤◌, sym, ap, ◌∙◌, arith, both_ways, place_of, is_passable, arrival}
 use Rattle.fleet_search.proofs.Chase.{of_some}
 use Rattle.fleet_search.proofs.Optimal.{no-way-taken, no-way-busy}
 use Rattle.fleet_search.proofs.earliest_path.open_from.Goals as goal

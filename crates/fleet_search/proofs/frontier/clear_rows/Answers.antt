@@ -1,9 +1,4 @@
-use Rattle.std.proofs.Common.{◌≡◌, length, inl, inr, ap, ◌∙◌, arith}
-use Rattle.std.proofs.lemmas.Bool.{cases_eq, cases_lt}
-use Rattle.std.proofs.lemmas.List.{with_items_is}
-use Rattle.std.specs.Prelude.{set}
-use Rattle.fleet_grid.specs.Table.{items_at}
-use Rattle.fleet_grid.proofs.Pages.{items-past, items-set, items-other}
+use Rattle.fleet_search.proofs.Words.{◌≡◌, length, inl, inr, ap, ◌∙◌, arith, cases_eq, cases_lt, with_items_is, set, items_at, items-past, items-set, items-other}
 use Rattle.fleet_search.proofs.frontier.clear_rows.Goals as goal
 
 pub loop-row-preserved : goal.loop-row-preserved

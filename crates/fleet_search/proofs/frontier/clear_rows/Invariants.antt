@@ -1,5 +1,4 @@
-use Rattle.std.proofs.Common.{◌≡◌, ℕ, ◌<◌, []}
-use Rattle.fleet_grid.specs.Table.{items_at}
+use Rattle.fleet_search.proofs.Words.{◌≡◌, ℕ, ◌<◌, [], items_at}
 use Rattle.fleet_search.proofs.frontier.clear_rows.Given as goal
 
 abbrev pub invariant-loop-row : goal.invariant-loop-row

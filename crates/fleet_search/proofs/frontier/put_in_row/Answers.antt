@@ -1,5 +1,4 @@
-use Rattle.std.proofs.Common.{◌∙◌}
-use Rattle.std.proofs.lemmas.Result.{err_from_is_err_and}
+use Rattle.fleet_search.proofs.Words.{◌∙◌, err_from_is_err_and}
 use Rattle.fleet_search.proofs.RowLaws.{is_put, row-kept}
 use Rattle.fleet_search.proofs.frontier.put_in_row.Goals as goal
 

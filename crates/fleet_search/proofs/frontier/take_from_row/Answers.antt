@@ -1,5 +1,4 @@
-use Rattle.std.proofs.Common.{◌∙◌, arith}
-use Rattle.fleet_grid.proofs.Pages.{items-past, items-read, items-set, items-other}
+use Rattle.fleet_search.proofs.Words.{◌∙◌, arith, items-past, items-read, items-set, items-other}
 use Rattle.fleet_search.proofs.RowLaws.{no_numbers, is_taken, none_is_taken}
 use Rattle.fleet_search.proofs.frontier.take_from_row.Goals as goal
 

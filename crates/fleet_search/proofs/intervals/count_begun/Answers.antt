@@ -1,7 +1,4 @@
-use Rattle.std.proofs.Common.{rules, leb, arith}
-use Rattle.std.proofs.lemmas.Bool.{leb-true, leb-false}
-use Rattle.std.proofs.lemmas.List.Sorted.{IsPartitionPoint-from_clause, IsPartitionedBy-leb}
-use Rattle.fleet_search.specs.declared.intervals.Occupancy.{Occupancy}
+use Rattle.fleet_search.proofs.Words.{rules, leb, arith, leb-true, leb-false, IsPartitionPoint-from_clause, IsPartitionedBy-leb, Occupancy}
 use Rattle.fleet_search.proofs.intervals.count_begun.Goals as goal
 
 pub returns-clause-point : goal.returns-clause-point

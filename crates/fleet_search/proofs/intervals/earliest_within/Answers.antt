@@ -1,5 +1,4 @@
-use Rattle.std.proofs.Common.{arith}
-use Rattle.std.proofs.lemmas.Bool.{both_ways}
+use Rattle.fleet_search.proofs.Words.{arith, both_ways}
 use Rattle.fleet_search.proofs.IntervalLaws.{first-none}
 use Rattle.fleet_search.proofs.intervals.earliest_within.Goals as goal
 

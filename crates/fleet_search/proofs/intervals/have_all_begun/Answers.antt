@@ -1,6 +1,4 @@
-use Rattle.std.proofs.Common.{◌-◌, length, ap, arith}
-use Rattle.std.proofs.lemmas.Bool.{leb-true}
-use Rattle.fleet_search.specs.declared.intervals.Occupancy.{Occupancy}
+use Rattle.fleet_search.proofs.Words.{◌-◌, length, ap, arith, leb-true, Occupancy}
 use Rattle.fleet_search.proofs.intervals.have_all_begun.Goals as goal
 
 pub returns-in-Some : goal.returns-in-Some

@@ -1,8 +1,4 @@
-use Rattle.std.proofs.Common.{refl, sym, subst, ◌∙◌}
-use Rattle.std.proofs.lemmas.Result.{IfOk-weaker}
-use Rattle.fleet_grid.specs.Ground.{is_passable}
-use Rattle.fleet_search.specs.Earliest.{IsEarliest, IsInfeasible}
-use Rattle.fleet_search.specs.Attempts.{IsPathAdded}
+use Rattle.fleet_search.proofs.Words.{refl, sym, subst, ◌∙◌, IfOk-weaker, is_passable, IsEarliest, IsInfeasible, IsPathAdded}
 use Rattle.fleet_search.proofs.InTurnLaws.{read_task}
 use Rattle.fleet_search.proofs.orders.add_path.Goals as goal
 

@@ -1,5 +1,4 @@
-use Rattle.std.proofs.Common.{◌≡◌, ◌+◌, ◌<◌, length, get_or, take_all, length-set, sym, ap, ◌∙◌, subst, arith}
-use Rattle.std.proofs.lemmas.List.{length_push}
+use Rattle.fleet_search.proofs.Words.{◌≡◌, ◌+◌, ◌<◌, length, get_or, take_all, length-set, sym, ap, ◌∙◌, subst, arith, length_push}
 use Rattle.fleet_search.proofs.OrderLaws.{agents_below, last_left, ArePlaced, placed-more, all_placed}
 use Rattle.fleet_search.proofs.orders.by_number.Goals as goal
 

@@ -1,7 +1,4 @@
-use Rattle.std.proofs.Common.{sym, subst, length}
-use Rattle.fleet_grid.specs.Ground.{is_passable}
-use Rattle.fleet_search.specs.InTurn.{IsPrioritisedPlan}
-use Rattle.fleet_search.specs.Orders.{tasks_by, IsMadeInOrder}
+use Rattle.fleet_search.proofs.Words.{sym, subst, length, is_passable, IsPrioritisedPlan, tasks_by, IsMadeInOrder}
 use Rattle.fleet_search.proofs.OrderConflicts.{in_order_free}
 use Rattle.fleet_search.proofs.orders.checked_of.Goals as goal
 

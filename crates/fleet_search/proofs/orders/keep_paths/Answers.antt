@@ -1,7 +1,4 @@
-use Rattle.std.proofs.Common.{◌≡◌, ◌<◌, ◌++◌, ◌∷◌, [], length, take, get_or, append_assoc, sym, ap, ◌∙◌, subst, arith, inl, inr}
-use Rattle.std.proofs.lemmas.Bool.{cases_eq}
-use Rattle.std.proofs.lemmas.List.{take_more, get_or_default}
-use Rattle.fleet_search.specs.Way.{Fits}
+use Rattle.fleet_search.proofs.Words.{◌≡◌, ◌<◌, ◌++◌, ◌∷◌, [], length, take, get_or, append_assoc, sym, ap, ◌∙◌, subst, arith, inl, inr, cases_eq, take_more, get_or_default, Fits}
 use Rattle.fleet_search.proofs.Occupants.{no_from_false}
 use Rattle.fleet_search.proofs.orders.keep_paths.Goals as goal
 

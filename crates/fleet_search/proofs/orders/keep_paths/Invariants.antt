@@ -1,5 +1,4 @@
-use Rattle.std.proofs.Common.{◌≡◌, ℕ, ◌<◌, ◌++◌, [], take, get_or}
-use Rattle.fleet_search.specs.Way.{Fits}
+use Rattle.fleet_search.proofs.Words.{◌≡◌, ℕ, ◌<◌, ◌++◌, [], take, get_or, Fits}
 use Rattle.fleet_search.proofs.orders.keep_paths.Given as goal
 
 abbrev pub invariant-loop-kept : goal.invariant-loop-kept

@@ -1,5 +1,4 @@
-use Rattle.std.proofs.Common.{length, arith}
-use Rattle.fleet_grid.specs.Ground.{is_passable}
+use Rattle.fleet_search.proofs.Words.{length, arith, is_passable}
 use Rattle.fleet_search.proofs.OrderLaws.{stuck_within}
 use Rattle.fleet_search.proofs.orders.note_stuck.Goals as goal
 

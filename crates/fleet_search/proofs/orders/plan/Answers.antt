@@ -1,5 +1,4 @@
-use Rattle.std.proofs.lemmas.Result.{IfOk-weaker, IfErr-weaker}
-use Rattle.fleet_grid.specs.Ground.{is_passable}
+use Rattle.fleet_search.proofs.Words.{IfOk-weaker, IfErr-weaker, is_passable}
 use Rattle.fleet_search.proofs.OrderLaws.{one_try-made, one_try-stuck}
 use Rattle.fleet_search.proofs.orders.plan.Goals as goal
 

@@ -1,8 +1,4 @@
-use Rattle.std.proofs.Common.{◌+◌, ◌-◌, ◌<◌, ◌≤◌, length, inl, inr, ◌∙◌, subst, arith}
-use Rattle.std.proofs.lemmas.Bool.{cases_lt}
-use Rattle.std.proofs.lemmas.List.{get_or_default}
-use Rattle.fleet_grid.specs.Ground.{is_passable}
-use Rattle.fleet_search.specs.Orders.{IsMadeInOrder, IsStuckInTries}
+use Rattle.fleet_search.proofs.Words.{◌+◌, ◌-◌, ◌<◌, ◌≤◌, length, inl, inr, ◌∙◌, subst, arith, cases_lt, get_or_default, is_passable, IsMadeInOrder, IsStuckInTries}
 use Rattle.fleet_search.proofs.InTurnLaws.{same_agent}
 use Rattle.fleet_search.proofs.Occupants.{no_from_false}
 use Rattle.fleet_search.proofs.OrderLaws.{order_after-more}

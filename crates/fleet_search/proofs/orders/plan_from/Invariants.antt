@@ -1,7 +1,4 @@
-use Rattle.std.proofs.Common.{◌<◌, max}
-use Rattle.fleet_grid.specs.Ground.{is_passable}
-use Rattle.fleet_search.specs.Orders.{IsOrderAfter}
-use Rattle.fleet_search.specs.Attempts.{AreTables, IsTurn}
+use Rattle.fleet_search.proofs.Words.{◌<◌, max, is_passable, IsOrderAfter, AreTables, IsTurn}
 use Rattle.fleet_search.proofs.orders.plan_from.Given as goal
 
 abbrev pub invariant-loop-failed : goal.invariant-loop-failed

@@ -1,10 +1,4 @@
-use Rattle.std.proofs.Common.{◌≡◌, ◌-◌, ◌++◌, ◌∷◌, [], ◌≤◌, Some, ap, ◌∙◌, arith}
-use Rattle.std.specs.Prelude.{slice_get}
-use Rattle.std.proofs.lemmas.Result.{on_ok_weaker}
-use Rattle.fleet_model.specs.declared.task.Task.{Task}
-use Rattle.fleet_grid.specs.Ground.{is_passable}
-use Rattle.fleet_search.specs.Way.{arrival}
-use Rattle.fleet_search.specs.Earliest.{IsInfeasible}
+use Rattle.fleet_search.proofs.Words.{◌≡◌, ◌-◌, ◌++◌, ◌∷◌, [], ◌≤◌, Some, ap, ◌∙◌, arith, slice_get, on_ok_weaker, Task, is_passable, arrival, IsInfeasible}
 use Rattle.fleet_search.proofs.KeptPaths.{earliest-again, earliest-later}
 use Rattle.fleet_search.proofs.orders.renew_path.Goals as goal
 use Rattle.fleet_search.proofs.orders.renew_path.Goals.{then-has_steps+in_ok-add_path+else-branch, else-has_steps}

@@ -1,8 +1,4 @@
-use Rattle.std.proofs.Common.{◌≡◌, [], suc, ◌-◌, get_or, ◌+◌, ◌<◌, ◌≤◌, length, refl, sym, subst, arith}
-use Rattle.fleet_grid.specs.Ground.{is_passable}
-use Rattle.fleet_search.specs.InTurn.{IsPrioritisedPlan}
-use Rattle.fleet_search.specs.Orders.{tasks_by}
-use Rattle.fleet_search.specs.Attempts.{IsOldPath}
+use Rattle.fleet_search.proofs.Words.{◌≡◌, [], suc, ◌-◌, get_or, ◌+◌, ◌<◌, ◌≤◌, length, refl, sym, subst, arith, is_passable, IsPrioritisedPlan, tasks_by, IsOldPath}
 use Rattle.fleet_search.proofs.OrderLaws.{agents_below}
 use Rattle.fleet_search.proofs.KeptPaths.{none_made}
 use Rattle.fleet_search.proofs.Attempting.{old_path, added_made, stuck_attempt, kept_attempt}

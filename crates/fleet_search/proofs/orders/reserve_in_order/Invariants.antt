@@ -1,7 +1,4 @@
-use Rattle.fleet_grid.specs.Ground.{is_passable}
-use Rattle.fleet_search.specs.InTurn.{IsPrioritisedPlan}
-use Rattle.fleet_search.specs.Orders.{tasks_by}
-use Rattle.fleet_search.specs.Attempts.{AreTables}
+use Rattle.fleet_search.proofs.Words.{is_passable, IsPrioritisedPlan, tasks_by, AreTables}
 use Rattle.fleet_search.proofs.orders.reserve_in_order.Given as goal
 
 abbrev pub invariant-loop-place : goal.invariant-loop-place

@@ -1,7 +1,4 @@
-use Rattle.std.proofs.Common.{◌≡◌, ℕ, ◌+◌, ◌<◌, ◌≤◌, true, length}
-use Rattle.fleet_model.specs.Geometry.{is_same_cell}
-use Rattle.fleet_plan.specs.Plan.{cell_at}
-use Rattle.fleet_plan.specs.Numbers.{end_of}
+use Rattle.fleet_plan.proofs.Words.{◌≡◌, ℕ, ◌+◌, ◌<◌, ◌≤◌, true, length, is_same_cell, cell_at, end_of}
 use Rattle.fleet_plan.proofs.plan.Path.cost.Given as goal
 
 abbrev pub invariant-loop-time : goal.invariant-loop-time

@@ -1,5 +1,4 @@
-use Rattle.std.proofs.Common.{◌≡◌, ◌≤◌}
-use Rattle.fleet_plan.specs.Numbers.{moves_before}
+use Rattle.fleet_plan.proofs.Words.{◌≡◌, ◌≤◌, moves_before}
 use Rattle.fleet_plan.proofs.plan.Path.moves_before.Given as goal
 
 abbrev pub invariant-loop-t : goal.invariant-loop-t

@@ -1,6 +1,4 @@
-use Rattle.std.proofs.Common.{◌<◌, ◌≤◌, subst, length, get_or}
-use Rattle.std.proofs.lemmas.List.Elements.{All-more}
-use Rattle.fleet_model.specs.Program.{IsCell, origin}
+use Rattle.fleet_plan.proofs.Words.{◌<◌, ◌≤◌, subst, length, get_or, All-more, IsCell, origin}
 use Rattle.fleet_plan.proofs.PlanCode.{is_path}
 use Rattle.fleet_plan.proofs.plan.Path.new.Goals as goal
 

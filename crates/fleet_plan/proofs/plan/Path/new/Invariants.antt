@@ -1,5 +1,4 @@
-use Rattle.std.proofs.Common.{All, take}
-use Rattle.fleet_model.specs.Program.{IsCell}
+use Rattle.fleet_plan.proofs.Words.{All, take, IsCell}
 use Rattle.fleet_plan.proofs.plan.Path.new.Given as goal
 
 abbrev pub invariant-loop-cell : goal.invariant-loop-cell

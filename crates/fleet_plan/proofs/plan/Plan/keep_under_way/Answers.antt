@@ -1,6 +1,4 @@
-use Rattle.std.proofs.Common.{rules, length, ◌<◌}
-use Rattle.std.proofs.lemmas.List.Filters.{FiltersInPlace-more_no, FiltersInPlace-more_set}
-use Rattle.fleet_plan.specs.UnderWay.{is_under_way}
+use Rattle.fleet_plan.proofs.Words.{rules, length, ◌<◌, FiltersInPlace-more_no, FiltersInPlace-more_set, is_under_way}
 use Rattle.fleet_plan.proofs.RowLaws.{goes_on, has_ended, still_there}
 use Rattle.fleet_plan.proofs.plan.Plan.keep_under_way.Goals as goal
 use Rattle.fleet_plan.proofs.plan.Plan.keep_under_way.Goals.{then-is_moving, else-is_moving}

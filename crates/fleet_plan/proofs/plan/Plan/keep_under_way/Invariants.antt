@@ -1,5 +1,4 @@
-use Rattle.std.proofs.lemmas.List.Filters.{FiltersInPlace}
-use Rattle.fleet_plan.specs.UnderWay.{is_under_way}
+use Rattle.fleet_plan.proofs.Words.{FiltersInPlace, is_under_way}
 use Rattle.fleet_plan.proofs.plan.Plan.keep_under_way.Given as goal
 
 abbrev pub invariant-loop-next : goal.invariant-loop-next

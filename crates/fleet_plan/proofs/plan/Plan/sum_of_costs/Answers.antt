@@ -1,5 +1,4 @@
-use Rattle.std.proofs.Common.{arith}
-use Rattle.fleet_plan.specs.Numbers.{cost_of}
+use Rattle.fleet_plan.proofs.Words.{arith, cost_of}
 use Rattle.fleet_plan.proofs.Counted.{summed_more}
 use Rattle.fleet_plan.proofs.plan.Plan.sum_of_costs.Goals as goal
 

@@ -1,6 +1,4 @@
-use Rattle.std.proofs.Common.{◌≡◌, ◌≤◌, ◌*◌, take, sum_by}
-use Rattle.fleet_model.specs.declared.limits.TheConstants.{MAX_HORIZON}
-use Rattle.fleet_plan.specs.Numbers.{waits_of}
+use Rattle.fleet_plan.proofs.Words.{◌≡◌, ◌≤◌, ◌*◌, take, sum_by, MAX_HORIZON, waits_of}
 use Rattle.fleet_plan.proofs.plan.Plan.waits.Given as goal
 
 abbrev pub invariant-loop-i : goal.invariant-loop-i

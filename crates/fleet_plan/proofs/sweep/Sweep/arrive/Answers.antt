@@ -1,6 +1,4 @@
-use Rattle.std.proofs.Common.{ap, sym, ◌∙◌, length, arith}
-use Rattle.std.proofs.lemmas.List.{with_items_is}
-use Rattle.fleet_plan.specs.Sweep.{SweepRows}
+use Rattle.fleet_plan.proofs.Words.{ap, sym, ◌∙◌, length, arith, with_items_is, SweepRows}
 use Rattle.fleet_plan.proofs.sweep.Sweep.arrive.Goals as goal
 
 pub meeting-requires-clause-others : goal.meeting-requires-clause-others

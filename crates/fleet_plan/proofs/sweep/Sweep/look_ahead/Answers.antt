@@ -1,5 +1,4 @@
-use Rattle.std.proofs.Common.{sym, arith}
-use Rattle.std.proofs.lemmas.List.{with_items_is}
+use Rattle.fleet_plan.proofs.Words.{sym, arith, with_items_is}
 use Rattle.fleet_plan.proofs.MeetLaws.{ahead_agents, entered_apart, first_in, free_in}
 use Rattle.fleet_plan.proofs.SweepLaws.{found_first, found_none, nobody_yet, unwalked_yet, others_there, others_stay, names_movers, others_entered, others_settled, come_to_as}
 use Rattle.fleet_plan.proofs.sweep.Sweep.look_ahead.Goals as goal

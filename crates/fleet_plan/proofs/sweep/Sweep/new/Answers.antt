@@ -1,6 +1,4 @@
-use Rattle.std.proofs.Common.{◌≡◌, ℕ, List, get_or, replicate, Option, None, rules, ap, ◌∙◌, arith, inl, inr}
-use Rattle.std.proofs.lemmas.Bool.{cases_lt}
-use Rattle.std.proofs.lemmas.List.{get_or-replicate, get_or_past, length-replicate}
+use Rattle.fleet_plan.proofs.Words.{◌≡◌, ℕ, List, get_or, replicate, Option, None, rules, ap, ◌∙◌, arith, inl, inr, cases_lt, get_or-replicate, get_or_past, length-replicate}
 use Rattle.fleet_plan.proofs.sweep.Sweep.new.Goals as goal
 
 abbrev nobody : Option ℕ

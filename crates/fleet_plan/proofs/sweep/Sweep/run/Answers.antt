@@ -1,7 +1,5 @@
-use Rattle.std.proofs.Common.{◌≤◌, rules, sym, arith}
-use Rattle.std.proofs.lemmas.List.{with_items_is}
+use Rattle.fleet_plan.proofs.Words.{◌≤◌, rules, sym, arith, with_items_is, MAX_HORIZON}
 use Rattle.fleet_plan.proofs.SweepLaws.{few_steps, come_first, first_meets, swept_all}
-use Rattle.fleet_model.specs.declared.limits.TheConstants.{MAX_HORIZON}
 use Rattle.fleet_plan.proofs.sweep.Sweep.run.Goals as goal
 
 pub overflow_add-end : goal.overflow_add-end

@@ -1,6 +1,4 @@
-use Rattle.std.proofs.Common.{◌<◌, length, sym, ap, subst}
-use Rattle.fleet_grid.specs.Ground.{IsGround, cell_index}
-use Rattle.fleet_search.specs.Distance.{DistanceTable, IsOnGround}
+use Rattle.fleet_search.proofs.Words.{◌<◌, length, sym, ap, subst, IsGround, cell_index, DistanceTable, IsOnGround}
 use Rattle.fleet_search.proofs.Spread.{none-labelled, spread-begin}
 use Rattle.fleet_search.proofs.distances.Distances.begin.Goals as goal
 

@@ -1,5 +1,4 @@
-use Rattle.std.proofs.Common.{◌≡◌, ◌≤◌, ◌⊎◌, [], inl, inr, ap, ◌∙◌, subst, arith}
-use Rattle.fleet_search.specs.Distance.{DistanceTable, IsReady, AreDistances}
+use Rattle.fleet_search.proofs.Words.{◌≡◌, ◌≤◌, ◌⊎◌, [], inl, inr, ap, ◌∙◌, subst, arith, DistanceTable, IsReady, AreDistances}
 use Rattle.fleet_search.proofs.Spread.{distances-of}
 use Rattle.fleet_search.proofs.distances.Distances.compute.Goals as goal
 

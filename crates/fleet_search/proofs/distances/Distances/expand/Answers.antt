@@ -1,6 +1,4 @@
-use Rattle.std.proofs.Common.{◌≡◌, sym, ap, ◌∙◌, arith}
-use Rattle.std.proofs.lemmas.Option.{none-some, same_Some}
-use Rattle.fleet_search.specs.Distance.{DistanceTable, manhattan}
+use Rattle.fleet_search.proofs.Words.{◌≡◌, sym, ap, ◌∙◌, arith, none-some, same_Some, DistanceTable, manhattan}
 use Rattle.fleet_search.proofs.Spread.{spread-passed}
 use Rattle.fleet_search.proofs.distances.Distances.expand.Goals as goal
 

@@ -1,5 +1,4 @@
-use Rattle.std.proofs.Common.{None, subst, arith}
-use Rattle.fleet_search.specs.Distance.{IsSpreadOf}
+use Rattle.fleet_search.proofs.Words.{None, subst, arith, IsSpreadOf}
 use Rattle.fleet_search.proofs.Spread.{spread-popped, taken, work-popped}
 use Rattle.fleet_search.proofs.distances.Distances.expand_layer.Goals as goal
 

@@ -1,5 +1,4 @@
-use Rattle.std.proofs.Common.{None}
-use Rattle.fleet_search.specs.Distance.{IsSpreadOf, IsSameSearch, work_left}
+use Rattle.fleet_search.proofs.Words.{None, IsSpreadOf, IsSameSearch, work_left}
 use Rattle.fleet_search.proofs.distances.Distances.expand_layer.Given as goal
 
 abbrev pub invariant-loop-left : goal.invariant-loop-left

@@ -1,5 +1,4 @@
-use Rattle.std.proofs.Common.{◌≡◌, None, []}
-use Rattle.fleet_search.specs.Distance.{IsSpreadOf}
+use Rattle.fleet_search.proofs.Words.{◌≡◌, None, [], IsSpreadOf}
 use Rattle.fleet_search.proofs.distances.Distances.expand_layers.Given as goal
 
 abbrev pub invariant-loop-round : goal.invariant-loop-round

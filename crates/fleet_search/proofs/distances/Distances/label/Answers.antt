@@ -1,5 +1,4 @@
-use Rattle.std.proofs.Common.{arith, sym, ap, ◌∙◌}
-use Rattle.fleet_search.specs.Distance.{DistanceTable}
+use Rattle.fleet_search.proofs.Words.{arith, sym, ap, ◌∙◌, DistanceTable}
 use Rattle.fleet_search.proofs.Spread.{label_read, label_of_search-same, label_of_search-other}
 use Rattle.fleet_search.proofs.distances.Distances.label.Goals as goal
 

@@ -1,6 +1,5 @@
-use Rattle.std.proofs.Common.{◌+◌, ◌<◌, ℕ, length, get_or, sym, subst}
-use Rattle.fleet_grid.specs.Ground.{cell_index}
-use Rattle.fleet_search.specs.Distance.{no_label, with_label, IsOnGround, IsLabelled, IsLabelNear, IsPutFrom}
+use Rattle.fleet_search.proofs.Words.{◌+◌, ◌<◌, ℕ, length, get_or, sym, subst, cell_index, no_label, with_label, IsOnGround, IsLabelNear, IsPutFrom}
+use Rattle.fleet_search.specs.Distance.{IsLabelled}
 use Rattle.fleet_search.proofs.Occupants.{yes_from_true, no_from_false}
 use Rattle.fleet_search.proofs.Spread.{near_before, not-near, put_towards, none_towards}
 use Rattle.fleet_search.proofs.distances.Distances.label_towards.Goals as goal

@@ -1,6 +1,4 @@
-use Rattle.std.proofs.Common.{ap, subst, arith}
-use Rattle.fleet_grid.specs.Ground.{IsGround}
-use Rattle.fleet_search.specs.Distance.{DistanceTable, manhattan}
+use Rattle.fleet_search.proofs.Words.{ap, subst, arith, IsGround, DistanceTable, manhattan}
 use Rattle.fleet_search.proofs.Spread.{manhattan-few}
 use Rattle.fleet_search.proofs.distances.Distances.least_moves.Goals as goal
 

@@ -1,7 +1,5 @@
-use Rattle.std.proofs.Common.{◌≡◌, length, Contains, ap, ◌∙◌, subst, arith}
-use Rattle.std.proofs.lemmas.List.{length_push}
-use Rattle.fleet_search.specs.Rows.{lists_of, IsPut}
-use Rattle.fleet_search.specs.Frontier.{Exploration, IsAdded}
+use Rattle.fleet_search.proofs.Words.{◌≡◌, length, Contains, ap, ◌∙◌, subst, arith, length_push, lists_of, Exploration, IsAdded}
+use Rattle.fleet_search.specs.Rows.{IsPut}
 use Rattle.fleet_search.proofs.Explored.{put-places}
 use Rattle.fleet_search.proofs.frontier.Frontier.add.Goals as goal
 

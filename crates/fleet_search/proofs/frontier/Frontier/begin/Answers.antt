@@ -1,11 +1,6 @@
-use Rattle.std.proofs.Common.{[], ◌∷◌, ◌++◌, length, sym, ap, ◌∙◌, subst, arith}
+use Rattle.fleet_search.proofs.Words.{[], ◌∷◌, ◌++◌, length, sym, ap, ◌∙◌, subst, arith, Node, earliest_in, IsLabelSet, AreBegun, AreInOrder, occupancies_on}
 use Rattle.fleet_search.proofs.Spread.{on_map}
-use Rattle.fleet_search.specs.declared.frontier.Node.{Node}
-use Rattle.fleet_search.specs.Labels.{earliest_in, IsLabelSet}
 use Rattle.fleet_search.specs.Rows.{IsPut}
-use Rattle.fleet_search.specs.Intervals.{AreBegun}
-use Rattle.fleet_search.specs.Occupancies.{AreInOrder}
-use Rattle.fleet_search.specs.Search.{occupancies_on}
 use Rattle.fleet_search.proofs.ReservationTables.{AreInOrder-occupancies}
 use Rattle.fleet_search.proofs.IntervalLaws.{begun-point, few-occupancies, free-interval}
 use Rattle.fleet_search.proofs.SearchSteps.{opening}

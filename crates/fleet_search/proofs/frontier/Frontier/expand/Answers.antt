@@ -1,6 +1,4 @@
-use Rattle.std.proofs.Common.{◌-◌, inl, inr, refl, subst, sym, arith}
-use Rattle.fleet_search.specs.Labels.{earliest_in}
-use Rattle.fleet_search.specs.Search.{IsStateSettled, IsSuperseded}
+use Rattle.fleet_search.proofs.Words.{◌-◌, inl, inr, refl, subst, sym, arith, earliest_in, IsStateSettled, IsSuperseded}
 use Rattle.fleet_search.proofs.SearchSteps.{expanded, left_done, each_dir, Grows-then, found-stays, Dir-found}
 use Rattle.fleet_search.proofs.frontier.Frontier.expand.Goals as goal
 

@@ -1,10 +1,4 @@
-use Rattle.std.proofs.Common.{◌≡◌, ◌-◌, None, Some, length, sym, ap, ◌∙◌, subst, arith}
-use Rattle.std.proofs.lemmas.List.{length_push}
-use Rattle.fleet_search.specs.declared.frontier.Node.{Node}
-use Rattle.fleet_search.specs.Frontier.{Exploration}
-use Rattle.fleet_search.specs.Labels.{earliest_in}
-use Rattle.fleet_search.specs.Rows.{bucket_of}
-use Rattle.fleet_search.specs.Search.{IsGoalState, WasOpen}
+use Rattle.fleet_search.proofs.Words.{◌≡◌, ◌-◌, None, Some, length, sym, ap, ◌∙◌, subst, arith, length_push, Node, Exploration, earliest_in, bucket_of, IsGoalState, WasOpen}
 use Rattle.fleet_search.proofs.SearchSteps.{taken-off, taken-left, swept-off, frontier_of_lower_bucket, frontier_of_higher_bucket}
 use Rattle.fleet_search.proofs.frontier.Frontier.expand_bucket.Goals as goal
 

@@ -1,6 +1,4 @@
-use Rattle.std.proofs.Common.{◌≡◌, None, length}
-use Rattle.fleet_search.specs.Rows.{bucket_of}
-use Rattle.fleet_search.specs.Search.{IsFrontierOf}
+use Rattle.fleet_search.proofs.Words.{◌≡◌, None, length, bucket_of, IsFrontierOf}
 use Rattle.fleet_search.proofs.frontier.Frontier.expand_bucket.Given as goal
 
 abbrev pub invariant-loop-place : goal.invariant-loop-place

@@ -1,8 +1,4 @@
-use Rattle.std.proofs.Common.{◌-◌, ◌<◌, sym, ap, subst, ◌∙◌, arith}
-use Rattle.fleet_model.specs.Geometry.{place_of}
-use Rattle.fleet_grid.specs.Ground.{is_passable}
-use Rattle.fleet_search.specs.declared.frontier.State.{State}
-use Rattle.fleet_search.specs.Labels.{earliest_in, IsSeen}
+use Rattle.fleet_search.proofs.Words.{◌-◌, ◌<◌, sym, ap, subst, ◌∙◌, arith, place_of, is_passable, State, earliest_in, IsSeen}
 use Rattle.fleet_search.proofs.SearchSteps.{superseded-seen, seen-superseded}
 use Rattle.fleet_search.proofs.Spread.{on_map}
 use Rattle.fleet_search.proofs.Chase.{none_iff}

@@ -1,12 +1,5 @@
-use Rattle.std.proofs.Common.{◌+◌, ◌-◌, ◌≤◌, inr, sym, ap, ◌∙◌, subst, arith}
+use Rattle.fleet_search.proofs.Words.{◌+◌, ◌-◌, ◌≤◌, inr, sym, ap, ◌∙◌, subst, arith, both_ways, place_of, is_passable, State, IsInInterval, earliest_in, IsSeen, IsLabelSet, heuristic_of, occupancies_on, IsStep, IsMove, earliest_of}
 use Rattle.fleet_search.proofs.Spread.{on_map}
-use Rattle.std.proofs.lemmas.Bool.{both_ways}
-use Rattle.fleet_model.specs.Geometry.{place_of}
-use Rattle.fleet_grid.specs.Ground.{is_passable}
-use Rattle.fleet_search.specs.declared.frontier.State.{State}
-use Rattle.fleet_search.specs.Intervals.{IsInInterval}
-use Rattle.fleet_search.specs.Labels.{earliest_in, IsSeen, IsLabelSet}
-use Rattle.fleet_search.specs.Search.{heuristic_of, occupancies_on, IsStep, IsMove, earliest_of}
 use Rattle.fleet_search.proofs.IntervalLaws.{interval-free, few-occupancies}
 use Rattle.fleet_search.proofs.SearchSteps.{near-beside, bucket-next, covered-seen, covered-new, expands_on, pushed, pushed-grows}
 use Rattle.fleet_search.proofs.frontier.Frontier.push_successor.Goals as goal

@@ -1,5 +1,4 @@
-use Rattle.std.proofs.Common.{ℕ, ◌+◌, ◌-◌, ◌≤◌, subst, arith}
-use Rattle.fleet_search.specs.Intervals.{IsInInterval, IsEarliestWithin}
+use Rattle.fleet_search.proofs.Words.{ℕ, ◌+◌, ◌-◌, ◌≤◌, subst, arith, IsInInterval, IsEarliestWithin}
 use Rattle.fleet_search.proofs.SearchSteps.{found_in-none, found_in-late, found_in-first}
 use Rattle.fleet_search.proofs.frontier.Frontier.successor_in.Goals as goal
 

@@ -1,7 +1,4 @@
-use Rattle.std.proofs.Common.{◌+◌, ◌-◌, ◌<◌, length, sym, ap, subst, arith}
-use Rattle.fleet_search.specs.Occupancies.{AreInOrder, occupancy_at}
-use Rattle.fleet_search.specs.Intervals.{AreBegun}
-use Rattle.fleet_search.specs.Search.{occupancies_on}
+use Rattle.fleet_search.proofs.Words.{◌+◌, ◌-◌, ◌<◌, length, sym, ap, subst, arith, AreInOrder, occupancy_at, AreBegun, occupancies_on}
 use Rattle.fleet_search.proofs.IntervalLaws.{begun-point}
 use Rattle.fleet_search.proofs.Occupants.{yes_from_true}
 use Rattle.fleet_search.proofs.ReservationTables.{AreInOrder-occupancies}

@@ -1,6 +1,4 @@
-use Rattle.std.proofs.Common.{IfSome, subst}
-use Rattle.fleet_search.specs.Rows.{lists_of}
-use Rattle.fleet_search.specs.Frontier.{Exploration, IsNodeTaken}
+use Rattle.fleet_search.proofs.Words.{IfSome, subst, lists_of, Exploration, IsNodeTaken}
 use Rattle.fleet_search.proofs.Explored.{taken-places, is_taken}
 use Rattle.fleet_search.proofs.frontier.Frontier.take.Goals as goal
 

@@ -1,6 +1,4 @@
-use Rattle.std.proofs.Common.{subst, arith}
-use Rattle.fleet_search.specs.Intervals.{AreBegun, IsEndAfter}
-use Rattle.fleet_search.specs.Search.{occupancies_on}
+use Rattle.fleet_search.proofs.Words.{subst, arith, AreBegun, IsEndAfter, occupancies_on}
 use Rattle.fleet_search.proofs.IntervalLaws.{free-interval, free-until}
 use Rattle.fleet_search.proofs.frontier.Query.interval.Goals as goal
 

@@ -1,5 +1,4 @@
-use Rattle.std.proofs.Common.{◌+◌, refl}
-use Rattle.fleet_search.specs.Labels.{LabelState, AreLabels}
+use Rattle.fleet_search.proofs.Words.{◌+◌, refl, LabelState, AreLabels}
 use Rattle.fleet_search.proofs.LabelLaws.{no_labels, next_search}
 use Rattle.fleet_search.proofs.labels.Labels.begin.Goals as goal
 use Rattle.fleet_search.proofs.labels.Labels.begin.Goals.{then-is_last, else-is_last}

@@ -1,10 +1,4 @@
-use Rattle.std.proofs.Common.{◌≡◌, ◌≤◌, length, refl, sym, ap, ◌∙◌, arith}
-use Rattle.std.proofs.lemmas.Bool.{not-false}
-use Rattle.std.proofs.lemmas.Result.{on_ok_weaker}
-use Rattle.fleet_model.proofs.Cells.{is_same_cell-true}
-use Rattle.fleet_model.specs.declared.limits.TheConstants.{MAX_HORIZON}
-use Rattle.fleet_plan.specs.Plan.{cell_at}
-use Rattle.fleet_search.specs.Occupancies.{without}
+use Rattle.fleet_search.proofs.Words.{◌≡◌, ◌≤◌, length, refl, sym, ap, ◌∙◌, arith, not-false, on_ok_weaker, is_same_cell-true, MAX_HORIZON, cell_at, without}
 use Rattle.fleet_search.proofs.Entering.{entered-none, entered-same, entered-more, entered-all, entered-rest, entered-order, from_ok_or_err}
 use Rattle.fleet_search.proofs.reservation_table.ReservationTable.add_all.Goals as goal
 use Rattle.fleet_search.proofs.reservation_table.ReservationTable.add_all.Goals.{then-ne+in_ok-add, else-ne}

@@ -1,7 +1,4 @@
-use Rattle.std.proofs.Common.{◌==◌, rules}
-use Rattle.std.specs.Prelude.{not}
-use Rattle.fleet_search.specs.declared.intervals.Occupancy.{Occupancy}
-use Rattle.fleet_grid.specs.Lists.{key_of_cell}
+use Rattle.fleet_search.proofs.Words.{◌==◌, rules, not, Occupancy, key_of_cell}
 use Rattle.fleet_search.proofs.reservation_table.ReservationTable.remove_agent.Goals as goal
 
 pub returns : goal.returns

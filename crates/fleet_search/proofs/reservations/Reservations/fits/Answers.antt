@@ -1,7 +1,4 @@
-use Rattle.std.proofs.Common.{◌≡◌, ◌≤◌, refl, sym, subst, arith}
-use Rattle.fleet_plan.specs.Plan.{cell_at}
-use Rattle.fleet_search.specs.Way.{StepFits, arrival}
-use Rattle.fleet_search.specs.Reserved.{StandsOn, IsFreeFrom}
+use Rattle.fleet_search.proofs.Words.{◌≡◌, ◌≤◌, refl, sym, subst, arith, cell_at, StepFits, arrival, StandsOn, IsFreeFrom}
 use Rattle.fleet_search.proofs.Occupants.{no_from_false, yes_from_true}
 use Rattle.fleet_search.proofs.Chase.{none_iff, of_some}
 use Rattle.fleet_search.proofs.FitCode.{misfit_first, misfit_step, fits-rest, up_to-all}

@@ -1,5 +1,4 @@
-use Rattle.std.proofs.Common.{sym, subst, arith}
-use Rattle.fleet_search.specs.Occupancies.{AreOccupanciesOn, no_occupancy}
+use Rattle.fleet_search.proofs.Words.{sym, subst, arith, AreOccupanciesOn, no_occupancy}
 use Rattle.fleet_search.proofs.ReservationTables.{never_visited, never_free, free_from-last}
 use Rattle.fleet_search.proofs.reservations.Reservations.free_from.Goals as goal
 

@@ -1,5 +1,4 @@
-use Rattle.std.proofs.Common.{◌<◌, refl, sym, subst, arith}
-use Rattle.fleet_search.specs.Occupancies.{AreOccupanciesOn}
+use Rattle.fleet_search.proofs.Words.{◌<◌, refl, sym, subst, arith, AreOccupanciesOn}
 use Rattle.fleet_search.proofs.ReservationTables.{AreInOrder-occupancies, nobody_yet, is_there, gone}
 use Rattle.fleet_search.proofs.reservations.Reservations.occupant.Goals as goal
 

@@ -13,8 +13,7 @@ mod commands;
 mod request;
 
 pub use commands::{
-    AutoRequest, Best, CheckRequest, CompileRequest, DispatchRequest, ListRequest, MigrateRequest,
-    PlanRequest, ProgramFor, RehearseRequest, Request, RestRequest, RunRequest, Tasks, ThinRequest,
-    TimesRequest, Tries,
+    Ask, AutoRequest, Best, CompileRequest, DispatchRequest, FileNames, PlanRequest, Request,
+    RestRequest, TasksAsk, TimesRequest, Tries,
 };
 pub use request::{WordStop, read_words};

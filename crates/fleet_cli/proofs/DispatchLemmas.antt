@@ -11,7 +11,7 @@ use Rattle.fleet_args.specs.declared.commands.DispatchRequest.{DispatchRequest}
 use Rattle.fleet_cli.specs.{declared.fault.Fault.Fault, Files.Store, Files.AreUnchanged, Files.IsOwnLog, Files.bytes_of}
 use Rattle.fleet_cli.specs.Journal.{ChangesOnlyLog, IsKeptAfter, log_in, log_state, lines_in}
 use Rattle.fleet_cli.specs.JournalLaws.{log_self, log_longer}
-use Rattle.fleet_cli.specs.DispatchCommand.{AnswersTold, Leads, pace_of}
+use Rattle.fleet_cli.specs.DispatchCommand.{Leads, answer_of, pace_of}
 use Rattle.fleet_cli.specs.declared.fault.Fault.TheVariants as f
 
 -- every file but the log is as before, in two stretches, one after the other
@@ -37,7 +37,7 @@ module _ (d : Course) (left : Left) (talks : (log log' : SinkState) → ReportFo
 module _ (files mid after : Option Store) (r : DispatchRequest) (p : Program) (past : List ℕ) (untold : Type 0) (talks : (log log' : SinkState) → ReportForm → Talk → Type 0) where
   -- the past led to a session, the log was begun, and the session went on, logged behind what the log held then
   pub led : (told : Result DispatchReport DispatchFault) (result : Result ℕ Fault) (s s' : Session) → IfSome (log_in files r.log) (IsOwnLog past) → log_in mid r.log ≡ lines_in files r.log
-      → IsLedOn p (pace_of r) past s → Dispatches (course_in p (pace_of r) s) (IsKeptAfter (log_in mid r.log) after r.log talks (pace_of r).form) (left_in s') told → AnswersTold told result
+      → IsLedOn p (pace_of r) past s → Dispatches (course_in p (pace_of r) s) (IsKeptAfter (log_in mid r.log) after r.log talks (pace_of r).form) (left_in s') told → result ≡ answer_of told
       → Leads files after r p past untold talks result
   led told result s s' own begun on h answer =
       let from = subst (λ (held : Option (List ℕ)). Dispatches (course_in p (pace_of r) s) (IsKeptAfter held after r.log talks (pace_of r).form) (left_in s') told) begun h in

@@ -2,5 +2,4 @@ pub mod FileLemmas
 pub mod LineLemmas
 pub mod DispatchLemmas
 pub mod RunLemmas
-pub mod OutputLemmas
 pub mod CommandLemmas

@@ -1,43 +1,40 @@
 -- The whole lines of a text.
-use Rattle.std.proofs.Common.{◌≡◌, ◌∙◌, ℕ, zero, suc, ◌-◌, ◌<◌, ◌≤◌, Bool, true, false, ◌||◌, cond, List, [], ◌∷◌, length, take, drop, get_or, refl, sym, ap, arith}
-use Rattle.std.specs.List.{list_any}
-use Rattle.std.proofs.lemmas.Bool.{or_right}
+use Rattle.std.proofs.Common.{◌≡◌, ◌∙◌, ℕ, Bool, true, false, ◌||◌, cond, List, [], ◌∷◌, ◌++◌, length, refl}
+use Rattle.std.specs.List.{IsLastAndRest, list_any}
+use Rattle.std.proofs.lemmas.{Bool.ne_eqb, List.nil_from_length, List.Folds.list_any-append}
 use Rattle.fleet_text.specs.Text.{is_lf}
 use Rattle.fleet_cli.specs.Files.{whole_lines}
 
--- without an LF there are none
-pub no_lines : (bytes : List ℕ) → list_any is_lf bytes ≡ false → whole_lines bytes ≡ []
+-- a byte behind others ends them if it is an LF, and else is in no line
+one_more : (bytes : List ℕ) (last : ℕ) → whole_lines (bytes ++ last ∷ []) ≡ cond (is_lf last) (bytes ++ last ∷ []) (whole_lines bytes)
 unfolding whole_lines
-no_lines [] none = refl
-no_lines (b ∷ bytes) none = ap (λ (any : Bool). cond any (b ∷ whole_lines bytes) []) none
+one_more [] last = go (is_lf last)
+  where
+    go : (ends : Bool) → cond (ends || false) (last ∷ []) [] ≡ cond ends (last ∷ []) []
+    go true = refl
+    go false = refl
+one_more (b ∷ bytes) last = rw (list_any-append is_lf bytes (last ∷ []), one_more bytes last) (go (is_lf b) (list_any is_lf bytes) (is_lf last))
+  where
+    go : (first any ends : Bool)
+        → cond (first || (any || (ends || false))) (b ∷ cond ends (bytes ++ last ∷ []) (whole_lines bytes)) []
+        ≡ cond ends (b ∷ bytes ++ last ∷ []) (cond (first || any) (b ∷ whole_lines bytes) [])
+    go true any true = refl
+    go true any false = refl
+    go false true true = refl
+    go false true false = refl
+    go false false true = refl
+    go false false false = refl
 
--- a text with an LF behind its first byte begins with that byte
-first_line : (b : ℕ) (bytes : List ℕ) → list_any is_lf (b ∷ bytes) ≡ true → whole_lines (b ∷ bytes) ≡ b ∷ whole_lines bytes
-unfolding whole_lines
-first_line b bytes any = ap (λ (any : Bool). cond any (b ∷ whole_lines bytes) []) any
+module _ (bytes lines : List ℕ) (same : whole_lines lines ≡ whole_lines bytes) where
+  -- what ends in an LF is whole lines
+  pub ended : (front : List ℕ) (last : ℕ) → IsLastAndRest lines last front → last ≡ 10 → lines ≡ whole_lines bytes
+  ended front last parts here = rw (parts.0, one_more front last, here) refl ∙ same
 
--- an LF is among the bytes
-among : (bytes : List ℕ) (n : ℕ) → n < length bytes → is_lf (get_or bytes n 0) ≡ true → list_any is_lf bytes ≡ true
-among [] n within here = absurd (omega arith)
-among (b ∷ bytes) zero within here = rw here refl
-among (b ∷ bytes) (suc n) within here = ap (λ (any : Bool). is_lf b || any) (among bytes n (omega arith) here) ∙ or_right (is_lf b) true refl
+  -- .. and else the last byte is in none
+  pub goes_on : (front : List ℕ) (last : ℕ) → IsLastAndRest lines last front → (last ≡ 10 → ⊥) → whole_lines front ≡ whole_lines bytes
+  goes_on front last parts other = rw (parts.0, one_more front last, ne_eqb last 10 other) refl ∙ same
 
--- the last LF, behind which there is none, ends them
-pub lines_to : (bytes : List ℕ) (n : ℕ) → n < length bytes → is_lf (get_or bytes n 0) ≡ true → list_any is_lf (drop (suc n) bytes) ≡ false → take (suc n) bytes ≡ whole_lines bytes
-lines_to [] n within here none = absurd (omega arith)
-lines_to (b ∷ bytes) zero within here none = sym (first_line b bytes (among (b ∷ bytes) 0 within here) ∙ ap (λ (xs : List ℕ). b ∷ xs) (no_lines bytes none))
-lines_to (b ∷ bytes) (suc n) within here none =
-    ap (λ (xs : List ℕ). b ∷ xs) (lines_to bytes n (omega arith) here none) ∙ sym (first_line b bytes (among (b ∷ bytes) (suc n) within here))
-
--- the same of the place behind it
-pub lines_before : (bytes : List ℕ) (end : ℕ) → 0 < end → end ≤ length bytes → get_or bytes (end - 1) 0 ≡ 10 → list_any is_lf (drop end bytes) ≡ false → take end bytes ≡ whole_lines bytes
-lines_before bytes zero some within here none = absurd (omega arith)
-lines_before bytes (suc n) some within here none =
-    let at : n ≡ suc n - 1 = omega arith in
-    let byte : get_or bytes n 0 ≡ 10 = ap (λ (k : ℕ). get_or bytes k 0) at ∙ here in
-    lines_to bytes n (omega arith) (rw byte refl) none
-
--- there are none if no byte is left before which to look
-pub none_before : (bytes : List ℕ) (end : ℕ) → end ≤ 0 → list_any is_lf (drop end bytes) ≡ false → [] ≡ whole_lines bytes
-none_before bytes zero nothing none = sym (no_lines bytes none)
-none_before bytes (suc n) nothing none = absurd (omega arith)
+  -- nothing is no line
+  pub no_lines : length lines ≡ 0 → lines ≡ whole_lines bytes
+  unfolding whole_lines
+  no_lines none = rw (nil_from_length lines none) (rw (nil_from_length lines none) at same)

@@ -31,10 +31,6 @@ log_state bytes failed = record { taken = bytes; has_failed = failed; is_flushed
 abbrev pub IsKeptAfter : Option (List ℕ) → (after : Option Store) → Option (Bor (List ℕ)) → ((log log' : SinkState) → ReportForm → Talk → Type 0) → ReportForm → Talk → Type 0
 IsKeptAfter held after name talks form talk = (failed : Bool) × talks (log_state held false) (log_state (log_in after name) failed) form talk
 
--- .. from the whole lines that it held at first
-abbrev pub IsKept : (files after : Option Store) → Option (Bor (List ℕ)) → ((log log' : SinkState) → ReportForm → Talk → Type 0) → ReportForm → Talk → Type 0
-IsKept files after name talks form talk = IsKeptAfter (lines_in files name) after name talks form talk
-
 -- the log could not be begun; or it is none behind which a dispatch may go on after these bytes, and every file is as
 -- before
 abbrev pub IsLogFault : (files after : Option Store) → Option (Bor (List ℕ)) → (past : List ℕ) → Fault → Type 0

@@ -19,7 +19,8 @@ use Rattle.fleet_cli.specs.Output.{count_lines, Refuses, Follow, Prints, end_sta
 use Rattle.fleet_grid.specs.MapText.{IsMapText, IsFirstMapFault}
 use Rattle.fleet_scen.specs.ScenText.{IsFirstScenFault}
 use Rattle.fleet_cli.specs.Faults.{step_fault}
-use Rattle.fleet_code.specs.{Hex.bytes_of, Spelling.Spells}
+use Rattle.fleet_code.specs.Hex.{bytes_of}
+use Rattle.fleet_code.specs.Spelling.{Spells}
 use Rattle.fleet_code.specs.declared.fault.HexFault.TheVariants as h
 
 -- The answer of a run after the flush. It is the run's own, and the sink has handed on all, unless it had failed; or

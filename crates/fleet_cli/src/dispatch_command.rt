@@ -8,7 +8,7 @@ ghost use Rattle.fleet_dispatch.specs.Dispatch.{Dispatches};
 ghost use Rattle.fleet_dispatch.specs.Session.{IsReady, course_in, left_in};
 ghost use Rattle.fleet_cli.specs.Output.{around};
 ghost use Rattle.fleet_cli.specs.Journal.{log_in, ChangesOnlyLog, IsKeptAfter};
-ghost use Rattle.fleet_cli.specs.DispatchCommand.{pace_of, AnswersTold, AnswersDispatch};
+ghost use Rattle.fleet_cli.specs.DispatchCommand.{answer_of, pace_of, AnswersDispatch};
 
 use crate::fault::{Fault, or_refuse};
 use crate::files::Files;
@@ -66,7 +66,11 @@ fn dispatch_kept<P: ProgramView, R: ReportsTo<O>, F: Files, O: Flush>(
     match kept.log {
         None => dispatch_led(session, program, kept.pace, input, out, &mut NoLog),
         Some(name) => {
-            let mut journal = Journal::new(files, name);
+            let mut journal = Journal {
+                files,
+                name,
+                failed: false,
+            };
             dispatch_led(session, program, kept.pace, input, out, &mut journal)
         }
     }
@@ -74,7 +78,7 @@ fn dispatch_kept<P: ProgramView, R: ReportsTo<O>, F: Files, O: Flush>(
 
 /// What is answered if a dispatch ended so: 0 if all agents have arrived.
 fn answer_of<'a>(told: Result<DispatchReport, DispatchFault>) -> Result<u8, Fault<'a>>
-    ensures { AnswersTold told result }
+    ensures { result ≡ answer_of told }
 {
     match told {
         Ok(_) => Ok(0),

@@ -1,12 +1,13 @@
 //! Stores of files, the disk, and the files that a command names.
 
-ghost use Rattle.std.specs.Prelude.{◌≡◌, ◌≤◌, ◌↔◌, Err, IfOk, IfErr, IsTrue, OnOk, length, take};
+ghost use Rattle.std.specs.Prelude.{◌≡◌, ◌≤◌, ◌↔◌, Err, IfOk, IfErr, IsTrue, OnOk, length};
 ghost use Rattle.fleet_cli.specs.Files.{Store, HoldsBytes, IsUnreadable, AreUnchanged, ChangesOnly, Replaces, IsOwnLog, BeginsLog, PutsBehind, whole_lines};
 ghost use Rattle.fleet_cli.specs.Named.{IsGivenAs, IsUnread, IsGiven, given_name, given_names, AreTexts};
 ghost use Rattle.fleet_cli.specs.Output.{WritesGiven};
 
 use crate::fault::Fault;
 use crate::input::{CHUNK, FileFault, MAX_BYTES, read_whole};
+use fleet_args::FileNames;
 use fleet_text::{WriteOut, put_all};
 use std::alloc::Global;
 use std::fs::{OpenFile, OpenOptions};
@@ -61,20 +62,20 @@ pub trait Files {
         ensures others { ChangesOnly (contents self.old) (contents self.new) name.now };
 }
 
-/// How many bytes the whole lines have: those up to the last LF, and with it.
-pub fn lines_end(bytes: &[u8]) -> usize
-    ensures within { result ≤ length bytes.now }
-    ensures lines { take result bytes.now ≡ whole_lines bytes.now }
+/// The whole lines: the bytes up to the last LF, and with it.
+#[tactic(auto, using(crate::proofs::LineLemmas::ended, crate::proofs::LineLemmas::goes_on, crate::proofs::LineLemmas::no_lines))]
+pub fn whole_lines(bytes: &[u8]) -> &[u8]
+    ensures { result.now ≡ whole_lines bytes.now }
 {
-    let mut end = bytes.len();
-    while end > 0 {
-        let ends_line = bytes[end - 1] == b'\n';
+    let mut lines = bytes;
+    while let Some((last, front)) = lines.split_last() {
+        let ends_line = *last == b'\n';
         if ends_line {
-            return end;
+            return lines;
         }
-        end -= 1;
+        lines = front;
     }
-    0
+    lines
 }
 
 /// Whether a log that holds so much is one of a dispatch that goes on after the bytes `past`.
@@ -131,7 +132,7 @@ impl<'r, R: rt::Files> Files for Disk<'r, R> {
         if !is_own_log(&bytes, past) {
             return Ok(false);
         }
-        let end = lines_end(&bytes);
+        let end = whole_lines(&bytes).len();
         if end < bytes.len() && file.set_len(end as u64).is_err() {
             return Err(FileFault::Failed);
         }
@@ -182,18 +183,7 @@ fn is_file<F: OpenFile>(file: &F) -> Result<bool, FileFault> {
     }
 }
 
-/// The files that a command reads, by their names, in this order: the map, the scenario, the plan or the program that
-/// it is about, the holds (of `times` the costs), and the log of reports.
-#[derive(Clone, Copy)]
-pub(crate) struct FileNames<'a> {
-    pub(crate) map: Option<&'a str>,
-    pub(crate) scen: Option<&'a str>,
-    pub(crate) subject: Option<&'a str>,
-    pub(crate) holds: Option<&'a str>,
-    pub(crate) log: Option<&'a str>,
-}
-
-/// What those files hold; nothing of a file that is not named.
+/// What the files of a command hold; nothing of a file that is not named.
 #[derive(Drop)]
 pub(crate) struct FileTexts {
     pub(crate) map: Vec<u8>,

@@ -1,6 +1,6 @@
 //! An input, read whole.
 
-ghost use Rattle.std.specs.Prelude.{◌≡◌, ◌≤◌, ◌<◌, Err, IfOk, IfSome, length};
+ghost use Rattle.std.specs.Prelude.{◌≡◌, ◌≤◌, IfOk, IfSome, length};
 
 use std::alloc::Global;
 use std::io::Read;
@@ -22,44 +22,32 @@ pub const MAX_BYTES: usize = 268_435_456;
 /// How many bytes are asked for at a time.
 pub const CHUNK: usize = 4_096;
 
-/// Why an input was not read to its end.
-#[derive(Clone, Copy)]
-enum InputStop {
-    OutOfMemory,
-    /// A read failed or was interrupted.
-    Unreadable,
-    /// It has more than `MAX_BYTES` bytes.
-    TooLong,
-}
-
 /// All bytes of the reader, unless they are more than `MAX_BYTES`. Each read goes into the chunk.
 fn read_to_limit<R: Read>(
     alloc: Global,
     reader: &mut R,
     chunk: &mut [u8],
-) -> Result<Vec<u8>, InputStop>
+) -> Result<Vec<u8>, FileFault>
     requires { 1 ≤ length chunk.old }
     ensures whole { IfOk result (λ bytes. IfSome (R.remaining reader.old)
         (λ rest. bytes.items ≡ rest)) }
     ensures within { IfOk result (λ bytes. length bytes.items ≤ MAX_BYTES) }
-    ensures too_long { result ≡ Err InputStop.TooLong
-        → IfSome (R.remaining reader.old) (λ rest. MAX_BYTES < length rest) }
 {
     let mut bytes = Vec::new(alloc);
     'chunks: loop {
         let count = match reader.read(chunk) {
             Ok(count) => count,
-            Err(_) => return Err(InputStop::Unreadable),
+            Err(_) => return Err(FileFault::Failed),
         };
         if count == 0 {
             return Ok(bytes);
         }
         let is_beyond = MAX_BYTES - bytes.len() < count;
         if is_beyond {
-            return Err(InputStop::TooLong);
+            return Err(FileFault::Failed);
         }
         if bytes.extend_from_slice(&chunk[..count]).is_err() {
-            return Err(InputStop::OutOfMemory);
+            return Err(FileFault::OutOfMemory);
         }
     }
 }
@@ -75,9 +63,5 @@ pub fn read_whole<R: Read>(
         (λ rest. bytes.items ≡ rest)) }
     ensures within { IfOk result (λ bytes. length bytes.items ≤ MAX_BYTES) }
 {
-    match read_to_limit(alloc, reader, chunk) {
-        Ok(bytes) => Ok(bytes),
-        Err(InputStop::OutOfMemory) => Err(FileFault::OutOfMemory),
-        Err(InputStop::Unreadable | InputStop::TooLong) => Err(FileFault::Failed),
-    }
+    read_to_limit(alloc, reader, chunk)
 }

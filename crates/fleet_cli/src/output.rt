@@ -10,7 +10,7 @@ use fleet_run::{Flush, OutFault, TraceOut};
 use fleet_text::{Word, put_count, put_line};
 
 /// Writes a line for each count: its label and its number.
-#[tactic(auto, using(crate::proofs::OutputLemmas::first_count, fleet_text::proofs::SinkLemmas::takes_err_then))]
+#[tactic(auto, using(fleet_text::proofs::SinkLemmas::takes_then, fleet_text::proofs::SinkLemmas::takes_err_then))]
 pub(crate) fn put_counts<O: TraceOut>(
     out: &mut O,
     counts: &[(&'static str, u64)],
@@ -19,13 +19,11 @@ pub(crate) fn put_counts<O: TraceOut>(
     ensures { TakesAll (O.state out.old) (O.state out.new) result
         (count_lines (with_labels counts.now)) }
 {
-    match counts {
-        [] => Ok(()),
-        [(label, number), others @ ..] => {
-            put_count(out, label, *number)?;
-            put_counts(out, others)
-        }
-    }
+    let Some(((label, number), others)) = counts.split_first() else {
+        return Ok(());
+    };
+    put_count(out, label, *number)?;
+    put_counts(out, others)
 }
 
 /// Writes a word in a line of its own, and then a line for each count.

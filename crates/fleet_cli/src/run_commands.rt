@@ -137,7 +137,7 @@ fn tell_numbers<'a, O: Flush>(
 #[inline(never)]
 pub(crate) fn do_auto<'a, O: Flush>(
     alloc: Global,
-    request: &AutoRequest<'a>,
+    request: &AutoRequest,
     problem: &Problem,
     out: &mut O,
 ) -> Result<u8, Fault<'a>>

@@ -11,9 +11,8 @@ use crate::fleets::{
 use crate::streams::given;
 use fleet_adg::Deps;
 use fleet_cli::{
-    AutoRequest, Best, CheckRequest, CompileRequest, Disk, Fault, FileFault, Files, MemFiles,
-    MigrateRequest, PlanRequest, ProgramFor, RehearseRequest, Request, RunRequest, Tasks,
-    ThinRequest, Tries, WordStop, read_words, run_command, run_hex, run_request,
+    Ask, AutoRequest, Best, CompileRequest, Disk, Fault, FileFault, FileNames, Files, MemFiles,
+    PlanRequest, Request, TasksAsk, Tries, WordStop, read_words, run_command, run_hex, run_request,
 };
 use fleet_grid::MapFault;
 use fleet_run::VecOut;
@@ -142,97 +141,104 @@ const ONE_TRY: Tries = Tries {
     best: None,
 };
 
-/// The tasks of the pair.
-const PAIR: Tasks<'static> = Tasks {
-    map: "map",
-    scen: "scen",
-    agents: None,
+/// The files of the pair's tasks.
+const PAIR: FileNames<'static> = FileNames {
+    map: Some("map"),
+    scen: Some("scen"),
+    subject: None,
+    holds: None,
+    log: None,
 };
 
-/// The pair's program, as it is compiled.
-const COMPILED_PAIR: ProgramFor<'static> = ProgramFor {
-    tasks: PAIR,
-    program: "out",
+/// Those of the pair and its plan.
+const PLANNED: FileNames<'static> = FileNames {
+    subject: Some("plan"),
+    ..PAIR
 };
 
-/// A request, and what it writes.
-type Asked = (Request<'static>, &'static [u8]);
+/// Those of the pair and its program, as it is compiled.
+const COMPILED_PAIR: FileNames<'static> = FileNames {
+    subject: Some("out"),
+    ..PAIR
+};
+
+/// That program alone.
+const PROGRAM: FileNames<'static> = FileNames {
+    map: None,
+    scen: None,
+    ..COMPILED_PAIR
+};
+
+/// The files of a request, what it asks, and what it writes.
+type Asked = (FileNames<'static>, Ask<'static>, &'static [u8]);
 
 /// A request of ten commands on the pair's files, and what each writes.
 const REQUESTS: &[Asked] = &[
-    (Request::Instance(PAIR), INSTANCE),
+    (PAIR, Ask::OfTasks(None, TasksAsk::Instance), INSTANCE),
     (
-        Request::Check(CheckRequest {
-            tasks: Tasks {
-                agents: Some(2),
-                ..PAIR
-            },
-            plan: "plan",
-            numbers: true,
-        }),
+        PLANNED,
+        Ask::OfTasks(Some(2), TasksAsk::Check(true)),
         b"conflict-free\nagents 2\nsteps 2\ncost 4\nbound 4\nmoves 4\nwaits 0\n",
     ),
     (
-        Request::Plan(PlanRequest {
-            tasks: PAIR,
-            horizon: 2,
-            tries: Tries {
-                count: 2,
-                best: Some(Best::Cost),
-            },
-        }),
+        PAIR,
+        Ask::OfTasks(
+            None,
+            TasksAsk::Plan(PlanRequest {
+                horizon: 2,
+                tries: Tries {
+                    count: 2,
+                    best: Some(Best::Cost),
+                },
+            }),
+        ),
         PAIR_PLAN,
     ),
     (
-        Request::Compile(CompileRequest {
-            tasks: PAIR,
-            plan: "plan",
-            out: "out",
-            deps: Deps::All,
-            dwell: 0,
-        }),
+        PLANNED,
+        Ask::OfTasks(
+            None,
+            TasksAsk::Compile(CompileRequest {
+                out: "out",
+                deps: Deps::All,
+                dwell: 0,
+            }),
+        ),
         COMPILED,
     ),
-    (Request::Verify(COMPILED_PAIR), ACCEPTED),
     (
-        Request::Run(RunRequest {
-            subject: COMPILED_PAIR,
+        COMPILED_PAIR,
+        Ask::OfTasks(None, TasksAsk::Verify),
+        ACCEPTED,
+    ),
+    (
+        FileNames {
             holds: Some("holds"),
-        }),
+            ..COMPILED_PAIR
+        },
+        Ask::OfTasks(None, TasksAsk::Run),
         HELD_TRACE,
     ),
+    (PROGRAM, Ask::Rehearse, PAIR_TEXT),
     (
-        Request::Rehearse(RehearseRequest {
-            program: "out",
-            holds: None,
-        }),
-        PAIR_TEXT,
-    ),
-    (
-        Request::Auto(AutoRequest {
-            tasks: PAIR,
-            horizon: 1024,
-            tries: ONE_TRY,
-            deps: Deps::Last,
-            holds: None,
-            numbers: false,
-        }),
+        PAIR,
+        Ask::OfTasks(
+            None,
+            TasksAsk::Auto(AutoRequest {
+                horizon: 1024,
+                tries: ONE_TRY,
+                deps: Deps::Last,
+                numbers: false,
+            }),
+        ),
         PAIR_TRACE,
     ),
     (
-        Request::Thin(ThinRequest {
-            subject: COMPILED_PAIR,
-            out: "out",
-        }),
+        COMPILED_PAIR,
+        Ask::OfTasks(None, TasksAsk::Thin("out")),
         b"awaits 2\nawaits 2\n",
     ),
-    (
-        Request::Migrate(MigrateRequest {
-            program: "out",
-            out: "out",
-        }),
-        b"bytes 48\n",
-    ),
+    (PROGRAM, Ask::Migrate("out"), b"bytes 48\n"),
 ];
 
 /// The row's request writes what is due, and nothing is refused.
@@ -240,12 +246,14 @@ fn due_request(rt: &impl Abort, alloc: Global, row: &Asked, files: &mut impl Fil
     let mut out = VecOut::new(alloc);
     let mut err = VecOut::new(alloc);
     let mut input = given(b"");
-    let status = run_request(alloc, &row.0, &mut input, files, &mut out, &mut err);
+    let (names, ask, due) = *row;
+    let request = Request { files: names, ask };
+    let status = run_request(alloc, &request, &mut input, files, &mut out, &mut err);
     due_end(
         rt,
         "request",
         (status, out.bytes(), err.bytes()),
-        (0, row.1, b""),
+        (0, due, b""),
     );
 }
 
@@ -272,12 +280,18 @@ fn requests_are_done(rt: HostRuntime) -> Result<(), Fail> {
 
 /// Whether the run of a program is asked for.
 fn is_run(request: &Request<'_>) -> bool {
-    let Request::Run(RunRequest { subject, holds }) = *request else {
+    let Ask::OfTasks(agents, TasksAsk::Run) = request.ask else {
         return false;
     };
-    let ProgramFor { tasks, program } = subject;
-    let Tasks { map, scen, agents } = tasks;
-    (map, scen, program) == ("a", "b", "c") && agents == Some(7) && holds == Some("d")
+    let FileNames {
+        map,
+        scen,
+        subject,
+        holds,
+        log,
+    } = request.files;
+    (map, scen, subject) == (Some("a"), Some("b"), Some("c"))
+        && (holds, log, agents) == (Some("d"), None, Some(7))
 }
 
 /// Whether the words of a line ask for the run of a program, are wrong, or ask for help.

@@ -10,11 +10,9 @@ returns-in-None-clause-outcome g c =
 
 pub returns-in-Some-clause-outcome : goal.returns-in-Some-clause-outcome
 returns-in-Some-clause-outcome g c =
-    let j = c.new-journal.result in
     let k = c.dispatch_led-in-Some.new.log in
-    let first = log_state (bytes_of (g.F.Files.contents j.files.now) j.name.now) j.failed in
+    let first = log_state (bytes_of (g.F.Files.contents c.args.files.now) c.in-Some.name.now) false in
     let last = log_state (bytes_of (g.F.Files.contents k.files.now) k.name.now) k.failed in
-    let begun : first ≡ log_state (bytes_of (g.F.Files.contents c.args.files.now) c.in-Some.name.now) false = rw (c.new-journal.ensures.held, c.new-journal.ensures.name, c.new-journal.ensures.works) refl in
-    let named : k.name.now ≡ c.in-Some.name.now = c.dispatch_led-in-Some.ensures.stays.1 ∙ c.new-journal.ensures.name in
+    let named : k.name.now ≡ c.in-Some.name.now = c.dispatch_led-in-Some.ensures.stays.1 in
     let ended : last ≡ log_state (bytes_of (g.F.Files.contents k.files.now) c.in-Some.name.now) k.failed = ap (λ (n : List ℕ). log_state (bytes_of (g.F.Files.contents k.files.now) n) k.failed) named in
-    rw c.in-Some.is (kept _ _ (IsLogged g.R.ReportsTo.talks c.args.input.now c.args.out.now c.dispatch_led-in-Some.new.input c.dispatch_led-in-Some.new.orders) _ _ _ _ c.in-Some.name first last k.failed begun (ended ∙ ap (λ files. log_state (bytes_of (g.F.Files.contents files) c.in-Some.name.now) k.failed) (search rules)) c.dispatch_led-in-Some.ensures.outcome)
+    rw c.in-Some.is (kept _ _ (IsLogged g.R.ReportsTo.talks c.args.input.now c.args.out.now c.dispatch_led-in-Some.new.input c.dispatch_led-in-Some.new.orders) _ _ _ _ c.in-Some.name first last k.failed refl (ended ∙ ap (λ files. log_state (bytes_of (g.F.Files.contents files) c.in-Some.name.now) k.failed) (search rules)) c.dispatch_led-in-Some.ensures.outcome)

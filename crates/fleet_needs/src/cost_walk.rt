@@ -99,7 +99,7 @@ pub struct Block {
 }
 
 /// Nothing is finished.
-fn begin<P: ProgramView>(alloc: Global, program: &P) -> Result<CostWalk, OutOfMemory>
+pub(crate) fn begin<P: ProgramView>(alloc: Global, program: &P) -> Result<CostWalk, OutOfMemory>
     requires { IsNumberedTo (P.program program.now) MAX_LEVEL }
     ensures { IfOk result (λ w. (cost : ActionId → ℕ)
         → IsCostWalk (P.program program.now) cost (P.offset program.now) w) }
@@ -214,7 +214,7 @@ fn finish<P: ProgramView, C: ActionCosts>(
 
 /// Lets agents go on until the action that the goal names is finished: its agent, and while that waits, the agents for
 /// which it does.
-fn reach<P: ProgramView, C: ActionCosts>(
+pub(crate) fn reach<P: ProgramView, C: ActionCosts>(
     alloc: Global,
     program: &P,
     costs: &C,
@@ -252,24 +252,4 @@ fn reach<P: ProgramView, C: ActionCosts>(
             }
         }
     }
-}
-
-/// All actions finished, and their costs.
-pub(crate) fn walk_all<P: ProgramView, C: ActionCosts>(
-    alloc: Global,
-    program: &P,
-    costs: &C,
-) -> Result<CostWalk, OutOfMemory>
-    requires { IsNumberedTo (P.program program.now) MAX_LEVEL }
-    ensures walk { IfOk result (IsCostWalk (P.program program.now) (C.cost costs.now)
-        (P.offset program.now)) }
-    ensures all { IfOk result (λ w. (a : ActionId) → IsAction (P.program program.now) a
-        → IsFinished w a) }
-{
-    let mut walk = begin(alloc, program)?;
-    for agent in 0..program.agents() {
-        let count = program.moves(agent);
-        reach(alloc, program, costs, &mut walk, Await { agent, count })?;
-    }
-    Ok(walk)
 }

@@ -9,9 +9,9 @@ ghost use Rattle.fleet_needs.specs.Critical.{IsNumberedTo, HasEntries, AreCritic
 
 use crate::await_places::ActionPlaces;
 use crate::cost_table::CostTable;
-use crate::cost_walk::{CostWalk, walk_all};
+use crate::cost_walk::{CostWalk, begin, reach};
 use crate::level_order::{LevelOrder, OrderSource};
-use fleet_model::{ActionId, OutOfMemory, ProgramView};
+use fleet_model::{ActionId, Await, OutOfMemory, ProgramView};
 use std::alloc::Global;
 use std::marker::Model;
 
@@ -71,7 +71,11 @@ impl CriticalCosts {
         requires { IsNumberedTo (P.program program.now) MAX_LEVEL }
         ensures { IfOk result (AreCriticalCosts (P.program program.now) (C.cost costs.now)) }
     {
-        let walk = walk_all(alloc, program, costs)?;
+        let mut walk = begin(alloc, program)?;
+        for agent in 0..program.agents() {
+            let count = program.moves(agent);
+            reach(alloc, program, costs, &mut walk, Await { agent, count })?;
+        }
         let CostWalk { places, costs, .. } = walk;
         Ok(CriticalCosts { places, costs })
     }

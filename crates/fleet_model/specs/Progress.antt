@@ -23,7 +23,7 @@ pub record Progresses (p : Program) (holds : Holds) (t : ℕ) : Type 0 where
       → IsFinishedIn p holds t a → IsFinishedIn p holds t b → ⊥
 
 -- some tick finishes the action: the one in which its critical path ends, if each action costs the ticks that it takes;
--- so not before that of its level, and at most so much later as ready agents were held before
+-- so not before that of its level, and later by no more than the ticks before in which some ready agent was held
 pub record IsFinishedInTime (p : Program) (holds : Holds) (a : ActionId) : Type 0 where
   pub tick : ℕ
   pub finished : IsFinishedIn p holds tick a

@@ -39,7 +39,7 @@ fn put_task(text: &mut Vec<u8>, width: u16, height: u16, task: Task) -> Result<(
 
 /// The written form of tasks on a map of these sizes, in the scenario format of the MovingAI benchmark (Sturtevant
 /// 2012): a version line, and a line for each task, with tabs between its nine words. The map has no name but `map`,
-/// and the distances are 0, since no planner here reads them. It fails only if memory is refused.
+/// and the distances are 0, since `read_scen` reads neither. It fails only if memory is refused.
 pub fn write_scen(
     alloc: Global,
     width: u16,

@@ -6,7 +6,7 @@ ghost use Rattle.std.specs.Fmt.{decimal};
 
 use itoa::write_digits;
 
-/// What is answered for every number that is too large: the least number above 65,535.
+/// The least number that 16 bits do not hold.
 pub const TOO_LARGE: u32 = 65_536;
 
 /// What is answered for every number that 32 bits do not hold: the least of them.

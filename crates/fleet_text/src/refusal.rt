@@ -23,7 +23,7 @@ pub trait Refusal {
         ensures { TakesAll (O.state out.old) (O.state out.new) result
             (line_text (words self.now)) };
 
-    /// Whether memory, a file, a source or a sink failed, and nothing is wrong with what was given.
+    /// Whether it is a failure.
     fn is_failure(&self) -> bool
         ensures { result ≡ is_failure self.now };
 }

@@ -11,7 +11,7 @@ ghost use Rattle.fleet.specs.Program.{AreWordsOf, ReportsNoWords, RunsProgram};
 
 use fleet_cli::{Disk, Fault, Files, refuse, run_command};
 use fleet_dispatch::ReportsTo;
-use fleet_run::{Flush, TraceOut, WriteOut, put_all};
+use fleet_text::{Flush, TraceOut, WriteOut, put_all};
 use std::alloc::Global;
 use std::env::Args;
 use std::io::{BufWriter, ErrorKind};

@@ -17,8 +17,7 @@ use crate::times_command::do_times;
 use crate::write_commands::{do_compile, do_migrate, do_thin};
 use fleet_args::{Ask, Request, TasksAsk, WordStop, read_words};
 use fleet_dispatch::ReportsTo;
-use fleet_run::{Flush, OutFault, TraceOut, put_all};
-use fleet_text::deliver;
+use fleet_text::{Flush, OutFault, TraceOut, deliver, put_all};
 use std::alloc::Global;
 
 /// What a command about tasks answers for the problem for which their texts stand. Of these commands `dispatch` alone

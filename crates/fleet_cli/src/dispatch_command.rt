@@ -20,7 +20,7 @@ use fleet_dispatch::{
     lead_on,
 };
 use fleet_model::ProgramView;
-use fleet_run::Flush;
+use fleet_text::Flush;
 use std::alloc::Global;
 
 /// How the orders of a request are given.

@@ -6,8 +6,7 @@ ghost use Rattle.fleet_cli.specs.Output.{with_labels, count_lines, report, Print
 
 use crate::fault::Fault;
 use crate::files::{Files, write_given};
-use fleet_run::{Flush, OutFault, TraceOut};
-use fleet_text::{Word, put_count, put_line};
+use fleet_text::{Flush, OutFault, TraceOut, Word, put_count, put_line};
 
 /// Writes a line for each count: its label and its number.
 #[tactic(auto, using(fleet_text::proofs::SinkLemmas::takes_then, fleet_text::proofs::SinkLemmas::takes_err_then))]

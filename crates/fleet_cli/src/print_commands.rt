@@ -15,10 +15,10 @@ use fleet_args::PlanRequest;
 use fleet_grid::Grid;
 use fleet_model::{Cell, OutOfMemory, ProgramView, Visit, total_awaits, total_moves};
 use fleet_plan::{Checked, Plan, check, read_plan, write_plan};
-use fleet_run::{Flush, OutFault, TraceOut, put_program, write_holds};
+use fleet_run::{put_program, write_holds};
 use fleet_scen::Instance;
 use fleet_search::bound;
-use fleet_text::{Word, deliver, put_all, put_count, put_line};
+use fleet_text::{Flush, OutFault, TraceOut, Word, deliver, put_all, put_count, put_line};
 use fleet_verify::{Accepted, Refused, VerifyFault, breaking_holds, verify};
 use std::alloc::Global;
 

@@ -15,8 +15,8 @@ use fleet_code::encode_shortest;
 use fleet_dispatch::{DeadRobot, TimesFault, dead_robot_of, standings_after};
 use fleet_grid::{Grid, write_map};
 use fleet_model::{Program, ProgramView, Task, total_awaits, total_moves};
-use fleet_run::Flush;
 use fleet_scen::{a_written_scenario_is_read, write_scen};
+use fleet_text::Flush;
 use fleet_verify::{Accepted, rests_are_accepted};
 use std::alloc::Global;
 

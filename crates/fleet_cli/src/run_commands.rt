@@ -19,10 +19,9 @@ use fleet_args::AutoRequest;
 use fleet_code::read_hex;
 use fleet_grid::read_map;
 use fleet_model::ProgramView;
-use fleet_run::{
-    End, Flush, HoldText, OutFault, Report, RunFault, TraceOut, rehearse, run_accepted,
-};
+use fleet_run::{End, HoldText, Report, RunFault, rehearse, run_accepted};
 use fleet_scen::read_scen;
+use fleet_text::{Flush, OutFault, TraceOut};
 use fleet_verify::Accepted;
 use std::alloc::Global;
 use std::io::Read;

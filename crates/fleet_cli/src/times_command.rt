@@ -12,7 +12,8 @@ use crate::steps::{Problem, accept};
 use fleet_args::TimesRequest;
 use fleet_dispatch::{breaks_of, costs_of};
 use fleet_model::{OutOfMemory, ProgramView, total_moves};
-use fleet_run::{Flush, put_reached, put_times};
+use fleet_run::{put_reached, put_times};
+use fleet_text::Flush;
 use fleet_verify::{
     Accepted, ActionCosts, OneEach, Stretch, Times, reached_counts, stopped_agents,
 };

@@ -14,7 +14,7 @@ use fleet_args::CompileRequest;
 use fleet_code::{encode2, load};
 use fleet_model::{OutOfMemory, total_awaits};
 use fleet_plan::{check, read_plan};
-use fleet_run::Flush;
+use fleet_text::Flush;
 use std::alloc::Global;
 
 /// The bytes of the program, as it is asked for, of the problem's plan, and its numbers. The texts are let go once they

@@ -95,13 +95,13 @@ pub use Rattle.fleet_model.specs.declared.program.Await.{Await}
 pub use Rattle.fleet_model.specs.declared.standing.Standing.{Standing}
 pub use Rattle.fleet_model.specs.declared.task.Task.{Task}
 pub use Rattle.fleet_needs.specs.declared.critical.TheConstants.{MAX_COST}
-pub use Rattle.fleet_run.proofs.HoldLaws.{dash_is, plain_is_decimal}
-pub use Rattle.fleet_run.specs.HoldText.{is_space, is_dash, plain_number}
-pub use Rattle.fleet_run.specs.Text.{place_text, number_line}
+pub use Rattle.fleet_text.proofs.PlainLaws.{plain_is_decimal}
+pub use Rattle.fleet_text.proofs.SpacedLaws.{dash_is}
 pub use Rattle.fleet_text.proofs.TextLaws.{found_at, found_nowhere}
 pub use Rattle.fleet_text.proofs.WrittenLaws.{From, from_less, from_append, from_join, decimal_from, apart_from, at_from, keeps_end}
 pub use Rattle.fleet_text.specs.Sink.{IsWorking, SinkState}
-pub use Rattle.fleet_text.specs.Text.{is_lf, Bytes, lines}
+pub use Rattle.fleet_text.specs.Text.{is_lf, is_space, is_dash, plain_number, Bytes, lines}
+pub use Rattle.fleet_text.specs.Words.{place_text, count_line}
 pub use Rattle.fleet_text.specs.declared.numbers.TheConstants.{TOO_LONG}
 pub use Rattle.fleet_verify.proofs.Claimed.{reports_hold}
 pub use Rattle.fleet_verify.proofs.CriticalPaths.{never_stuck}

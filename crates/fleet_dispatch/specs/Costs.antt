@@ -7,8 +7,7 @@ use Rattle.fleet_model.specs.Program.{Program, moves}
 use Rattle.fleet_model.specs.Chain.{IsAction}
 use Rattle.fleet_model.specs.Machine.{indices}
 use Rattle.fleet_needs.specs.declared.critical.TheConstants.{MAX_COST}
-use Rattle.fleet_text.specs.Text.{Bytes, lines}
-use Rattle.fleet_run.specs.HoldText.{is_space}
+use Rattle.fleet_text.specs.Text.{Bytes, lines, is_space}
 use Rattle.fleet_dispatch.specs.declared.form.ReportForm.TheVariants.{Numbered, Unnumbered}
 use Rattle.fleet_dispatch.specs.declared.report.Reported.{Reported}
 use Rattle.fleet_dispatch.specs.declared.costs.CostLine.{CostLine}

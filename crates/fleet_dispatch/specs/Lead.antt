@@ -6,12 +6,12 @@ use Rattle.fleet_model.specs.declared.geometry.Place.{Place}
 use Rattle.fleet_model.specs.declared.program.ActionId.{ActionId}
 use Rattle.fleet_model.specs.Program.{Program, total_moves, path}
 use Rattle.fleet_model.specs.Machine.{indices, Holds, is_among, run, count_at, is_finished}
+use Rattle.fleet_model.specs.Run.{AreOnGoals}
 use Rattle.fleet_model.specs.Claims.{holds_of, is_new}
 use Rattle.fleet_machine.specs.Confirmed.{AreAllReady}
 use Rattle.fleet_model.specs.Chain.{IsAction, DirectlyNeeds}
 use Rattle.fleet_model.specs.Schedule.{Schedule, IsBy, IsSchedule, IsSafeSchedule}
 use Rattle.fleet_model.specs.Dispatch.{Dispatch, OrdersAwait, IsCarriedOut}
-use Rattle.fleet_run.specs.Fleet.{AreOnGoals}
 use Rattle.fleet_dispatch.specs.Report.{Words, Counts, count_of, said_of, counts_after, Line}
 use Rattle.fleet_dispatch.specs.declared.form.ReportForm.{ReportForm}
 use Rattle.fleet_dispatch.specs.Ahead.{told_to, told_at, is_all_done}

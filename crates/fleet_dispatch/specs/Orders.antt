@@ -5,7 +5,7 @@ use Rattle.std.specs.Fmt.{decimal}
 use Rattle.fleet_model.specs.declared.geometry.Place.{Place}
 use Rattle.fleet_model.specs.Program.{Program, path}
 use Rattle.fleet_model.specs.Machine.{indices}
-use Rattle.fleet_run.specs.Text.{place_text, number_line}
+use Rattle.fleet_text.specs.Words.{place_text, count_line}
 use Rattle.fleet_dispatch.specs.declared.form.ReportForm.{ReportForm}
 use Rattle.fleet_dispatch.specs.declared.form.ReportForm.TheVariants.{Numbered, Unnumbered}
 use Rattle.fleet_dispatch.specs.Report.{Counts, count_of}
@@ -36,4 +36,4 @@ new_orders p form before now =
 -- what is said when all stand on their goals
 unfoldable pub closing : ℕ → ℕ → ℕ → List ℕ
 closing agents moves reports =
-    codes "arrived\n" ++ (number_line (codes "agents") agents ++ (number_line (codes "moves") moves ++ number_line (codes "reports") reports))
+    codes "arrived\n" ++ (count_line (codes "agents") agents ++ (count_line (codes "moves") moves ++ count_line (codes "reports") reports))

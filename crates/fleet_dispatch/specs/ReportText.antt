@@ -3,8 +3,7 @@ use Rattle.std.specs.Prelude.{ℕ, ◌+◌, ◌-◌, Bool, false, ◌&&◌, ◌=
 use Rattle.std.specs.List.{slice_split, join_with_byte}
 use Rattle.std.specs.Option.{option_map_or}
 use Rattle.fleet_model.specs.declared.limits.TheConstants.{MAX_AGENTS}
-use Rattle.fleet_text.specs.Text.{Bytes}
-use Rattle.fleet_run.specs.HoldText.{is_space, is_dash, plain_number}
+use Rattle.fleet_text.specs.Text.{Bytes, is_space, is_dash, plain_number}
 use Rattle.fleet_dispatch.specs.declared.form.ReportForm.{ReportForm}
 use Rattle.fleet_dispatch.specs.declared.form.ReportForm.TheVariants.{Numbered, Unnumbered}
 use Rattle.fleet_text.specs.declared.numbers.TheConstants.{TOO_LONG}

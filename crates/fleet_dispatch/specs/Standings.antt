@@ -7,7 +7,7 @@ use Rattle.fleet_model.specs.declared.geometry.Place.{Place}
 use Rattle.fleet_model.specs.declared.program.Await.{Await}
 use Rattle.fleet_model.specs.Program.{Program, moves, path, awaits_of}
 use Rattle.fleet_model.specs.Machine.{indices}
-use Rattle.fleet_run.specs.Text.{place_text}
+use Rattle.fleet_text.specs.Words.{place_text}
 use Rattle.fleet_dispatch.specs.Report.{Counts, count_of}
 use Rattle.fleet_dispatch.specs.Ahead.{is_done}
 

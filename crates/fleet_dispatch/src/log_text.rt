@@ -5,8 +5,7 @@ ghost use Rattle.fleet_dispatch.specs.ReportText.{word_text, log_line};
 
 use crate::report::{Report, Reported};
 use fleet_model::MAX_AGENTS;
-use fleet_run::write_count;
-use fleet_text::write_byte;
+use fleet_text::{write_byte, write_count};
 
 /// How many bytes the longest word of a report has, with the byte after it.
 const WORD: usize = 22;

@@ -3,8 +3,7 @@
 ghost use Rattle.std.specs.Prelude.{◌≡◌};
 ghost use Rattle.fleet_dispatch.specs.ReportText.{long_number};
 
-use fleet_run::plain_number_of;
-use fleet_text::TOO_LONG;
+use fleet_text::{TOO_LONG, plain_number_of};
 
 /// The number that a word spells without a leading zero, if 32 bits hold it.
 pub fn long_number_of(word: &[u8]) -> Option<u32>

@@ -10,8 +10,7 @@ use crate::form::ReportForm;
 use crate::log_text::write_word;
 use crate::report::Reported;
 use fleet_model::Place;
-use fleet_run::{PLACE, write_bytes, write_number_line, write_place};
-use fleet_text::{OutFault, write_byte};
+use fleet_text::{OutFault, PLACE, write_byte, write_bytes, write_count_line, write_place};
 
 /// How many bytes the longest order has: two places, the agent and the number, between a word and a line's end.
 pub const ORDER: usize = 2 * PLACE + 25;
@@ -96,9 +95,9 @@ fn write_closing(agents: u16, moves: u32, reports: u32, row: &mut [u8]) -> usize
     ensures within { result ≤ length row.new }
     ensures written { drop result row.new ≡ closing agents moves reports }
 {
-    let at = write_number_line(b"reports", reports, row, CLOSING);
-    let at = write_number_line(b"moves", moves, row, at);
-    let at = write_number_line(b"agents", agents as u32, row, at);
+    let at = write_count_line(b"reports", reports, row, CLOSING);
+    let at = write_count_line(b"moves", moves, row, at);
+    let at = write_count_line(b"agents", agents as u32, row, at);
     write_bytes(b"arrived\n", row, at)
 }
 

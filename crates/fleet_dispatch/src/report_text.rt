@@ -2,14 +2,14 @@
 
 ghost use Rattle.std.specs.Prelude.{◌≡◌, [], position, MatchBool, Some, None, IfSome, option_map};
 ghost use Rattle.std.specs.List.{slice_split};
-ghost use Rattle.fleet_run.specs.HoldText.{is_space};
+ghost use Rattle.fleet_text.specs.Text.{is_space};
 ghost use Rattle.fleet_dispatch.specs.ReportText.{is_colon, word_of, words_of, report_of, is_question, line_of, heard_line};
 
 use crate::form::ReportForm;
 use crate::number::long_number_of;
 use crate::report::{Report, Reported};
 use fleet_model::MAX_AGENTS;
-use fleet_run::{cut, is_dash};
+use fleet_text::{cut, is_dash};
 
 /// What a line says that is heard.
 #[derive(Clone, Copy)]

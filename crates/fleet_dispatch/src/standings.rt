@@ -6,8 +6,7 @@ ghost use Rattle.fleet_dispatch.specs.Standings.{await_text, standing_text};
 
 use crate::orders::add_text;
 use fleet_model::{Await, Place};
-use fleet_run::{PLACE, write_bytes, write_count, write_place};
-use fleet_text::write_byte;
+use fleet_text::{PLACE, write_byte, write_bytes, write_count, write_place};
 
 /// How many bytes the longest line has: a place and five numbers, between words.
 pub const STANDING: usize = PLACE + 72;

@@ -1,18 +1,5 @@
 -- The words of a line of holds, one after another.
-use Rattle.fleet_run.proofs.Words.{◌≡◌, ◌∙◌, ℕ, ◌+◌, ◌<◌, ◌≤◌, min, List, [], ◌∷◌, ◌++◌, length, take, drop, Option, None, Some, refl, sym, ap, subst, arith, append_assoc, position, option_map, slice_split, le-leb, lt-ltb, Bytes, is_space, plain_number, agents_of}
-use Rattle.std.proofs.lemmas.List.Splits.{slice_split_first}
-use Rattle.fleet_text.proofs.TextLaws.{found_at, found_nowhere, split_none}
-
-pub cut_at : (line : Bytes) (end : ℕ) → position is_space line ≡ Some end
-    → (slice_split is_space line ≡ take end line ∷ slice_split is_space (drop (end + 1) line)) × (end < length line)
-cut_at line end e =
-    let f = found_at is_space line end e in (
-      subst (λ (i : ℕ). slice_split is_space line ≡ take i line ∷ slice_split is_space (drop (i + 1) line)) f.0 (slice_split_first is_space line 0 f.1),
-      omega (arith, f.0, f.1),
-    )
-
-pub cut_nowhere : (line : Bytes) → position is_space line ≡ None → slice_split is_space line ≡ line ∷ []
-cut_nowhere line e = split_none is_space line (found_nowhere is_space line e)
+use Rattle.fleet_run.proofs.Words.{◌≡◌, ◌∙◌, ℕ, ◌+◌, ◌<◌, ◌≤◌, min, List, [], ◌∷◌, ◌++◌, Option, None, Some, refl, sym, ap, arith, append_assoc, option_map, le-leb, lt-ltb, Bytes, plain_number, agents_of}
 
 -- ---- the first of the words
 

@@ -1,8 +1,7 @@
 -- What a fleet shows, and what is true of it.
-use Rattle.std.specs.Prelude.{◌≡◌, ◌<◌, ℕ, false, length}
-use Rattle.fleet_model.specs.Geometry.{place_of}
-use Rattle.fleet_model.specs.Program.{Program, goal_of}
-use Rattle.fleet_model.specs.Machine.{Configuration, Holds, IsReached, is_stuck, place_at, run}
+use Rattle.std.specs.Prelude.{◌≡◌, ℕ, false}
+use Rattle.fleet_model.specs.Program.{Program}
+use Rattle.fleet_model.specs.Machine.{Configuration, Holds, IsReached, is_stuck, run}
 use Rattle.fleet_model.specs.Chain.{IsLongestChain}
 use Rattle.fleet_verify.specs.Parts.{AcceptedParts, IsAcceptedFor}
 use Rattle.fleet_machine.specs.Machine.{MachineState, Runs}
@@ -12,10 +11,6 @@ pub record FleetState (P : Type 0) : Type 0 where
   pub accepted : AcceptedParts P
   pub configuration : Configuration
   pub looked : ℕ
-
--- each agent stands on its goal
-abbrev pub AreOnGoals : Program → Configuration → Type 0
-AreOnGoals p c = (i : ℕ) → i < length p → place_at c i ≡ place_of (goal_of p i)
 
 -- what acceptance gives a run that writes its trace
 pub record IsShown (p : Program) (chain : ℕ) : Type 0 where

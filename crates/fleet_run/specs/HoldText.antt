@@ -1,9 +1,9 @@
 -- Which ticks a text of holds stands for, line by line.
-use Rattle.std.specs.Prelude.{◌≡◌, ℕ, ◌+◌, ◌<◌, Bool, true, false, not, ◌&&◌, ◌==◌, nat_le, nat_lt, List, [], ◌∷◌, map, All, Option, None, Some, option_and_then, option_map, codes, decimal, if◌then◌else◌}
+use Rattle.std.specs.Prelude.{◌≡◌, ℕ, ◌+◌, ◌<◌, Bool, false, ◌&&◌, nat_le, nat_lt, List, [], ◌∷◌, map, All, Option, None, Some, option_and_then, option_map, codes, decimal, if◌then◌else◌}
 use Rattle.std.specs.List.{slice_split, join_with_byte}
 use Rattle.std.specs.List.Sorted.{IsStrictlyIncreasing}
 use Rattle.fleet_model.specs.Machine.{Holds}
-use Rattle.fleet_text.specs.Text.{Bytes, lines, number}
+use Rattle.fleet_text.specs.Text.{Bytes, lines, is_space, is_dash, plain_number}
 use Rattle.fleet_text.specs.Words.{ended_text}
 use Rattle.fleet_run.specs.Source.{SourceState}
 use Rattle.fleet_run.specs.declared.source.SourceFault.{SourceFault}
@@ -24,16 +24,6 @@ pub record IsTickLine (n : ℕ) (line : Bytes) (held : List ℕ) : Type 0 where
 
 -- ---- the agents that a line holds, read from its front
 
--- no digit stands behind a leading zero
-abbrev pub is_plain : Bytes → Bool
-is_plain [] = true
-is_plain (d ∷ []) = true
-is_plain (d ∷ e ∷ ds) = not (d == 48)
-
--- the number that a word spells without a leading zero, if it spells one
-abbrev pub plain_number : Bytes → Option ℕ
-plain_number word = if is_plain word then number word else None
-
 -- the agents below n that the words name in strictly rising order from the number `least` on, if they do
 abbrev pub agents_of : ℕ → ℕ → List Bytes → Option (List ℕ)
 agents_of n least [] = Some []
@@ -41,16 +31,6 @@ agents_of n least (word ∷ words) =
     option_and_then
     (λ i. if nat_le least i && nat_lt i n then option_map (λ others. i ∷ others) (agents_of n (i + 1) words) else None)
     (plain_number word)
-
--- the byte between two numbers
-abbrev pub is_space : ℕ → Bool
-is_space b = b == 32
-
--- whether it is the line of the tick that holds nobody
-abbrev pub is_dash : Bytes → Bool
-is_dash [] = false
-is_dash (b ∷ []) = b == 45
-is_dash (b ∷ c ∷ bs) = false
 
 -- the agents that a line holds, if it is the line of a tick of n agents
 abbrev pub tick_of : ℕ → Bytes → Option (List ℕ)

@@ -8,8 +8,7 @@ use Rattle.fleet_model.specs.declared.geometry.Step.{Step}
 use Rattle.fleet_model.specs.declared.geometry.Step.TheVariants.{Go, Dwell}
 use Rattle.fleet_model.specs.declared.program.Await.{Await}
 use Rattle.fleet_model.specs.Program.{Program, start_of, goal_of, moves, step_of, awaits_of, path}
-use Rattle.fleet_text.specs.Words.{pair_text, numbered_text, with_spaces, line_text, next_words}
-use Rattle.fleet_run.specs.Text.{place_text}
+use Rattle.fleet_text.specs.Words.{pair_text, place_text, numbered_text, with_spaces, line_text, next_words}
 
 -- a direction by its name
 abbrev pub dir_name : Dir → List ℕ

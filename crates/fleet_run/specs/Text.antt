@@ -1,16 +1,12 @@
 -- The texts of a run.
 use Rattle.std.specs.Prelude.{ℕ, zero, suc, ◌+◌, List, [], ◌++◌, length, codes, if◌then◌else◌}
 use Rattle.std.specs.List.{flat_map}
-use Rattle.std.specs.Fmt.{decimal, signed_decimal}
-use Rattle.fleet_model.specs.declared.geometry.Place.{Place}
+use Rattle.std.specs.Fmt.{decimal}
+use Rattle.fleet_text.specs.Words.{place_text, count_line}
 use Rattle.fleet_run.specs.declared.run.End.{End}
 use Rattle.fleet_run.specs.declared.run.End.TheVariants.{Finished, Stuck}
 use Rattle.fleet_model.specs.Program.{Program}
 use Rattle.fleet_model.specs.Machine.{Configuration, Holds, run, held_ticks, is_finished}
-
--- a place, after a space: ` x,y`
-abbrev pub place_text : Place → List ℕ
-place_text q = codes " " ++ (signed_decimal q.x ++ (codes "," ++ signed_decimal q.y))
 
 -- the line of time t: `t: x,y x,y ..`
 abbrev pub line_of : ℕ → Configuration → List ℕ
@@ -21,10 +17,6 @@ abbrev pub lines_below : Program → Holds → ℕ → List ℕ
 lines_below p holds zero = []
 lines_below p holds (suc n) = lines_below p holds n ++ line_of n (run p holds n)
 
--- a word with its number, in a line
-abbrev pub number_line : List ℕ → ℕ → List ℕ
-number_line word n = word ++ (codes " " ++ (decimal n ++ codes "\n"))
-
 -- the last line of a rehearsal that ended so
 abbrev pub last_line_of : End → List ℕ
 last_line_of Finished = codes "finished\n"
@@ -33,8 +25,8 @@ last_line_of Stuck = codes "stuck\n"
 -- what closes a rehearsal
 abbrev pub closing_lines : ℕ → ℕ → ℕ → End → List ℕ
 closing_lines agents ticks held end =
-    number_line (codes "agents") agents ++ (number_line (codes "ticks") ticks
-    ++ (number_line (codes "held") held ++ last_line_of end))
+    count_line (codes "agents") agents ++ (count_line (codes "ticks") ticks
+    ++ (count_line (codes "held") held ++ last_line_of end))
 
 -- the same of the rehearsal of a program that ends after this number of ticks
 abbrev pub rehearsal_closing : Program → Holds → ℕ → List ℕ
@@ -48,8 +40,8 @@ rehearsal_text p holds ticks = lines_below p holds (ticks + 1) ++ rehearsal_clos
 -- what closes a trace
 abbrev pub trace_closing : ℕ → ℕ → ℕ → ℕ → List ℕ
 trace_closing agents ticks chain held =
-    number_line (codes "agents") agents ++ (number_line (codes "ticks") ticks
-    ++ (number_line (codes "chain") chain ++ number_line (codes "held") held))
+    count_line (codes "agents") agents ++ (count_line (codes "ticks") ticks
+    ++ (count_line (codes "chain") chain ++ count_line (codes "held") held))
 
 -- the text of the run of an accepted program, which ends after this number of ticks
 abbrev pub trace_text : Program → Holds → ℕ → ℕ → List ℕ

@@ -5,7 +5,7 @@
 //! `hold_writing` writes the text that `HoldText` reads. A `Fleet` (`fleet`) has a `Machine`, and so has `rehearse`
 //! (`report`), which runs any program; both go through the one loop of `run`, a `Fleet` by `drive` and `trace`: at each
 //! time `pass_time` writes the line, and then `next_unless_over` asks the source, unless the run has ended there;
-//! `tick_row` is the tick. `trace` writes places and closing lines, and `times_text` times; `accepted_run` runs an
+//! `tick_row` is the tick. `trace` writes closing lines, and `times_text` times; `accepted_run` runs an
 //! accepted program in one call. A line of a run is kept from tick to tick in a row of bytes (`line`), of which mostly
 //! the last digits change, and handed to the sink whole. A sink may keep back what it took until it is flushed.
 //! `listing` is one pass over a program, which gathers its lines in a row of bytes of its own.
@@ -26,15 +26,12 @@ mod trace;
 pub use accepted_run::run_accepted;
 pub use fleet::{Fleet, NotSent, StartRefusal, drive};
 pub use fleet_machine::Tick;
-pub use fleet_text::{Flush, OutFault, TraceOut, VecOut, WriteOut, put_all};
+pub use fleet_text::{OutFault, TraceOut, VecOut, WriteOut};
 pub use hold_list::HoldList;
 pub use hold_writing::write_holds;
 pub use listing::put_program;
 pub use report::{Rehearsal, rehearse};
 pub use run::{End, MAX_RUN_TICKS, RunFault};
-pub use source::{
-    HoldSource, HoldText, SourceFault, a_tick_line_is_read, clear, cut, is_dash, plain_number_of,
-    set_tick, space_in,
-};
+pub use source::{HoldSource, HoldText, SourceFault, a_tick_line_is_read, clear, set_tick};
 pub use times_text::{put_reached, put_times};
-pub use trace::{PLACE, Report, write_bytes, write_count, write_number_line, write_place};
+pub use trace::Report;

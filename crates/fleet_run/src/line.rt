@@ -8,10 +8,10 @@ ghost use Rattle.fleet_model.specs.declared.standing.Standing.{Standing};
 ghost use Rattle.fleet_model.specs.Machine.{Configuration, standing_at};
 ghost use Rattle.fleet_run.specs.Line.{AreClose, EndsWith, HasNumerals, HaveOtherTens, IsBeside, IsDigit, IsDigitOver, IsLineKept, IsKeptBefore, IsNumeralAt, IsResized, LacksPlace, LacksRoom, Numeral, WritesOver, numeral, numeral_text, places_of};
 
-use crate::trace::{LINE, NUMBER, write_count, write_separated};
+use crate::trace::LINE;
 use fleet_machine::Machine;
 use fleet_model::{MAX_AGENTS, Place, Standing};
-use fleet_text::write_byte;
+use fleet_text::{NUMBER, write_byte, write_count, write_separated};
 
 /// How many numbers a line has at most, besides the time.
 pub const NUMERALS: usize = 2 * MAX_AGENTS;

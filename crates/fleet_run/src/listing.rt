@@ -5,13 +5,13 @@ ghost use Rattle.fleet_model.specs.Program.{IsWellFormed, path, awaits_of};
 ghost use Rattle.fleet_model.specs.Chain.{IsAction};
 ghost use Rattle.fleet_text.specs.Sink.{IsWorking, TakesAll};
 ghost use Rattle.fleet_text.specs.Row.{Gathers};
-ghost use Rattle.fleet_text.specs.Words.{with_spaces, next_words, numbered_text};
-ghost use Rattle.fleet_run.specs.Text.{place_text};
+ghost use Rattle.fleet_text.specs.Words.{place_text, with_spaces, next_words, numbered_text};
 ghost use Rattle.fleet_run.specs.Listing.{dir_name, step_words, await_text, await_words, agent_line, action_line, actions_text, agent_text, program_text};
 
-use crate::trace::{PLACE, write_place};
 use fleet_model::{ActionId, Cell, Dir, Place, ProgramView, Step};
-use fleet_text::{OutFault, Row, TraceOut, Word, put_line, put_next_word, put_words};
+use fleet_text::{
+    OutFault, PLACE, Row, TraceOut, Word, put_line, put_next_word, put_words, write_place,
+};
 
 fn dir_name(dir: Dir) -> &'static str
     ensures { result.now ≡ dir_name dir }

@@ -1,13 +1,13 @@
 //! Sources of holds, and the one that reads a text.
 
-ghost use Rattle.std.specs.Prelude.{◌≡◌, ℕ, ◌<◌, not, length, true, [], ◌∷◌, List, ◌↔◌, MatchBool, MatchOption, IfSome, None, Some, min, option_map, position};
+ghost use Rattle.std.specs.Prelude.{◌≡◌, ℕ, ◌<◌, [], List, ◌↔◌, MatchBool, None, Some};
 ghost use Rattle.fleet_run.specs.Source.{HasNotFailed, CanBeAsked, GivesTick, AsksTick, AreFlagsOf};
 ghost use Rattle.fleet_machine.specs.Machine.{flag_of};
 ghost use Rattle.std.specs.List.{slice_split};
-ghost use Rattle.fleet_text.specs.Text.{lines};
-ghost use Rattle.fleet_run.specs.HoldText.{is_space, is_dash, plain_number, agents_of, tick_of, IsTickLine};
+ghost use Rattle.fleet_text.specs.Text.{lines, is_space};
+ghost use Rattle.fleet_run.specs.HoldText.{agents_of, tick_of, IsTickLine};
 
-use fleet_text::{TOO_LONG, next_line, number_of};
+use fleet_text::{cut, is_dash, next_line, plain_number_of};
 use std::marker::Model;
 
 /// How a source failed: it broke off, or the line that was asked for is no tick's.
@@ -140,13 +140,6 @@ pub fn set_tick(line: &[u8], agents: u16, flags: &mut [bool]) -> bool
     is_dash(line) || set_agents(line, agents, flags)
 }
 
-/// Whether it is the line `-`, which names nobody.
-pub fn is_dash(line: &[u8]) -> bool
-    ensures { result ≡ is_dash line.now }
-{
-    matches!(line, [b'-'])
-}
-
 /// Sets the flags of the agents that the words between the line's spaces name. Answers whether they do, in strictly
 /// rising order.
 fn set_agents(line: &[u8], agents: u16, flags: &mut [bool]) -> bool
@@ -175,36 +168,6 @@ fn set_agents(line: &[u8], agents: u16, flags: &mut [bool]) -> bool
         };
         rest = after;
         least = agent + 1;
-    }
-}
-
-/// The bytes of the line before its first space, and those after it, if there is a space.
-pub fn cut(line: &[u8]) -> (&[u8], Option<&[u8]>)
-    ensures words { MatchOption result.1
-        (slice_split is_space line.now ≡ result.0.now ∷ [])
-        (λ after. slice_split is_space line.now ≡ result.0.now ∷ slice_split is_space after.now) }
-    ensures shorter { IfSome result.1 (λ after. length after.now < length line.now) }
-{
-    match space_in(line) {
-        Some(end) => (&line[..end], Some(&line[end + 1..])),
-        None => (line, None),
-    }
-}
-
-/// Where the first space is.
-pub fn space_in(line: &[u8]) -> Option<usize>
-    ensures { result ≡ position is_space line.now }
-{
-    line.iter().position(|b| *b == b' ')
-}
-
-/// The number that a word spells without a leading zero. From `TOO_LONG` on it is `TOO_LONG`.
-pub fn plain_number_of(word: &[u8]) -> Option<u64>
-    ensures { result ≡ option_map (λ n. min n TOO_LONG) (plain_number word.now) }
-{
-    match word {
-        [b'0', _, ..] => None,
-        _ => number_of(word),
     }
 }
 

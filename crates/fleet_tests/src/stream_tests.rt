@@ -15,9 +15,9 @@ use fleet_dispatch::{
 };
 use fleet_model::{Place, ProgramView};
 use fleet_run::{
-    Fleet, Flush, HoldSource, HoldText, RunFault, SourceFault, TraceOut, VecOut, WriteOut, drive,
-    put_all, rehearse,
+    Fleet, HoldSource, HoldText, RunFault, SourceFault, TraceOut, VecOut, WriteOut, drive, rehearse,
 };
+use fleet_text::{Flush, put_all};
 use std::alloc::Global;
 use std::io::ErrorKind;
 use std::process::Abort;

@@ -11,7 +11,8 @@ use crate::fleets::{
 use fleet_cli::Fault;
 use fleet_code::{encode, load, view};
 use fleet_model::{ActionId, Program, ProgramView, Visit};
-use fleet_run::{TraceOut, VecOut, put_all, write_holds};
+use fleet_run::{TraceOut, VecOut, write_holds};
+use fleet_text::put_all;
 use fleet_verify::{
     Accepted, ActionCosts, OneEach, Reach, Refused, Stretch, Times, VerifyFault, breaking_holds,
     reached_counts, stopped_agents, verify,

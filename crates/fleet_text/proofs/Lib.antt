@@ -5,3 +5,5 @@ pub mod DigitLemmas
 pub mod SinkLemmas
 pub mod WrittenLaws
 pub mod NumberedLemmas
+pub mod PlainLaws
+pub mod SpacedLaws

@@ -1,5 +1,5 @@
 -- Lines, words and numbers of a text, which is a list of bytes.
-use Rattle.std.specs.Prelude.{ℕ, ◌+◌, ◌-◌, ◌*◌, Bool, true, false, ◌||◌, ◌==◌, List, [], ◌∷◌, map, filter, Option, Some, None, if◌then◌else◌, nat_lt, min, option_and_then}
+use Rattle.std.specs.Prelude.{ℕ, ◌+◌, ◌-◌, ◌*◌, Bool, true, false, not, ◌||◌, ◌==◌, List, [], ◌∷◌, map, filter, Option, Some, None, if◌then◌else◌, nat_lt, min, option_and_then}
 use Rattle.std.specs.List.{slice_split, onto_first}
 use Rattle.std.specs.Int.{is_in_range}
 use Rattle.std.specs.Str.Lines.{strip_carriage_return}
@@ -44,6 +44,16 @@ starts_blank (b ∷ line) = is_blank b
 abbrev pub words_from_front : Bytes → List Bytes
 words_from_front line = if starts_blank line then [] else words line
 
+-- the byte between two words of a line that has one space between two
+abbrev pub is_space : ℕ → Bool
+is_space b = b == 32
+
+-- whether it is the line `-`, which has no words
+abbrev pub is_dash : Bytes → Bool
+is_dash [] = false
+is_dash (b ∷ []) = b == 45
+is_dash (b ∷ c ∷ bs) = false
+
 -- a digit in base ten
 abbrev pub is_digit : ℕ → Bool
 is_digit b = is_in_range 48 57 b
@@ -71,6 +81,16 @@ number_after n (d ∷ digits) = if is_digit d then number_after (10 * n + (d - 4
 unfoldable pub number : Bytes → Option ℕ
 number [] = None
 number (d ∷ digits) = number_after 0 (d ∷ digits)
+
+-- no digit stands behind a leading zero
+abbrev pub is_plain : Bytes → Bool
+is_plain [] = true
+is_plain (d ∷ []) = true
+is_plain (d ∷ e ∷ ds) = not (d == 48)
+
+-- the number that a word spells without a leading zero, if it spells one
+abbrev pub plain_number : Bytes → Option ℕ
+plain_number word = if is_plain word then number word else None
 
 -- the number, if it is not too large
 abbrev pub small : ℕ → Option ℕ

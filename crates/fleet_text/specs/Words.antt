@@ -1,12 +1,18 @@
 -- Words, lines of words, and texts of lines.
-use Rattle.std.specs.Prelude.{ℕ, zero, suc, List, [], ◌∷◌, ◌++◌, map, decimal}
+use Rattle.std.specs.Prelude.{ℕ, zero, suc, List, [], ◌∷◌, ◌++◌, map, codes, decimal}
+use Rattle.std.specs.Fmt.{signed_decimal}
 use Rattle.std.specs.List.{flat_map, join_with_byte, range_with_len}
+use Rattle.fleet_model.specs.declared.geometry.Place.{Place}
 use Rattle.fleet_text.specs.declared.writing.Word.{Word}
 use Rattle.fleet_text.specs.declared.writing.Word.TheVariants.{Text, Number, Label, Pair, Of}
 
 -- two numbers as `x,y`
 abbrev pub pair_text : ℕ → ℕ → List ℕ
 pair_text x y = (decimal x ++ 44 ∷ []) ++ decimal y
+
+-- a place, after a space: ` x,y`
+abbrev pub place_text : Place → List ℕ
+place_text q = codes " " ++ (signed_decimal q.x ++ (codes "," ++ signed_decimal q.y))
 
 -- a number and another that counts within it, as `a:n`
 abbrev pub numbered_text : ℕ → ℕ → List ℕ
@@ -57,4 +63,4 @@ next_words (word ∷ words) = 32 ∷ word ++ next_words words
 
 -- a word and its number, in a line
 unfoldable pub count_line : List ℕ → ℕ → List ℕ
-count_line word n = line_text (word ∷ decimal n ∷ [])
+count_line word n = word ++ (codes " " ++ (decimal n ++ codes "\n"))

@@ -1,7 +1,7 @@
 //! Numbers that words spell, and the digits of a number.
 
 ghost use Rattle.std.specs.Prelude.{◌≡◌, ◌-◌, ◌<◌, true, false, Some, IfSome, IfNone, min, option_map, ◌+◌, ◌≤◌, ◌++◌, ◌∷◌, length, drop};
-ghost use Rattle.fleet_text.specs.Text.{is_digit, number_front, at_most, number, small_number, small_number_front};
+ghost use Rattle.fleet_text.specs.Text.{is_digit, number_front, at_most, number, plain_number, small_number, small_number_front};
 ghost use Rattle.std.specs.Fmt.{decimal};
 
 use itoa::write_digits;
@@ -43,6 +43,16 @@ pub fn number_of(word: &[u8]) -> Option<u64>
 {
     let (number, rest) = number_front(word)?;
     if rest.is_empty() { Some(number) } else { None }
+}
+
+/// The number that a word spells without a leading zero. From `TOO_LONG` on it is `TOO_LONG`.
+pub fn plain_number_of(word: &[u8]) -> Option<u64>
+    ensures { result ≡ option_map (λ n. min n TOO_LONG) (plain_number word.now) }
+{
+    match word {
+        [b'0', _, ..] => None,
+        _ => number_of(word),
+    }
 }
 
 /// The number that a word of digits spells, if it is at most 65,535.

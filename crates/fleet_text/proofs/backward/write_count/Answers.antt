@@ -1,7 +1,7 @@
 use Rattle.std.proofs.Common.{◌≤◌, ◌<◌, ◌^◌, length, arith}
 use Rattle.std.specs.Fmt.{decimal}
 use Rattle.std.proofs.lemmas.Fmt.{length-decimal-le}
-use Rattle.fleet_run.proofs.trace.write_count.Goals as goal
+use Rattle.fleet_text.proofs.backward.write_count.Goals as goal
 
 few_digits : (n : _) → n < 2 ^ 32 → length (decimal n) ≤ 10
 few_digits n small = length-decimal-le 10 n (omega arith) (omega arith) (omega arith)

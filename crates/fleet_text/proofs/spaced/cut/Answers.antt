@@ -1,6 +1,7 @@
-use Rattle.fleet_run.proofs.Words.{sym, take_rest}
-use Rattle.fleet_run.proofs.HoldLemmas.{cut_at, cut_nowhere}
-use Rattle.fleet_run.proofs.source.cut.Goals as goal
+use Rattle.std.proofs.Common.{sym}
+use Rattle.std.proofs.lemmas.List.{take_rest}
+use Rattle.fleet_text.proofs.SpacedLaws.{cut_at, cut_nowhere}
+use Rattle.fleet_text.proofs.spaced.cut.Goals as goal
 
 pub returns-in-Some-clause-words : goal.returns-in-Some-clause-words
 returns-in-Some-clause-words c = rw take_rest (cut_at c.args.line.now c.in-Some.end (sym c.in-Some.ensures)).0

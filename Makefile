@@ -15,7 +15,7 @@ FLEET = $(BUILT)
 # The library for callers in C. LIBRARY= leaves it out, and so it is where there is no C compiler.
 LIBRARY = $(shell command -v cc > /dev/null && command -v objcopy > /dev/null && echo crates/fleet_c/out/library)
 ARCHIVE = $(LIBRARY:%=%/libfleet.a)
-SIDE_BY_SIDE = awk -v script=$(1) -v jobs=$(JOBS) -v crate=$(2) -f tools/checks.awk crates.txt | $(MAKE) -j 3 -f -
+SIDE_BY_SIDE = awk -v script=$(1) -v jobs=$(JOBS) -v crate=$(2) -f tools/checks.awk crates.txt | $(MAKE) -j $(if $(filter 1 2,$(JOBS)),2,3) -f -
 SOURCES = crates.txt $(shell find crates -path '*/out' -prune -o \( -name '*.rt' -o -name '*.antt' \) -print)
 
 WAREHOUSE = examples/warehouse.map examples/warehouse.scen

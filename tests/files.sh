@@ -92,7 +92,7 @@ script kill_writers <<'EOF'
 #!/bin/sh
 W='examples/warehouse.map examples/warehouse.scen'
 fleet plan $W > plan && fleet compile $W plan whole --deps all > said || exit
-for after in $(awk 'BEGIN { s = 271; for (k = 0; k < 40; k++) { s = s * 16807 % 2147483647; printf "0.%05d\n", s % 4000 } }'); do
+for after in 0.001 $(awk 'BEGIN { s = 271; for (k = 0; k < 40; k++) { s = s * 16807 % 2147483647; printf "0.%05d\n", s % 4000 } }'); do
     echo old > out
     timeout -s KILL "$after" fleet compile $W plan out --deps all > /dev/null 2>&1
     [ "$?" -lt 128 ] || was=killed

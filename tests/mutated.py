@@ -300,7 +300,7 @@ def case(rng, fleet):
     for name in set(words) & set(texts):
         with open(name, "wb") as file:
             file.write(texts[name])
-    ran = subprocess.run([fleet, *words], input=texts["hex"], capture_output=True)
+    ran = subprocess.run([fleet, *words], input=texts["hex"], capture_output=True, timeout=60)
     due = due_of(kind, texts)
     out = open("out", "rb").read() if "out" in words else b"old"
     got = ran.stdout.decode(), ran.stderr.decode(), ran.returncode, None if out == b"old" else out

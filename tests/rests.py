@@ -349,7 +349,7 @@ def is_judged(program, free, said, told):
     words = told[0].split() if told else []
     if words[:3] == ["verify", "7", "Cyclic"]:
         ring = [tuple(map(int, word.split(":"))) for word in words[3:]]
-        return not said and all(before in needs(program, action) for before, action in zip(ring[-1:] + ring, ring))
+        return not said and bool(ring) and all(before in needs(program, action) for before, action in zip(ring[-1:] + ring, ring))
     if words[:4] == ["verify", "8", "Unordered", "cell"]:
         holds = [[int(word) for word in line.split()] if line != "-" else [] for line in said]
         row, cell = run(program, holds, len(holds))[-1], tuple(map(int, words[4].split(",")))
@@ -375,11 +375,11 @@ def case(rng, k, fleet, seen):
         file.write(bytes_of(program))
 
     def says(command, *words):
-        ran = subprocess.run([fleet, command, "map", "scen", "program", *words], capture_output=True, text=True)
+        ran = subprocess.run([fleet, command, "map", "scen", "program", *words], capture_output=True, text=True, timeout=60)
         return ran.stdout.splitlines() if not ran.returncode and not ran.stderr else ran.stderr
     numbers = says("rest", "log", "left.scen", "left.program", "--without",
                    ":".join(["%d" % dead] + ["%d,%d" % cell for cell in cells]), "--map-out", "left.map", "--others-out", "others.scen")
-    listed = subprocess.run([fleet, "list", "left.program"], capture_output=True, text=True).stdout.splitlines()
+    listed = subprocess.run([fleet, "list", "left.program"], capture_output=True, text=True, timeout=60).stdout.splitlines()
     awaits = sum(len(action[1]) for agent in left for action in agent.actions)
     answers = [
         (says("times"), times(program, lambda action: 1)),
@@ -394,7 +394,7 @@ def case(rng, k, fleet, seen):
     other = changed(rng, program)
     with open("other", "wb") as file:
         file.write(bytes_of(other))
-    ran = subprocess.run([fleet, "verify", "map", "scen", "other"], capture_output=True, text=True)
+    ran = subprocess.run([fleet, "verify", "map", "scen", "other"], capture_output=True, text=True, timeout=60)
     said, told = ran.stdout.splitlines(), ran.stderr.splitlines()
     seen.add(" ".join((told or said)[0].split()[:3]))
     if not is_judged(other, free, said, told):
@@ -411,8 +411,9 @@ def main(fleet, count="10000", seed="1"):
                 print("case %d:" % k, got, "due", due)
                 sys.exit(1)
         os.chdir("/")
+    if len(seen) != 6:
+        sys.exit("rests: only these verdicts: " + ", ".join(sorted(seen)))
     print("rests:", count, "cases compared,", len(seen), "verdicts")
-    sys.exit(len(seen) != 6)
 
 
 if __name__ == "__main__":

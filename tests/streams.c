@@ -3,7 +3,8 @@
 // program opens take TAKES bytes and give GIVES, all together, and they and the folder FOLDER are put on the disk SYNCS
 // times. Then each answers the error whose number is in WAY, or, if that is 0, takes or gives nothing. With KILL the
 // program is killed as it writes to a file, makes one shorter or puts one on the disk, for the time of that number,
-// counted from 1. The file named by WRITES, if any, gets how often standard error was written to.
+// counted from 1. With SHRINKS=0 no file can be made shorter. The file named by WRITES, if any, gets how often standard
+// error was written to.
 #define _GNU_SOURCE
 #include "counts.h"
 #include <dlfcn.h>

@@ -89,7 +89,7 @@ fleet plan $W > plan && fleet compile $W plan many > said && fleet list many | a
 fleet dispatch $W many < all 2> /dev/null | sort > many.due
 : > many.log
 : > many.orders
-for after in $(awk 'BEGIN { s = 271; for (k = 0; k < 12; k++) { s = s * 16807 % 2147483647; printf "0.%05d\n", s % 6000 } }') 100; do
+for after in 0.001 $(awk 'BEGIN { s = 271; for (k = 0; k < 12; k++) { s = s * 16807 % 2147483647; printf "0.%05d\n", s % 6000 } }') 100; do
     tail -n "+$(($(wc -l < many.log) + 1))" all |
         timeout -s KILL "$after" fleet dispatch $W many --resume many.log --log many.log 2> /dev/null | grep '^go .* .*,.* .*,' >> many.orders
     head -c "$(wc -c < many.log)" all | cmp - many.log || exit

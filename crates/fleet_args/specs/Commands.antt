@@ -4,12 +4,11 @@ use Rattle.std.specs.{List.find, Str.bytes_eq}
 use Rattle.clap.specs.Words.{App, Shape, Text, new_app, with_subcommand}
 pub use Rattle.fleet_args.specs.{Arguments.AreNames, declared.arguments.OptionNames.OptionNames}
 use Rattle.fleet_args.specs.Arguments.{shape_in}
-use Rattle.fleet_args.specs.Values.{Values, IsText, IsTextIfUsed, IsEitherIfUsed, IsNumberIfUsed, IsNumberOr, AreDepsOr, IsBestIfUsed, IsFlag}
-use Rattle.fleet_args.specs.declared.{arguments.Argument.Argument, commands.Ask.Ask, commands.FileNames.FileNames, commands.Request.Request, commands.TasksAsk.TasksAsk, commands.Tries.Tries}
+use Rattle.fleet_args.specs.Values.{Values, IsText, IsTextIfUsed, IsNumberIfUsed, IsNumberOr, AreDepsOr, IsBestIfUsed, IsFlag}
+use Rattle.fleet_args.specs.declared.{arguments.Argument.Argument, commands.ProgramFor.ProgramFor, commands.Tasks.Tasks, commands.Tries.Tries, commands.Request.Request}
 use Rattle.fleet_model.specs.declared.deps.Deps.TheVariants.{Last}
 use Rattle.fleet_args.specs.declared.arguments.Argument.TheVariants as a
-use Rattle.fleet_args.specs.declared.commands.Ask.TheVariants as q
-use Rattle.fleet_args.specs.declared.commands.TasksAsk.TheVariants as t
+use Rattle.fleet_args.specs.declared.commands.Request.TheVariants as r
 
 -- the command line before it has commands: its words do not begin with the program's name, it has a version, and one of
 -- the commands is wanted
@@ -53,46 +52,45 @@ IsCommand c = (name : Text) × (find (λ d. bytes_eq d.0 name) commands ≡ Some
 abbrev pub IsCommandName : Text → Type 0
 IsCommandName name = IsSome (find (λ c. bytes_eq name c.0) commands)
 
--- the files that are named. A command has no value of an argument that is none of its own
-pub record AsksFiles (values : Values) (files : FileNames) : Type 0 where
-  pub map : IsTextIfUsed values (codes "map") files.map
-  pub scen : IsTextIfUsed values (codes "scen") files.scen
-  pub subject : IsEitherIfUsed values (codes "plan") (codes "program") files.subject
-  pub holds : IsEitherIfUsed values (codes "holds") (codes "costs") files.holds
-  pub log : IsEitherIfUsed values (codes "resume") (codes "reports") files.log
+-- a map, a scenario and how many of its agents are asked for
+abbrev pub AsksTasks : Values → Tasks → Type 0
+AsksTasks values t = IsText values (codes "map") t.map × IsText values (codes "scen") t.scen × IsNumberIfUsed 16 values (codes "agents") t.agents
+
+-- the same with a program
+abbrev pub AsksProgram : Values → ProgramFor → Type 0
+AsksProgram values p = AsksTasks values p.tasks × IsText values (codes "program") p.program
 
 -- how many orders are tried, and what makes a plan the best
 abbrev pub AsksTries : Values → Tries → Type 0
 AsksTries values tries = IsNumberOr 1 32 values (codes "tries") tries.count × IsBestIfUsed values (codes "best") tries.best
 
--- the command of this name, with these values of its arguments, asks this about tasks
-abbrev pub AsksOfTasks : Text → Values → TasksAsk → Type 0
-AsksOfTasks name values t.Instance = name ≡ codes "instance"
-AsksOfTasks name values (t.Check numbers) = (name ≡ codes "check") × IsFlag values (codes "numbers") numbers
-AsksOfTasks name values (t.Plan q) = (name ≡ codes "plan") × IsNumberOr 1024 16 values (codes "horizon") q.horizon × AsksTries values q.tries
-AsksOfTasks name values (t.Compile q) =
-    (name ≡ codes "compile") × IsText values (codes "out") q.out × AreDepsOr Last values (codes "deps") q.deps × IsNumberOr 0 32 values (codes "dwell") q.dwell
-AsksOfTasks name values t.Verify = name ≡ codes "verify"
-AsksOfTasks name values t.Run = name ≡ codes "run"
-AsksOfTasks name values (t.Auto q) =
-    (name ≡ codes "auto") × IsNumberOr 1024 16 values (codes "horizon") q.horizon × AsksTries values q.tries × AreDepsOr Last values (codes "deps") q.deps
-    × IsFlag values (codes "numbers") q.numbers
-AsksOfTasks name values (t.Thin out) = (name ≡ codes "thin") × IsText values (codes "out") out
-AsksOfTasks name values (t.Dispatch q) =
-    (name ≡ codes "dispatch") × IsNumberOr 1 16 values (codes "ahead") q.ahead × IsFlag values (codes "unnumbered") q.unnumbered
-    × IsTextIfUsed values (codes "log") q.log
-AsksOfTasks name values (t.Times q) = (name ≡ codes "times") × IsTextIfUsed values (codes "costs") q.costs × IsTextIfUsed values (codes "broken") q.broken
-AsksOfTasks name values (t.Rest q) =
-    (name ≡ codes "rest") × IsText values (codes "scen_out") q.scen_out × IsText values (codes "program_out") q.program_out
-    × IsTextIfUsed values (codes "without") q.without × IsTextIfUsed values (codes "map-out") q.map_out × IsTextIfUsed values (codes "others-out") q.others_out
-
--- .. or this, about tasks or not
-abbrev pub AsksBy : Text → Values → Ask → Type 0
-AsksBy name values (q.OfTasks agents ask) = IsNumberIfUsed 16 values (codes "agents") agents × AsksOfTasks name values ask
-AsksBy name values q.Rehearse = name ≡ codes "rehearse"
-AsksBy name values (q.Migrate out) = (name ≡ codes "migrate") × IsText values (codes "out") out
-AsksBy name values q.List = name ≡ codes "list"
-
--- .. of these files
+-- the command of this name, with these values of its arguments, asks this
 abbrev pub AsksCommand : Text → Values → Request → Type 0
-AsksCommand name values request = AsksFiles values request.files × AsksBy name values request.ask
+AsksCommand name values (r.Instance q) = (name ≡ codes "instance") × AsksTasks values q
+AsksCommand name values (r.Check q) =
+    (name ≡ codes "check") × AsksTasks values q.tasks × IsText values (codes "plan") q.plan × IsFlag values (codes "numbers") q.numbers
+AsksCommand name values (r.Plan q) =
+    (name ≡ codes "plan") × AsksTasks values q.tasks × IsNumberOr 1024 16 values (codes "horizon") q.horizon × AsksTries values q.tries
+AsksCommand name values (r.Compile q) =
+    (name ≡ codes "compile") × AsksTasks values q.tasks × IsText values (codes "plan") q.plan × IsText values (codes "out") q.out
+    × AreDepsOr Last values (codes "deps") q.deps × IsNumberOr 0 32 values (codes "dwell") q.dwell
+AsksCommand name values (r.Verify q) = (name ≡ codes "verify") × AsksProgram values q
+AsksCommand name values (r.Run q) = (name ≡ codes "run") × AsksProgram values q.subject × IsTextIfUsed values (codes "holds") q.holds
+AsksCommand name values (r.Rehearse q) = (name ≡ codes "rehearse") × IsText values (codes "program") q.program × IsTextIfUsed values (codes "holds") q.holds
+AsksCommand name values (r.Auto q) =
+    (name ≡ codes "auto") × AsksTasks values q.tasks × IsNumberOr 1024 16 values (codes "horizon") q.horizon × AsksTries values q.tries
+    × AreDepsOr Last values (codes "deps") q.deps × IsTextIfUsed values (codes "holds") q.holds × IsFlag values (codes "numbers") q.numbers
+AsksCommand name values (r.Thin q) = (name ≡ codes "thin") × AsksProgram values q.subject × IsText values (codes "out") q.out
+AsksCommand name values (r.Migrate q) = (name ≡ codes "migrate") × IsText values (codes "program") q.program × IsText values (codes "out") q.out
+AsksCommand name values (r.List q) = (name ≡ codes "list") × IsText values (codes "program") q.program
+AsksCommand name values (r.Dispatch q) =
+    (name ≡ codes "dispatch") × AsksProgram values q.subject × IsNumberOr 1 16 values (codes "ahead") q.ahead
+    × IsFlag values (codes "unnumbered") q.unnumbered × IsTextIfUsed values (codes "resume") q.resume
+    × IsTextIfUsed values (codes "log") q.log
+AsksCommand name values (r.Times q) =
+    (name ≡ codes "times") × AsksProgram values q.subject × IsTextIfUsed values (codes "costs") q.costs
+    × IsTextIfUsed values (codes "broken") q.broken
+AsksCommand name values (r.Rest q) =
+    (name ≡ codes "rest") × AsksProgram values q.subject × IsText values (codes "reports") q.reports × IsText values (codes "scen_out") q.scen_out
+    × IsText values (codes "program_out") q.program_out × IsTextIfUsed values (codes "without") q.without
+    × IsTextIfUsed values (codes "map-out") q.map_out × IsTextIfUsed values (codes "others-out") q.others_out

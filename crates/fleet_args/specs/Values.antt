@@ -1,6 +1,6 @@
 -- The values that the words of a command give to its arguments.
 use Rattle.std.specs.Prelude.{◌≡◌, ℕ, Bool, false, List, [], Option, Some, None, Ok, codes, option_and_then, option_map, unwrap_or, if◌then◌else◌}
-use Rattle.std.specs.{Borrow.Bor, Option.option_map_or, Option.option_or, Str.bytes_eq, Str.Parse.ParsesUnsigned}
+use Rattle.std.specs.{Borrow.Bor, Option.option_map_or, Str.bytes_eq, Str.Parse.ParsesUnsigned}
 use Rattle.clap.specs.Words.{Row, Text, first_of, one_of, first_value, one_text, found_of}
 use Rattle.clap.specs.declared.{parser.ArgMatches.ArgMatches, parser.matches.Found.Found}
 use Rattle.fleet_args.specs.declared.commands.Best.{Best}
@@ -53,10 +53,6 @@ IsText values id text = text.now ≡ unwrap_or (values.first id) []
 -- a text, if the option was used
 abbrev pub IsTextIfUsed : Values → Text → Option (Bor Text) → Type 0
 IsTextIfUsed values id text = values.first id ≡ option_map (λ t. t.now) text
-
--- the text of the one argument, if it was used, or else that of the other
-abbrev pub IsEitherIfUsed : Values → Text → Text → Option (Bor Text) → Type 0
-IsEitherIfUsed values id other text = option_or (values.first id) (values.first other) ≡ option_map (λ t. t.now) text
 
 -- a number of so many bits, if the option was used
 abbrev pub IsNumberIfUsed : ℕ → Values → Text → Option ℕ → Type 0

@@ -1,8 +1,8 @@
 //! The commands: what each is asked for, its words and options, and how they are read from the matches.
 
 ghost use Rattle.std.specs.Prelude.{codes};
-ghost use Rattle.fleet_args.specs.Values.{IsEitherIfUsed, values_in};
-ghost use Rattle.fleet_args.specs.Commands.{AsksBy, AsksCommand, AsksFiles, AsksOfTasks, AsksTries, IsCommandName};
+ghost use Rattle.fleet_args.specs.Values.{values_in};
+ghost use Rattle.fleet_args.specs.Commands.{AsksCommand, AsksProgram, AsksTasks, AsksTries, IsCommandName};
 
 use crate::arguments::Argument::{
     Agents, Ahead, BestBy, Broken, Costs, DepsKind, Dwell, Holds, Horizon, Log, Map, MapOut,
@@ -30,20 +30,33 @@ pub struct Tries {
     pub best: Option<Best>,
 }
 
-/// The files that a command reads, by their names, in this order: the map, the scenario, the plan or the program that
-/// it is about, the holds (of `times` the costs), and the log of reports.
+/// The tasks of a scenario on a map, the first so many or all: `MAP SCEN [--agents K]`
 #[derive(Clone, Copy)]
-pub struct FileNames<'a> {
-    pub map: Option<&'a str>,
-    pub scen: Option<&'a str>,
-    pub subject: Option<&'a str>,
-    pub holds: Option<&'a str>,
-    pub log: Option<&'a str>,
+pub struct Tasks<'a> {
+    pub map: &'a str,
+    pub scen: &'a str,
+    pub agents: Option<u16>,
+}
+
+/// A program for such tasks: `MAP SCEN PROGRAM [--agents K]`
+#[derive(Clone, Copy)]
+pub struct ProgramFor<'a> {
+    pub tasks: Tasks<'a>,
+    pub program: &'a str,
+}
+
+/// `fleet check MAP SCEN PLAN [--agents K] [--numbers]`
+#[derive(Clone, Copy)]
+pub struct CheckRequest<'a> {
+    pub tasks: Tasks<'a>,
+    pub plan: &'a str,
+    pub numbers: bool,
 }
 
 /// `fleet plan MAP SCEN [--agents K] [--horizon H] [--tries N] [--best BEST]`
 #[derive(Clone, Copy)]
-pub struct PlanRequest {
+pub struct PlanRequest<'a> {
+    pub tasks: Tasks<'a>,
     pub horizon: u16,
     pub tries: Tries,
 }
@@ -51,31 +64,72 @@ pub struct PlanRequest {
 /// `fleet compile MAP SCEN PLAN OUT [--agents K] [--deps DEPS] [--dwell N]`
 #[derive(Clone, Copy)]
 pub struct CompileRequest<'a> {
+    pub tasks: Tasks<'a>,
+    pub plan: &'a str,
     pub out: &'a str,
     pub deps: Deps,
     pub dwell: u32,
 }
 
+/// `fleet run MAP SCEN PROGRAM [--agents K] [--holds FILE]`
+#[derive(Clone, Copy)]
+pub struct RunRequest<'a> {
+    pub subject: ProgramFor<'a>,
+    pub holds: Option<&'a str>,
+}
+
+/// `fleet rehearse PROGRAM [--holds FILE]`
+#[derive(Clone, Copy)]
+pub struct RehearseRequest<'a> {
+    pub program: &'a str,
+    pub holds: Option<&'a str>,
+}
+
 /// `fleet auto MAP SCEN [--agents K] [--horizon H] [--tries N] [--best BEST] [--deps DEPS] [--holds FILE] [--numbers]`
 #[derive(Clone, Copy)]
-pub struct AutoRequest {
+pub struct AutoRequest<'a> {
+    pub tasks: Tasks<'a>,
     pub horizon: u16,
     pub tries: Tries,
     pub deps: Deps,
+    pub holds: Option<&'a str>,
     pub numbers: bool,
+}
+
+/// `fleet thin MAP SCEN PROGRAM OUT [--agents K]`
+#[derive(Clone, Copy)]
+pub struct ThinRequest<'a> {
+    pub subject: ProgramFor<'a>,
+    pub out: &'a str,
+}
+
+/// `fleet migrate PROGRAM OUT`
+#[derive(Clone, Copy)]
+pub struct MigrateRequest<'a> {
+    pub program: &'a str,
+    pub out: &'a str,
+}
+
+/// `fleet list PROGRAM`
+#[derive(Clone, Copy)]
+pub struct ListRequest<'a> {
+    pub program: &'a str,
 }
 
 /// `fleet dispatch MAP SCEN PROGRAM [--agents K] [--ahead K] [--unnumbered] [--resume FILE] [--log FILE]`
 #[derive(Clone, Copy)]
 pub struct DispatchRequest<'a> {
+    pub subject: ProgramFor<'a>,
     pub ahead: u16,
     pub unnumbered: bool,
+    pub resume: Option<&'a str>,
     pub log: Option<&'a str>,
 }
 
 /// `fleet times MAP SCEN PROGRAM [--agents K] [--costs FILE] [--broken ACTIONS]`
 #[derive(Clone, Copy)]
 pub struct TimesRequest<'a> {
+    pub subject: ProgramFor<'a>,
     pub costs: Option<&'a str>,
     pub broken: Option<&'a str>,
 }
@@ -84,6 +138,8 @@ pub struct TimesRequest<'a> {
 /// [--others-out FILE]`
 #[derive(Clone, Copy)]
 pub struct RestRequest<'a> {
+    pub subject: ProgramFor<'a>,
+    pub reports: &'a str,
     pub scen_out: &'a str,
     pub program_out: &'a str,
     pub without: Option<&'a str>,
@@ -91,45 +147,23 @@ pub struct RestRequest<'a> {
     pub others_out: Option<&'a str>,
 }
 
-/// What is asked about the tasks of a scenario on a map.
+/// A command with its words and options.
 #[derive(Clone, Copy)]
-pub enum TasksAsk<'a> {
-    /// `fleet instance MAP SCEN [--agents K]`
-    Instance,
-    /// `fleet check MAP SCEN PLAN [--agents K] [--numbers]`, and whether more numbers are to be printed.
-    Check(bool),
-    Plan(PlanRequest),
+pub enum Request<'a> {
+    Instance(Tasks<'a>),
+    Check(CheckRequest<'a>),
+    Plan(PlanRequest<'a>),
     Compile(CompileRequest<'a>),
-    /// `fleet verify MAP SCEN PROGRAM [--agents K]`
-    Verify,
-    /// `fleet run MAP SCEN PROGRAM [--agents K] [--holds FILE]`
-    Run,
-    Auto(AutoRequest),
-    /// `fleet thin MAP SCEN PROGRAM OUT [--agents K]`, and the file OUT.
-    Thin(&'a str),
+    Verify(ProgramFor<'a>),
+    Run(RunRequest<'a>),
+    Rehearse(RehearseRequest<'a>),
+    Auto(AutoRequest<'a>),
+    Thin(ThinRequest<'a>),
+    Migrate(MigrateRequest<'a>),
+    List(ListRequest<'a>),
     Dispatch(DispatchRequest<'a>),
     Times(TimesRequest<'a>),
     Rest(RestRequest<'a>),
-}
-
-/// What a command is asked to do with its files.
-#[derive(Clone, Copy)]
-pub enum Ask<'a> {
-    /// This, of the first so many agents of the scenario, or of all.
-    OfTasks(Option<u16>, TasksAsk<'a>),
-    /// `fleet rehearse PROGRAM [--holds FILE]`
-    Rehearse,
-    /// `fleet migrate PROGRAM OUT`, and the file OUT.
-    Migrate(&'a str),
-    /// `fleet list PROGRAM`
-    List,
-}
-
-/// A command with its words and options.
-#[derive(Clone, Copy)]
-pub struct Request<'a> {
-    pub files: FileNames<'a>,
-    pub ask: Ask<'a>,
 }
 
 /// The rows of a table of commands, each by its name, its arguments and its text for help.
@@ -189,85 +223,107 @@ fn tries_in(matches: &ArgMatches<'_>) -> Tries
     }
 }
 
-/// The text of the one argument or of the other: no command has both.
-fn either<'a>(matches: &ArgMatches<'a>, id: &str, other: &str) -> Option<&'a str>
-    ensures { IsEitherIfUsed (values_in matches.now) id.now other.now result }
+/// The tasks that the matches of a command ask for.
+fn tasks_in<'a>(matches: &ArgMatches<'a>) -> Tasks<'a>
+    ensures { AsksTasks (values_in matches.now) result }
 {
-    matches.get_str(id).or(matches.get_str(other))
-}
-
-/// The files that the matches of a command name. An argument that is none of the command's own names nothing.
-fn files_in<'a>(matches: &ArgMatches<'a>) -> FileNames<'a>
-    ensures { AsksFiles (values_in matches.now) result }
-{
-    FileNames {
-        map: matches.get_str("map"),
-        scen: matches.get_str("scen"),
-        subject: either(matches, "plan", "program"),
-        holds: either(matches, "holds", "costs"),
-        log: either(matches, "resume", "reports"),
+    Tasks {
+        map: text(matches, "map"),
+        scen: text(matches, "scen"),
+        agents: used_number(matches, "agents"),
     }
 }
 
-/// What `plan` is asked.
-fn plan_in<'a>(matches: &ArgMatches<'_>) -> TasksAsk<'a>
-    ensures { AsksOfTasks (codes "plan") (values_in matches.now) result }
+/// The program, and the tasks that it is for, that the matches of a command ask for.
+fn program_in<'a>(matches: &ArgMatches<'a>) -> ProgramFor<'a>
+    ensures { AsksProgram (values_in matches.now) result }
 {
-    TasksAsk::Plan(PlanRequest {
+    ProgramFor {
+        tasks: tasks_in(matches),
+        program: text(matches, "program"),
+    }
+}
+
+/// The request of `check`.
+fn check_in<'a>(matches: &ArgMatches<'a>) -> Request<'a>
+    ensures { AsksCommand (codes "check") (values_in matches.now) result }
+{
+    Request::Check(CheckRequest {
+        tasks: tasks_in(matches),
+        plan: text(matches, "plan"),
+        numbers: used(matches, "numbers"),
+    })
+}
+
+/// The request of `plan`.
+fn plan_in<'a>(matches: &ArgMatches<'a>) -> Request<'a>
+    ensures { AsksCommand (codes "plan") (values_in matches.now) result }
+{
+    Request::Plan(PlanRequest {
+        tasks: tasks_in(matches),
         horizon: used_number(matches, "horizon").unwrap_or(DEFAULT_HORIZON),
         tries: tries_in(matches),
     })
 }
 
-/// What `compile` is asked.
-fn compile_in<'a>(matches: &ArgMatches<'a>) -> TasksAsk<'a>
-    ensures { AsksOfTasks (codes "compile") (values_in matches.now) result }
+/// The request of `compile`.
+fn compile_in<'a>(matches: &ArgMatches<'a>) -> Request<'a>
+    ensures { AsksCommand (codes "compile") (values_in matches.now) result }
 {
-    TasksAsk::Compile(CompileRequest {
+    Request::Compile(CompileRequest {
+        tasks: tasks_in(matches),
+        plan: text(matches, "plan"),
         out: text(matches, "out"),
         deps: used_deps(matches, "deps").unwrap_or(Deps::Last),
         dwell: used_count(matches, "dwell").unwrap_or(0),
     })
 }
 
-/// What `auto` is asked.
-fn auto_in<'a>(matches: &ArgMatches<'_>) -> TasksAsk<'a>
-    ensures { AsksOfTasks (codes "auto") (values_in matches.now) result }
+/// The request of `auto`.
+fn auto_in<'a>(matches: &ArgMatches<'a>) -> Request<'a>
+    ensures { AsksCommand (codes "auto") (values_in matches.now) result }
 {
-    TasksAsk::Auto(AutoRequest {
+    Request::Auto(AutoRequest {
+        tasks: tasks_in(matches),
         horizon: used_number(matches, "horizon").unwrap_or(DEFAULT_HORIZON),
         tries: tries_in(matches),
         deps: used_deps(matches, "deps").unwrap_or(Deps::Last),
+        holds: matches.get_str("holds"),
         numbers: used(matches, "numbers"),
     })
 }
 
-/// What `dispatch` is asked.
-fn dispatch_in<'a>(matches: &ArgMatches<'a>) -> TasksAsk<'a>
-    ensures { AsksOfTasks (codes "dispatch") (values_in matches.now) result }
+/// The request of `dispatch`.
+fn dispatch_in<'a>(matches: &ArgMatches<'a>) -> Request<'a>
+    ensures { AsksCommand (codes "dispatch") (values_in matches.now) result }
 {
-    TasksAsk::Dispatch(DispatchRequest {
+    Request::Dispatch(DispatchRequest {
+        subject: program_in(matches),
         ahead: used_number(matches, "ahead").unwrap_or(1),
         unnumbered: used(matches, "unnumbered"),
+        resume: matches.get_str("resume"),
         log: matches.get_str("log"),
     })
 }
 
-/// What `times` is asked.
-fn times_in<'a>(matches: &ArgMatches<'a>) -> TasksAsk<'a>
-    ensures { AsksOfTasks (codes "times") (values_in matches.now) result }
+/// The request of `times`.
+fn times_in<'a>(matches: &ArgMatches<'a>) -> Request<'a>
+    ensures { AsksCommand (codes "times") (values_in matches.now) result }
 {
-    TasksAsk::Times(TimesRequest {
+    Request::Times(TimesRequest {
+        subject: program_in(matches),
         costs: matches.get_str("costs"),
         broken: matches.get_str("broken"),
     })
 }
 
-/// What `rest` is asked.
-fn rest_in<'a>(matches: &ArgMatches<'a>) -> TasksAsk<'a>
-    ensures { AsksOfTasks (codes "rest") (values_in matches.now) result }
+/// The request of `rest`.
+fn rest_in<'a>(matches: &ArgMatches<'a>) -> Request<'a>
+    ensures { AsksCommand (codes "rest") (values_in matches.now) result }
 {
-    TasksAsk::Rest(RestRequest {
+    Request::Rest(RestRequest {
+        subject: program_in(matches),
+        reports: text(matches, "reports"),
         scen_out: text(matches, "scen_out"),
         program_out: text(matches, "program_out"),
         without: matches.get_str("without"),
@@ -276,38 +332,40 @@ fn rest_in<'a>(matches: &ArgMatches<'a>) -> TasksAsk<'a>
     })
 }
 
-/// What the command of this name is asked by its matches.
-fn ask_by<'a>(name: &str, matches: &ArgMatches<'a>) -> Ask<'a>
-    requires { IsCommandName name.now }
-    ensures { AsksBy name.now (values_in matches.now) result }
-{
-    let agents = used_number(matches, "agents");
-    match name {
-        "instance" => Ask::OfTasks(agents, TasksAsk::Instance),
-        "check" => Ask::OfTasks(agents, TasksAsk::Check(used(matches, "numbers"))),
-        "plan" => Ask::OfTasks(agents, plan_in(matches)),
-        "compile" => Ask::OfTasks(agents, compile_in(matches)),
-        "verify" => Ask::OfTasks(agents, TasksAsk::Verify),
-        "run" => Ask::OfTasks(agents, TasksAsk::Run),
-        "rehearse" => Ask::Rehearse,
-        "auto" => Ask::OfTasks(agents, auto_in(matches)),
-        "thin" => Ask::OfTasks(agents, TasksAsk::Thin(text(matches, "out"))),
-        "migrate" => Ask::Migrate(text(matches, "out")),
-        "list" => Ask::List,
-        "dispatch" => Ask::OfTasks(agents, dispatch_in(matches)),
-        "times" => Ask::OfTasks(agents, times_in(matches)),
-        "rest" => Ask::OfTasks(agents, rest_in(matches)),
-        _ => unreachable!(),
-    }
-}
-
 /// The request of the command of this name, by its matches.
 pub(crate) fn request_by<'a>(name: &str, matches: &ArgMatches<'a>) -> Request<'a>
     requires { IsCommandName name.now }
     ensures { AsksCommand name.now (values_in matches.now) result }
 {
-    Request {
-        files: files_in(matches),
-        ask: ask_by(name, matches),
+    match name {
+        "instance" => Request::Instance(tasks_in(matches)),
+        "check" => check_in(matches),
+        "plan" => plan_in(matches),
+        "compile" => compile_in(matches),
+        "verify" => Request::Verify(program_in(matches)),
+        "run" => Request::Run(RunRequest {
+            subject: program_in(matches),
+            holds: matches.get_str("holds"),
+        }),
+        "rehearse" => Request::Rehearse(RehearseRequest {
+            program: text(matches, "program"),
+            holds: matches.get_str("holds"),
+        }),
+        "auto" => auto_in(matches),
+        "thin" => Request::Thin(ThinRequest {
+            subject: program_in(matches),
+            out: text(matches, "out"),
+        }),
+        "migrate" => Request::Migrate(MigrateRequest {
+            program: text(matches, "program"),
+            out: text(matches, "out"),
+        }),
+        "list" => Request::List(ListRequest {
+            program: text(matches, "program"),
+        }),
+        "dispatch" => dispatch_in(matches),
+        "times" => times_in(matches),
+        "rest" => rest_in(matches),
+        _ => unreachable!(),
     }
 }

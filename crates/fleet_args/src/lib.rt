@@ -13,7 +13,8 @@ mod commands;
 mod request;
 
 pub use commands::{
-    Ask, AutoRequest, Best, CompileRequest, DispatchRequest, FileNames, PlanRequest, Request,
-    RestRequest, TasksAsk, TimesRequest, Tries,
+    AutoRequest, Best, CheckRequest, CompileRequest, DispatchRequest, ListRequest, MigrateRequest,
+    PlanRequest, ProgramFor, RehearseRequest, Request, RestRequest, RunRequest, Tasks, ThinRequest,
+    TimesRequest, Tries,
 };
 pub use request::{WordStop, read_words};

@@ -93,7 +93,6 @@ fn own_command<'a>(
 
 /// What the words after the name of this command ask of it. To make the command alone costs a tenth of what it costs to
 /// make the whole command line.
-#[tactic(auto, using(crate::proofs::RequestLemmas::own_name))]
 fn read_rest<'a>(
     alloc: Global,
     names: OptionNames<'a>,

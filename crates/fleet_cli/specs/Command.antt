@@ -1,10 +1,10 @@
 -- What the program does for its words.
-use Rattle.std.specs.Prelude.{◌≡◌, ℕ, List, [], ◌∷◌, ◌⊎◌, Option, Result, Ok, Err, codes, string_bytes}
+use Rattle.std.specs.Prelude.{◌≡◌, ℕ, List, [], ◌∷◌, ◌⊎◌, Option, Some, None, option_map, Result, Ok, Err, codes, string_bytes}
+use Rattle.std.specs.Borrow.{Bor}
 use Rattle.clap.specs.Words.{Text}
 use Rattle.fleet_args.specs.Request.{ReadsFleet}
-use Rattle.fleet_args.specs.declared.{commands.Ask.Ask, commands.Request.Request, commands.TasksAsk.TasksAsk, request.WordStop.WordStop}
-use Rattle.fleet_args.specs.declared.commands.Ask.TheVariants as a
-use Rattle.fleet_args.specs.declared.commands.TasksAsk.TheVariants as t
+use Rattle.fleet_args.specs.declared.{commands.ProgramFor.ProgramFor, commands.Request.Request, commands.Tasks.Tasks, request.WordStop.WordStop}
+use Rattle.fleet_args.specs.declared.commands.Request.TheVariants as r
 use Rattle.fleet_args.specs.declared.request.WordStop.TheVariants as w
 use Rattle.fleet_cli.specs.Files.{Store, AreUnchanged}
 use Rattle.fleet_text.specs.Sink.{Receives, FailsAfter, SinkState, IsUnwritten, IsDelivered}
@@ -13,7 +13,7 @@ pub use Rattle.fleet_cli.specs.Output.{Around, around}
 use Rattle.fleet_cli.specs.Output.{IsRefusalWritten, Finishes, Prints, Declines}
 use Rattle.fleet_cli.specs.Steps.{IsProblemOf, IsProblemRefusal}
 use Rattle.fleet_cli.specs.Named.{given_names, IsUnread, AreTexts}
-use Rattle.fleet_cli.specs.declared.{files.FileTexts.FileTexts, steps.Problem.Problem, fault.Fault.Fault}
+use Rattle.fleet_cli.specs.declared.{files.FileNames.FileNames, files.FileTexts.FileTexts, steps.Problem.Problem, fault.Fault.Fault}
 use Rattle.fleet_cli.specs.RunCommands.{RunsHex, AnswersRehearse, AnswersRun, AnswersAuto}
 use Rattle.fleet_cli.specs.PrintCommands.{instance_text, AnswersCheck, AnswersPlan, AnswersVerify, AnswersList}
 use Rattle.fleet_cli.specs.WriteCommands.{AnswersCompile, AnswersThin, AnswersMigrate}
@@ -21,6 +21,46 @@ use Rattle.fleet_cli.specs.DispatchCommand.{AnswersDispatch}
 use Rattle.fleet_cli.specs.TimesCommand.{AnswersTimes}
 use Rattle.fleet_cli.specs.RestCommand.{AnswersRest}
 use Rattle.fleet_cli.specs.declared.fault.Fault.TheVariants as f
+
+-- the files of a request: those of its tasks, if it has some, what it is about, the holds and the log
+abbrev pub names_for : Option Tasks → (subject holds log : Option (Bor (List ℕ))) → FileNames
+names_for tasks subject holds log = record { map = option_map (λ t. t.map) tasks; scen = option_map (λ t. t.scen) tasks; subject = subject; holds = holds; log = log }
+
+-- the files of a request about a program for tasks
+abbrev pub names_of_program : ProgramFor → (holds log : Option (Bor (List ℕ))) → FileNames
+names_of_program p holds log = names_for (Some p.tasks) (Some p.program) holds log
+
+-- the files that each command reads, those of the holds and of the log last
+abbrev pub names_of : Request → FileNames
+names_of (r.Instance q) = names_for (Some q) None None None
+names_of (r.Check q) = names_for (Some q.tasks) (Some q.plan) None None
+names_of (r.Plan q) = names_for (Some q.tasks) None None None
+names_of (r.Compile q) = names_for (Some q.tasks) (Some q.plan) None None
+names_of (r.Verify q) = names_of_program q None None
+names_of (r.Run q) = names_of_program q.subject q.holds None
+names_of (r.Rehearse q) = names_for None (Some q.program) q.holds None
+names_of (r.Auto q) = names_for (Some q.tasks) None q.holds None
+names_of (r.Thin q) = names_of_program q.subject None None
+names_of (r.Migrate q) = names_for None (Some q.program) None None
+names_of (r.List q) = names_for None (Some q.program) None None
+names_of (r.Dispatch q) = names_of_program q.subject None q.resume
+names_of (r.Times q) = names_of_program q.subject q.costs None
+names_of (r.Rest q) = names_of_program q.subject None (Some q.reports)
+
+-- the tasks that a command is about, if there are some
+abbrev pub tasks_of : Request → Option Tasks
+tasks_of (r.Instance q) = Some q
+tasks_of (r.Check q) = Some q.tasks
+tasks_of (r.Plan q) = Some q.tasks
+tasks_of (r.Compile q) = Some q.tasks
+tasks_of (r.Verify q) = Some q.tasks
+tasks_of (r.Run q) = Some q.subject.tasks
+tasks_of (r.Auto q) = Some q.tasks
+tasks_of (r.Thin q) = Some q.subject.tasks
+tasks_of (r.Dispatch q) = Some q.subject.tasks
+tasks_of (r.Times q) = Some q.subject.tasks
+tasks_of (r.Rest q) = Some q.subject.tasks
+tasks_of _ = None
 
 -- a command answers so, and leaves every file as before and the input unread
 abbrev pub Looks : Around → ((out out' : SinkState) → Result ℕ Fault → Type 0) → (out out' : SinkState) → Result ℕ Fault → Type 0
@@ -32,36 +72,46 @@ Writes w Answers out out' result = Answers w.files w.after out out' result × w.
 
 -- what each command about tasks answers for the problem for which their texts stand; `dispatch` tells robots over the
 -- output, hears them by the input, and logs what they report
-abbrev pub AnswersProblem : Around → TasksAsk → Problem → (out out' : SinkState) → Result ℕ Fault → Type 0
-AnswersProblem w t.Instance problem out out' result = Looks w (Prints (instance_text problem.grid problem.instance)) out out' result
-AnswersProblem w (t.Check numbers) problem out out' result = Looks w (AnswersCheck numbers problem) out out' result
-AnswersProblem w (t.Plan q) problem out out' result = Looks w (AnswersPlan q problem) out out' result
-AnswersProblem w (t.Compile q) problem out out' result = Writes w (λ files after. AnswersCompile files after q problem) out out' result
-AnswersProblem w t.Verify problem out out' result = Looks w (AnswersVerify problem) out out' result
-AnswersProblem w t.Run problem out out' result = Looks w (AnswersRun problem) out out' result
-AnswersProblem w (t.Auto q) problem out out' result = Looks w (AnswersAuto q problem) out out' result
-AnswersProblem w (t.Thin name) problem out out' result = Writes w (λ files after. AnswersThin files after name problem) out out' result
-AnswersProblem w (t.Dispatch q) problem out out' result = AnswersDispatch w q problem out out' result
-AnswersProblem w (t.Times q) problem out out' result = Looks w (AnswersTimes q problem) out out' result
-AnswersProblem w (t.Rest q) problem out out' result = Writes w (λ files after. AnswersRest files after q problem) out out' result
+abbrev pub AnswersProblem : Around → Request → Problem → (out out' : SinkState) → Result ℕ Fault → Type 0
+AnswersProblem w (r.Instance q) problem out out' result = Looks w (Prints (instance_text problem.grid problem.instance)) out out' result
+AnswersProblem w (r.Check q) problem out out' result = Looks w (AnswersCheck q problem) out out' result
+AnswersProblem w (r.Plan q) problem out out' result = Looks w (AnswersPlan q problem) out out' result
+AnswersProblem w (r.Compile q) problem out out' result = Writes w (λ files after. AnswersCompile files after q problem) out out' result
+AnswersProblem w (r.Verify q) problem out out' result = Looks w (AnswersVerify problem) out out' result
+AnswersProblem w (r.Run q) problem out out' result = Looks w (AnswersRun problem) out out' result
+AnswersProblem w (r.Auto q) problem out out' result = Looks w (AnswersAuto q problem) out out' result
+AnswersProblem w (r.Thin q) problem out out' result = Writes w (λ files after. AnswersThin files after q problem) out out' result
+AnswersProblem w (r.Dispatch q) problem out out' result = AnswersDispatch w q problem out out' result
+AnswersProblem w (r.Times q) problem out out' result = Looks w (AnswersTimes q problem) out out' result
+AnswersProblem w (r.Rest q) problem out out' result = Writes w (λ files after. AnswersRest files after q problem) out out' result
+AnswersProblem w _ problem out out' result = ⊥
 
--- what a command answers for the texts of its files. Those of tasks stand for a problem, and this is the answer for it,
--- or they are refused
-abbrev pub AnswersTexts : Around → Ask → FileTexts → (out out' : SinkState) → Result ℕ Fault → Type 0
-AnswersTexts w (a.OfTasks agents about) texts out out' result =
-    ((problem : Problem) × IsProblemOf texts agents problem × AnswersProblem w about problem out out' result)
-    ⊎ Declines w (IsProblemRefusal texts agents) out out' result
-AnswersTexts w a.Rehearse texts out out' result = Looks w (AnswersRehearse texts) out out' result
-AnswersTexts w (a.Migrate name) texts out out' result = Writes w (λ files after. AnswersMigrate files after name texts) out out' result
-AnswersTexts w a.List texts out out' result = Looks w (AnswersList texts) out out' result
+-- what each command about no tasks answers for the texts of its files
+abbrev pub AnswersTexts : (files after : Option Store) → Request → FileTexts → (out out' : SinkState) → Result ℕ Fault → Type 0
+AnswersTexts files after (r.Rehearse q) texts out out' result = AnswersRehearse texts out out' result × AreUnchanged files after
+AnswersTexts files after (r.Migrate q) texts out out' result = AnswersMigrate files after q texts out out' result
+AnswersTexts files after (r.List q) texts out out' result = AnswersList texts out out' result × AreUnchanged files after
+AnswersTexts files after _ texts out out' result = ⊥
+
+-- the texts of the tasks stand for a problem, and this is the answer for it, or they are refused; or the command is about
+-- no tasks, and leaves the input unread
+abbrev pub AnswersBy : Around → Request → FileTexts → Option Tasks → (out out' : SinkState) → Result ℕ Fault → Type 0
+AnswersBy w request texts None out out' result = AnswersTexts w.files w.after request texts out out' result × w.unread
+AnswersBy w request texts (Some tasks) out out' result =
+    ((problem : Problem) × IsProblemOf texts tasks.agents problem × AnswersProblem w request problem out out' result)
+    ⊎ Declines w (IsProblemRefusal texts tasks.agents) out out' result
+
+-- what a command answers for the texts of its files
+abbrev pub AnswersRequest : Around → Request → FileTexts → (out out' : SinkState) → Result ℕ Fault → Type 0
+AnswersRequest w request texts out out' result = AnswersBy w request texts (tasks_of request) out out' result
 
 -- What a request is answered. Its files were read, which leaves every file as before, and this is the answer for their
 -- texts; or one of them was not read, which is the refusal
 abbrev pub DoesRequest : Around → Request → (out out' : SinkState) → Result ℕ Fault → Type 0
 DoesRequest w request out out' result =
-    ((texts : FileTexts) × (read : Option Store) × AreTexts w.files request.files texts × AreUnchanged w.files read
-    × AnswersTexts (record w { files = read }) request.ask texts out out' result)
-    ⊎ Declines w (IsUnread w.files (given_names request.files)) out out' result
+    ((texts : FileTexts) × (read : Option Store) × AreTexts w.files (names_of request) texts × AreUnchanged w.files read
+    × AnswersRequest (record w { files = read }) request texts out out' result)
+    ⊎ Declines w (IsUnread w.files (given_names (names_of request))) out out' result
 
 -- the request was done, and its status is answered; or a refusal was reported, and the refusal's status is answered:
 -- the other output took that one line, or failed within it

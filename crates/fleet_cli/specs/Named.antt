@@ -2,8 +2,7 @@
 use Rattle.std.specs.Prelude.{◌≡◌, ℕ, List, [], ◌∷◌, ◌++◌, ◌⊎◌, Option, None, Some}
 use Rattle.std.specs.Borrow.{Bor}
 use Rattle.fleet_cli.specs.Files.{Store, IsRead, IsUnreadable}
-use Rattle.fleet_cli.specs.declared.{input.FileFault.FileFault, input.FileFault.TheVariants.OutOfMemory, input.FileFault.TheVariants.Failed, fault.Fault.Fault, files.FileTexts.FileTexts}
-use Rattle.fleet_args.specs.declared.commands.FileNames.{FileNames}
+use Rattle.fleet_cli.specs.declared.{input.FileFault.FileFault, input.FileFault.TheVariants.OutOfMemory, input.FileFault.TheVariants.Failed, fault.Fault.Fault, files.FileNames.FileNames, files.FileTexts.FileTexts}
 use Rattle.fleet_cli.specs.declared.fault.Fault.TheVariants as f
 
 -- the store's refusal is reported as it is: want of memory as such, and a failed access by the file's name

@@ -5,7 +5,7 @@ use Rattle.fleet_model.specs.Program.{origin, Program, total_moves, total_awaits
 use Rattle.fleet_grid.specs.Ground.{Ground, passable_cells, is_passable}
 use Rattle.fleet_cli.specs.Steps.{IsPlannedFor, AcceptsProgram, IsLoadRefusal}
 use Rattle.fleet_text.specs.Sink.{FailsAfter, SinkState, IsUnwritten, IsDelivered}
-use Rattle.fleet_args.specs.declared.commands.PlanRequest.{PlanRequest}
+use Rattle.fleet_args.specs.declared.{commands.CheckRequest.CheckRequest, commands.PlanRequest.PlanRequest}
 use Rattle.fleet_text.specs.Words.{pair_text, line_text, count_line}
 use Rattle.fleet_cli.specs.declared.{files.FileTexts.FileTexts, fault.Fault.Fault, steps.Problem.Problem}
 use Rattle.fleet_cli.specs.declared.fault.Fault.TheVariants as f
@@ -77,9 +77,9 @@ IsPlanRefusal problem _ = ⊥
 
 -- What `check` answers. The plan is free of conflict; this is printed with its numbers, and with its bound if that is
 -- asked for
-abbrev pub AnswersCheck : (numbers : Bool) → Problem → (out out' : SinkState) → Result ℕ Fault → Type 0
-AnswersCheck numbers problem out out' result =
-    ((paths : Plan) × (bound : Option ℕ) × IsFreePlan problem paths × IsAskedBound problem.grid problem.instance numbers bound × Prints (check_text paths bound) out out' result)
+abbrev pub AnswersCheck : CheckRequest → Problem → (out out' : SinkState) → Result ℕ Fault → Type 0
+AnswersCheck r problem out out' result =
+    ((paths : Plan) × (bound : Option ℕ) × IsFreePlan problem paths × IsAskedBound problem.grid problem.instance r.numbers bound × Prints (check_text paths bound) out out' result)
     ⊎ Refuses (IsPlanRefusal problem) out out' result
 
 -- an agent is left without a path by those before it; or memory ran out

@@ -12,8 +12,7 @@ use Rattle.fleet_adg.specs.declared.fault.CompileFault.TheVariants as c
 use Rattle.fleet_code.specs.Spelling.{SpellsShortest, SpellsIn, Spells}
 use Rattle.fleet_text.specs.Sink.{SinkState}
 use Rattle.fleet_cli.specs.Files.{Store}
-use Rattle.std.specs.Borrow.{Bor}
-use Rattle.fleet_args.specs.declared.commands.CompileRequest.{CompileRequest}
+use Rattle.fleet_args.specs.declared.{commands.CompileRequest.CompileRequest, commands.ThinRequest.ThinRequest, commands.MigrateRequest.MigrateRequest}
 use Rattle.fleet_cli.specs.declared.{files.FileTexts.FileTexts, fault.Fault.Fault, steps.Problem.Problem}
 use Rattle.fleet_cli.specs.Output.{count_lines, AnswersOut}
 use Rattle.fleet_cli.specs.Steps.{AcceptsProgram, IsAcceptRefusal, IsLoadRefusal}
@@ -74,11 +73,11 @@ ThinsAccepted problem before after bytes = AcceptsProgram problem (λ p chain. T
 abbrev pub thinned_text : ℕ → ℕ → List ℕ
 thinned_text before after = count_lines ((codes "awaits", before) ∷ (codes "awaits", after) ∷ [])
 
--- What `thin` answers. The file of this name holds the bytes, every other file is as before, and the numbers of awaits were
+-- What `thin` answers. The file OUT holds the bytes, every other file is as before, and the numbers of awaits were
 -- printed; or a refusal before anything is written; or OUT could not be written, or the output failed
-abbrev pub AnswersThin : (files after : Option Store) → Bor (List ℕ) → Problem → (out out' : SinkState) → Result ℕ Fault → Type 0
-AnswersThin files after name problem =
-    AnswersOut {A = ℕ × ℕ × List ℕ} files after (λ made. ThinsAccepted problem made.0 made.1 made.2) (IsAcceptRefusal problem) (λ made. (Some name, made.2) ∷ []) (λ made. thinned_text made.0 made.1)
+abbrev pub AnswersThin : (files after : Option Store) → ThinRequest → Problem → (out out' : SinkState) → Result ℕ Fault → Type 0
+AnswersThin files after r problem =
+    AnswersOut {A = ℕ × ℕ × List ℕ} files after (λ made. ThinsAccepted problem made.0 made.1 made.2) (IsAcceptRefusal problem) (λ made. (Some r.out, made.2) ∷ []) (λ made. thinned_text made.0 made.1)
 
 -- the bytes spell a program, in either version, and the others spell it in version 2
 pub record MigratesBytes (bytes migrated : List ℕ) : Type 0 where
@@ -90,9 +89,9 @@ pub record MigratesBytes (bytes migrated : List ℕ) : Type 0 where
 abbrev pub migrated_text : List ℕ → List ℕ
 migrated_text migrated = count_lines ((codes "bytes", length migrated) ∷ [])
 
--- What `migrate` answers for the bytes of its file. The file of this name holds the program's bytes in version 2, every other
+-- What `migrate` answers for the bytes of its file. The file OUT holds the program's bytes in version 2, every other
 -- file is as before, and how many they are was printed; or a refusal before anything is written; or OUT could not be
 -- written, or the output failed
-abbrev pub AnswersMigrate : (files after : Option Store) → Bor (List ℕ) → FileTexts → (out out' : SinkState) → Result ℕ Fault → Type 0
-AnswersMigrate files after name texts =
-    AnswersOut files after (MigratesBytes texts.subject.items) (IsLoadRefusal texts.subject.items) (λ migrated. (Some name, migrated) ∷ []) migrated_text
+abbrev pub AnswersMigrate : (files after : Option Store) → MigrateRequest → FileTexts → (out out' : SinkState) → Result ℕ Fault → Type 0
+AnswersMigrate files after r texts =
+    AnswersOut files after (MigratesBytes texts.subject.items) (IsLoadRefusal texts.subject.items) (λ migrated. (Some r.out, migrated) ∷ []) migrated_text

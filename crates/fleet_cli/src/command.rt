@@ -1,80 +1,178 @@
 //! The program's words, and what it does for them.
 
-ghost use Rattle.std.specs.Prelude.{◌≡◌, map, string_bytes};
+ghost use Rattle.std.specs.Prelude.{◌≡◌, ◌≢◌, None, map, string_bytes};
 ghost use Rattle.fleet_text.specs.Sink.{IsWorking};
 ghost use Rattle.fleet_dispatch.specs.Talk.{IsLogged};
 ghost use Rattle.fleet_cli.specs.Output.{around};
-ghost use Rattle.fleet_cli.specs.Command.{AnswersProblem, AnswersTexts, RunsRequest, StopsAtWords, RunsCommand};
+ghost use Rattle.fleet_cli.specs.Command.{names_for, names_of, names_of_program, tasks_of, AnswersProblem, AnswersTexts, AnswersRequest, RunsRequest, StopsAtWords, RunsCommand};
 
 use crate::dispatch_command::do_dispatch;
 use crate::fault::{Fault, finish, refuse};
-use crate::files::{FileTexts, Files, read_files};
+use crate::files::{FileNames, FileTexts, Files, read_files};
 use crate::print_commands::{do_check, do_instance, do_list, do_plan, do_verify};
 use crate::rest_command::do_rest;
 use crate::run_commands::{do_auto, do_rehearse, do_run, run_hex};
 use crate::steps::{Problem, problem_of};
 use crate::times_command::do_times;
 use crate::write_commands::{do_compile, do_migrate, do_thin};
-use fleet_args::{Ask, Request, TasksAsk, WordStop, read_words};
+use fleet_args::{ProgramFor, Request, Tasks, WordStop, read_words};
 use fleet_dispatch::ReportsTo;
 use fleet_text::{Flush, OutFault, TraceOut, deliver, put_all};
 use std::alloc::Global;
 
-/// What a command about tasks answers for the problem for which their texts stand. Of these commands `dispatch` alone
-/// reads `input`.
+/// The files of a request: those of its tasks, if it has some, what it is about, the holds and the log.
+fn names_for<'a>(
+    tasks: Option<Tasks<'a>>,
+    subject: Option<&'a str>,
+    holds: Option<&'a str>,
+    log: Option<&'a str>,
+) -> FileNames<'a>
+    ensures { result ≡ names_for tasks.entry subject.entry holds.entry log.entry }
+{
+    let (map, scen) = match tasks {
+        Some(tasks) => (Some(tasks.map), Some(tasks.scen)),
+        None => (None, None),
+    };
+    FileNames {
+        map,
+        scen,
+        subject,
+        holds,
+        log,
+    }
+}
+
+/// The files of a request about a program for tasks.
+fn names_of_program<'a>(
+    program: &ProgramFor<'a>,
+    holds: Option<&'a str>,
+    log: Option<&'a str>,
+) -> FileNames<'a>
+    ensures { result ≡ names_of_program program.now holds.entry log.entry }
+{
+    names_for(Some(program.tasks), Some(program.program), holds, log)
+}
+
+/// The files that the request's command reads.
+fn names_of<'a>(request: &Request<'a>) -> FileNames<'a>
+    ensures { result ≡ names_of request.now }
+{
+    match request {
+        Request::Instance(q) => names_for(Some(*q), None, None, None),
+        Request::Check(q) => names_for(Some(q.tasks), Some(q.plan), None, None),
+        Request::Plan(q) => names_for(Some(q.tasks), None, None, None),
+        Request::Compile(q) => names_for(Some(q.tasks), Some(q.plan), None, None),
+        Request::Verify(q) => names_of_program(q, None, None),
+        Request::Run(q) => names_of_program(&q.subject, q.holds, None),
+        Request::Rehearse(q) => names_for(None, Some(q.program), q.holds, None),
+        Request::Auto(q) => names_for(Some(q.tasks), None, q.holds, None),
+        Request::Thin(q) => names_of_program(&q.subject, None, None),
+        Request::Migrate(q) => names_for(None, Some(q.program), None, None),
+        Request::List(q) => names_for(None, Some(q.program), None, None),
+        Request::Dispatch(q) => names_of_program(&q.subject, None, q.resume),
+        Request::Times(q) => names_of_program(&q.subject, q.costs, None),
+        Request::Rest(q) => names_of_program(&q.subject, None, Some(q.reports)),
+    }
+}
+
+/// The tasks that the request's command is about, if there are some.
+fn tasks_of<'a>(request: &Request<'a>) -> Option<Tasks<'a>>
+    ensures { result ≡ tasks_of request.now }
+{
+    match request {
+        Request::Instance(q) => Some(*q),
+        Request::Check(q) => Some(q.tasks),
+        Request::Plan(q) => Some(q.tasks),
+        Request::Compile(q) => Some(q.tasks),
+        Request::Verify(q) => Some(q.tasks),
+        Request::Run(q) => Some(q.subject.tasks),
+        Request::Rehearse(_) | Request::Migrate(_) | Request::List(_) => None,
+        Request::Auto(q) => Some(q.tasks),
+        Request::Thin(q) => Some(q.subject.tasks),
+        Request::Dispatch(q) => Some(q.subject.tasks),
+        Request::Times(q) => Some(q.subject.tasks),
+        Request::Rest(q) => Some(q.subject.tasks),
+    }
+}
+
+/// What the request's command, which is about tasks, answers for the problem for which their texts stand. Of these
+/// commands `dispatch` alone reads `input`.
 fn answer_problem<'a, R: ReportsTo<O>, F: Files, O: Flush>(
     alloc: Global,
-    ask: &TasksAsk<'a>,
+    request: &Request<'a>,
     problem: Problem,
     input: &mut R,
     files: &mut F,
     out: &mut O,
 ) -> Result<u8, Fault<'a>>
-    requires { IsWorking (O.state out.old) }
+    requires about { tasks_of request.now ≢ None }
+    requires working { IsWorking (O.state out.old) }
     ensures { AnswersProblem (around (F.contents files.old) (F.contents files.new)
         (input.new ≡ input.old) (out.new ≡ out.old)
-        (IsLogged R.talks input.old out.old input.new out.new)) ask.now problem
+        (IsLogged R.talks input.old out.old input.new out.new)) request.now problem
         (O.state out.old) (O.state out.new) result }
 {
-    match ask {
-        TasksAsk::Instance => do_instance(&problem, out),
-        TasksAsk::Check(numbers) => do_check(alloc, *numbers, &problem, out),
-        TasksAsk::Plan(q) => do_plan(alloc, q, problem, out),
-        TasksAsk::Compile(q) => do_compile(alloc, q, problem, files, out),
-        TasksAsk::Verify => do_verify(alloc, &problem, out),
-        TasksAsk::Run => do_run(alloc, &problem, out),
-        TasksAsk::Auto(q) => do_auto(alloc, q, &problem, out),
-        TasksAsk::Thin(name) => do_thin(alloc, name, &problem, files, out),
-        TasksAsk::Dispatch(q) => do_dispatch(alloc, q, &problem, input, files, out),
-        TasksAsk::Times(q) => do_times(alloc, q, &problem, out),
-        TasksAsk::Rest(q) => do_rest(alloc, q, &problem, files, out),
+    match request {
+        Request::Instance(_) => do_instance(&problem, out),
+        Request::Check(q) => do_check(alloc, q, &problem, out),
+        Request::Plan(q) => do_plan(alloc, q, problem, out),
+        Request::Compile(q) => do_compile(alloc, q, problem, files, out),
+        Request::Verify(_) => do_verify(alloc, &problem, out),
+        Request::Run(_) => do_run(alloc, &problem, out),
+        Request::Auto(q) => do_auto(alloc, q, &problem, out),
+        Request::Thin(q) => do_thin(alloc, q, &problem, files, out),
+        Request::Dispatch(q) => do_dispatch(alloc, q, &problem, input, files, out),
+        Request::Times(q) => do_times(alloc, q, &problem, out),
+        Request::Rest(q) => do_rest(alloc, q, &problem, files, out),
+        // The request is about tasks.
+        Request::Rehearse(_) | Request::Migrate(_) | Request::List(_) => unreachable!(),
     }
 }
 
-/// What a command answers for the texts of its files: the status, or the refusal that is to be written. Its output goes
-/// to `out`, and of the commands `dispatch` alone reads `input`.
-fn answer_texts<'a, R: ReportsTo<O>, F: Files, O: Flush>(
+/// What the request's command, which is about no tasks, answers for the texts of its files.
+fn answer_texts<'a, F: Files, O: Flush>(
     alloc: Global,
-    ask: &Ask<'a>,
+    request: &Request<'a>,
+    texts: &FileTexts,
+    files: &mut F,
+    out: &mut O,
+) -> Result<u8, Fault<'a>>
+    requires about { tasks_of request.now ≡ None }
+    requires working { IsWorking (O.state out.old) }
+    ensures { AnswersTexts (F.contents files.old) (F.contents files.new) request.now texts.now
+        (O.state out.old) (O.state out.new) result }
+{
+    match request {
+        Request::Rehearse(_) => do_rehearse(alloc, texts, out),
+        Request::Migrate(q) => do_migrate(alloc, q, texts, files, out),
+        Request::List(_) => do_list(alloc, texts, out),
+        // The request is about no tasks.
+        _ => unreachable!(),
+    }
+}
+
+/// What the request's command answers for the texts of its files: the status, or the refusal that is to be written. Its
+/// output goes to `out`, and of the commands `dispatch` alone reads `input`.
+fn answer_request<'a, R: ReportsTo<O>, F: Files, O: Flush>(
+    alloc: Global,
+    request: &Request<'a>,
     texts: FileTexts,
     input: &mut R,
     files: &mut F,
     out: &mut O,
 ) -> Result<u8, Fault<'a>>
     requires { IsWorking (O.state out.old) }
-    ensures { AnswersTexts (around (F.contents files.old) (F.contents files.new)
+    ensures { AnswersRequest (around (F.contents files.old) (F.contents files.new)
         (input.new ≡ input.old) (out.new ≡ out.old)
-        (IsLogged R.talks input.old out.old input.new out.new)) ask.now texts
+        (IsLogged R.talks input.old out.old input.new out.new)) request.now texts
         (O.state out.old) (O.state out.new) result }
 {
-    match ask {
-        Ask::OfTasks(agents, about) => {
-            let problem = problem_of(alloc, texts, *agents)?;
-            answer_problem(alloc, about, problem, input, files, out)
+    match tasks_of(request) {
+        None => answer_texts(alloc, request, &texts, files, out),
+        Some(tasks) => {
+            let problem = problem_of(alloc, texts, tasks)?;
+            answer_problem(alloc, request, problem, input, files, out)
         }
-        Ask::Rehearse => do_rehearse(alloc, &texts, out),
-        Ask::Migrate(name) => do_migrate(alloc, name, &texts, files, out),
-        Ask::List => do_list(alloc, &texts, out),
     }
 }
 
@@ -96,9 +194,9 @@ pub fn run_request<R: ReportsTo<O>, F: Files, O: Flush, E: TraceOut>(
         (IsLogged R.talks input.old out.old input.new out.new)) request.now
         (O.state out.old) (O.state out.new) (E.state err.old) (E.state err.new) result }
 {
-    match read_files(alloc, files, request.files) {
+    match read_files(alloc, files, names_of(request)) {
         Ok(texts) => finish(
-            answer_texts(alloc, &request.ask, texts, input, files, out),
+            answer_request(alloc, request, texts, input, files, out),
             err,
         ),
         Err(fault) => refuse(&fault, err),

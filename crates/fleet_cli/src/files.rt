@@ -7,7 +7,6 @@ ghost use Rattle.fleet_cli.specs.Output.{WritesGiven};
 
 use crate::fault::Fault;
 use crate::input::{CHUNK, FileFault, MAX_BYTES, read_whole};
-use fleet_args::FileNames;
 use fleet_text::{WriteOut, put_all};
 use std::alloc::Global;
 use std::fs::{OpenFile, OpenOptions};
@@ -183,7 +182,18 @@ fn is_file<F: OpenFile>(file: &F) -> Result<bool, FileFault> {
     }
 }
 
-/// What the files of a command hold; nothing of a file that is not named.
+/// The files that a command reads, by their names, in this order: the map, the scenario, the plan or the program that
+/// it is about, the holds (of `times` the costs), and the log of reports.
+#[derive(Clone, Copy)]
+pub(crate) struct FileNames<'a> {
+    pub(crate) map: Option<&'a str>,
+    pub(crate) scen: Option<&'a str>,
+    pub(crate) subject: Option<&'a str>,
+    pub(crate) holds: Option<&'a str>,
+    pub(crate) log: Option<&'a str>,
+}
+
+/// What those files hold; nothing of a file that is not named.
 #[derive(Drop)]
 pub(crate) struct FileTexts {
     pub(crate) map: Vec<u8>,

@@ -13,9 +13,9 @@
 //! `times_command`, those that write files in `write_commands` and `rest_command`, those that run a program in
 //! `run_commands`, and the dispatch in `dispatch_command`, each with its meaning in the file of `specs/` of the same
 //! name; `output` has what several of them print. A run's sink hands on what it took before anything is reported. One
-//! module, `command`, executes them: `run_request` reads the files that a request names, has it answered for their texts
-//! by `answer_texts`, and writes what is refused, and `run_command` is what `main` calls. An arm for each command is in
-//! `answer_texts`, or in `answer_problem`, before which the texts of a map and a scenario are read.
+//! module, `command`, executes them: `names_of` says which files a request names, `run_request` reads these, has the
+//! request answered by `answer_request`, and writes what is refused, and `run_command` is what `main` calls. An arm for
+//! each command is in `answer_problem`, before which the texts of a map and a scenario are read, or in `answer_texts`.
 //!
 //! `auto_run` plans, compiles, encodes, loads, verifies and runs in one call. The next step takes whatever a step
 //! makes: a plan that is made is compiled, its program is loaded again from the bytes that spell it, and what is loaded
@@ -41,8 +41,9 @@ pub use command::{run_command, run_request};
 pub use fault::{AutoFault, Fault, refuse};
 pub use files::{Disk, Files};
 pub use fleet_args::{
-    Ask, AutoRequest, Best, CompileRequest, DispatchRequest, FileNames, PlanRequest, Request,
-    RestRequest, TasksAsk, TimesRequest, Tries, WordStop, read_words,
+    AutoRequest, Best, CheckRequest, CompileRequest, DispatchRequest, ListRequest, MigrateRequest,
+    PlanRequest, ProgramFor, RehearseRequest, Request, RestRequest, RunRequest, Tasks, ThinRequest,
+    TimesRequest, Tries, WordStop, read_words,
 };
 pub use input::{CHUNK, FileFault, MAX_BYTES, read_whole};
 pub use mem_files::MemFiles;

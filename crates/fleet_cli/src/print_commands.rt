@@ -11,7 +11,7 @@ use crate::fault::{Fault, or_refuse};
 use crate::files::FileTexts;
 use crate::output::{hand_on, put_report};
 use crate::steps::{Problem, plan_by, view_subject};
-use fleet_args::PlanRequest;
+use fleet_args::{CheckRequest, PlanRequest};
 use fleet_grid::Grid;
 use fleet_model::{Cell, OutOfMemory, ProgramView, Visit, total_awaits, total_moves};
 use fleet_plan::{Checked, Plan, check, read_plan, write_plan};
@@ -131,19 +131,19 @@ fn asked_bound(
 #[inline(never)]
 pub(crate) fn do_check<'a, O: Flush>(
     alloc: Global,
-    numbers: bool,
+    request: &CheckRequest<'a>,
     problem: &Problem,
     out: &mut O,
 ) -> Result<u8, Fault<'a>>
     requires { IsWorking (O.state out.old) }
-    ensures { AnswersCheck numbers problem.now (O.state out.old) (O.state out.new) result }
+    ensures { AnswersCheck request.now problem.now (O.state out.old) (O.state out.new) result }
 {
     let plan = or_refuse!(read_plan(alloc, &problem.texts.subject), Fault::Text);
     let checked = match check(alloc, plan, &problem.grid, &problem.instance) {
         Ok(checked) => checked,
         Err(refusal) => return Err(Fault::Check(refusal.fault)),
     };
-    let bound = asked_bound(alloc, &checked, numbers)?;
+    let bound = asked_bound(alloc, &checked, request.numbers)?;
     let printed = put_check(out, checked.plan(), bound);
     hand_on(out, printed)
 }
@@ -153,7 +153,7 @@ pub(crate) fn do_check<'a, O: Flush>(
 #[inline(never)]
 pub(crate) fn do_plan<'a, O: Flush>(
     alloc: Global,
-    request: &PlanRequest,
+    request: &PlanRequest<'a>,
     problem: Problem,
     out: &mut O,
 ) -> Result<u8, Fault<'a>>

@@ -136,7 +136,7 @@ fn tell_numbers<'a, O: Flush>(
 #[inline(never)]
 pub(crate) fn do_auto<'a, O: Flush>(
     alloc: Global,
-    request: &AutoRequest,
+    request: &AutoRequest<'a>,
     problem: &Problem,
     out: &mut O,
 ) -> Result<u8, Fault<'a>>

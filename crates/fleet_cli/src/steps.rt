@@ -15,7 +15,7 @@ ghost use Rattle.fleet_search.specs.Orders.{IsStuckInTries};
 use crate::fault::{AutoFault, Fault, in_step, or_refuse};
 use crate::files::FileTexts;
 use fleet_adg::{CompileFault, Deps, compile_bytes};
-use fleet_args::{Best, Tries};
+use fleet_args::{Best, Tasks, Tries};
 use fleet_code::{CodeView, LoadFault, view};
 use fleet_grid::{Grid, read_map};
 use fleet_model::OutOfMemory;
@@ -35,17 +35,20 @@ pub(crate) struct Problem {
     pub(crate) instance: Instance,
 }
 
-/// The problem for which the texts stand, with the first so many agents, or all.
+/// The problem for which the texts of these tasks stand.
 pub(crate) fn problem_of<'a>(
     alloc: Global,
     texts: FileTexts,
-    agents: Option<u16>,
+    tasks: Tasks<'_>,
 ) -> Result<Problem, Fault<'a>>
-    ensures read { IfOk result (IsProblemOf texts agents) }
-    ensures fault { IfErr result (IsProblemRefusal texts agents) }
+    ensures read { IfOk result (IsProblemOf texts tasks.entry.agents) }
+    ensures fault { IfErr result (IsProblemRefusal texts tasks.entry.agents) }
 {
     let grid = or_refuse!(read_map(alloc, &texts.map), Fault::Map);
-    let instance = or_refuse!(read_scen(alloc, &texts.scen, &grid, agents), Fault::Scen);
+    let instance = or_refuse!(
+        read_scen(alloc, &texts.scen, &grid, tasks.agents),
+        Fault::Scen
+    );
     Ok(Problem {
         texts,
         grid,

@@ -10,7 +10,7 @@ use crate::files::{FileTexts, Files};
 use crate::output::write_out;
 use crate::steps::{Problem, accept};
 use fleet_adg::{ProgramBytes, ThinFault, compile_bytes, thin_bytes};
-use fleet_args::CompileRequest;
+use fleet_args::{CompileRequest, MigrateRequest, ThinRequest};
 use fleet_code::{encode2, load};
 use fleet_model::{OutOfMemory, total_awaits};
 use fleet_plan::{check, read_plan};
@@ -93,24 +93,24 @@ fn thin_program<'a>(alloc: Global, problem: &Problem) -> Result<Thinned, Fault<'
     }
 }
 
-/// The command `thin`: writes the bytes of the program without its implied awaits to the file of this name once all
-/// before it succeeded, and prints its awaits before and after to `out`. Answers 0.
+/// The command `thin`: writes the bytes of the program without its implied awaits to the file OUT once all before it
+/// succeeded, and prints its awaits before and after to `out`. Answers 0.
 #[inline(never)]
 pub(crate) fn do_thin<'a, F: Files, O: Flush>(
     alloc: Global,
-    name: &'a str,
+    request: &ThinRequest<'a>,
     problem: &Problem,
     files: &mut F,
     out: &mut O,
 ) -> Result<u8, Fault<'a>>
     requires { IsWorking (O.state out.old) }
-    ensures { AnswersThin (F.contents files.old) (F.contents files.new) name.entry problem.now
+    ensures { AnswersThin (F.contents files.old) (F.contents files.new) request.now problem.now
         (O.state out.old) (O.state out.new) result }
 {
     let thinned = thin_program(alloc, problem)?;
     write_out(
         files,
-        &[(Some(name), &thinned.made.bytes)],
+        &[(Some(request.out), &thinned.made.bytes)],
         out,
         &[
             ("awaits", thinned.before as u64),
@@ -133,16 +133,16 @@ fn migrate_bytes<'a>(alloc: Global, bytes: &[u8]) -> Result<Vec<u8>, Fault<'a>>
 #[inline(never)]
 pub(crate) fn do_migrate<'a, F: Files, O: Flush>(
     alloc: Global,
-    name: &'a str,
+    request: &MigrateRequest<'a>,
     texts: &FileTexts,
     files: &mut F,
     out: &mut O,
 ) -> Result<u8, Fault<'a>>
     requires { IsWorking (O.state out.old) }
-    ensures { AnswersMigrate (F.contents files.old) (F.contents files.new) name.entry texts.now
+    ensures { AnswersMigrate (F.contents files.old) (F.contents files.new) request.now texts.now
         (O.state out.old) (O.state out.new) result }
 {
     let migrated = migrate_bytes(alloc, &texts.subject)?;
-    let written = [(Some(name), &migrated)];
+    let written = [(Some(request.out), &migrated)];
     write_out(files, &written, out, &[("bytes", migrated.len() as u64)])
 }

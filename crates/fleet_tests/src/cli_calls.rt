@@ -11,8 +11,9 @@ use crate::fleets::{
 use crate::streams::given;
 use fleet_adg::Deps;
 use fleet_cli::{
-    Ask, AutoRequest, Best, CompileRequest, Disk, Fault, FileFault, FileNames, Files, MemFiles,
-    PlanRequest, Request, TasksAsk, Tries, WordStop, read_words, run_command, run_hex, run_request,
+    AutoRequest, Best, CheckRequest, CompileRequest, Disk, Fault, FileFault, Files, MemFiles,
+    MigrateRequest, PlanRequest, ProgramFor, RehearseRequest, Request, RunRequest, Tasks,
+    ThinRequest, Tries, WordStop, read_words, run_command, run_hex, run_request,
 };
 use fleet_grid::MapFault;
 use fleet_run::VecOut;
@@ -141,104 +142,97 @@ const ONE_TRY: Tries = Tries {
     best: None,
 };
 
-/// The files of the pair's tasks.
-const PAIR: FileNames<'static> = FileNames {
-    map: Some("map"),
-    scen: Some("scen"),
-    subject: None,
-    holds: None,
-    log: None,
+/// The tasks of the pair.
+const PAIR: Tasks<'static> = Tasks {
+    map: "map",
+    scen: "scen",
+    agents: None,
 };
 
-/// Those of the pair and its plan.
-const PLANNED: FileNames<'static> = FileNames {
-    subject: Some("plan"),
-    ..PAIR
+/// The pair's program, as it is compiled.
+const COMPILED_PAIR: ProgramFor<'static> = ProgramFor {
+    tasks: PAIR,
+    program: "out",
 };
 
-/// Those of the pair and its program, as it is compiled.
-const COMPILED_PAIR: FileNames<'static> = FileNames {
-    subject: Some("out"),
-    ..PAIR
-};
-
-/// That program alone.
-const PROGRAM: FileNames<'static> = FileNames {
-    map: None,
-    scen: None,
-    ..COMPILED_PAIR
-};
-
-/// The files of a request, what it asks, and what it writes.
-type Asked = (FileNames<'static>, Ask<'static>, &'static [u8]);
+/// A request, and what it writes.
+type Asked = (Request<'static>, &'static [u8]);
 
 /// A request of ten commands on the pair's files, and what each writes.
 const REQUESTS: &[Asked] = &[
-    (PAIR, Ask::OfTasks(None, TasksAsk::Instance), INSTANCE),
+    (Request::Instance(PAIR), INSTANCE),
     (
-        PLANNED,
-        Ask::OfTasks(Some(2), TasksAsk::Check(true)),
+        Request::Check(CheckRequest {
+            tasks: Tasks {
+                agents: Some(2),
+                ..PAIR
+            },
+            plan: "plan",
+            numbers: true,
+        }),
         b"conflict-free\nagents 2\nsteps 2\ncost 4\nbound 4\nmoves 4\nwaits 0\n",
     ),
     (
-        PAIR,
-        Ask::OfTasks(
-            None,
-            TasksAsk::Plan(PlanRequest {
-                horizon: 2,
-                tries: Tries {
-                    count: 2,
-                    best: Some(Best::Cost),
-                },
-            }),
-        ),
+        Request::Plan(PlanRequest {
+            tasks: PAIR,
+            horizon: 2,
+            tries: Tries {
+                count: 2,
+                best: Some(Best::Cost),
+            },
+        }),
         PAIR_PLAN,
     ),
     (
-        PLANNED,
-        Ask::OfTasks(
-            None,
-            TasksAsk::Compile(CompileRequest {
-                out: "out",
-                deps: Deps::All,
-                dwell: 0,
-            }),
-        ),
+        Request::Compile(CompileRequest {
+            tasks: PAIR,
+            plan: "plan",
+            out: "out",
+            deps: Deps::All,
+            dwell: 0,
+        }),
         COMPILED,
     ),
+    (Request::Verify(COMPILED_PAIR), ACCEPTED),
     (
-        COMPILED_PAIR,
-        Ask::OfTasks(None, TasksAsk::Verify),
-        ACCEPTED,
-    ),
-    (
-        FileNames {
+        Request::Run(RunRequest {
+            subject: COMPILED_PAIR,
             holds: Some("holds"),
-            ..COMPILED_PAIR
-        },
-        Ask::OfTasks(None, TasksAsk::Run),
+        }),
         HELD_TRACE,
     ),
-    (PROGRAM, Ask::Rehearse, PAIR_TEXT),
     (
-        PAIR,
-        Ask::OfTasks(
-            None,
-            TasksAsk::Auto(AutoRequest {
-                horizon: 1024,
-                tries: ONE_TRY,
-                deps: Deps::Last,
-                numbers: false,
-            }),
-        ),
+        Request::Rehearse(RehearseRequest {
+            program: "out",
+            holds: None,
+        }),
+        PAIR_TEXT,
+    ),
+    (
+        Request::Auto(AutoRequest {
+            tasks: PAIR,
+            horizon: 1024,
+            tries: ONE_TRY,
+            deps: Deps::Last,
+            holds: None,
+            numbers: false,
+        }),
         PAIR_TRACE,
     ),
     (
-        COMPILED_PAIR,
-        Ask::OfTasks(None, TasksAsk::Thin("out")),
+        Request::Thin(ThinRequest {
+            subject: COMPILED_PAIR,
+            out: "out",
+        }),
         b"awaits 2\nawaits 2\n",
     ),
-    (PROGRAM, Ask::Migrate("out"), b"bytes 48\n"),
+    (
+        Request::Migrate(MigrateRequest {
+            program: "out",
+            out: "out",
+        }),
+        b"bytes 48\n",
+    ),
 ];
 
 /// The row's request writes what is due, and nothing is refused.
@@ -246,14 +240,12 @@ fn due_request(rt: &impl Abort, alloc: Global, row: &Asked, files: &mut impl Fil
     let mut out = VecOut::new(alloc);
     let mut err = VecOut::new(alloc);
     let mut input = given(b"");
-    let (names, ask, due) = *row;
-    let request = Request { files: names, ask };
-    let status = run_request(alloc, &request, &mut input, files, &mut out, &mut err);
+    let status = run_request(alloc, &row.0, &mut input, files, &mut out, &mut err);
     due_end(
         rt,
         "request",
         (status, out.bytes(), err.bytes()),
-        (0, due, b""),
+        (0, row.1, b""),
     );
 }
 
@@ -280,18 +272,12 @@ fn requests_are_done(rt: HostRuntime) -> Result<(), Fail> {
 
 /// Whether the run of a program is asked for.
 fn is_run(request: &Request<'_>) -> bool {
-    let Ask::OfTasks(agents, TasksAsk::Run) = request.ask else {
+    let Request::Run(RunRequest { subject, holds }) = *request else {
         return false;
     };
-    let FileNames {
-        map,
-        scen,
-        subject,
-        holds,
-        log,
-    } = request.files;
-    (map, scen, subject) == (Some("a"), Some("b"), Some("c"))
-        && (holds, log, agents) == (Some("d"), None, Some(7))
+    let ProgramFor { tasks, program } = subject;
+    let Tasks { map, scen, agents } = tasks;
+    (map, scen, program) == ("a", "b", "c") && agents == Some(7) && holds == Some("d")
 }
 
 /// Whether the words of a line ask for the run of a program, are wrong, or ask for help.

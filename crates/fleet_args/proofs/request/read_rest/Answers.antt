@@ -1,8 +1,11 @@
 use Rattle.std.proofs.Common.{map, string_bytes}
 use Rattle.clap.specs.Words.{app_of, kind_of}
 use Rattle.fleet_args.specs.Arguments.{said}
-use Rattle.fleet_args.proofs.RequestLemmas.{asks, stops}
+use Rattle.fleet_args.proofs.RequestLemmas.{asks, own_name, stops}
 use Rattle.fleet_args.proofs.request.read_rest.Goals as goal
+
+pub request_by-requires : goal.request_by-requires
+request_by-requires c = own_name (said c.args.text.now) c.requires
 
 pub returns-in-Ok-try_get_matches_from : goal.returns-in-Ok-try_get_matches_from
 returns-in-Ok-try_get_matches_from c =

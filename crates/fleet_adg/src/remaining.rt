@@ -26,7 +26,8 @@ use std::alloc::Global;
 /// stands, the actions that it has not finished. They await what is not met yet, counted from what is finished.
 ///
 /// It is accepted for the tasks that are left, from these cells to the same goals, and runs on as the program would.
-/// The standings are those of a run, one for each agent. It goes once over the actions that are left.
+/// The standings are those of a run, one for each agent. It goes once over the actions that are left, and fails only if
+/// memory is refused.
 pub fn rest<P: ProgramView>(
     alloc: Global,
     accepted: &Accepted<'_, P>,

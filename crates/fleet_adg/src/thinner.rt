@@ -30,7 +30,8 @@ use std::alloc::Global;
 /// (Aho et al. 1972) in all but the edges from an agent's action to its next one, which stay.
 ///
 /// The program that is left is accepted for the same map and instance, has the same longest chain, and runs as before
-/// under every list of holds; none of its awaits is implied, and every program with the same chains has all of them.
+/// under every list of holds; none of its awaits is implied, and every program with the same chains has all of them. It
+/// fails only if memory is refused.
 pub fn thin<P: ProgramView>(alloc: Global, accepted: &Accepted<'_, P>) -> Result<Program, ThinFault>
     ensures thinned { IfOk result (IsThinnedFor (is_passable accepted.now.grid)
         accepted.now.instance (P.program accepted.now.program) accepted.now.chain) }
@@ -45,7 +46,8 @@ pub fn thin<P: ProgramView>(alloc: Global, accepted: &Accepted<'_, P>) -> Result
     Ok(program)
 }
 
-/// What `encode_shortest` writes of the program of `thin`, made at once, and the numbers of that program.
+/// What `encode_shortest` writes of the program of `thin`, made at once, and the numbers of that program. It fails only
+/// if memory is refused.
 pub fn thin_bytes<P: ProgramView>(
     alloc: Global,
     accepted: &Accepted<'_, P>,

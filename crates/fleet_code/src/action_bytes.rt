@@ -1,4 +1,5 @@
-//! The actions of an agent as bytes, while they are found, and the bytes of a program that is made of them.
+//! The actions of an agent as bytes, while they are found, and the bytes of a program that is made of them. What makes
+//! or adds bytes fails only if memory is refused.
 
 ghost use Rattle.std.specs.Prelude.{◌≡◌, ◌≤◌, ◌+◌, ◌++◌, [], ◌∷◌, ◌==◌, not, filter, List, All, length, replicate, OnOk, IfOk};
 ghost use Rattle.fleet_model.specs.declared.geometry.Step.TheVariants.{Dwell};

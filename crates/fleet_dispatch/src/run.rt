@@ -47,7 +47,8 @@ pub struct Session {
     taken: u32,
 }
 
-/// Where the agents have carried out so much, by so many reports.
+/// A session that begins where the agents have carried out so much, by so many reports. It fails only if memory is
+/// refused.
 pub fn start_session<P: ProgramView>(
     alloc: Global,
     program: &P,

@@ -191,8 +191,7 @@ fn map_of(alloc: Global, bytes: &[u8]) -> Result<Grid, MapFault>
 /// The map that a text of the MovingAI benchmark's format stands for (Sturtevant 2012). The text is read once, from the
 /// front, and a refusal for another cause than memory is its first fault.
 ///
-/// A bit is kept for each cell, and no more room is asked for than the text's bytes
-/// can fill.
+/// A bit is kept for each cell, and no more room is asked for than the text's bytes can fill.
 pub fn read_map(alloc: Global, bytes: &[u8]) -> Result<Grid, MapFault>
     // The text stands for what is read.
     ensures found { IfOk result (λ g. IsMapText bytes.now g) }

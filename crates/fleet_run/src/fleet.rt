@@ -60,7 +60,8 @@ pub struct NotSent {
 }
 
 impl<'g, P: ProgramView> Fleet<'g, P> {
-    /// A fleet whose agents stand on their starts and have finished nothing.
+    /// A fleet whose agents stand on their starts and have finished nothing. It fails only if memory is refused, and
+    /// hands the accepted program back then.
     pub fn start(
         alloc: Global,
         accepted: Accepted<'g, P>,

@@ -5,7 +5,7 @@ ghost use Rattle.fleet_model.specs.Machine.{indices};
 
 use std::alloc::{AllocError, Global};
 
-/// The numbers of so many agents, rising from 0.
+/// The numbers of so many agents, rising from 0. It fails only if memory is refused.
 pub fn agent_numbers(alloc: Global, agents: u16) -> Result<Vec<u16>, AllocError>
     ensures { IfOk result (λ numbers. numbers.items ≡ indices agents) }
 {

@@ -1,7 +1,8 @@
 //! Texts as bytes: their lines, the words of a line, the numbers that words spell, the digits of a number, sinks that
 //! take bytes, and refusals, which are written as lines of words.
 //!
-//! A text is a slice of any bytes. What is read is lent from the slice, and takes no memory.
+//! A text is a slice of any bytes. What is read is lent from the slice, and takes no memory. What is written to a sink
+//! fails only if the sink does, which has then taken a front of it.
 //!
 //! `lines` reads lines and words, `spaced` the words of a line that has one space between two, `numbers` reads and
 //! writes numbers; `backward` writes them, and lines and places, in a row from its end to its front. `sink` has the

@@ -1,5 +1,5 @@
 -- One more agent moved, or left where it is.
-use Rattle.std.proofs.Common.{◌≡◌, ◌<◌, ◌≤◌, ◌&&◌, not, ℕ, ℤ, pos, negsuc, ◌+◌, Bool, true, false, cond, List, [], ◌∷◌, ◌++◌, ◌||◌, zero, suc, Some, None, map, length, get_or, slice_get, set, replicate, refl, ap, sym, ◌∙◌, subst, rules, arith, add-one, below_more, get_or-set_same, get_or-set_other, length-set, length-append, ◌≢◌}
+use Rattle.std.proofs.Common.{◌≡◌, ◌<◌, ◌≤◌, ◌&&◌, ℕ, ◌+◌, Bool, true, false, List, [], ◌||◌, zero, suc, length, get_or, slice_get, set, refl, ap, sym, ◌∙◌, subst, arith, add-one, below_more, get_or-set_same, get_or-set_other, length-set, ◌≢◌}
 use Rattle.std.specs.List.{filter, list_any}
 use Rattle.std.proofs.lemmas.Bool.{cases_lt}
 use Rattle.std.proofs.lemmas.List.FromFn.{fill_by_all}

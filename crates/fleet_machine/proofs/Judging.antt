@@ -90,10 +90,6 @@ still_judged p now new k same kept h = record {
 }
 
 module _ (p : Program) (test : ℕ → Bool) (old now : MachineState) (i : ℕ) (before : AreJudgedTo p test old now i) where
-  -- the next agent to be judged stands where it stood
-  pub home_so_far : home_of now.waiting.homes i ≡ home_of old.waiting.homes i
-  home_so_far = (before.later i (omega arith)).home
-
   pub ready_so_far : flag_of now.ready i ≡ flag_of old.ready i
   ready_so_far = (before.later i (omega arith)).ready
 

@@ -1,13 +1,11 @@
-use Rattle.std.proofs.Common.{◌≡◌, ◌+◌, ◌∙◌, true, length, slice_get, take, Some, sym, ap, arith}
-use Rattle.std.specs.List.{list_all}
+use Rattle.std.proofs.Common.{◌+◌, ◌∙◌, length, sym, ap, arith}
 use Rattle.std.proofs.lemmas.Bool.{true≢false}
 use Rattle.std.proofs.lemmas.Option.{slice_get_within}
 use Rattle.fleet_model.specs.declared.standing.Standing.{Standing}
 use Rattle.fleet_model.specs.Program.{awaits_of}
-use Rattle.fleet_model.specs.Machine.{count_at, is_met}
 use Rattle.fleet_model.proofs.Totals.{few_awaits_of}
-use Rattle.fleet_machine.proofs.Ready.{awaited_agent, one_more_met, not_ready_if_unmet}
-use Rattle.fleet_machine.proofs.Lacking.{one_lacked, none_lacked, all_met}
+use Rattle.fleet_machine.proofs.Ready.{awaited_agent, one_more_met}
+use Rattle.fleet_machine.proofs.Lacking.{unready, one_lacked, none_lacked, all_met}
 use Rattle.fleet_machine.proofs.Waiting.{list_within}
 use Rattle.fleet_machine.proofs.machine.Machine.read_on.Goals as goal
 
@@ -21,10 +19,7 @@ pub returns-then-not-has_met-clause-all : goal.returns-then-not-has_met-clause-a
 returns-then-not-has_met-clause-all g c =
     λ ready.
     let p = g.P.ProgramView.program c.args.program.now in
-    let rows = c.args.self.now.configuration in
-    let standing = c.agent-finished.ensures.standing in
-    let at : slice_get (awaits_of p c.args.i (count_at rows c.args.i + 1)) c.awaits.met ≡ Some c.in-Await.awaited = rw standing at c.in-Await.ensures in
-    absurd (true≢false (sym ready ∙ sym (not_ready_if_unmet p rows c.args.i c.requires.left c.awaits.met c.in-Await.awaited at (sym c.has_met.ensures ∙ c.if-not-has_met.true))))
+    absurd (true≢false (sym ready ∙ unready p c.args.self.now.configuration c.args.i c.requires.left c.agent-finished.result c.agent-finished.ensures.standing c.awaits.met c.in-Await.awaited c.in-Await.ensures (sym c.has_met.ensures ∙ c.if-not-has_met.true)))
 
 pub returns-then-not-has_met-clause-agent : goal.returns-then-not-has_met-clause-agent
 returns-then-not-has_met-clause-agent g c =
@@ -41,10 +36,7 @@ returns-then-not-has_met-clause-list g c =
 pub returns-then-not-has_met-clause-ready : goal.returns-then-not-has_met-clause-ready
 returns-then-not-has_met-clause-ready g c =
     let p = g.P.ProgramView.program c.args.program.now in
-    let rows = c.args.self.now.configuration in
-    let standing = c.agent-finished.ensures.standing in
-    let at : slice_get (awaits_of p c.args.i (count_at rows c.args.i + 1)) c.awaits.met ≡ Some c.in-Await.awaited = rw standing at c.in-Await.ensures in
-    one_lacked p rows c.args.i c.requires.left c.awaits.met c.in-Await.awaited at (sym c.has_met.ensures ∙ c.if-not-has_met.true)
+    one_lacked p c.args.self.now.configuration c.args.i c.requires.left c.agent-finished.result c.agent-finished.ensures.standing c.awaits.met c.in-Await.awaited c.in-Await.ensures (sym c.has_met.ensures ∙ c.if-not-has_met.true)
 
 pub overflow_add-met : goal.overflow_add-met
 overflow_add-met g c =
@@ -74,17 +66,9 @@ instruction-requires-clause-left g c = omega (arith, ap (λ (s : Standing). s.co
 pub returns-in-Step-clause-lacked : goal.returns-in-Step-clause-lacked
 returns-in-Step-clause-lacked g c =
     let p = g.P.ProgramView.program c.args.program.now in
-    let rows = c.args.self.now.configuration in
-    let standing = c.agent-finished.ensures.standing in
-    let all : c.awaits.met ≡ length (awaits_of p c.args.i (count_at rows c.args.i + 1)) = rw standing at c.in-Step.ensures.0 in
-    let met : list_all (is_met rows) (take c.awaits.met (awaits_of p c.args.i (count_at rows c.args.i + 1))) ≡ true = rw standing at c.awaits.invariant.met in
-    none_lacked p rows c.args.i c.requires.left c.awaits.met all met
+    none_lacked p c.args.self.now.configuration c.args.i c.requires.left c.agent-finished.result c.agent-finished.ensures.standing c.awaits.met c.in-Step.ensures.0 c.awaits.invariant.met
 
 pub returns-in-Step-clause-ready : goal.returns-in-Step-clause-ready
 returns-in-Step-clause-ready g c =
     let p = g.P.ProgramView.program c.args.program.now in
-    let rows = c.args.self.now.configuration in
-    let standing = c.agent-finished.ensures.standing in
-    let all : c.awaits.met ≡ length (awaits_of p c.args.i (count_at rows c.args.i + 1)) = rw standing at c.in-Step.ensures.0 in
-    let met : list_all (is_met rows) (take c.awaits.met (awaits_of p c.args.i (count_at rows c.args.i + 1))) ≡ true = rw standing at c.awaits.invariant.met in
-    all_met p rows c.args.i c.requires.left c.awaits.met all met
+    all_met p c.args.self.now.configuration c.args.i c.requires.left c.agent-finished.result c.agent-finished.ensures.standing c.awaits.met c.in-Step.ensures.0 c.awaits.invariant.met

@@ -1,25 +1,11 @@
 -- Lists that are linked.
-use Rattle.std.proofs.Common.{◌≡◌, ◌≢◌, ℕ, zero, suc, ◌<◌, ◌≤◌, List, [], ◌∷◌, length, get_or, set, replicate, Option, Some, None, refl, sym, ap, ◌∙◌, subst, arith, inl, inr}
-use Rattle.std.specs.Prelude.{Contains, ◌⊎◌}
+use Rattle.std.proofs.Common.{◌≡◌, ◌≢◌, ℕ, suc, ◌<◌, ◌≤◌, List, [], ◌∷◌, length, get_or, set, replicate, Option, Some, None, refl, sym, ap, ◌∙◌, subst, arith, inl, inr}
+use Rattle.std.specs.Prelude.{Contains}
 use Rattle.std.proofs.lemmas.Bool.{cases_eq, cases_lt}
 use Rattle.std.proofs.lemmas.List.{get_or-replicate, length-replicate, get_or_past, get_or-set_same, get_or-set_other, length-set}
 use Rattle.std.proofs.lemmas.Option.{same_Some, none-some}
+use Rattle.fleet_model.proofs.Members.{contains_head, contains_later, contains_none, contains_cases}
 use Rattle.fleet_machine.specs.WaitLists.{home_of, IsLinked, IsChain, AreChains}
-
--- ---- members
-
-here : {A : Type 0} (x : A) (xs : List A) → Contains (x ∷ xs) x
-here x xs = (0, omega arith, refl)
-
-later : {A : Type 0} (x y : A) (xs : List A) → Contains xs y → Contains (x ∷ xs) y
-later x y xs h = (suc h.0, (let lt = h.1 in omega (arith, lt)), h.2)
-
-here_or_later : {A : Type 0} (x y : A) (xs : List A) → Contains (x ∷ xs) y → (x ≡ y) ⊎ Contains xs y
-here_or_later x y xs (zero, lt, e) = inl e
-here_or_later x y xs (suc k, lt, e) = inr (k, omega (arith, lt), e)
-
-in_none : {A : Type 0} (y : A) → Contains [] y → ⊥
-in_none y h = (let lt = h.1 in omega (arith, lt))
 
 -- ---- links
 
@@ -29,10 +15,10 @@ linked_kept next i v None [] apart h = h
 linked_kept next i v (Some k) [] apart h = absurd h
 linked_kept next i v None (x ∷ agents) apart h = absurd h
 linked_kept next i v (Some k) (x ∷ agents) apart h =
-    let other : k ≢ i = λ e. apart x (here x agents) (h.0 ∙ e) in (
+    let other : k ≢ i = λ e. apart x (contains_head x agents) (h.0 ∙ e) in (
       h.0,
       rw (length-set next i v) h.1,
-      rw (get_or-set_other next i k v None other) (linked_kept next i v (get_or next k None) agents (λ m there. apart m (later x m agents there)) h.2),
+      rw (get_or-set_other next i k v None other) (linked_kept next i v (get_or next k None) agents (λ m there. apart m (contains_later x agents m there)) h.2),
     )
 
 -- the links from one place on are one list
@@ -45,11 +31,11 @@ linked_once next (Some i) (x ∷ xs) [] h g = absurd g
 linked_once next (Some i) (x ∷ xs) (y ∷ ys) h g = ap suc (linked_once next (get_or next i None) xs ys h.2 g.2)
 
 linked_from : (next : List (Option ℕ)) (first : Option ℕ) (agents : List ℕ) (i : ℕ) → IsLinked next first agents → Contains agents i → (rest : List ℕ) × IsLinked next (Some i) rest × (length rest ≤ length agents)
-linked_from next None [] i h there = absurd (in_none i there)
+linked_from next None [] i h there = absurd (contains_none i there)
 linked_from next (Some k) [] i h there = absurd h
 linked_from next None (x ∷ agents) i h there = absurd h
 linked_from next (Some k) (x ∷ agents) i h there =
-    elim (here_or_later x i agents there) [
+    elim (contains_cases x agents i there) [
       | inl e ↦ (x ∷ agents, subst (λ m. IsLinked next (Some m) (x ∷ agents)) (sym h.0 ∙ e) h, omega arith)
       | inr more ↦ (let rest = linked_from next (get_or next k None) agents i h.2 more in (rest.0, rest.1, let le = rest.2 in omega (arith, le)))
     ]
@@ -70,7 +56,7 @@ no_chains lists agents = record {
   chains = λ j lt. record {
     agents = [];
     linked = rw (get_or-replicate {A = Option ℕ} lists j None None (rw length-replicate at lt)) tt;
-    home = λ i there. absurd (in_none i there);
+    home = λ i there. absurd (contains_none i there);
     all = λ i e. absurd (nobody i e);
   };
 }
@@ -91,7 +77,7 @@ module _ {first next homes : List (Option ℕ)} (c : AreChains first next homes)
     where
       front : (agents : List ℕ) → IsLinked next (Some i) agents → ((k : ℕ) → Contains agents k → home_of homes k ≡ Some list) → (i < length homes) × (home_of homes i ≡ Some list)
       front [] h home = absurd h
-      front (x ∷ agents) h home = (rw c.links at h.1, home i (rw (sym h.0) (here x agents)))
+      front (x ∷ agents) h home = (rw c.links at h.1, home i (rw (sym h.0) (contains_head x agents)))
 
   module _ (i : ℕ) (there : i < length homes) (nowhere : home_of homes i ≡ None) where
     -- agents of lists are others
@@ -110,14 +96,14 @@ module _ {first next homes : List (Option ℕ)} (c : AreChains first next homes)
             rw (get_or-set_same next i (get_or first list None) None linked) (linked_kept next i (get_or first list None) (get_or first list None) chain.agents (λ k h. apart k (chain.home k h)) chain.linked),
           );
           home = λ k h.
-              elim (here_or_later i k chain.agents h) [
+              elim (contains_cases i chain.agents k h) [
                 | inl same ↦ rw (sym same) (get_or-set_same homes i (Some list) None there)
                 | inr more ↦ get_or-set_other homes i k (Some list) None (apart k (chain.home k more)) ∙ chain.home k more
               ];
           all = λ k e.
               elim (cases_eq k i) [
-                | inl same ↦ rw same (here i chain.agents)
-                | inr other ↦ later i k chain.agents (chain.all k (sym (get_or-set_other homes i k (Some list) None other) ∙ e))
+                | inl same ↦ rw same (contains_head i chain.agents)
+                | inr other ↦ contains_later i chain.agents k (chain.all k (sym (get_or-set_other homes i k (Some list) None other) ∙ e))
               ];
         }
 
@@ -159,11 +145,11 @@ module _ {first next homes : List (Option ℕ)} (c : AreChains first next homes)
             record {
               agents = agents;
               linked = linked.2;
-              home = λ k h. get_or-set_other homes i k None None (here_only k h) ∙ home k (later x k agents h);
+              home = λ k h. get_or-set_other homes i k None None (here_only k h) ∙ home k (contains_later x agents k h);
               all = λ k at.
                   elim (cases_eq k i) [
                     | inl same ↦ absurd (none-some _ (sym (get_or-set_same homes i None None (first_in_chain i e).0) ∙ ap (home_of (set homes i None)) (sym same) ∙ at))
-                    | inr other ↦ elim (here_or_later x k agents (all k (sym (get_or-set_other homes i k None None other) ∙ at))) [
+                    | inr other ↦ elim (contains_cases x agents k (all k (sym (get_or-set_other homes i k None None other) ∙ at))) [
                       | inl first ↦ absurd (other (sym first ∙ linked.0))
                       | inr more ↦ more
                     ]

@@ -46,8 +46,8 @@ rest cells p c = map (rest_agent cells p c) (indices (length p))
 abbrev pub rest_tasks : (ℕ → Cell) → Program → List Task
 rest_tasks cells p = map (λ i. record { start = cells i; goal = goal_of p i }) (indices (length p))
 
--- q goes on as p would from c: under every list of holds by which a run of p comes to c, the run of q under the holds
--- that are left has the agents on the same places, and is ahead of them by what they have finished more
+-- q goes on as p does from c: where a run of p comes to c, the run of q under the holds that are left has each agent on
+-- the same place ever after, and its count is less by what it had finished in c
 abbrev pub RunsOn : Program → Configuration → Program → Type 0
 RunsOn p c q =
     (holds : Holds) (x : ℕ) → run p holds x ≡ c → (t i : ℕ) → i < length p

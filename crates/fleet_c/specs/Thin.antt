@@ -34,6 +34,6 @@ pub record ThinsTexts (map scen : List ℕ) (agents : ℕ) (bytes written : List
   pub thin : IsThinProgram ground tasks bytes thinned
   pub spelled : SpellsShortest written thinned
 
--- such a program of the texts (ThinsTexts), with the status of a call that answers
+-- the bytes of the thinned program of such texts (ThinsTexts), with the status of a call that answers
 abbrev pub ThinsTo : (map scen : List ℕ) → ℕ → List ℕ → (written : List ℕ) → ℕ → Type 0
 ThinsTo map scen agents bytes written done = ThinsTexts map scen agents bytes written × (done ≡ DONE)

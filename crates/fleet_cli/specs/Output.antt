@@ -50,7 +50,7 @@ abbrev pub Prints : List ℕ → (out out' : SinkState) → Result ℕ Fault →
 Prints text out out' (Ok status) = IsDelivered out out' text × (status ≡ 0)
 Prints text out out' (Err fault) = IsOutFault fault × FailsAfter out out' text
 
--- such a refusal is answered, and nothing was written
+-- a refusal of this kind is answered, and nothing was written
 abbrev pub Refuses : (Fault → Type 0) → (out out' : SinkState) → Result ℕ Fault → Type 0
 Refuses IsRefusal out out' result = (fault : Fault) × (result ≡ Err fault) × IsRefusal fault × IsUnwritten out out'
 

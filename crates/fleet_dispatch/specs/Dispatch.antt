@@ -80,10 +80,11 @@ AreTaken p k counts (r ∷ reports) = MayBeTaken p k counts r × AreTaken p k (c
 
 -- ---- after these lines
 
+-- what is carried out after them
 abbrev pub counts_now : Course → List Line → Counts
 counts_now d lines = counts_by d.start (reports_in lines)
 
--- each of them could be taken when it came
+-- each of these lines could be taken when it came
 abbrev pub AreHeard : Course → List Line → Type 0
 AreHeard d lines = AreTaken d.program d.ahead d.start (reports_in lines)
 
@@ -92,10 +93,11 @@ abbrev pub due_orders : Course → List Line → List ℕ
 due_orders d lines =
     new_orders d.program d.form (told_by d.program d.ahead d.start d.start (reports_in lines)) (told_at d.program d.ahead (counts_now d lines))
 
--- what was said and heard before they are told, and with them
+-- what was said and heard up to the last of these lines
 abbrev pub said_before : Course → List Line → Talk
 said_before d lines = talk_before d.program d.form d.ahead d.start d.start lines
 
+-- .. and the orders that were told then
 abbrev pub said_by : Course → List Line → Talk
 said_by d lines = said_before d lines ++ Told (due_orders d lines) ∷ []
 

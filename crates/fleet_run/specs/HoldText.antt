@@ -68,7 +68,7 @@ pub record HoldLines : Type 0 where
 abbrev pub source_of : HoldLines → SourceState
 source_of t = record { ticks = ticks_of t.agents t.lines; last = last_of t.agents t.lines; fault = if t.has_failed then Some Text else None }
 
--- such a text, for so many agents, before its first tick is asked for
+-- a text of holds as a source, for so many agents, before its first tick is asked for
 abbrev pub text_source : ℕ → Bytes → SourceState
 text_source n text = source_of (record { lines = lines text; agents = n; has_failed = false })
 

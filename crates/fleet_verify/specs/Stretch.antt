@@ -16,6 +16,6 @@ stretch_actions s = map (λ n. record { agent = s.agent; number = n }) (range_wi
 abbrev pub stretch_between : ActionId → ActionId → Stretch
 stretch_between a b = record { agent = a.agent; count = b.number - a.number + 1; first = a.number }
 
--- those of all stretches, one after the other
+-- the actions of all stretches, one after the other
 abbrev pub path_actions : List Stretch → List ActionId
 path_actions stretches = flat_map stretch_actions stretches

@@ -1,5 +1,5 @@
 -- Agents that go on as far as their awaits allow: that each step is right, and that they come to the end.
-use Rattle.fleet_needs.proofs.Words.{◌≡◌, ℕ, zero, suc, ◌+◌, ◌-◌, ◌*◌, ◌<◌, ◌≤◌, List, [], ◌∷◌, ◌++◌, length, max, cond, set, get_or, refl, sym, ap, subst, ◌∙◌, arith, inl, inr, ◌⊎◌, slice_get, nat_lt, Some, ◌≢◌, cases_lt, cases_eq, lt-ltb, le-ltb, mul-le, get_or-set_same, get_or-set_other, length-set, slice_get_within, get_or_from_slice_get, slice_get-get_or, get_or_append_left, get_or_push, length_push, ActionId, Await, Program, moves, awaits_of, total_moves, IsAction, DirectlyNeeds, IsCriticalCost, awaited, need_action, own_reach, Reaches-rises, action_place, IsNumberedTo, IsNotedCost, AreNotedCosts, value_at, Walked, after, IsGreatestTo, IsStage, IsReadyStage, IsFinished, HasAll, IsCostWalk, HaveGrown, IsUnmet, IsOpen, stage_in, finished_in, no_stage, gone_on, Stage, MAX_COST, MAX_LEVEL}
+use Rattle.fleet_needs.proofs.Words.{◌≡◌, ℕ, zero, suc, ◌+◌, ◌-◌, ◌*◌, ◌<◌, ◌≤◌, List, [], ◌∷◌, ◌++◌, length, max, cond, set, get_or, refl, sym, ap, subst, ◌∙◌, arith, inl, inr, ◌⊎◌, slice_get, Contains, nat_lt, Some, ◌≢◌, cases_lt, cases_eq, lt-ltb, le-ltb, mul-le, get_or-set_same, get_or-set_other, length-set, slice_get_within, get_or_from_slice_get, slice_get-get_or, get_or_append_left, get_or_push, length_push, ActionId, Await, Program, moves, awaits_of, total_moves, IsAction, DirectlyNeeds, IsCriticalCost, awaited, need_action, own_reach, Reaches-rises, action_place, IsNumberedTo, IsNotedCost, AreNotedCosts, value_at, Walked, after, IsGreatestTo, IsStage, IsReadyStage, IsFinished, HasAll, IsCostWalk, HaveGrown, IsUnmet, IsOpen, stage_in, finished_in, no_stage, gone_on, Stage, MAX_COST, MAX_LEVEL}
 use Rattle.fleet_needs.proofs.Costing.{noted_next, noted_more}
 
 -- ---- how far an agent has come
@@ -186,13 +186,15 @@ AreDeep p number goals = (k : ℕ) (d : Await) → k < length goals → IsDeep p
 
 module _ (p : Program) (f : IsNumberedTo p MAX_LEVEL) where
   -- what the agent of a goal waits for
-  pub deep_next : (w : Walked) (n : ℕ) (goal next : Await) → IsDeep p f.number n goal → IsOpen w goal → IsUnmet p w goal.agent next → IsDeep p f.number (n + 1) next
-  deep_next w n goal next h still unmet =
+  pub deep_next : (w : Walked) (n : ℕ) (goal next : Await) → IsDeep p f.number n goal → IsOpen w goal → (met : ℕ) → IsUnmet p w goal.agent met next → IsDeep p f.number (n + 1) next
+  deep_next w n goal next h still met unmet =
       let here = after goal.agent (finished_in w goal.agent) in
+      let awaits = awaits_of p here.agent here.number in
+      let named : Contains awaits next = (met, slice_get_within awaits met next unmet.await, get_or_from_slice_get awaits met next next unmet.await) in
       let act : IsAction p here = record { agent = h.action.agent; first = omega arith; last = omega (arith, unmet.left) } in
-      let needed = need_action p f.range here (awaited next) act (inr unmet.await) in
+      let needed = need_action p f.range here (awaited next) act (inr named) in
       let up = Reaches-rises p f.number f.rising here (awaited goal) (own_reach p goal.agent here.number goal.count h.action.agent (omega arith) (omega (arith, still)) h.action.last) in
-      record { action = needed; deep = omega (arith, h.deep, up, f.rising.rising here (awaited next) act needed (inr unmet.await)) }
+      record { action = needed; deep = omega (arith, h.deep, up, f.rising.rising here (awaited next) act needed (inr named)) }
 
   -- one goal more
   pub deep_more : (goals : List Await) (goal : Await) → AreDeep p f.number goals → IsDeep p f.number (length goals) goal → AreDeep p f.number (goals ++ goal ∷ [])

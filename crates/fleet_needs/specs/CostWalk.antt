@@ -1,5 +1,5 @@
 -- Actions finished in any order that respects needs, and the costs of their critical paths.
-use Rattle.std.specs.Prelude.{◌≡◌, ℕ, ◌+◌, ◌<◌, ◌≤◌, ◌⊎◌, List, length, set, get_or, Contains}
+use Rattle.std.specs.Prelude.{◌≡◌, ℕ, ◌+◌, ◌<◌, ◌≤◌, ◌⊎◌, List, length, set, get_or, slice_get, Some}
 use Rattle.fleet_needs.specs.Words.{ActionId, Await, Program, moves, awaits_of, total_moves, DirectlyNeeds, IsCriticalCost}
 use Rattle.fleet_needs.specs.Places.{ArePlaces}
 use Rattle.fleet_needs.specs.Critical.{IsNumberedTo, AreNotedCosts}
@@ -87,8 +87,8 @@ HaveGrown old new = (i : ℕ) → finished_in old i ≤ finished_in new i
 abbrev pub IsOpen : Walked → Await → Type 0
 IsOpen w goal = finished_in w goal.agent < goal.count
 
--- agent i has an action left, and this is an await of it that is not met
-pub record IsUnmet (p : Program) (w : Walked) (i : ℕ) (goal : Await) : Type 0 where
+-- agent i has an action left, and this is its first await after so many, and not met
+pub record IsUnmet (p : Program) (w : Walked) (i met : ℕ) (goal : Await) : Type 0 where
   pub left : finished_in w i < moves p i
-  pub await : Contains (awaits_of p i (finished_in w i + 1)) goal
+  pub await : slice_get (awaits_of p i (finished_in w i + 1)) met ≡ Some goal
   pub unfinished : IsOpen w goal

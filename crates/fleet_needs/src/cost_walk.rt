@@ -141,7 +141,8 @@ fn next_stage<P: ProgramView, C: ActionCosts>(
     ensures stage { IfErr result (λ b. IsStage (P.program program.now) (C.cost costs.now)
         (P.offset program.now) (IsFinished walk.now) agent b.stage) }
     ensures same { IfErr result (λ b. b.stage.finished ≡ finished_in walk.now agent) }
-    ensures unmet { IfErr result (λ b. IsUnmet (P.program program.now) walk.now agent b.awaited) }
+    ensures unmet { IfErr result (λ b. IsUnmet (P.program program.now) walk.now agent
+        b.stage.met b.awaited) }
 {
     let _ = program.agents();
     let mut stage = walk.stage(agent);

@@ -1,4 +1,4 @@
-use Rattle.fleet_needs.proofs.Words.{◌≡◌, ◌+◌, ℕ, refl, sym, ap, subst, ◌∙◌, arith, slice_get, Some, slice_get_within, get_or_from_slice_get, awaits_of, IsCriticalCost, awaited, few_awaits_of, IsStage, IsGreatestTo, IsFinished, after, length, Contains, Stage}
+use Rattle.fleet_needs.proofs.Words.{◌≡◌, ◌+◌, ℕ, refl, sym, ap, subst, ◌∙◌, arith, slice_get, Some, awaits_of, IsCriticalCost, awaited, few_awaits_of, IsStage, IsGreatestTo, IsFinished, after, length, Stage}
 use Rattle.fleet_needs.proofs.Joining.{awaited_action}
 use Rattle.fleet_needs.proofs.Walking.{stage_on}
 use Rattle.fleet_needs.proofs.cost_walk.next_stage.Goals as goal
@@ -24,11 +24,10 @@ returns-then-is_open-clause-unmet g c =
     let i = c.args.agent in
     let k = c.loop-k.k in
     let w = c.in-Await.awaited in
-    let awaits = awaits_of p i (c.loop-k.stage.finished + 1) in
-    let at : slice_get awaits k ≡ Some w = rw c.in-Await.is at c.read-reading.ensures.instruction in
+    let at : slice_get (awaits_of p i (c.loop-k.stage.finished + 1)) k ≡ Some w = rw c.in-Await.is at c.read-reading.ensures.instruction in
     record {
       left = c.requires.left;
-      await = subst (λ (n : ℕ). Contains (awaits_of p i (n + 1)) w) c.loop-k.invariant.same (k, slice_get_within awaits k w at, get_or_from_slice_get awaits k w w at);
+      await = subst (λ (n : ℕ). slice_get (awaits_of p i (n + 1)) c.loop-k.stage.met ≡ Some w) c.loop-k.invariant.same (subst (λ (m : ℕ). slice_get (awaits_of p i (c.loop-k.stage.finished + 1)) m ≡ Some w) (sym c.loop-k.invariant.met) at);
       unfinished = c.is_open.ensures.open c.if-is_open.true;
     }
 

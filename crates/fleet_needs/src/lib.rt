@@ -2,20 +2,20 @@
 //! joined by lanes, and which awaits others imply.
 //!
 //! `counts` keeps the counts of rows in two bytes each or in four, and joins rows: two rows of four bytes a count lane
-//! by lane, eight counts at once, and then the counts that are left, one by one. A lane is a vector of `std::simd`, in a
-//! small function of its own, whose proof alone speaks of lanes: the loop over them knows places and counts.
+//! by lane, eight counts at once, and then the counts that are left, one by one. A lane is a vector of `std::simd`, in
+//! a small function of its own, whose proof alone speaks of lanes: the loop over them knows places and counts.
 //!
 //! `level_order` lists the actions that await something by levels, which rise along chains: for each level the last
-//! one, and for each action the one before it of its level. Any levels will do: `critical` counts them anew, and another
-//! `OrderSource` may know others.
+//! one, and for each action the one before it of its level. Any levels will do: `critical` counts them anew, and
+//! another `OrderSource` may know others.
 //!
 //! A `schedule` says which rows are made, in which order, of which rows each is joined, and in which slot it is kept.
 //! It is made once, and serves all blocks of columns: each agent that is asked for has a column in one block. `joins`
 //! goes through the actions that await something, level by level: each has a row of its own, and the row of any other
 //! action is that of its agent's action before. So is that of an action with one await, if that is known to be implied:
 //! it adds no chain. What is noted is the row that stands for the action before, and those that the awaits take. Then
-//! slots are given from the last row back to the first: a row that is taken, and has no slot yet, is taken there for the
-//! last time, so it gets one, which is free again before its own row is made.
+//! slots are given from the last row back to the first: a row that is taken, and has no slot yet, is taken there for
+//! the last time, so it gets one, which is free again before its own row is made.
 //!
 //! `join_pass` makes the rows in that order, in the columns of one block, and keeps their counts slot by slot. A row is
 //! made in two steps: first of the rows of all that its action needs, and then, for each await, with the awaited
@@ -30,9 +30,9 @@
 //! `gather` gathers the counts of all rows: by each row it goes on with the last *piece* of the two agents, or begins a
 //! new one, block by block of columns. It sorts the pieces (`Pieces`) and looks counts up in them.
 //!
-//! Flags, and the rows that stand for actions, stand agent by agent, action by action (`await_places`). `settled` looks a few steps back from each action, as
-//! far as the levels let it: most awaits are settled so, and the agents of the others are asked for. Once most agents
-//! are asked for it looks back less, the less the shorter rows are.
+//! Flags, and the rows that stand for actions, stand agent by agent, action by action (`await_places`). `settled` looks
+//! a few steps back from each action, as far as the levels let it: most awaits are settled so, and the agents of the
+//! others are asked for. Once most agents are asked for it looks back less, the less the shorter rows are.
 //!
 //! `implied` has a flag for each await. Those that a few steps back settle come first (`settled`), and for the agents
 //! that are left it goes block by block over the rows, in which these agents alone have a column: between the two steps

@@ -6,16 +6,16 @@
 //! long (Hönig et al. 2019).
 //!
 //! `verifier` passes over a right program once. `agents` judges the fleet and its starts; `ahead` lets each agent run
-//! on as far as its awaits allow, and reads it instruction by instruction. `still` does so with all of them until nobody
-//! can go on: whom it looks at next says `queue`, and at the end it looks at each once more. `ahead` keeps the levels of
-//! the actions (`level_row`), of each cell the last visit (`last_visits`) and the open pairs, which
-//! mostly the last await of an action spares, and says yes if all arrive on passable ground and chains order those
-//! pairs, which `chained` asks for: `level_order` lists the actions that await something by their levels, and chains
-//! are found in that order. If it does not, `unheld_run` runs the program with nobody held, looks whether each place
-//! that it comes to is passable, and adds each visit as it begins to the `VisitOrder` of `order`, which keeps the last
-//! one of each cell and the *open pairs*: a visit and the next of its cell, by another agent, which does not await that
-//! the first is left. A run that finishes has met each await, and `agents` looks whether all stand on their goals. Only
-//! if that run goes wrong are the paths judged one by one, in the order of the faults (`agents`, `path`); if they are
+//! on as far as its awaits allow, and reads it instruction by instruction. `still` does so with all of them until
+//! nobody can go on: whom it looks at next says `queue`, and at the end it looks at each once more. `ahead` keeps the
+//! levels of the actions (`level_row`), of each cell the last visit (`last_visits`) and the open pairs, which mostly
+//! the last await of an action spares, and says yes if all arrive on passable ground and chains order those pairs,
+//! which `chained` asks for: `level_order` lists the actions that await something by their levels, and chains are found
+//! in that order. If it does not, `unheld_run` runs the program with nobody held, looks whether each place that it
+//! comes to is passable, and adds each visit as it begins to the `VisitOrder` of `order`, which keeps the last one of
+//! each cell and the *open pairs*: a visit and the next of its cell, by another agent, which does not await that the
+//! first is left. A run that finishes has met each await, and `agents` looks whether all stand on their goals. Only if
+//! that run goes wrong are the paths judged one by one, in the order of the faults (`agents`, `path`); if they are
 //! right the run is stuck, and `ring` finds a ring of needs. If pairs are open `order` asks for chains, unless the run
 //! ahead has asked for all of them, whose answers `chained` has kept, and if some pair has none `order` finds which is
 //! reported. `runs`, `orders`, `schedules`, `exactness`, `promises`, `counting`, `ahead_laws`, `reduced` and `rest` are

@@ -2,10 +2,11 @@
 # program answers to it of the pair of examples/:
 #     od -An -v -t u1 TEXT | awk -v kind=KIND -f tests/changed.awk
 # A TEXT of the kind `reports` is read by `dispatch`, one of the kind `log` by `dispatch --resume`, one of the kind
-# `rest` by `rest`, and one of the kind `costs` by `times --costs`. Each line has a changed text in octal, a `|`, and the
-# status with the refusal's line, and with the number of reports, the orders that are open after a log, how many moves
-# and awaits are left, or when both agents arrive. It is another reader of these texts, and takes nothing from the
-# program.
+# `rest` by `rest`, one of the kind `costs` by `times --costs`, and the words of the kinds `broken` and `dead` by `times
+# --broken` and `rest --without`. Each line has a changed text in octal, a `|`, and the status with the refusal's line,
+# and with the number of reports, the orders that are open after a log, how many moves and awaits are left, when both
+# agents arrive, which action each reaches, or the row of the map that is left. It is another reader of these texts, and
+# takes nothing from the program.
 
 { for (k = 1; k <= NF; k++) codes[++size] = $k }
 
@@ -94,6 +95,49 @@ function answer_costs(    l, words, pair, n, i, p, cost, end) {
     return "0 0: " (cost[0, 1] + cost[0, 2]) " 1: " (end + cost[1, 2])
 }
 
+# The actions in which robots break down: agent 1 follows agent 0.
+function answer_broken(    n, k, words, pair, before, reached) {
+    reached[0] = reached[1] = 2
+    n = line[1] == "-" ? 0 : split(line[1], words, / /)
+    if (line[1] == "") return "1 times 2 Broken"
+    before = -1
+    for (k = 1; k <= n; k++) {
+        if (split(words[k], pair, ":") != 2 || !is_number(pair[1]) || !is_number(pair[2]) || pair[1] + 0 <= before \
+                || pair[1] + 0 > 1 || pair[2] + 0 < 1 || pair[2] + 0 > 2)
+            return "1 times 2 Broken"
+        before = pair[1] + 0
+        reached[before] = pair[2] - 1
+    }
+    return "0 0: " reached[0] " 1: " (reached[1] < reached[0] ? reached[1] : reached[0])
+}
+
+# A dead robot and one or two cells of the row of four.
+function answer_dead(    n, k, parts, cell, row) {
+    n = split(line[1], parts, ":")
+    if (n < 2 || n > 3 || !is_number(parts[1]) || parts[1] + 0 > 1) return "1 times 4 Dead"
+    row = "...."
+    for (k = 2; k <= n; k++) {
+        if (split(parts[k], cell, ",") != 2 || !is_number(cell[1]) || !is_number(cell[2]) || cell[1] + 0 > 3 || cell[2] + 0 > 0)
+            return "1 times 4 Dead"
+        row = substr(row, 1, cell[1]) "@" substr(row, cell[1] + 2)
+    }
+    return "0 " row
+}
+
+# What is answered to a word of the command line, in which no byte ends a line.
+function answer_word(bytes, count,    k) {
+    for (k = 1; k <= count; k++)
+        if (bytes[k] == 255) return "2 error: a word of the command line is no text"
+    for (k = 1; k <= count; k++)
+        if (bytes[k] == 10 || bytes[k] == 13) return "1 times " (kind == "dead" ? "4 Dead" : "2 Broken")
+    return kind == "dead" ? answer_dead() : answer_broken()
+}
+
+function answer(bytes, count) {
+    if (kind == "broken" || kind == "dead") return answer_word(bytes, count)
+    return kind == "costs" ? answer_costs() : answer_reports()
+}
+
 # The text with the byte at a place left out (-2), twice (-1), or another one.
 function change(at, byte,    k, count, bytes, octal) {
     count = 0
@@ -104,12 +148,12 @@ function change(at, byte,    k, count, bytes, octal) {
     }
     for (k = 1; k <= count; k++) octal = octal sprintf("\\%03o", bytes[k])
     split_lines(bytes, count)
-    print octal "|" (kind == "costs" ? answer_costs() : answer_reports())
+    print octal "|" answer(bytes, count)
 }
 
 END {
     n = split("-2 -1 0 9 10 13 32 45 48 49 50 51 57 58 63 120 255", others, " ")
     for (at = 1; at <= size; at++)
         for (k = 1; k <= n; k++)
-            if (others[k] != codes[at]) change(at, others[k] + 0)
+            if (others[k] != codes[at] && (others[k] + 0 || kind != "broken" && kind != "dead")) change(at, others[k] + 0)
 }

@@ -329,7 +329,8 @@ x|run 3 Hold line 1
 \055\n1 0|run 3 Hold line 2
 EOF
 
-# Reports, logs and costs that are changed in one byte, and what changed.awk says of each, which reads them by itself.
+# Reports, logs, costs and words that are changed in one byte, and what changed.awk says of each, which reads them by
+# itself.
 CHANGED=$root/tests/changed.awk
 export CHANGED
 
@@ -347,7 +348,7 @@ while IFS='|' read -r octal due; do
     answer=$(echo $? $(cat told) $(sed -n "$shown" got))
     [ "$answer" = "$due" ] || echo "$octal: $answer, due $due"
 done < dues
-[ "$(wc -l < dues)" -gt 200 ] && echo each
+[ "$(wc -l < dues)" -gt 100 ] && echo each
 EOF
 on='pair.map pair.scen pair.program'
 check 'reports are changed in a byte' 0 'each\n' '' \
@@ -356,6 +357,18 @@ check 'a log is changed in a byte' 0 'each\n' '' "changes log reports 's/^\(go [
 check '.. of which the rest is written' 0 'each\n' '' "changes rest reports '/^moves/p; /^awaits/p' fleet rest $on changed tasks out"
 check 'costs are changed in a byte' 0 'each\n' '' \
     "printf '1:2 7\n1 5\n0:1 3\n' > costs && changes costs costs '/^[01]: /p' fleet times $on --costs changed"
+
+# with_word OPTION COMMAND..: runs it with the option and, as its value, what the file `changed` has.
+script with_word <<'EOF'
+#!/bin/sh
+option=$1 word=$(cat changed; echo .)
+shift
+exec "$@" "$option=${word%.}"
+EOF
+check 'actions in which robots break down are changed in a byte' 0 'each\n' '' \
+    "printf '0:2 1:1' > broken && changes broken broken '/^[01]: /p' with_word --broken fleet times $on"
+check 'a dead robot and its cells are changed in a byte' 0 'each\n' '' \
+    "printf '0:1\n' > log && printf '1:0,0:2,0' > dead && changes dead dead '/^[.@]/p' sh -c 'with_word --without fleet rest $on log tasks out --map-out left && tail -n 1 left'"
 
 # Maps, scenarios, plans, holds, programs and hexadecimal that are changed in some places.
 if has python3; then

@@ -7,8 +7,7 @@ use Rattle.fleet_model.specs.Machine.{Configuration, Holds, opening, run, held_t
 use Rattle.fleet_machine.specs.Machine.{MachineState, Runs}
 use Rattle.fleet_run.specs.declared.source.SourceFault.{SourceFault}
 use Rattle.fleet_run.specs.declared.source.SourceFault.TheVariants.{Broken, Text}
-use Rattle.fleet_run.specs.declared.line.TheConstants.{NUMERALS}
-use Rattle.fleet_run.specs.declared.trace.TheConstants.{LINE}
+use Rattle.fleet_run.specs.declared.line.TheConstants.{NUMERALS, LINE}
 use Rattle.fleet_run.specs.declared.run.TheConstants.{MAX_RUN_TICKS}
 use Rattle.fleet_run.specs.declared.run.End.{End}
 use Rattle.fleet_run.specs.declared.run.End.TheVariants.{Finished, Stuck}

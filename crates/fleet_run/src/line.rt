@@ -8,13 +8,18 @@ ghost use Rattle.fleet_model.specs.declared.standing.Standing.{Standing};
 ghost use Rattle.fleet_model.specs.Machine.{Configuration, standing_at};
 ghost use Rattle.fleet_run.specs.Line.{AreClose, EndsWith, HasNumerals, HaveOtherTens, IsBeside, IsDigit, IsDigitOver, IsLineKept, IsKeptBefore, IsNumeralAt, IsResized, LacksPlace, LacksRoom, Numeral, WritesOver, numeral, numeral_text, places_of};
 
-use crate::trace::LINE;
 use fleet_machine::Machine;
 use fleet_model::{MAX_AGENTS, Place, Standing};
-use fleet_text::{NUMBER, write_byte, write_count, write_separated};
+use fleet_text::{NUMBER, PLACE, write_byte, write_count, write_separated};
 
 /// How many numbers a line has at most, besides the time.
 pub const NUMERALS: usize = 2 * MAX_AGENTS;
+
+/// How many bytes the longest time has, with the colon after it.
+const TIME: usize = 11;
+
+/// How many bytes the longest line has: the time, the places, and the end.
+pub const LINE: usize = TIME + MAX_AGENTS * PLACE + 1;
 
 /// Writes the number `at` of a line, after a byte, before those from `end` on, and where it begins into `begins`, and
 /// answers that.
@@ -139,9 +144,6 @@ fn resize_text(text: &[u8], row: &mut [u8], front: usize, begin: usize, to: usiz
     shift_bytes(row, front, begin, to);
     write_text(text, row, to, end);
 }
-
-/// How many bytes the longest time has, with the colon after it.
-const TIME: usize = 11;
 
 /// Where a text is to begin that ends at `end`, if there is room for the bytes from `front` to before `begin` before
 /// it, and for the time before these.

@@ -1,12 +1,12 @@
 //! Programs as text.
 
-ghost use Rattle.std.specs.Prelude.{◌≡◌, ◌<◌, ◌∷◌, [], length, map};
+ghost use Rattle.std.specs.Prelude.{◌≡◌, ◌<◌, ◌∷◌, [], length};
 ghost use Rattle.fleet_model.specs.Program.{IsWellFormed, path, awaits_of};
 ghost use Rattle.fleet_model.specs.Chain.{IsAction};
 ghost use Rattle.fleet_text.specs.Sink.{IsWorking, TakesAll};
 ghost use Rattle.fleet_text.specs.Row.{Gathers};
 ghost use Rattle.fleet_text.specs.Words.{place_text, with_spaces, next_words, numbered_text};
-ghost use Rattle.fleet_run.specs.Listing.{dir_name, step_words, await_text, await_words, agent_line, action_line, actions_text, agent_text, program_text};
+ghost use Rattle.fleet_run.specs.Listing.{dir_name, step_words, await_words, agent_line, action_line, actions_text, agent_text, program_text};
 
 use fleet_model::{ActionId, Cell, Dir, Place, ProgramView, Step};
 use fleet_text::{

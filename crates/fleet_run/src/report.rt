@@ -1,6 +1,5 @@
 //! Rehearsals: runs of any program.
 
-ghost use Rattle.std.specs.Prelude.{◌≡◌};
 ghost use Rattle.fleet_run.specs.Outcome.{CanRun};
 ghost use Rattle.fleet_run.specs.Rehearsal.{Rehearses};
 ghost use Rattle.fleet_text.specs.Sink.{IsWorking};

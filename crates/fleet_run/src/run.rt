@@ -9,9 +9,8 @@ ghost use Rattle.fleet_text.specs.Sink.{IsWorking, TakesAll};
 ghost use Rattle.fleet_run.specs.Source.{CanBeAsked};
 ghost use Rattle.fleet_run.specs.Outcome.{run_end, fault_of, AreRowsFor, AsksNext, AsksUnlessOver, CanRun, PassesTime, RunsLines};
 
-use crate::line::{NUMERALS, copy_places, write_moved, write_places, write_time};
+use crate::line::{LINE, NUMERALS, copy_places, write_moved, write_places, write_time};
 use crate::source::{HoldSource, SourceFault, ask};
-use crate::trace::LINE;
 use fleet_machine::Machine;
 use fleet_model::{MAX_AGENTS, Place, ProgramView};
 use fleet_text::{OutFault, Refusal, TraceOut, put_all, put_memory, put_named, put_named_at};

@@ -2,7 +2,6 @@
 
 ghost use Rattle.std.specs.Prelude.{◌≡◌, ℕ, ◌<◌, [], List, ◌↔◌, MatchBool, None, Some};
 ghost use Rattle.fleet_run.specs.Source.{HasNotFailed, CanBeAsked, GivesTick, AsksTick, AreFlagsOf};
-ghost use Rattle.fleet_machine.specs.Machine.{flag_of};
 ghost use Rattle.std.specs.List.{slice_split};
 ghost use Rattle.fleet_text.specs.Text.{lines, is_space};
 ghost use Rattle.fleet_run.specs.HoldText.{agents_of, tick_of, IsTickLine};

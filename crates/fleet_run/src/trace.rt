@@ -1,4 +1,4 @@
-//! The text of a run: how long its lines are, and its end.
+//! The text of a run of an accepted program, and the ends of both texts.
 
 ghost use Rattle.std.specs.Prelude.{◌≡◌, ◌≤◌, length, drop};
 ghost use Rattle.fleet_machine.specs.Machine.{Runs};
@@ -10,8 +10,8 @@ ghost use Rattle.fleet_run.specs.Text.{last_line_of, closing_lines, trace_closin
 use crate::run::{End, RunFault, run_lines};
 use crate::source::HoldSource;
 use fleet_machine::Machine;
-use fleet_model::{MAX_AGENTS, ProgramView};
-use fleet_text::{PLACE, TraceOut, put_all, write_bytes, write_count_line};
+use fleet_model::ProgramView;
+use fleet_text::{TraceOut, put_all, write_bytes, write_count_line};
 
 /// The numbers of a run of a fleet: its agents, its ticks, the actions of its longest chain, and the ticks in which a
 /// ready agent was held.
@@ -53,9 +53,6 @@ pub fn run_trace<P: ProgramView, S: HoldSource, O: TraceOut>(
         held: ran.held,
     })
 }
-
-/// How many bytes the longest line has.
-pub const LINE: usize = MAX_AGENTS * PLACE + 12;
 
 /// The last line of a rehearsal that ended so.
 fn last_line(end: End) -> &'static [u8]

@@ -1,6 +1,6 @@
 use Rattle.fleet_run.proofs.Words.{◌≡◌, ◌≤◌, ◌+◌, ◌-◌, length, MAX_AGENTS}
 use Rattle.fleet_machine.specs.AgentSet.{IsCursorOf}
-use Rattle.fleet_run.specs.declared.trace.TheConstants.{LINE}
+use Rattle.fleet_run.specs.declared.line.TheConstants.{LINE}
 use Rattle.fleet_run.specs.declared.line.TheConstants.{MOST_RESIZED, NUMERALS}
 use Rattle.fleet_run.proofs.Lines.{IsRewritten}
 use Rattle.fleet_run.proofs.line.write_moved.Given as goal

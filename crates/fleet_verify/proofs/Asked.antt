@@ -1,10 +1,10 @@
 -- Open pairs asked for.
-use Rattle.fleet_verify.proofs.Words.{◌≡◌, ℕ, ◌+◌, ◌<◌, ◌≤◌, Bool, true, false, List, [], ◌∷◌, ◌++◌, length, get_or, Option, Some, None, IfSome, slice_get, refl, sym, ap, ◌∙◌, subst, arith, inl, inr, All, cases_lt, cases_eq, cases_order, cases_Bool, ne_eqb, get_or_append_left, get_or_push, slice_get-get_or, slice_get_within, get_or_from_slice_get, same_Some, ActionId, Visit, Program, Reaches, entering, leaving, eqb, Result, Ok, Err, IfOk, Question, AreAnswers, AreCountedUp, count_in, level_in, AreKnown, IsChained, IsAskedOf, AreAsked, BeginsLate, BeginsLater, IsFlagOf, EndApart, EnterApart, AreAmong, key_of, HasLevels, AreVisits, question_of, OpenPair}
+use Rattle.fleet_verify.proofs.Words.{◌≡◌, ℕ, ◌+◌, ◌<◌, ◌≤◌, Bool, true, false, List, [], ◌∷◌, ◌++◌, length, get_or, Option, Some, None, IfSome, slice_get, refl, sym, ap, ◌∙◌, subst, arith, inl, inr, All, cases_lt, cases_eq, cases_order, cases_Bool, ne_eqb, get_or_append_left, get_or_push, slice_get-get_or, slice_get_within, get_or_from_slice_get, same_Some, ActionId, Visit, Program, Reaches, entering, leaving, eqb, Result, Ok, Err, IfOk, Question, AreAnswers, AreCountedUp, level_in, AreKnown, IsChained, IsAskedOf, AreAsked, BeginsLater, IsFlagOf, EndApart, EnterApart, AreAmong, key_of, HasLevels, AreVisits, question_of, OpenPair}
 use Rattle.fleet_verify.specs.declared.chained.Answers.{Answers}
 use Rattle.fleet_verify.specs.declared.chained.TheConstants.{NUMBERS}
 use Rattle.fleet_verify.proofs.Decide.{Reaches-dec}
 use Rattle.fleet_verify.proofs.Levels.{counted_numbers}
-use Rattle.fleet_verify.proofs.Listing.{levels_number, entry_start, entry_later, rank_rises}
+use Rattle.fleet_verify.proofs.Listing.{levels_number, rank_rises}
 
 -- the question for a pair
 pub asked_of : (p : Program) (o : OpenPair) (first : ActionId) → AreVisits p o → first ≡ leaving p o.first → 1 ≤ first.number → 1 ≤ o.second.position
@@ -27,21 +27,6 @@ known_none p known questions flags = record {
   }));
   apart = subst EndApart (sym questions) (λ j k q r here there same. absurd (omega (arith, slice_get_within [] j q here)));
 }
-
--- a pair has no question if its second visit is a start
-pub start_none : (rows : List (List ℕ)) (o : OpenPair) → o.second.position ≡ 0 → BeginsLater rows o → ⊥
-start_none rows o start later = omega (arith, later, entry_start (level_in rows) o.second start)
-
--- nor if that has no level
-pub row_none : (p : Program) (rows : List (List ℕ)) (o : OpenPair) → HasLevels p rows → AreVisits p o → count_in rows o.second.agent < o.second.position → ⊥
-row_none p rows o levels visits past = omega (arith, past, levels.whole o.second.agent visits.second.agent, visits.second.position)
-
--- nor if the first visit begins no sooner
-pub late_none : (p : Program) (rows : List (List ℕ)) (o : OpenPair) (level : ℕ) → HasLevels p rows → AreVisits p o → 1 ≤ o.second.position → level ≡ level_in rows (entering o.second) → BeginsLate rows o.first level → BeginsLater rows o → ⊥
-late_none p rows o level levels visits entered is late later =
-    let first = entry_later (level_in rows) o.first late.0 in
-    let second = entry_later (level_in rows) o.second entered in
-    omega (arith, later, first, second, is, late.1 (omega (arith, levels.whole o.first.agent visits.first.agent, visits.first.position)))
 
 -- of a pair with a chain the second visit begins later
 pub chained_later : (p : Program) (rows : List (List ℕ)) (o : OpenPair) → HasLevels p rows → IsChained p o → BeginsLater rows o
@@ -156,11 +141,11 @@ flag_more known questions flags k q flag long at is each j r l = elim (cases_lt 
 ]
 
 -- a question that was asked has a flag, if no two that were asked end with one action
-pub flag_there : (p : Program) (known : Answers) (questions : List Question) (k : ℕ) (q : Question) (place : ℕ → Option ℕ) → slice_get questions k ≡ Some q
+pub flag_there : (known : Answers) (questions : List Question) (k : ℕ) (q : Question) (place : ℕ → Option ℕ) → slice_get questions k ≡ Some q
     → (EndApart known.questions.items → (j : ℕ) (r : Question) → slice_get known.questions.items j ≡ Some r → place (key_of r.last) ≡ Some j)
     → ((j : ℕ) → j < length known.flags.items → place (key_of q.last) ≡ Some j → slice_get known.questions.items j ≡ Some q → ⊥)
-    → AreKnown p known → AreAmong known.questions.items questions → ⊥
-flag_there p known questions k q place at places none is_known among =
+    → EndApart known.questions.items → length known.flags.items ≡ length known.questions.items → AreAmong known.questions.items questions → ⊥
+flag_there known questions k q place at places none apart all among =
     let asked = among k q (slice_get_within questions k q at) in
     let is : slice_get known.questions.items asked.0 ≡ Some q = asked.1 ∙ ap Some (get_or_from_slice_get questions k q q at) in
-    none asked.0 (omega (arith, slice_get_within known.questions.items asked.0 q is, is_known.answers.all)) (places is_known.apart asked.0 q is) is
+    none asked.0 (omega (arith, slice_get_within known.questions.items asked.0 q is, all)) (places apart asked.0 q is) is

@@ -1,5 +1,5 @@
 -- Holds that bring two agents onto one cell: that there are such, and how they are found by counts.
-use Rattle.fleet_verify.proofs.Words.{◌≡◌, ℕ, suc, ◌+◌, ◌<◌, ◌≤◌, Bool, true, List, [], ◌∷◌, length, get_or, refl, ap₂, ◌∙◌, subst, arith, inl, inr, zero, false, ◌-◌, ◌++◌, sym, ap, slice_index, add-one, map, Contains, filter, ◌⊎◌, ◌==◌, ◌↔◌, nat_lt, nat_le, range_with_len, list_any, IsStrictlyIncreasing, AllPairs-from_increasing, IsStrictlyIncreasing-filter, length-range_with_len, get_or-range_with_len, cases_lt, cases_eq, eqb-true, eq-eqb, or_cases, or_left, or_right, cases_order, le-leb, leb-true, ltb-true, lt-ltb, and_parts, and_from, Place, ActionId, Visit, Program, moves, awaits_of, AreInRange, total_moves, count_at, place_at, Holds, is_held, is_among, opening, indices, run, Configuration, tick, IsDone, IsAction, Reaches, IsNumbering, DirectlyNeeds, awaited, next_move, IsVisitOf, entering, leaving, AreUnordered, IsVisit, IsNeededFor, IsHeldBack, AreBreakingHolds, MeetOn, IsPrepared, tick_agree, stays_to, Reaches-refl, Reaches-rises, Reaches-need, indices-more, filter-append, append-nil, map-append, get_or_past, get_or_append_left, get_or_push, length_push, ext_get_or, Await, ◌≢◌, set, get_or-set_same, get_or-set_other, both_ways, entry_level, IsRow, is_held_by, held_row, AreNeeded}
+use Rattle.fleet_verify.proofs.Words.{◌≡◌, ℕ, suc, ◌+◌, ◌<◌, ◌≤◌, Bool, true, List, [], ◌∷◌, length, get_or, refl, ap₂, ◌∙◌, subst, arith, inl, inr, zero, false, ◌-◌, ◌++◌, sym, ap, slice_index, add-one, Contains, filter, ◌⊎◌, ◌==◌, ◌↔◌, nat_lt, nat_le, range_with_len, list_any, IsStrictlyIncreasing, AllPairs-from_increasing, IsStrictlyIncreasing-filter, length-range_with_len, get_or-range_with_len, cases_lt, cases_eq, eqb-true, eq-eqb, or_cases, or_left, or_right, cases_order, le-leb, leb-true, ltb-true, lt-ltb, and_parts, and_from, Place, ActionId, Visit, Program, moves, awaits_of, AreInRange, total_moves, count_at, place_at, Holds, is_held, is_among, opening, run, Configuration, tick, IsDone, IsAction, Reaches, IsNumbering, DirectlyNeeds, awaited, next_move, IsVisitOf, entering, leaving, AreUnordered, IsVisit, IsNeededFor, IsHeldBack, AreBreakingHolds, MeetOn, IsPrepared, tick_agree, stays_to, Reaches-refl, Reaches-rises, Reaches-need, indices-more, filter-append, append-nil, get_or_past, get_or_append_left, get_or_push, length_push, ext_get_or, Await, ◌≢◌, set, get_or-set_same, get_or-set_other, both_ways, entry_level, IsRow, is_held_by, held_row, AreNeeded}
 use Rattle.fleet_verify.proofs.Members.{filter_has, filter_from, contains_head, contains_later, contains_cases, contains_none}
 use Rattle.fleet_verify.proofs.Waiting.{Moves, step, IsReadyTo}
 use Rattle.fleet_verify.proofs.RunCounts.{count_past, count_opening, run_place, longest_exists, finish_exists, unheld_is_longest, longest_small}

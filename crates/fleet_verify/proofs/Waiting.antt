@@ -41,10 +41,6 @@ step p holds t i l = go (is_ready p (run p holds t) i) (is_held holds t i) refl 
       count = ap (λ (s : Standing). s.count) (tick_stays p (is_held holds t) (run p holds t) i l (rw r));
     })
 
-pub await_agent : (p : Program) → IsWellFormed p → (i n k : ℕ) (w : Await) → slice_get (awaits_of p i n) k ≡ Some w → w.agent < length p
-await_agent p h i n k w e =
-    subst (λ x. x.agent < length p) (get_or_from_slice_get (awaits_of p i n) k w w e) ((h.awaits i n).agents k w (slice_get_within (awaits_of p i n) k w e))
-
 -- nobody awaits itself
 pub await_count : (p : Program) → IsWellFormed p → (i n k : ℕ) (w : Await) → slice_get (awaits_of p i n) k ≡ Some w → 1 ≤ w.count
 await_count p h i n k w e =

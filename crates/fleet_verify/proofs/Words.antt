@@ -21,6 +21,7 @@ pub use Rattle.std.specs.List.Sorted.{IsStrictlyIncreasing, IsPartitionPoint}
 pub use Rattle.std.specs.Option.{option_map_or, option_or}
 pub use Rattle.fleet_grid.proofs.StoredLaws.{off_map}
 pub use Rattle.fleet_grid.specs.Ground.{Ground, IsGround, is_passable, passable_at}
+pub use Rattle.fleet_machine.proofs.Ready.{awaited_agent}
 pub use Rattle.fleet_machine.specs.Machine.{flag_of, Runs, MachineState, moving_flags}
 pub use Rattle.fleet_model.proofs.Cells.{is_same_place-true, is_same_place-eq, place_of-injective}
 pub use Rattle.fleet_model.proofs.Chains.{stays_to, Reaches-refl, Reaches-rises, Reaches-need, but_last, chain_first, chain_last, chain_join, own_reach, Reaches-trans, ends_dearer, need_action, LastStep, chain_ends_by_step, next_upto, stay_on, ends_more, ends_one, ends_within, Reaches-first, Reaches-last, Reaches-kept, IsIn, is_in, ends_long, ends_action, numbers_bound, longest_is_one, chain_rises, ends_by, ends_alone, chain_push, chain_cost_push, past_moves}

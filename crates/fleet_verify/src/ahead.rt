@@ -1,8 +1,7 @@
 //! A verifier without ticks: each agent runs on as far as its awaits allow. It only says yes, or what was answered.
 
-ghost use Rattle.std.specs.Prelude.{◌≡◌, ◌≢◌, ◌<◌, ◌≤◌, ◌+◌, ◌-◌, ◌↔◌, ◌⊎◌, All, Option, get_or, set, ℕ, Some, None, true, IsTrue, length, max, IfOk, IfErr, IfNone, IfSome, OnOk, List, [], ◌∷◌, ◌++◌};
+ghost use Rattle.std.specs.Prelude.{◌≡◌, ◌≢◌, ◌<◌, ◌≤◌, ◌+◌, ◌↔◌, ◌⊎◌, All, get_or, set, ℕ, Some, None, IsTrue, length, max, IfOk, IfErr, IfNone, IfSome, OnOk, List, [], ◌∷◌, ◌++◌};
 ghost use Rattle.fleet_model.specs.declared.geometry.Cell.{Cell};
-ghost use Rattle.fleet_model.specs.declared.program.Await.{Await};
 ghost use Rattle.fleet_model.specs.declared.program.Visit.{Visit};
 ghost use Rattle.fleet_model.specs.Geometry.{place_of};
 ghost use Rattle.fleet_verify.specs.Order.{AreAddedBy, IsOpenNext, numbered_cell};
@@ -97,7 +96,8 @@ fn no_await(agent: u16) -> Await
 /// No action has a greater level: there are no more actions.
 const MOST_LEVEL: u64 = MAX_MOVES_IN_ALL as u64;
 
-/// What the agent's next action says, or an await of it that is not met.
+/// What the agent's next action says; or an await of it that is not met, or one of the agent itself if the action's
+/// level would be above all levels.
 #[inline(always)]
 pub fn needs_of<P: ProgramView>(
     program: &P,

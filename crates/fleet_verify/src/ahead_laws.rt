@@ -9,8 +9,9 @@ ghost use Rattle.fleet_model.specs.declared.geometry.Cell.{Cell};
 ghost use Rattle.fleet_model.specs.declared.program.Visit.{Visit};
 ghost use Rattle.fleet_model.specs.declared.program.ActionId.{ActionId};
 ghost use Rattle.fleet_model.specs.Program.{Program, moves, AreInRange};
-ghost use Rattle.fleet_model.specs.Chain.{IsAction, IsLevel, IsLongestChain, IsNumbering};
+ghost use Rattle.fleet_model.specs.Chain.{IsLongestChain, IsNumbering};
 ghost use Rattle.fleet_verify.specs.Ahead.{AreCountedUp, IsTop, AreBegun};
+ghost use Rattle.fleet_verify.specs.Listing.{AreLevels};
 
 /// Numbers of actions, each the least above those of all that it directly needs, are a numbering, and the levels. The
 /// greatest is the number of actions of the longest chain.
@@ -18,7 +19,7 @@ pub fn counted_levels_are_levels()
     ensures numbering { (p : Program) (level : ActionId → ℕ) → AreCountedUp p level
         → IsNumbering p level }
     ensures levels { (p : Program) (level : ActionId → ℕ) → AreCountedUp p level
-        → (a : ActionId) → IsAction p a → IsLevel p a (level a) }
+        → AreLevels p level }
     ensures longest { (p : Program) (level : ActionId → ℕ) → AreCountedUp p level
         → (n : ℕ) → IsTop p level n → IsLongestChain p n }
 {}

@@ -1,7 +1,7 @@
 //! Whether chains of needs order all open pairs of a program whose levels are known: yes, or what was answered, so that
 //! it need not be asked again.
 
-ghost use Rattle.std.specs.Prelude.{◌≡◌, ◌<◌, ◌↔◌, ℕ, true, false, IsTrue, All, IfOk, IfNone, IfSome, get_or, length};
+ghost use Rattle.std.specs.Prelude.{◌≡◌, ◌<◌, ◌↔◌, ℕ, false, IsTrue, All, IfOk, IfNone, IfSome, get_or, length};
 ghost use Rattle.fleet_model.specs.Program.{AreInRange};
 ghost use Rattle.fleet_needs.specs.Asked.{AreAnswers};
 ghost use Rattle.fleet_verify.specs.LevelOrder.{AreAllLevels};
@@ -41,8 +41,7 @@ impl Answers {
     ghost use Rattle.indexmap.specs.IndexMap.{get};
     ghost use Rattle.fleet_model.specs.Program.{Program, AreInRange};
     ghost use Rattle.fleet_needs.specs.Asked.{AreAnswers, IsQuestion};
-    ghost use Rattle.fleet_needs.specs.declared.questions.Question.{Question};
-    ghost use Rattle.fleet_verify.specs.Chained.{AreKnown, IsFlagOf, ArePlaced, AreAmong, key_of};
+    ghost use Rattle.fleet_verify.specs.Chained.{EndApart, IsFlagOf, ArePlaced, AreAmong, key_of};
 
     /// Nothing was asked. Takes no memory.
     pub fn none(alloc: Global) -> Answers
@@ -82,7 +81,8 @@ impl Answers {
         ensures some { IfOk result (λ found. IfSome found (λ flags. (p : Program)
             → AreAnswers p self.now.questions.items self.now.flags.items
             → AreAnswers p questions.now flags.items)) }
-        ensures none { IfOk result (λ found. IfNone found ((p : Program) → AreKnown p self.now
+        ensures none { IfOk result (λ found. IfNone found (EndApart self.now.questions.items
+            → length self.now.flags.items ≡ length self.now.questions.items
             → AreAmong self.now.questions.items questions.now → ⊥)) }
     {
         let places = self.places(alloc)?;
@@ -100,7 +100,8 @@ impl Answers {
         ensures some { IfOk result (λ found. IfSome found (λ flags. (p : Program)
             → AreAnswers p self.now.questions.items self.now.flags.items
             → AreAnswers p questions.now flags.items)) }
-        ensures none { IfOk result (λ found. IfNone found ((p : Program) → AreKnown p self.now
+        ensures none { IfOk result (λ found. IfNone found (EndApart self.now.questions.items
+            → length self.now.flags.items ≡ length self.now.questions.items
             → AreAmong self.now.questions.items questions.now → ⊥)) }
     {
         let mut flags = Vec::with_capacity(alloc, questions.len())?;

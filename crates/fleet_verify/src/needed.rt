@@ -31,7 +31,7 @@ pub fn needed_for<P: ProgramView>(
 }
 
 /// A row of so many zeros.
-pub fn zeros(alloc: Global, n: u16) -> Result<Vec<u32>, OutOfMemory>
+fn zeros(alloc: Global, n: u16) -> Result<Vec<u32>, OutOfMemory>
     ensures all { IfOk result (λ row. length row.items ≡ n) }
     ensures zero { IfOk result (λ row. (j : ℕ) → slice_index row.items j ≡ 0) }
 {

@@ -143,7 +143,7 @@ pub struct OrderViolation {
 /// By the number of each cell its first open pair without a chain from the action that leaves the first visit to the
 /// one that enters the second. The program finishes after so many ticks if nobody is held. Nothing is asked if it was
 /// asked before.
-pub fn find_violations<P: ProgramView>(
+fn find_violations<P: ProgramView>(
     alloc: Global,
     program: &P,
     ticks: u32,
@@ -306,7 +306,7 @@ impl VisitOrder {
 }
 
 /// Whether the agent does not stay where it was: it is on its start, or its last action is a move.
-pub fn begins_visit<P: ProgramView>(program: &P, visit: Visit) -> bool
+fn begins_visit<P: ProgramView>(program: &P, visit: Visit) -> bool
     requires agent { visit.agent < length (P.program program.now) }
     requires position { visit.position ≤ moves (P.program program.now) visit.agent }
     ensures { result ≡ is_entry (P.program program.now) visit.agent visit.position }

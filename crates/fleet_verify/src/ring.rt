@@ -76,8 +76,8 @@ fn all_wants<P: ProgramView>(
     Ok(wants)
 }
 
-/// The first await of an agent's next action that is not met, if it has one.
-pub fn unmet<P: ProgramView>(program: &P, counts: &[u32], i: u16) -> Option<Await>
+/// An await of an agent's next action that is not met, if there is one.
+fn unmet<P: ProgramView>(program: &P, counts: &[u32], i: u16) -> Option<Await>
     requires agent { i < length (P.program program.now) }
     requires counts { length counts.now ≡ length (P.program program.now) }
     ensures some { IfSome result (IsUnmet (P.program program.now) counts.now i) }

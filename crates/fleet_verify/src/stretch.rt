@@ -1,7 +1,6 @@
 //! Actions of one agent that follow one another, and a row of such stretches as text.
 
 ghost use Rattle.std.specs.Prelude.{◌≡◌, map};
-ghost use Rattle.fleet_model.specs.declared.program.ActionId.{ActionId};
 ghost use Rattle.fleet_text.specs.Sink.{IsWorking};
 ghost use Rattle.fleet_text.specs.Row.{Gathers};
 ghost use Rattle.fleet_text.specs.Words.{next_words};

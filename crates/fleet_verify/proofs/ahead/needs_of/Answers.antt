@@ -1,5 +1,5 @@
-use Rattle.fleet_verify.proofs.Words.{◌≡◌, ◌-◌, ◌+◌, ◌<◌, ◌∙◌, ℕ, List, length, slice_index, refl, sym, ap, arith, inl, inr, slice_get_within, get_or_from_slice_get, awaited, awaits_of, few_awaits_of, slice_get, subst, IsLastAwait, level_in, count_in, climbed_in, last_level}
-use Rattle.fleet_verify.proofs.Waiting.{await_agent, await_count, await_other}
+use Rattle.fleet_verify.proofs.Words.{◌≡◌, ◌-◌, ◌+◌, ◌<◌, ◌∙◌, ℕ, List, length, slice_index, refl, sym, ap, arith, inl, inr, slice_get_within, get_or_from_slice_get, awaited, awaits_of, few_awaits_of, slice_get, subst, IsLastAwait, level_in, count_in, climbed_in, last_level, awaited_agent}
+use Rattle.fleet_verify.proofs.Waiting.{await_count, await_other}
 use Rattle.fleet_verify.proofs.NextLevel.{least_begins, least_max, least_ends}
 use Rattle.fleet_verify.proofs.Climbing.{own_row, own_count, other_row}
 use Rattle.fleet_verify.proofs.ahead.needs_of.Goals as goal
@@ -23,14 +23,14 @@ instructions-init g c =
 pub greater_level-requires-clause-agent : goal.greater_level-requires-clause-agent
 greater_level-requires-clause-agent g c =
     let p = g.P.ProgramView.program c.args.program.now in
-    omega (arith, c.requires.rows, await_agent p c.agents-agents.ensures.well_formed c.args.agent (c.args.runner.finished + 1) c.instructions.k c.in-Await.awaited (rw c.in-Await.is at c.read-reading.ensures.instruction))
+    omega (arith, c.requires.rows, awaited_agent p c.args.agent (c.args.runner.finished + 1) c.instructions.k c.in-Await.awaited c.agents-agents.ensures.well_formed (rw c.in-Await.is at c.read-reading.ensures.instruction))
 
 pub greater_level-requires-clause-count : goal.greater_level-requires-clause-count
 greater_level-requires-clause-count g c =
     await_count (g.P.ProgramView.program c.args.program.now) c.agents-agents.ensures.well_formed c.args.agent (c.args.runner.finished + 1) c.instructions.k c.in-Await.awaited (rw c.in-Await.is at c.read-reading.ensures.instruction)
 
 pub returns-in-None-clause-agent : goal.returns-in-None-clause-agent
-returns-in-None-clause-agent g c = await_agent (g.P.ProgramView.program c.args.program.now) c.agents-agents.ensures.well_formed c.args.agent (c.args.runner.finished + 1) c.instructions.k c.in-Await.awaited (rw c.in-Await.is at c.read-reading.ensures.instruction)
+returns-in-None-clause-agent g c = awaited_agent (g.P.ProgramView.program c.args.program.now) c.args.agent (c.args.runner.finished + 1) c.instructions.k c.in-Await.awaited c.agents-agents.ensures.well_formed (rw c.in-Await.is at c.read-reading.ensures.instruction)
 
 pub returns-in-None-clause-waits : goal.returns-in-None-clause-waits
 returns-in-None-clause-waits g c =

@@ -1,4 +1,4 @@
-use Rattle.fleet_verify.proofs.Words.{◌≡◌, ℕ, List, length, map, None, refl, sym, ◌∙◌, subst, arith, err_from_is_err_and, All, eqb-true, nat_eq, IsQuestion, OpenPair, AreVisits, question_of, HasNoChain, AnswersFirstBad, get, number_of}
+use Rattle.fleet_verify.proofs.Words.{◌≡◌, ℕ, List, length, map, None, refl, sym, ◌∙◌, subst, arith, err_from_is_err_and, All, eqb-true, nat_eq, IsQuestion, OpenPair, AreVisits, question_of, HasNoChain, AnswersFirstBad, get}
 use Rattle.fleet_verify.proofs.Judged.{none_broken}
 use Rattle.fleet_verify.proofs.OpenPairs.{are_visits, are_questions, violations_are, none_open}
 use Rattle.fleet_verify.proofs.Ordered.{no_entries}

@@ -1,5 +1,4 @@
-use Rattle.std.proofs.Common.{refl, subst, ◌<◌, length, arith}
-use Rattle.fleet_verify.proofs.Waiting.{await_agent}
+use Rattle.fleet_verify.proofs.Words.{awaited_agent, refl, subst, ◌<◌, length, arith}
 use Rattle.fleet_verify.proofs.Leaving.{after_found, after_more, after_none}
 use Rattle.fleet_verify.proofs.order.comes_after.Goals as goal
 use Rattle.fleet_verify.proofs.order.comes_after.Goals.{else-awaited-first-via-then-awaited-first+else-is_left_by, else-awaited-first-via-else-awaited-first}
@@ -7,7 +6,7 @@ use Rattle.fleet_verify.proofs.order.comes_after.Goals.{else-awaited-first-via-t
 pub is_left_by-requires : goal.is_left_by-requires
 is_left_by-requires g c =
     subst (λ i. i < length (g.P.ProgramView.program c.args.program.now)) c.if-awaited-first.true
-    (await_agent (g.P.ProgramView.program c.args.program.now) c.agents-agents.ensures.well_formed c.args.second.agent c.args.second.position c.loop-k.k c.await_at-awaited.result c.await_at-awaited.ensures)
+    (awaited_agent (g.P.ProgramView.program c.args.program.now) c.args.second.agent c.args.second.position c.loop-k.k c.await_at-awaited.result c.agents-agents.ensures.well_formed c.await_at-awaited.ensures)
 
 pub returns-then-is_left_by : goal.returns-then-is_left_by
 returns-then-is_left_by g c = (

@@ -1,10 +1,9 @@
-use Rattle.std.proofs.Common.{arith}
-use Rattle.fleet_verify.proofs.Waiting.{await_agent}
+use Rattle.fleet_verify.proofs.Words.{awaited_agent, arith}
 use Rattle.fleet_verify.proofs.Ranges.{in_range_more, in_range_all, out_of_range}
 use Rattle.fleet_verify.proofs.path.are_in_range.Goals as goal
 
 pub moves-requires : goal.moves-requires
-moves-requires g c = await_agent (g.P.ProgramView.program c.args.program.now) c.requires.well_formed c.args.agent c.args.action c.loop-k.k c.await_at-awaited.result c.await_at-awaited.ensures
+moves-requires g c = awaited_agent (g.P.ProgramView.program c.args.program.now) c.args.agent c.args.action c.loop-k.k c.await_at-awaited.result c.requires.well_formed c.await_at-awaited.ensures
 
 pub returns-then-is_beyond : goal.returns-then-is_beyond
 returns-then-is_beyond g c = (

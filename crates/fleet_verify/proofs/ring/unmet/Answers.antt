@@ -1,10 +1,10 @@
-use Rattle.fleet_verify.proofs.Words.{arith, slice_index, ◌+◌, slice_get_within, get_or_from_slice_get, awaits_of}
-use Rattle.fleet_verify.proofs.Waiting.{await_agent, met_more, ready_yes}
+use Rattle.fleet_verify.proofs.Words.{arith, slice_index, ◌+◌, slice_get_within, get_or_from_slice_get, awaits_of, awaited_agent}
+use Rattle.fleet_verify.proofs.Waiting.{met_more, ready_yes}
 use Rattle.fleet_verify.proofs.ring.unmet.Goals as goal
 
 pub prove-unreachable-requires : goal.prove-unreachable-requires
 prove-unreachable-requires g c =
-    omega (arith, await_agent (g.P.ProgramView.program c.args.program.now) c.agents-agents.ensures.well_formed c.args.i (slice_index c.args.counts.now c.args.i + 1) c.loop-k.k c.await_at-awaited.result c.await_at-awaited.ensures)
+    omega (arith, awaited_agent (g.P.ProgramView.program c.args.program.now) c.args.i (slice_index c.args.counts.now c.args.i + 1) c.loop-k.k c.await_at-awaited.result c.agents-agents.ensures.well_formed c.await_at-awaited.ensures)
 
 pub returns-then-is_short-clause-some : goal.returns-then-is_short-clause-some
 returns-then-is_short-clause-some g c =

@@ -24,7 +24,6 @@ loop-k-preserved c =
 
 pub returns-in_default-clause-none : goal.returns-in_default-clause-none
 returns-in_default-clause-none c =
-    λ p.
     let questions = c.args.questions.now in
     let at = slice_get-get_or questions c.loop-k.k _ (omega (arith, c.loop-k-test.true)) in
-    flag_there p c.args.self.now questions c.loop-k.k _ (get nat_eq c.args.places.now) at c.requires c.in_default.ensures.none
+    flag_there c.args.self.now questions c.loop-k.k _ (get nat_eq c.args.places.now) at c.requires c.in_default.ensures.none

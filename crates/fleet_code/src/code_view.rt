@@ -6,7 +6,7 @@ ghost use Rattle.fleet_model.specs.declared.program.Await.{Await};
 ghost use Rattle.fleet_model.specs.declared.program.AgentProgram.{AgentProgram};
 ghost use Rattle.fleet_model.specs.Answer.{IsDueUnless};
 ghost use Rattle.fleet_model.specs.Program.{IsCell, IsWellFormed, NeverStays, moves, awaits_before};
-ghost use Rattle.fleet_code.specs.Spelling.{Spells, SpellsNothing, two_bytes, count, count_len, most_count, cell, await};
+ghost use Rattle.fleet_code.specs.Spelling.{Spells, SpellsNothing, two_bytes, count, most_count, cell, await};
 ghost use Rattle.fleet_code.specs.LoadFaults.{IsFirstLoadFault};
 ghost use Rattle.fleet_code.specs.Offsets.{Viewed, program_in, StandsAt, await_len, after_opcodes, begin_of, end_of, part_at};
 

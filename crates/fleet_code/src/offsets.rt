@@ -1,6 +1,6 @@
 //! Where the actions of an agent stand in the bytes.
 
-ghost use Rattle.std.specs.Prelude.{◌≡◌, ◌≢◌, ◌<◌, ◌≤◌, ◌+◌, ◌-◌, ◌/◌, ◌∷◌, [], min, replicate, true, length, take, vec_len, vec_capacity, IfOk, IfSome, IfNone, IsTrue, ◌↔◌, nat_lt, ℕ, Ok, List, ◌^◌, All, slice_index_or};
+ghost use Rattle.std.specs.Prelude.{◌≡◌, ◌≢◌, ◌<◌, ◌≤◌, ◌+◌, ◌-◌, ◌/◌, ◌∷◌, [], min, replicate, length, take, vec_len, vec_capacity, IfOk, IfSome, IfNone, IsTrue, ◌↔◌, nat_lt, ℕ, Ok, List, ◌^◌, All, slice_index_or};
 ghost use Rattle.fleet_model.specs.Answer.{IsDueUnless};
 ghost use Rattle.fleet_model.specs.declared.program.Action.{Action};
 ghost use Rattle.fleet_code.specs.declared.format.Version.TheVariants.{One};

@@ -172,10 +172,6 @@ pub past_one : (line : Bytes) → 1 ≤ length line → is_blank (get_or line 0 
 past_one [] some e = absurd (omega (arith, some))
 past_one (b ∷ line) some e = rw e refl
 
-pub past_none : (line : Bytes) → (1 ≤ length line → is_blank (get_or line 0 0) ≡ false) → line ≡ past_blank line
-past_none [] e = refl
-past_none (b ∷ line) e = rw (e (omega arith)) refl
-
 pub past_first : (line : Bytes) → 1 ≤ length line → is_blank (get_or line 0 0) ≡ true → words (drop 1 line) ≡ words line
 past_first [] some e = absurd (omega (arith, some))
 past_first (b ∷ line) some e = sym (words_blank b line e)

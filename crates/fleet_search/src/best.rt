@@ -73,6 +73,8 @@ fn note_made<'g, M: Measure>(
     ensures turn { OnOk result (IsTurn problem.now turn.new) }
     ensures tried { IfOk result (λ m. IsTried problem.now (M.is_measure measure.now)
         turn.old.order.items turn.new.order.items (Tried.Planned m)) }
+    ensures kept { OnOk result
+        (length turn.new.kept.items ≡ length turn.old.order.items - 1) }
 {
     let last = turn.order.len() - 1;
     let kept = all_but_last(problem, turn.order.as_slice(), paths.as_slice())?;

@@ -265,6 +265,7 @@ pub(crate) fn advance(
     ensures turn { OnOk result (IsTurn problem.now turn.new) }
     ensures next { OnOk result
         (turn.new.order.items ≡ to_front turn.old.order.items place) }
+    ensures kept { OnOk result (turn.new.kept ≡ kept) }
 {
     raise(&mut turn.order, place)?;
     turn.kept = kept;
@@ -284,6 +285,7 @@ pub(crate) fn note_stuck(
         problem.now.instance.now problem.now.horizon turn.old.order.items place) }
     ensures next { IfOk result (λ place.
         turn.new.order.items ≡ to_front turn.old.order.items place) }
+    ensures kept { OnOk result (turn.new.kept ≡ paths) }
 {
     let place = paths.len();
     advance(problem, turn, place, paths)?;

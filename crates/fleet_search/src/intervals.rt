@@ -1,6 +1,6 @@
 //! The times at which a cell is occupied, and the safe intervals between them.
 
-ghost use Rattle.std.specs.Prelude.{◌↔◌, ◌≤◌, ◌<◌, ◌+◌, ◌-◌, ℕ, length, IsTrue, IfSome, IfNone, ◌≡◌, [], get_or, OnOk, OnErr};
+ghost use Rattle.std.specs.Prelude.{◌↔◌, ◌≤◌, ◌<◌, ◌+◌, ◌-◌, ℕ, length, IsTrue, IfSome, IfNone, ◌≡◌, get_or, OnOk, OnErr};
 ghost use Rattle.fleet_search.specs.Occupancies.{occupancy_at, IsPutIn, AreInOrder};
 ghost use Rattle.fleet_search.specs.Intervals.{AreSuccessive, AreBegun, IsInInterval, IsEarliestWithin, IsEndAfter};
 ghost use Rattle.std.specs.List.Sorted.{IsPartitionPoint};

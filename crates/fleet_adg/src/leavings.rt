@@ -1,6 +1,6 @@
 //! The leavings of the cells of a map so far.
 
-ghost use Rattle.std.specs.Prelude.{◌≡◌, ◌≢◌, ◌≤◌, ℕ, List, All, [], ◌∷◌, ◌++◌, OnOk, IfOk, not, ◌==◌, filter, option_map, option_to_list};
+ghost use Rattle.std.specs.Prelude.{◌≡◌, ◌≢◌, ◌≤◌, ℕ, List, All, [], ◌∷◌, ◌++◌, OnOk, not, ◌==◌, filter, option_map, option_to_list};
 ghost use Rattle.fleet_model.specs.declared.geometry.Step.TheVariants.{Go};
 ghost use Rattle.fleet_model.specs.declared.program.Action.{Action};
 ghost use Rattle.fleet_code.specs.Spelling.{most_count};

@@ -1,6 +1,6 @@
 //! Programs without the awaits that others imply.
 
-ghost use Rattle.std.specs.Prelude.{◌≡◌, ◌≤◌, ◌<◌, ◌+◌, ◌-◌, ◌↔◌, ℕ, List, Some, false, length, slice_get, IfOk, OnOk, IsTrue};
+ghost use Rattle.std.specs.Prelude.{◌≡◌, ◌≤◌, ◌<◌, ◌+◌, ◌-◌, ◌↔◌, ℕ, Some, false, length, slice_get, IfOk, OnOk, IsTrue};
 ghost use Rattle.fleet_model.specs.declared.limits.TheConstants.{MAX_MOVES_V1};
 ghost use Rattle.fleet_model.specs.Program.{Program, moves, awaits_of, NeverStays, AreShort};
 ghost use Rattle.fleet_model.specs.declared.program.Await.{Await};
@@ -10,7 +10,7 @@ ghost use Rattle.fleet_code.specs.Spelling.{most_count, spelling};
 ghost use Rattle.fleet_needs.specs.Implied.{IsImplied};
 ghost use Rattle.fleet_needs.specs.Flags.{AreImplied};
 ghost use Rattle.fleet_adg.specs.ProgramBytes.{AreBytesOf};
-ghost use Rattle.fleet_adg.specs.Thinned.{FitsFirst, IsThinnedFor, CanThin, AreThinnedAgents, AddsAwaits, AddsAction, AddsActions};
+ghost use Rattle.fleet_adg.specs.Thinned.{FitsFirst, IsThinnedFor, CanThin, AreThinnedAgents, AddsAction, AddsActions};
 
 use crate::program_bytes::{ProgramBytes, program_of};
 use crate::thin_fault::ThinFault;

@@ -1,5 +1,5 @@
 -- Counts of chains, kept as pieces.
-use Rattle.std.specs.Prelude.{◌≡◌, ◌≢◌, ℕ, ◌+◌, ◌-◌, ◌*◌, ◌<◌, ◌≤◌, List, length, min, Contains}
+use Rattle.std.specs.Prelude.{◌≡◌, ◌≢◌, ℕ, ◌+◌, ◌-◌, ◌*◌, ◌<◌, ◌≤◌, List, ◌∷◌, length, min, Contains}
 use Rattle.std.specs.List.Sorted.{IsNonDecreasingBy}
 use Rattle.fleet_needs.specs.Words.{ActionId, Program, IsAction}
 use Rattle.fleet_needs.specs.Rows.{IsColumn}
@@ -29,14 +29,17 @@ pub record IsLatest (pieces : List Piece) (i j n : ℕ) (x : Piece) : Type 0 whe
   pub begun : x.from ≤ n
   pub latest : (y : Piece) → Contains pieces y → IsOf i j y → y.from ≤ n → y.from ≤ x.from
 
--- all of these pieces begin after action n
-abbrev pub AreLater : List Piece → ℕ → ℕ → ℕ → Type 0
-AreLater pieces i j n = (y : Piece) → Contains pieces y → IsOf i j y → n < y.from
+-- the latest of these pieces has the count of agent j at action n of agent i
+abbrev pub IsToldBy : Program → List Piece → ℕ → ℕ → ℕ → Type 0
+IsToldBy p pieces i j n = (x : Piece) → IsLatest pieces i j n x → IsColumn p (record { agent = i; number = n }) j (count_by x n)
+
+-- before the first piece of two agents nothing is counted
+abbrev pub no_piece : ℕ → ℕ → Piece
+no_piece i j = record { last_agent = i; first_agent = j; from = 0; count = 0; most = 0 }
 
 -- the pieces have the count of agent j at action n of agent i
-pub record IsTold (p : Program) (pieces : List Piece) (i j n : ℕ) : Type 0 where
-  pub by : (x : Piece) → IsLatest pieces i j n x → IsColumn p (record { agent = i; number = n }) j (count_by x n)
-  pub none : AreLater pieces i j n → IsColumn p (record { agent = i; number = n }) j 0
+abbrev pub IsTold : Program → List Piece → ℕ → ℕ → ℕ → Type 0
+IsTold p pieces i j n = IsToldBy p (no_piece i j ∷ pieces) i j n
 
 -- the pieces have the counts of these agents at all actions of others
 abbrev pub AreTold : Program → List Piece → (ℕ → Type 0) → Type 0

@@ -131,9 +131,9 @@ module _ (p : Program) (cost : ActionId → ℕ) where
             (λ a act done. h.noted a act (omega (arith, done, kept a.agent)))
 
       -- it finishes an action more
-      module _ (left : n < moves p i) (s : Stage) (ready : IsReadyStage p cost offset w i s) where
+      module _ (s : Stage) (ready : IsReadyStage p cost offset w i s) where
         here_action : IsAction p (after i n)
-        here_action = record { agent = agent; first = omega arith; last = omega (arith, left) }
+        here_action = record { agent = agent; first = omega arith; last = omega (arith, ready.left) }
 
         -- what the action costs, by the greatest cost of what it needs
         pub costs_here : (own : ℕ) → own ≡ cost (after i n) → own ≤ MAX_COST → IsNotedCost p cost h.numbered.number (after i n) (s.greatest + own)
@@ -148,16 +148,19 @@ module _ (p : Program) (cost : ActionId → ℕ) where
             let times = mul-le (h.numbered.number (after i n)) MAX_COST MAX_LEVEL MAX_COST (h.numbered.upto (after i n) here_action) (omega arith) in
             omega (arith, noted.few, times)
 
-        pub finished : (m : ℕ) → IsNotedCost p cost h.numbered.number (after i n) m → (x : ℕ) → x ≡ action_place w.places (after i n) → IsCostWalk p cost offset (gone_on w i (record { finished = s.finished; met = 0; at = s.at; greatest = m }) (set w.costs x m))
-        finished m here x place = comes there costs (omega (arith, ready.finished)) (record {
-          finished = omega (arith, ready.finished, left);
+        pub finished : (m : ℕ) → IsNotedCost p cost h.numbered.number (after i n) m → IsCostWalk p cost offset (gone_on w i (record { finished = s.finished; met = 0; at = s.at; greatest = m }) (set w.costs (action_place w.places (after i n)) m))
+        finished m here = comes there costs (omega (arith, ready.finished)) (record {
+          finished = omega (arith, ready.finished, ready.left);
           within = omega arith;
           at = ready.at;
           greatest = subst (λ (k : ℕ). IsGreatestTo p cost Done (after i k) 0 m) (sym ready.finished) (greatest_own Done i n m (omega (arith, own_count there costs, ready.finished)) here.critical);
-        }) (length-set w.costs x m ∙ h.all.costs) (noted_more p cost h.numbered.number w.places h.all.places (IsFinished w) Done (after i n) here_action split (λ old. omega (arith, old)) x place w.costs h.all.costs m here h.noted)
+        }) (length-set w.costs x m ∙ h.all.costs) (noted_more p cost h.numbered.number w.places h.all.places (IsFinished w) Done (after i n) here_action split (λ old. omega (arith, old)) x refl w.costs h.all.costs m here h.noted)
           where
             there : Stage
             there = record { finished = s.finished; met = 0; at = s.at; greatest = m }
+
+            x : ℕ
+            x = action_place w.places (after i n)
 
             costs : List ℕ
             costs = set w.costs x m

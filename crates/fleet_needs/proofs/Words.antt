@@ -21,7 +21,6 @@ pub use Rattle.fleet_model.proofs.Totals.{awaits_more, actions_more, moves_more,
 pub use Rattle.fleet_model.proofs.Chains.{but_last, need_action, ends_alone, ends_dearer, ends_within, own_reach, Reaches-first, Reaches-last, chain_ends_by_step, Reaches-rises, Reaches-trans, Reaches-need}
 pub use Rattle.fleet_needs.specs.Block.{HasColumn, IsAnswer}
 pub use Rattle.fleet_needs.specs.Columns.{AreColumns, BlocksLeft, IsNextBlock, column_of}
-pub use Rattle.fleet_needs.specs.CostTable.{costs_of, is_narrow}
 pub use Rattle.fleet_needs.specs.CostWalk.{Walked, after, IsGreatestTo, IsStage, IsReadyStage, IsFinished, HasAll, IsCostWalk, HaveGrown, IsUnmet, IsOpen, stage_in, finished_in, no_stage, gone_on}
 pub use Rattle.fleet_needs.specs.Counts.{counts_of, are_narrow, CanHold, AreAlike}
 pub use Rattle.fleet_needs.specs.Critical.{IsNumberedTo, IsNotedCost, AreNotedCosts, CostsByPlace, AreCriticalCosts, AreLevels, critical_cost, value_at}

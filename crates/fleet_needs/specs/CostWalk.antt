@@ -53,9 +53,10 @@ finished_in w i = (stage_in w i).finished
 abbrev pub IsFinished : Walked → ActionId → Type 0
 IsFinished w a = a.number ≤ finished_in w a.agent
 
--- all that the next action of agent i directly needs is finished, the greatest cost is that of all of it, and the action
+-- agent i has an action left, all that it directly needs is finished, the greatest cost is that of all of it, and the action
 -- after it stands there
 pub record IsReadyStage (p : Program) (cost : ActionId → ℕ) (offset : (i finished k : ℕ) → ℕ) (w : Walked) (i : ℕ) (s : Stage) : Type 0 where
+  pub left : finished_in w i < moves p i
   pub finished : s.finished ≡ finished_in w i + 1
   pub at : s.at ≡ offset i s.finished 0
   pub greatest : IsGreatestTo p cost (IsFinished w) (after i (finished_in w i)) (length (awaits_of p i (finished_in w i + 1))) s.greatest

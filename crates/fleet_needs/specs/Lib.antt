@@ -17,6 +17,5 @@ pub mod Answering
 pub mod Slots
 pub mod Schedule
 pub mod JoinPass
-pub mod CostTable
 pub mod Critical
 pub mod CostWalk

@@ -1,14 +1,14 @@
 //! Agents that go on as far as their awaits allow, and the costs of the critical paths of what they have finished.
 
-ghost use Rattle.std.specs.Prelude.{◌≡◌, ◌+◌, ◌<◌, ◌≤◌, ℕ, false, IsTrue, IfOk, IfErr, OnOk, length};
+ghost use Rattle.std.specs.Prelude.{◌≡◌, ◌+◌, ◌<◌, ◌≤◌, ℕ, false, IsTrue, IfOk, IfErr, OnOk, length, set};
 ghost use Rattle.fleet_model.specs.Program.{moves};
 ghost use Rattle.fleet_model.specs.declared.program.ActionId.{ActionId};
 ghost use Rattle.fleet_model.specs.Chain.{IsAction, awaited};
 ghost use Rattle.fleet_needs.specs.Critical.{IsNumberedTo, value_at};
+ghost use Rattle.fleet_needs.specs.Places.{action_place};
 ghost use Rattle.fleet_needs.specs.CostWalk.{HasAll, IsCostWalk, IsStage, IsReadyStage, IsFinished, HaveGrown, IsUnmet, IsOpen, finished_in, gone_on, stage_in};
 
 use crate::await_places::ActionPlaces;
-use crate::cost_table::CostTable;
 use crate::critical::{ActionCosts, MAX_LEVEL};
 use fleet_model::{
     ActionId, Await, Instruction, MAX_AGENTS, OutOfMemory, ProgramView, total_moves,
@@ -35,11 +35,10 @@ pub struct CostWalk {
     pub stages: Vec<Stage>,
     pub places: ActionPlaces,
     /// The costs, by the places of the actions.
-    pub costs: CostTable,
+    pub costs: Vec<u64>,
 }
 
 impl Model for CostWalk {
-    ghost use Rattle.fleet_needs.specs.CostTable.{costs_of};
     ghost use Rattle.fleet_needs.specs.CostWalk.{Walked};
 
     ghost Value = { Walked };
@@ -47,7 +46,7 @@ impl Model for CostWalk {
     ghost view = { λ m. record {
       stages = m.stages.items;
       places = m.places;
-      costs = costs_of m.costs;
+      costs = m.costs.items;
     } };
 }
 
@@ -79,7 +78,18 @@ impl CostWalk {
             agent: goal.agent,
             number: goal.count,
         };
-        self.costs.get(self.places.place_of(program, action))
+        self.costs[self.places.place_of(program, action)]
+    }
+
+    /// The cost of an action is this.
+    fn note<P: ProgramView>(&mut self, program: &P, action: ActionId, cost: u64)
+        requires all { HasAll (P.program program.now) self.old }
+        requires action { IsAction (P.program program.now) action }
+        ensures { self.new ≡ record self.old {
+            costs = set self.old.costs (action_place self.old.places action) cost } }
+    {
+        let place = self.places.place_of(program, action);
+        self.costs[place] = cost;
     }
 
     /// An agent has come so far.
@@ -117,7 +127,7 @@ pub(crate) fn begin<P: ProgramView>(alloc: Global, program: &P) -> Result<CostWa
     Ok(CostWalk {
         stages,
         places: ActionPlaces::of(alloc, program)?,
-        costs: CostTable::zeros(alloc, total_moves(program) as usize)?,
+        costs: vec![in alloc; 0; total_moves(program) as usize]?,
     })
 }
 
@@ -175,32 +185,28 @@ fn next_stage<P: ProgramView, C: ActionCosts>(
 
 /// Finishes the agent's next action, which is ready, and notes its cost.
 fn finish<P: ProgramView, C: ActionCosts>(
-    alloc: Global,
     program: &P,
     costs: &C,
     walk: &mut CostWalk,
     agent: u16,
     ready: Stage,
-) -> Result<(), OutOfMemory>
+)
     requires walk { IsCostWalk (P.program program.now) (C.cost costs.now) (P.offset program.now)
         walk.old }
     requires agent { agent < length (P.program program.now) }
-    requires left { finished_in walk.old agent < moves (P.program program.now) agent }
     requires ready { IsReadyStage (P.program program.now) (C.cost costs.now)
         (P.offset program.now) walk.old agent ready }
-    ensures walk { OnOk result (IsCostWalk (P.program program.now) (C.cost costs.now)
-        (P.offset program.now) walk.new) }
-    ensures grown { OnOk result (HaveGrown walk.old walk.new) }
-    ensures more { OnOk result (finished_in walk.old agent < finished_in walk.new agent) }
+    ensures walk { IsCostWalk (P.program program.now) (C.cost costs.now) (P.offset program.now)
+        walk.new }
+    ensures grown { HaveGrown walk.old walk.new }
+    ensures more { finished_in walk.old agent < finished_in walk.new agent }
 {
     let action = ActionId {
         agent,
         number: ready.finished,
     };
     let greatest = ready.greatest + u64::from(costs.cost(action));
-    let place = walk.places.place_of(program, action);
-    walk.costs.make_room_for(alloc, greatest)?;
-    walk.costs.set(place, greatest);
+    walk.note(program, action, greatest);
     walk.go_on(
         agent,
         Stage {
@@ -210,7 +216,6 @@ fn finish<P: ProgramView, C: ActionCosts>(
             greatest,
         },
     );
-    Ok(())
 }
 
 /// Lets agents go on until the action that the goal names is finished: its agent, and while that waits, the agents for
@@ -237,9 +242,7 @@ pub(crate) fn reach<P: ProgramView, C: ActionCosts>(
         let is_left = walk.is_open(last);
         if is_left {
             match next_stage(program, costs, walk, last.agent) {
-                Ok(ready) => {
-                    finish(alloc, program, costs, walk, last.agent, ready)?;
-                }
+                Ok(ready) => finish(program, costs, walk, last.agent, ready),
                 Err(block) => {
                     walk.go_on(last.agent, block.stage);
                     goals.push(last)?;

@@ -8,7 +8,6 @@ ghost use Rattle.fleet_model.specs.Chain.{IsAction};
 ghost use Rattle.fleet_needs.specs.Critical.{IsNumberedTo, HasEntries, AreCriticalCosts, AreLevels, critical_cost};
 
 use crate::await_places::ActionPlaces;
-use crate::cost_table::CostTable;
 use crate::cost_walk::{CostWalk, begin, reach};
 use crate::level_order::{LevelOrder, OrderSource};
 use fleet_model::{ActionId, Await, OutOfMemory, ProgramView};
@@ -49,16 +48,15 @@ impl ActionCosts for OneEach {
 #[derive(Drop)]
 pub struct CriticalCosts {
     places: ActionPlaces,
-    costs: CostTable,
+    costs: Vec<u64>,
 }
 
 impl Model for CriticalCosts {
     ghost use Rattle.fleet_needs.specs.Critical.{CostsByPlace};
-    ghost use Rattle.fleet_needs.specs.CostTable.{costs_of};
 
     ghost Value = { CostsByPlace };
 
-    ghost view = { λ m. record { places = m.places; costs = costs_of m.costs } };
+    ghost view = { λ m. record { places = m.places; costs = m.costs.items } };
 }
 
 impl CriticalCosts {
@@ -103,7 +101,7 @@ impl CriticalCosts {
         requires action { IsAction (P.program program.now) action }
         ensures { result ≡ critical_cost self.now action }
     {
-        self.costs.get(self.places.place_of(program, action))
+        self.costs[self.places.place_of(program, action)]
     }
 }
 

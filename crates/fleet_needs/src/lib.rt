@@ -41,14 +41,12 @@
 //!
 //! `cost_walk` lets each agent go on as far as its awaits allow, without ticks: while it waits, the agent that it waits
 //! for goes on. For each action that is finished so it notes the greatest cost among what the action needs, and its
-//! own; `cost_table` keeps these in four bytes each as long as all fit, and `critical` hands them out
-//! (`CriticalCosts`). What an action costs is a trait, `ActionCosts`.
+//! own; `critical` hands these out (`CriticalCosts`). What an action costs is a trait, `ActionCosts`.
 //!
 //! `let _ = program.agents();` stands where what that call ensures is needed: the program is well-formed.
 #![tactic(auto)]
 
 mod await_places;
-mod cost_table;
 mod cost_walk;
 mod counts;
 mod critical;

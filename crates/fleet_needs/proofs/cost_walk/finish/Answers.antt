@@ -1,4 +1,4 @@
-use Rattle.fleet_needs.proofs.Words.{◌+◌, ℕ, List, set, subst, sym, ap, ◌∙◌, arith, action_place, IsCostWalk, Stage}
+use Rattle.fleet_needs.proofs.Words.{◌+◌, ℕ, set, subst, sym, ap, ◌∙◌, arith, action_place, IsCostWalk, gone_on, Stage}
 use Rattle.fleet_needs.proofs.Walking.{costs_here, costs_fit, finished}
 use Rattle.fleet_needs.proofs.cost_walk.finish.Goals as goal
 
@@ -9,8 +9,8 @@ overflow_add-greatest g c =
     let offset = g.P.ProgramView.offset c.args.program.now in
     let i = c.args.agent in
     let own = c.from.ensures ∙ c.cost.ensures.cost ∙ ap (λ (n : ℕ). cost (record { agent = i; number = n })) c.requires.ready.finished in
-    let here = costs_here p cost offset c.args.walk.now c.requires.walk i c.requires.agent c.requires.left c.args.ready c.requires.ready c.from.result own (omega (arith, c.from.ensures, c.cost.ensures.most)) in
-    omega (arith, costs_fit p cost offset c.args.walk.now c.requires.walk i c.requires.agent c.requires.left c.args.ready c.requires.ready _ here)
+    let here = costs_here p cost offset c.args.walk.now c.requires.walk i c.requires.agent c.args.ready c.requires.ready c.from.result own (omega (arith, c.from.ensures, c.cost.ensures.most)) in
+    omega (arith, costs_fit p cost offset c.args.walk.now c.requires.walk i c.requires.agent c.args.ready c.requires.ready _ here)
 
 pub returns-clause-walk : goal.returns-clause-walk
 returns-clause-walk g c =
@@ -21,10 +21,9 @@ returns-clause-walk g c =
     let i = c.args.agent in
     let ready = c.args.ready in
     let m : ℕ = ready.greatest + c.from.result in
-    let x = c.place_of-place.result in
     let s : Stage = record { finished = ready.finished; met = 0; at = ready.at; greatest = m } in
     let own = c.from.ensures ∙ c.cost.ensures.cost ∙ ap (λ (n : ℕ). cost (record { agent = i; number = n })) c.requires.ready.finished in
-    let here = costs_here p cost offset w c.requires.walk i c.requires.agent c.requires.left ready c.requires.ready c.from.result own (omega (arith, c.from.ensures, c.cost.ensures.most)) in
-    let costs = c.set.ensures ∙ ap (λ (cs : List ℕ). set cs x m) c.in_ok-make_room_for.ensures.same ∙ (λ t. set (c.walk.view_is t).costs x m) in
-    subst (IsCostWalk p cost offset) (sym (c.go_on.ensures ∙ (λ t. record { stages = set (c.walk.view_is t).stages i s; places = (c.walk.view_is t).places; costs = costs t })))
-    (finished p cost offset w c.requires.walk i c.requires.agent c.requires.left ready c.requires.ready m here x (c.place_of-place.ensures.place ∙ (λ t. action_place (c.walk.view_is t).places (record { agent = i; number = c.requires.ready.finished t }))))
+    let here = costs_here p cost offset w c.requires.walk i c.requires.agent ready c.requires.ready c.from.result own (omega (arith, c.from.ensures, c.cost.ensures.most)) in
+    let place = ap (λ (n : ℕ). set w.costs (action_place w.places (record { agent = i; number = n })) m) c.requires.ready.finished in
+    subst (IsCostWalk p cost offset) (sym (c.go_on.ensures ∙ (λ t. gone_on (c.note.ensures t) i s (c.note.ensures t).costs) ∙ ap (gone_on w i s) place))
+    (finished p cost offset w c.requires.walk i c.requires.agent ready c.requires.ready m here)

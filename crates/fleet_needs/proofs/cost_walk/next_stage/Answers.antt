@@ -41,6 +41,7 @@ returns-in-Step-clause-ready g c =
     let said = rw c.in-Step.is at c.read-reading.ensures.instruction in
     let met : s.met ≡ length (awaits_of p i (s.finished + 1)) = c.loop-k.invariant.met ∙ said.0 in
     record {
+      left = c.requires.left;
       finished = ap (λ (n : ℕ). n + 1) c.loop-k.invariant.same;
       at = rw c.in-Step.is at c.read-reading.ensures.after;
       greatest = subst (λ (n : ℕ). IsGreatestTo p cost Done (after i n) (length (awaits_of p i (n + 1))) s.greatest) c.loop-k.invariant.same (subst (λ (k : ℕ). IsGreatestTo p cost Done (after i s.finished) k s.greatest) met c.loop-k.invariant.stage.greatest);

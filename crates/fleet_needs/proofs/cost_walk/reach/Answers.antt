@@ -13,16 +13,16 @@ loop-walk-init g c = record {
   first = get_or_push c.new-goals.result.items c.args.goal c.args.goal 0 (omega arith);
 }
 
-pub loop-walk-smaller-in-Continue-1 : goal.loop-walk-smaller-in-Continue-1
-loop-walk-smaller-in-Continue-1 g c =
+pub loop-walk-smaller-in-Ok : goal.loop-walk-smaller-in-Ok
+loop-walk-smaller-in-Ok g c =
     let last = c.loop-walk.invariant.last (c.is_open-is_left.ensures.open c.if-is_left.true) in
-    let after = c.in_ok-finish-in-Ok.ensures in
+    let after = c.finish.ensures in
     less_more (g.P.ProgramView.program c.args.program.now) c.loop-walk.last (length c.loop-walk.goals.items) (omega (arith, last.deep)) c.loop-walk.walk c.finish.new.walk after.grown c.loop-walk.last.agent after.more (after.walk.each c.loop-walk.last.agent last.action.agent).finished
 
-pub loop-walk-preserved-in-Continue-1 : goal.loop-walk-preserved-in-Continue-1
-loop-walk-preserved-in-Continue-1 g c =
+pub loop-walk-preserved-in-Ok : goal.loop-walk-preserved-in-Ok
+loop-walk-preserved-in-Ok g c =
     let was = c.loop-walk.invariant in
-    let after = c.in_ok-finish-in-Ok.ensures in
+    let after = c.finish.ensures in
     record {
       walk = after.walk;
       grown = λ i. omega (arith, was.grown i, after.grown i);

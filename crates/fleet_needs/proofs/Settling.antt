@@ -1,5 +1,5 @@
 -- What is reached, and what is not, by the levels of actions and by what they directly need.
-use Rattle.fleet_needs.proofs.Words.{◌≡◌, ◌≢◌, ℕ, ◌+◌, ◌-◌, ◌<◌, ◌≤◌, Bool, true, false, List, length, get_or, set, refl, sym, ap, subst, ◌∙◌, arith, inl, inr, ◌⊎◌, Contains, slice_get, Some, None, Option, ◌↔◌, cases_lt, cases_eq, false≢true, true≢false, get_or-set_same, get_or-set_other, get_or_past, slice_get_within, get_or_from_slice_get, same_Some, ActionId, Await, Program, moves, awaits_of, AreInRange, IsWellFormed, IsAction, Reaches, IsNumbering, awaited, chain_ends_by_step, Reaches-rises, Reaches-last, IsImplied, IsSettled, AreSettledOf, AreMoreAsked, ReachesNeed, IsUpTo, action_before, ByBeforeOr, OfFirst, OfOthers}
+use Rattle.fleet_needs.proofs.Words.{◌≡◌, ◌≢◌, ℕ, ◌+◌, ◌-◌, ◌<◌, ◌≤◌, Bool, true, false, List, length, get_or, set, refl, sym, ap, subst, ◌∙◌, arith, inl, inr, ◌⊎◌, Contains, slice_get, Some, None, Option, unwrap_or, cases_lt, cases_eq, false≢true, true≢false, get_or-set_same, get_or-set_other, get_or_past, slice_get_within, get_or_from_slice_get, same_Some, ActionId, Await, Program, moves, awaits_of, AreInRange, IsWellFormed, IsAction, Reaches, IsNumbering, awaited, chain_ends_by_step, Reaches-rises, Reaches-last, IsImplied, IsSettled, AreSettledOf, AreMoreAsked, ReachesNeed, IsUpTo, action_before, ByBeforeOr, OfFirst, OfOthers}
 use Rattle.fleet_needs.proofs.AwaitOrder.{other_agent}
 use Rattle.fleet_needs.proofs.RowFlags.{implied_by, implied_back}
 use Rattle.fleet_needs.proofs.Joining.{one_of, own_first, by_await, step_back, step_on}
@@ -76,7 +76,7 @@ pub need_on : (p : Program) (x a : ActionId) (but : ℕ) → IsAction p a → Re
 need_on p x a but is need = step_on p x a is (by_more p x a (λ k w. k ≢ but) (OfFirst (length (awaits_of p a.agent a.number))) (λ k w at apart. slice_get_within (awaits_of p a.agent a.number) k w at) need)
 
 -- .. and the other way round, if no await is left out
-pub need_back : (p : Program) (x a : ActionId) (but : ℕ) → (a.agent ≡ x.agent → ⊥) → length (awaits_of p a.agent a.number) < but → Reaches p x a → ReachesNeed p x a but
+pub need_back : (p : Program) (x a : ActionId) (but : ℕ) → (a.agent ≡ x.agent → ⊥) → length (awaits_of p a.agent a.number) ≤ but → Reaches p x a → ReachesNeed p x a but
 need_back p x a but other all r = by_more p x a (OfFirst (length (awaits_of p a.agent a.number))) (λ k w. k ≢ but) (λ k w at l e. omega (arith, l, e, all)) (step_back p x a (λ e. other (sym e)) r)
 
 -- ---- another action that an action directly needs
@@ -97,15 +97,6 @@ module _ (p : Program) (formed : IsWellFormed p) (range : AreInRange p) (a : Act
   implied_need implied = by_more p (awaited w) a Others (λ m v. m ≢ k)
       (λ m v there other same. other.1 (ap (λ (x : Await). x.agent) (same_Some v w (sym there ∙ ap (slice_get (awaits_of p a.agent a.number)) same ∙ at)))) (implied_back p range a w known (formed.awaits a.agent a.number) implied)
 
--- ---- an await that another action has too
-
-pub needed_by : (p : Program) (range : AreInRange p) (first a : ActionId) (k : ℕ) (w : Await) → IsAction p first → IsAction p a → slice_get (awaits_of p a.agent a.number) k ≡ Some w
-    → w.agent ≡ first.agent → first.number ≤ w.count → Reaches p first a
-needed_by p range first a k w is last at same more =
-    let known = range a.agent a.number w (k, slice_get_within (awaits_of p a.agent a.number) k w at, get_or_from_slice_get (awaits_of p a.agent a.number) k w w at) in
-    by_await p range first a k w last at
-    (own_first p first (awaited w) is.first (record { agent = known.agent; first = known.first; last = known.last }) same more)
-
 -- ---- awaits settled one after another
 
 -- more agents are asked for
@@ -114,11 +105,15 @@ still_settled p a w was asked flag more (inl set) = inl (more w.agent set.0, set
 still_settled p a w was asked flag more (inr told) = inr told
 
 -- an await, by what is known of it
-pub settled_by : (p : Program) (a : ActionId) (w : Await) (asked : List Bool) (flag : Bool) (known : Option Bool) → (flag ≡ true) ↔ (known ≡ Some true) → (known ≡ None → get_or asked w.agent false ≡ true)
-    → (known ≡ Some true → IsImplied p a w) → (known ≡ Some false → IsImplied p a w → ⊥) → IsSettled p asked a w flag
-settled_by p a w asked flag None is left so not_so = inl (left refl, (λ f. so (is.0 f)))
-settled_by p a w asked flag (Some true) is left so not_so = inr ((λ f. so refl), (λ i. is.1 refl))
-settled_by p a w asked flag (Some false) is left so not_so = inr ((λ f. so (is.0 f)), (λ i. absurd (not_so refl i)))
+pub settled_by : (p : Program) → IsWellFormed p → AreInRange p → (a : ActionId) → 1 ≤ a.number → (k : ℕ) (x : ActionId) → slice_get (awaits_of p a.agent a.number) k ≡ Some (await_of x) → (asked : List Bool) (known : Option Bool) → (known ≡ None → get_or asked x.agent false ≡ true)
+    → (known ≡ Some true → ReachesNeed p x a k) → (known ≡ Some false → ReachesNeed p x a k → ⊥) → (flag : Bool) → flag ≡ unwrap_or known false → (w : Await) → slice_get (awaits_of p a.agent a.number) k ≡ Some w → IsSettled p asked a w flag
+settled_by p formed range a first k x at asked known left so not_so flag is w here =
+    subst (λ (v : Await). IsSettled p asked a v flag) (same_Some (await_of x) w (sym at ∙ here)) (subst (IsSettled p asked a (await_of x)) (sym is) (go known left so not_so))
+  where
+    go : (known : Option Bool) → (known ≡ None → get_or asked x.agent false ≡ true) → (known ≡ Some true → ReachesNeed p x a k) → (known ≡ Some false → ReachesNeed p x a k → ⊥) → IsSettled p asked a (await_of x) (unwrap_or known false)
+    go None left so not_so = inl (left refl, (λ f. absurd (false≢true f)))
+    go (Some true) left so not_so = inr ((λ f. need_implied p formed range a k (await_of x) at first (so refl)), (λ i. refl))
+    go (Some false) left so not_so = inr ((λ f. absurd (false≢true f)), (λ i. absurd (not_so refl (implied_need p formed range a k (await_of x) at i))))
 
 -- the actions of an agent, one after another
 pub one_up : (i n : ℕ) (b : ActionId) → IsUpTo i (n + 1) b → IsUpTo i n b ⊎ (b ≡ record { agent = i; number = n + 1 })
@@ -142,13 +137,3 @@ agent_up p i asked flags h a k up = h a k (go up)
           let same : moves p a.agent ≡ moves p i = ap (moves p) e in
           inr (e, omega arith)
     ]
-
--- one agent more is asked for
-pub asked_more : (asked : List Bool) (i j : ℕ) → get_or asked j false ≡ true → get_or (set asked i true) j false ≡ true
-asked_more asked i j was = elim (cases_eq j i) [
-  | inr ne ↦ get_or-set_other asked i j true false ne ∙ was
-  | inl e ↦ elim (cases_lt i (length asked)) [
-    | inl l ↦ ap (λ (n : ℕ). get_or (set asked i true) n false) e ∙ get_or-set_same asked i true false l
-    | inr past ↦ absurd (false≢true (sym (get_or_past asked j false (omega arith)) ∙ was))
-  ]
-]

@@ -1,6 +1,6 @@
 -- The words that proofs here cite: of std, of programs and chains, and of the specs of this crate.
 pub use Rattle.std.proofs.Common.{◌≡◌, ◌≢◌, ℕ, ◌+◌, ◌-◌, ◌<◌, ◌≤◌, Bool, false, List, length, take, get_or, set, map, refl, sym, ap, subst, ◌∙◌, arith, inl, inr, ◌⊎◌, zero, suc, ◌*◌, [], ◌∷◌, ◌++◌, slice_index, true, rules, ◌%◌, cond, ltb, max, w32, IsTrue, nat_eq, leb-true, le-leb, replicate, ◌^◌, leb}
-pub use Rattle.std.specs.Prelude.{slice_get, Some, sum_by, not, Contains, Option, nat_le, ◌↔◌, None, nat_lt, All, drop, Vec}
+pub use Rattle.std.specs.Prelude.{slice_get, Some, sum_by, not, Contains, Option, is_some, unwrap_or, nat_le, ◌↔◌, None, nat_lt, All, drop, Vec}
 pub use Rattle.std.proofs.lemmas.Bool.{cases_eq, cases_order, cases_lt, false≢true, ltb-true, ltb-false, true≢false, lt-ltb, le-ltb, leb-false}
 pub use Rattle.std.proofs.lemmas.Nat.{mul-le}
 pub use Rattle.std.proofs.lemmas.Option.{slice_get_within, get_or_from_slice_get, same_Some, slice_get-get_or, none-some}

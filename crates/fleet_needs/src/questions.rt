@@ -19,6 +19,7 @@ use crate::join_pass::{JoinRow, JoinUse, use_joins};
 use crate::joins::Joins;
 use crate::level_order::OrderSource;
 use crate::schedule::{Blocks, Columns, Schedule};
+use crate::settled::ask_if;
 use fleet_model::{ActionId, OutOfMemory, ProgramView};
 use std::alloc::Global;
 
@@ -108,9 +109,7 @@ fn asked_agents<P: ProgramView>(
     let mut asked = vec![in alloc; false; usize::from(program.agents())]?;
     for question in questions {
         let Question { first, last } = *question;
-        if !is_near(program, first, last, STEPS) {
-            asked[usize::from(first.agent)] = true;
-        }
+        ask_if(!is_near(program, first, last, STEPS), first.agent, &mut asked);
     }
     Ok(asked)
 }

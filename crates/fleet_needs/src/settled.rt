@@ -1,10 +1,8 @@
 //! Awaits for which a few steps back from their action show whether others imply them.
 
-ghost use Rattle.std.specs.Prelude.{◌≡◌, ◌↔◌, ◌+◌, ◌<◌, ◌≤◌, [], true, false, length, get_or, slice_get, None, Some, IfOk, OnOk, IsTrue};
+ghost use Rattle.std.specs.Prelude.{◌≡◌, ◌<◌, ◌≤◌, true, false, length, get_or, slice_get, Some, IfOk, OnOk};
 ghost use Rattle.fleet_model.specs.Program.{AreInRange, awaits_of, moves};
-ghost use Rattle.fleet_model.specs.declared.program.Await.{Await};
 ghost use Rattle.fleet_model.specs.Chain.{IsAction, Reaches};
-ghost use Rattle.fleet_needs.specs.Implied.{IsImplied};
 ghost use Rattle.fleet_needs.specs.Flags.{AreFlags, flags_of};
 ghost use Rattle.fleet_needs.specs.Critical.{AreLevels};
 ghost use Rattle.fleet_needs.specs.Settled.{AreSettledBy, AreSettledOf, AreSettledTo, AreMoreAsked, IsUpTo, ReachesNeed};
@@ -18,9 +16,6 @@ use std::alloc::Global;
 /// No step goes back from an action with more awaits.
 const AWAITS: u16 = 16;
 
-/// The place of no await of an action from which a step goes back.
-const NO_AWAIT: u16 = AWAITS + 1;
-
 /// How many actions are looked at for one await, until most agents are asked for.
 const LOOKS: u8 = 16;
 
@@ -29,13 +24,6 @@ const LESS_LOOKS: usize = 4;
 
 /// To look at one action costs about as much as to join so many counts.
 const COUNTS_A_LOOK: usize = 128;
-
-/// What is looked at: the levels of actions, and so many of these for one await, at most.
-#[derive(Clone, Copy)]
-pub struct Look<'a> {
-    levels: &'a CriticalCosts,
-    count: u8,
-}
 
 /// Flags the awaits that others imply, as far as a few steps back show it, and answers a flag for each agent: whether
 /// an await of one of its actions is left open.
@@ -54,8 +42,8 @@ pub fn settle_all<P: ProgramView>(
     let agents = program.agents();
     let mut asked = vec![in alloc; false; usize::from(agents)]?;
     for agent in 0..agents {
-        let count = looks_for(&asked);
-        settle_agent(program, &Look { levels, count }, agent, implied, &mut asked);
+        let looks = looks_for(&asked);
+        settle_agent(program, levels, looks, agent, implied, &mut asked);
     }
     Ok(asked)
 }
@@ -71,15 +59,16 @@ fn looks_for(asked: &[bool]) -> u8 {
     }
 }
 
-/// Settles the awaits of all actions of an agent.
+/// Settles the awaits of all actions of an agent, with so many looks at actions for each.
 fn settle_agent<P: ProgramView>(
     program: &P,
-    look: &Look<'_>,
+    levels: &CriticalCosts,
+    looks: u8,
     agent: u16,
     implied: &mut ImpliedAwaits,
     asked: &mut [bool],
 )
-    requires levels { AreLevels (P.program program.now) look.now.levels.now }
+    requires levels { AreLevels (P.program program.now) levels.now }
     requires agent { agent < length (P.program program.now) }
     requires flags { AreFlags (P.program program.now) implied.old }
     requires asked { length asked.old ≡ length (P.program program.now) }
@@ -91,7 +80,8 @@ fn settle_agent<P: ProgramView>(
 {
     for finished in 0..program.moves(agent) {
         let number = finished + 1;
-        settle_action(program, look, ActionId { agent, number }, implied, asked);
+        let action = ActionId { agent, number };
+        settle_action(program, levels, looks, action, implied, asked);
     }
 }
 
@@ -99,12 +89,13 @@ fn settle_agent<P: ProgramView>(
 /// that are left open.
 fn settle_action<P: ProgramView>(
     program: &P,
-    look: &Look<'_>,
+    levels: &CriticalCosts,
+    looks: u8,
     action: ActionId,
     implied: &mut ImpliedAwaits,
     asked: &mut [bool],
 )
-    requires levels { AreLevels (P.program program.now) look.now.levels.now }
+    requires levels { AreLevels (P.program program.now) levels.now }
     requires action { IsAction (P.program program.now) action }
     requires flags { AreFlags (P.program program.now) implied.old }
     requires asked { length asked.old ≡ length (P.program program.now) }
@@ -114,71 +105,30 @@ fn settle_action<P: ProgramView>(
         (flags_of implied.old) (flags_of implied.new) }
     ensures more { AreMoreAsked asked.old asked.new }
 {
+    let _ = program.agents();
     let awaits = program.await_count(action.agent, action.number);
     if awaits == 0 {
         return;
     }
     let first = implied.places.first(program, action);
-    let latest = latest_await(program, look, action);
-    let mut from = 0;
     for k in 0..awaits {
-        let known = is_implied(program, look, action, k, latest, &mut from);
-        implied.flags[first + usize::from(k)] = is_sure(known);
-        ask_if_open(program, action, k, known, asked);
-    }
-}
-
-/// Whether the answer is known, and is yes.
-fn is_sure(known: Option<bool>) -> bool
-    ensures { (result ≡ true) ↔ (known ≡ Some true) }
-{
-    known == Some(true)
-}
-
-/// Flags the agent of await `k` of the action, if nothing is known of the await.
-fn ask_if_open<P: ProgramView>(
-    program: &P,
-    action: ActionId,
-    k: u16,
-    known: Option<bool>,
-    asked: &mut [bool],
-)
-    requires range { AreInRange (P.program program.now) }
-    requires action { IsAction (P.program program.now) action }
-    requires place { k < length (awaits_of (P.program program.now) action.agent action.number) }
-    requires asked { length asked.old ≡ length (P.program program.now) }
-    ensures more { AreMoreAsked asked.old asked.new }
-    ensures open { known ≡ None → (w : Await)
-        → slice_get (awaits_of (P.program program.now) action.agent action.number) k ≡ Some w
-        → get_or asked.new w.agent false ≡ true }
-{
-    if known.is_none() {
         let awaited = awaited_at(program, action, k);
-        asked[usize::from(awaited.agent)] = true;
+        let mut steps = looks;
+        let known = reaches_need(program, levels, awaited, action, k, &mut steps);
+        implied.flags[first + usize::from(k)] = known.unwrap_or(false);
+        ask_if(known.is_none(), awaited.agent, asked);
     }
 }
 
-/// The place of an await of the action of which the awaited action has the greatest level, or 0.
-fn latest_await<P: ProgramView>(program: &P, look: &Look<'_>, action: ActionId) -> u16
-    requires levels { AreLevels (P.program program.now) look.now.levels.now }
-    requires action { IsAction (P.program program.now) action }
-    ensures { 1 ≤ length (awaits_of (P.program program.now) action.agent action.number)
-        → result < length (awaits_of (P.program program.now) action.agent action.number) }
+/// Flags an agent, if that is so.
+pub(crate) fn ask_if(is_open: bool, agent: u16, asked: &mut [bool])
+    requires { agent < length asked.old }
+    ensures more { AreMoreAsked asked.old asked.new }
+    ensures open { is_open ≡ true → get_or asked.new agent false ≡ true }
 {
-    let is_one = program.await_count(action.agent, action.number) < 2;
-    if is_one {
-        return 0;
+    if is_open {
+        asked[usize::from(agent)] = true;
     }
-    let mut latest = 0;
-    let mut greatest = 0;
-    for k in 0..program.await_count(action.agent, action.number) {
-        let level = look.levels.cost(program, awaited_at(program, action, k));
-        if level > greatest {
-            latest = k;
-            greatest = level;
-        }
-    }
-    latest
 }
 
 /// The awaited action of await `k` of an action.
@@ -197,87 +147,17 @@ fn awaited_at<P: ProgramView>(program: &P, action: ActionId, k: u16) -> ActionId
     }
 }
 
-/// Whether others imply await `k` of the action, if that is shown by the action that await `latest` awaits, or by a few
-/// steps back. The awaits of that action are looked at from the place `from` on, which rises.
-fn is_implied<P: ProgramView>(
-    program: &P,
-    look: &Look<'_>,
-    action: ActionId,
-    k: u16,
-    latest: u16,
-    from: &mut u16,
-) -> Option<bool>
-    requires levels { AreLevels (P.program program.now) look.now.levels.now }
-    requires action { IsAction (P.program program.now) action }
-    requires place { k < length (awaits_of (P.program program.now) action.agent action.number) }
-    requires latest { latest < length
-        (awaits_of (P.program program.now) action.agent action.number) }
-    ensures yes { (w : Await) → slice_get
-        (awaits_of (P.program program.now) action.agent action.number) k ≡ Some w
-        → result ≡ Some true → IsImplied (P.program program.now) action w }
-    ensures no { (w : Await) → slice_get
-        (awaits_of (P.program program.now) action.agent action.number) k ≡ Some w
-        → result ≡ Some false → IsImplied (P.program program.now) action w → ⊥ }
-{
-    let _ = program.agents();
-    let awaited = awaited_at(program, action, k);
-    let awaits = program.await_count(action.agent, action.number);
-    if k != latest {
-        let other = awaited_at(program, action, latest);
-        *from = next_await(program, other, awaited.agent, *from);
-        if is_needed(program, awaited, other, *from) {
-            return Some(true);
-        }
-        if awaits > AWAITS {
-            return None;
-        }
-    }
-    let needs = Needs {
-        action,
-        awaits,
-        but: k,
-    };
-    let mut steps = look.count;
-    reaches_need(program, look, awaited, needs, &mut steps)
-}
-
-/// The first of the awaits of an action, from this one on, that is of this agent or a later one.
-fn next_await<P: ProgramView>(program: &P, action: ActionId, agent: u16, from: u16) -> u16
-    requires action { IsAction (P.program program.now) action }
-{
-    let count = program.await_count(action.agent, action.number);
-    let mut k = from;
-    while k < count && program.await_at(action.agent, action.number, k).agent < agent {
-        k += 1;
-    }
-    k
-}
-
-/// Whether await `k` of the action, if there is one, is of the first action's agent and counts as many actions or more.
-fn is_needed<P: ProgramView>(program: &P, first: ActionId, action: ActionId, k: u16) -> bool
-    requires range { AreInRange (P.program program.now) }
-    requires first { IsAction (P.program program.now) first }
-    requires action { IsAction (P.program program.now) action }
-    ensures { IsTrue result → Reaches (P.program program.now) first action }
-{
-    if k >= program.await_count(action.agent, action.number) {
-        return false;
-    }
-    let needed = program.await_at(action.agent, action.number, k);
-    needed.agent == first.agent && first.number <= needed.count
-}
-
 /// Whether a chain of needs begins with the first action and ends with the last, if so many steps back from the last
 /// show it. `steps` is one less after each step.
 #[cycle(reaches)]
 fn reaches<P: ProgramView>(
     program: &P,
-    look: &Look<'_>,
+    levels: &CriticalCosts,
     first: ActionId,
     last: ActionId,
     steps: &mut u8,
 ) -> Option<bool>
-    requires levels { AreLevels (P.program program.now) look.now.levels.now }
+    requires levels { AreLevels (P.program program.now) levels.now }
     requires first { IsAction (P.program program.now) first }
     requires last { IsAction (P.program program.now) last }
     ensures yes { result ≡ Some true → Reaches (P.program program.now) first last }
@@ -288,70 +168,57 @@ fn reaches<P: ProgramView>(
     if is_own {
         return Some(first.number <= last.number);
     }
-    if look.levels.cost(program, last) <= look.levels.cost(program, first) {
+    if levels.cost(program, last) <= levels.cost(program, first) {
         return Some(false);
     }
-    let awaits = program.await_count(last.agent, last.number);
-    if *steps == 0 || awaits > AWAITS {
+    if *steps == 0 {
         return None;
     }
     *steps -= 1;
-    let needs = Needs {
-        action: last,
-        awaits,
-        but: NO_AWAIT,
-    };
-    reaches_need(program, look, first, needs, steps)
+    let no_await = program.await_count(last.agent, last.number);
+    reaches_need(program, levels, first, last, no_await, steps)
 }
 
-/// What an action directly needs: the action before, and what all of its awaits but one name.
-#[derive(Clone, Copy)]
-struct Needs {
-    action: ActionId,
-    /// How many awaits the action has.
-    awaits: u16,
-    but: u16,
-}
-
-/// Whether a chain of needs begins with the first action and ends with one of these, if so many steps back from them
-/// show it. `steps` is one less after each step.
+/// Whether a chain of needs begins with the first action and ends with another that this action directly needs but by
+/// await `but`, if so many steps back from them show it. `steps` is one less after each step.
 #[cycle(reaches)]
 #[inline(always)]
 fn reaches_need<P: ProgramView>(
     program: &P,
-    look: &Look<'_>,
+    levels: &CriticalCosts,
     first: ActionId,
-    needs: Needs,
+    action: ActionId,
+    but: u16,
     steps: &mut u8,
 ) -> Option<bool>
-    requires levels { AreLevels (P.program program.now) look.now.levels.now }
+    requires levels { AreLevels (P.program program.now) levels.now }
     requires first { IsAction (P.program program.now) first }
-    requires action { IsAction (P.program program.now) needs.action }
-    requires awaits { needs.awaits
-        ≡ length (awaits_of (P.program program.now) needs.action.agent needs.action.number) }
-    ensures yes { result ≡ Some true
-        → ReachesNeed (P.program program.now) first needs.action needs.but }
-    ensures no { result ≡ Some false
-        → ReachesNeed (P.program program.now) first needs.action needs.but → ⊥ }
+    requires action { IsAction (P.program program.now) action }
+    ensures yes { result ≡ Some true → ReachesNeed (P.program program.now) first action but }
+    ensures no { result ≡ Some false → ReachesNeed (P.program program.now) first action but → ⊥ }
     ensures fewer { steps.new ≤ steps.old }
 {
+    let awaits = program.await_count(action.agent, action.number);
+    if awaits > AWAITS {
+        return None;
+    }
     let mut known = true;
-    for k in 0..needs.awaits {
-        let is_other = k != needs.but;
+    for k in 0..awaits {
+        let is_other = k != but;
         if is_other {
-            let needed = awaited_at(program, needs.action, k);
-            match reaches(program, look, first, needed, steps) {
+            let needed = awaited_at(program, action, k);
+            match reaches(program, levels, first, needed, steps) {
                 Some(true) => return Some(true),
                 Some(false) => {}
                 None => known = false,
             }
         }
     }
-    let is_first = needs.action.number <= 1;
+    let is_first = action.number <= 1;
     if is_first {
         return join_answers(known, Some(false));
     }
-    let own = reaches(program, look, first, before(needs.action), steps);
+    let own = reaches(program, levels, first, before(action), steps);
     join_answers(known, own)
 }
 

@@ -1,20 +1,16 @@
-use Rattle.fleet_needs.proofs.Words.{◌≡◌, ◌⊎◌, ℕ, ◌+◌, ◌<◌, Bool, true, false, List, length, get_or, set, sym, subst, ap, ◌∙◌, arith, inl, inr, slice_get, Some, cases_lt, length-set, get_or-set_same, get_or_from_slice_get, Program, Reaches, Question}
-use Rattle.fleet_needs.proofs.Settling.{asked_more}
-use Rattle.fleet_needs.proofs.questions.asked_agents.Goals.{then-not-is_near, else-not-is_near}
+use Rattle.fleet_needs.proofs.Words.{◌≡◌, ◌⊎◌, ℕ, ◌+◌, ◌<◌, Bool, true, false, List, length, get_or, drop, sym, subst, ap, ◌∙◌, arith, inl, inr, not, slice_get, Some, refl, take_at, get_or_from_slice_get, Program, Reaches, Question}
+use borrow.Author.Count.{below_more}
+use Rattle.fleet_needs.proofs.Answered.{no_question}
 use Rattle.fleet_needs.proofs.questions.asked_agents.Goals as goal
 
--- one question more: its agent is flagged, or a chain is found
-question_more : (p : Program) (questions : List Question) (n : ℕ) (d : Question) (old new : List Bool) → ((j : ℕ) → get_or old j false ≡ true → get_or new j false ≡ true)
-    → (get_or new (get_or questions n d).first.agent false ≡ true) ⊎ Reaches p (get_or questions n d).first (get_or questions n d).last
-    → ((k : ℕ) (q : Question) → k < n → slice_get questions k ≡ Some q → (get_or old q.first.agent false ≡ true) ⊎ Reaches p q.first q.last)
-    → (k : ℕ) (q : Question) → k < n + 1 → slice_get questions k ≡ Some q → (get_or new q.first.agent false ≡ true) ⊎ Reaches p q.first q.last
-question_more p questions n d old new more here before k q l e = elim (cases_lt k n) [
-  | inl low ↦ elim (before k q low e) [ inl flagged ↦ inl (more q.first.agent flagged) | inr near ↦ inr near ]
-  | inr high ↦
-      let last : k ≡ n = omega (arith, l, high) in
-      let same : get_or questions n d ≡ q = ap (λ (m : ℕ). get_or questions m d) (sym last) ∙ get_or_from_slice_get questions k q d e in
-      subst (λ (x : Question). (get_or new x.first.agent false ≡ true) ⊎ Reaches p x.first x.last) same here
-]
+-- the agent of a question is flagged, or its chain is found
+abbrev IsAsked : Program → List Bool → Question → Type 0
+IsAsked p asked q = (get_or asked q.first.agent false ≡ true) ⊎ Reaches p q.first q.last
+
+-- .. whichever of both is so
+asked_or_near : (p : Program) (asked : List Bool) (q : Question) (near : Bool) → (near ≡ true → Reaches p q.first q.last) → (not near ≡ true → get_or asked q.first.agent false ≡ true) → IsAsked p asked q
+asked_or_near p asked q true found left = inr (found refl)
+asked_or_near p asked q false found left = inl (left refl)
 
 pub loop-question-init : goal.loop-question-init
 loop-question-init g c = record {
@@ -27,29 +23,17 @@ loop-question-preserved g c =
     let p = g.P.ProgramView.program c.args.program.now in
     let questions : List Question = c.args.questions.now in
     let n : ℕ = c.loop-question.question-index in
-    let d : Question = record { first = record { agent = 0; number = 0 }; last = record { agent = 0; number = 0 } } in
-    let old : List Bool = c.loop-question.asked.items in
-    let invariant = c.loop-question.invariant in
-    elim c.if-not-is_near.branch [
-      | then-not-is_near w ↦ (
-          let i : ℕ = w.from-then-not-is_near.result in
-          let items : c.if-not-is_near.asked.items ≡ set old i true = ap (λ v. v.items) w.asked-is in
-          let agent : i ≡ (get_or questions n d).first.agent = w.from-then-not-is_near.ensures in
-          let question = c.requires.questions n d c.loop-question-test.true in
-          let within : i < length old = omega (arith, agent, question.agent, invariant.all) in
-          record {
-            all = ap (λ (xs : List Bool). length xs) items ∙ length-set old i true ∙ invariant.all;
-            flagged = λ k q l e. subst (λ (xs : List Bool). (get_or xs q.first.agent false ≡ true) ⊎ Reaches p q.first q.last) (sym items)
-                (question_more p questions n d old (set old i true) (λ j. asked_more old i j) (inl (ap (λ (j : ℕ). get_or (set old i true) j false) (sym agent) ∙ get_or-set_same old i true false within)) invariant.flagged k q l e);
-          })
-      | else-not-is_near w ↦ (
-          let items : c.if-not-is_near.asked.items ≡ old = ap (λ v. v.items) w.asked-is in
-          record {
-            all = ap (λ (xs : List Bool). length xs) items ∙ invariant.all;
-            flagged = λ k q l e. subst (λ (xs : List Bool). (get_or xs q.first.agent false ≡ true) ⊎ Reaches p q.first q.last) (sym items)
-                (question_more p questions n d old old (λ j is. is) (inr (c.is_near.ensures w.if-not-is_near.false)) invariant.flagged k q l e);
-          })
-    ]
+    let was = c.loop-question.invariant in
+    let new : List Bool = c.ask_if.new.asked in
+    let long : length new ≡ c.loop-question.asked.len = omega (arith, c.ask_if.auto.asked, c.deref_mut.ensures.len) in
+    let items = take_at new (drop (length new) c.loop-question.asked.items) c.loop-question.asked.len long in
+    let old = c.deref_mut.ensures.value in
+    record {
+      all = ap (λ (xs : List Bool). length xs) items ∙ c.ask_if.auto.asked ∙ ap (λ (xs : List Bool). length xs) old ∙ was.all;
+      flagged = λ k q l e. subst (λ (xs : List Bool). IsAsked p xs q) (sym items) (below_more (λ m. (x : Question) → slice_get questions m ≡ Some x → IsAsked p new x) n
+          (λ m less x at. elim (was.flagged m x less at) [ inl flagged ↦ inl (c.ask_if.ensures.more x.first.agent (ap (λ (xs : List Bool). get_or xs x.first.agent false) old ∙ flagged)) | inr near ↦ inr near ])
+          (λ x at. subst (IsAsked p new) (get_or_from_slice_get questions n x no_question at) (asked_or_near p new (get_or questions n no_question) c.is_near.result c.is_near.ensures c.ask_if.ensures.open)) k l q e);
+    }
 
 pub returns : goal.returns
 returns g c = record {
@@ -57,8 +41,7 @@ returns g c = record {
   flagged = λ k q l. c.loop-question.invariant.flagged k q (omega (arith, l, c.loop-question-test.false));
 }
 
-pub index_mut-requires : goal.index_mut-requires
-index_mut-requires g c =
-    let d : Question = record { first = record { agent = 0; number = 0 }; last = record { agent = 0; number = 0 } } in
-    let question = c.requires.questions c.loop-question.question-index d c.loop-question-test.true in
-    omega (arith, c.from-then-not-is_near.ensures, question.agent, c.loop-question.invariant.all)
+pub ask_if-requires : goal.ask_if-requires
+ask_if-requires g c =
+    let question = c.requires.questions c.loop-question.question-index no_question c.loop-question-test.true in
+    omega (arith, question.agent, c.loop-question.invariant.all, ap (λ (xs : List Bool). length xs) c.deref_mut.ensures.value)

@@ -11,7 +11,7 @@ reaches-returns-then-is_own-clause-yes g t c = λ e.
 
 pub reaches-returns-then-is_own-clause-no : goal.reaches-returns-then-is_own-clause-no
 reaches-returns-then-is_own-clause-no g t c = λ e r.
-    let le = own_only (g.P.ProgramView.program c.args.program.now) (critical_cost c.args.look.now.levels.now) c.requires.levels.rising c.args.first c.args.last c.requires.first c.requires.last (omega (arith, c.if-is_own.true)) r in
+    let le = own_only (g.P.ProgramView.program c.args.program.now) (critical_cost c.args.levels.now) c.requires.levels.rising c.args.first c.args.last c.requires.first c.requires.last (omega (arith, c.if-is_own.true)) r in
     grind (arith, same_Some _ _ e, le-leb c.args.first.number c.args.last.number le)
 
 pub reaches-returns-then-cost-clause-yes : goal.reaches-returns-then-cost-clause-yes
@@ -19,7 +19,7 @@ reaches-returns-then-cost-clause-yes g t c = λ e. absurd (no_is_not_yes e)
 
 pub reaches-returns-then-cost-clause-no : goal.reaches-returns-then-cost-clause-no
 reaches-returns-then-cost-clause-no g t c = λ e.
-    none_if_low (g.P.ProgramView.program c.args.program.now) (critical_cost c.args.look.now.levels.now) c.requires.levels.rising c.args.first c.args.last (λ s. omega (arith, s, c.if-is_own.false))
+    none_if_low (g.P.ProgramView.program c.args.program.now) (critical_cost c.args.levels.now) c.requires.levels.rising c.args.first c.args.last (λ s. omega (arith, s, c.if-is_own.false))
     (omega (arith, c.if-cost.true, c.cost.ensures, c.cost-2.ensures))
 
 pub reaches-returns-clause-yes : goal.reaches-returns-clause-yes
@@ -27,7 +27,7 @@ reaches-returns-clause-yes g t c = λ e. need_on (g.P.ProgramView.program c.args
 
 pub reaches-returns-clause-no : goal.reaches-returns-clause-no
 reaches-returns-clause-no g t c = λ e r. c.reaches_need.ensures.no e
-    (need_back (g.P.ProgramView.program c.args.program.now) c.args.first c.args.last _ (λ s. omega (arith, s, c.if-is_own.false)) (search rules) r)
+    (need_back (g.P.ProgramView.program c.args.program.now) c.args.first c.args.last _ (λ s. omega (arith, s, c.if-is_own.false)) (omega (arith, c.await_count-no_await.ensures)) r)
 
 pub reaches_need-returns-in-Some-true-clause-yes : goal.reaches_need-returns-in-Some-true-clause-yes
 reaches_need-returns-in-Some-true-clause-yes g t c = λ e. inr (record {
@@ -48,7 +48,7 @@ reaches_need-loop-k-preserved g t c =
       fewer = search rules;
       apart = λ known. elim c.if-is_other.branch [
         | reaches_need-then-is_other+in-Some-false w ↦
-            none_next p c.args.first c.args.needs.action c.args.needs.but c.loop-k.k (await_of w.awaited_at-needed.result) w.awaited_at-needed.ensures.awaited
+            none_next p c.args.first c.args.action c.args.but c.loop-k.k (await_of w.awaited_at-needed.result) w.awaited_at-needed.ensures.awaited
             (λ ne. w.reaches.ensures.no (w.in-Some-false.is ∙ ap Some w.in-Some-false.field-0-test)) (c.loop-k.invariant.apart (sym w.known-is ∙ known))
         | reaches_need-then-is_other+in-None w ↦ absurd (let e : true ≡ false = sym known ∙ w.known-is in cc)
         | reaches_need-else-is_other w ↦ λ m v l other. c.loop-k.invariant.apart (sym w.known-is ∙ known) m v (omega (arith, l, other, w.if-is_other.false)) other
@@ -60,14 +60,14 @@ reaches_need-returns-then-is_first-clause-yes g t c = λ e. absurd (no_is_not_ye
 
 pub reaches_need-returns-then-is_first-clause-no : goal.reaches_need-returns-then-is_first-clause-no
 reaches_need-returns-then-is_first-clause-no g t c = λ e.
-    none_need (g.P.ProgramView.program c.args.program.now) c.args.first c.args.needs.action c.args.needs.but c.loop-k.k (omega (arith, c.loop-k-test.false, c.requires.awaits, c.loop-k.auto.k-end))
-    (c.loop-k.invariant.apart (c.join_answers.ensures.no e).0) (none_before (g.P.ProgramView.program c.args.program.now) c.args.first c.args.needs.action (omega (arith, c.if-is_first.true)))
+    none_need (g.P.ProgramView.program c.args.program.now) c.args.first c.args.action c.args.but c.loop-k.k (omega (arith, c.loop-k-test.false, c.await_count-awaits.ensures, c.loop-k.auto.k-end))
+    (c.loop-k.invariant.apart (c.join_answers.ensures.no e).0) (none_before (g.P.ProgramView.program c.args.program.now) c.args.first c.args.action (omega (arith, c.if-is_first.true)))
 
 pub reaches_need-returns-clause-yes : goal.reaches_need-returns-clause-yes
 reaches_need-returns-clause-yes g t c = λ e. inl (subst (Reaches (g.P.ProgramView.program c.args.program.now) c.args.first) c.before-2.ensures (c.reaches-own.ensures.yes (c.join_answers-2.ensures.yes e)))
 
 pub reaches_need-returns-clause-no : goal.reaches_need-returns-clause-no
 reaches_need-returns-clause-no g t c = λ e.
-    none_need (g.P.ProgramView.program c.args.program.now) c.args.first c.args.needs.action c.args.needs.but c.loop-k.k (omega (arith, c.loop-k-test.false, c.requires.awaits, c.loop-k.auto.k-end))
+    none_need (g.P.ProgramView.program c.args.program.now) c.args.first c.args.action c.args.but c.loop-k.k (omega (arith, c.loop-k-test.false, c.await_count-awaits.ensures, c.loop-k.auto.k-end))
     (c.loop-k.invariant.apart (c.join_answers-2.ensures.no e).0)
     (λ r. c.reaches-own.ensures.no (c.join_answers-2.ensures.no e).1 (subst (Reaches (g.P.ProgramView.program c.args.program.now) c.args.first) (sym c.before-2.ensures) r))

@@ -11,5 +11,5 @@ decreases-reaches_need g l = 2 * l.steps.now + 1
 abbrev pub invariant-reaches_need-loop-k : goal.invariant-reaches_need-loop-k
 invariant-reaches_need-loop-k g l = record {
   fewer : l.steps ≤ l.fn.steps;
-  apart : l.known ≡ true → NoneIsReached (g.P.ProgramView.program l.program) l.first l.needs.action l.needs.but l.k;
+  apart : l.known ≡ true → NoneIsReached (g.P.ProgramView.program l.program) l.first l.action l.but l.k;
 }

@@ -1,5 +1,6 @@
-use Rattle.fleet_needs.proofs.Words.{◌≡◌, ◌+◌, ℕ, length, set, subst, ap, ◌∙◌, arith, length-set, awaits_of, flags_of, first_await, IsSettled, AreSettledTo}
+use Rattle.fleet_needs.proofs.Words.{◌≡◌, ◌+◌, ℕ, length, set, subst, sym, ap, ◌∙◌, arith, is_some, length-set, awaits_of, flags_of, first_await, IsSettled, AreSettledTo}
 use Rattle.fleet_needs.proofs.AwaitOrder.{noted_none, noted_next}
+use Rattle.fleet_needs.proofs.Flagged.{is_set}
 use Rattle.fleet_needs.proofs.Settling.{settled_by, still_settled}
 use Rattle.fleet_needs.proofs.settled.settle_action.Goals as goal
 
@@ -15,17 +16,19 @@ loop-k-preserved g c =
     let p = g.P.ProgramView.program c.args.program.now in
     let a = c.args.action in
     let k : ℕ = c.loop-k.k in
-    let flag = c.is_sure.result in
+    let flag = c.unwrap_or.result in
     let flags = flags_of c.loop-k.implied in
     let was = c.loop-k.asked in
-    let asked = c.ask_if_open.new.asked in
-    let more = c.ask_if_open.ensures.more in
+    let asked = c.ask_if.new.asked in
+    let more = c.ask_if.ensures.more in
     let place : c.first-first.result + c.from.result ≡ first_await p a + k = omega (arith, c.from.ensures, c.first-first.ensures.place) in
     record {
       flags = record { places = c.loop-k.invariant.flags.places; all = length-set flags (c.first-first.result + c.from.result) flag ∙ c.loop-k.invariant.flags.all };
       settled = noted_next p a (λ m w x. IsSettled p was a w x) (λ m w x. IsSettled p asked a w x) k flag (flags_of c.args.implied.now) flags (set flags (c.first-first.result + c.from.result) flag)
           (omega (arith, c.first-first.ensures.within, c.first-first.ensures.place, c.loop-k-test.true, c.await_count-awaits.ensures, c.loop-k.invariant.flags.all)) (ap (λ (n : ℕ). set flags n flag) place)
-          (λ m w x. still_settled p a w was asked x more) (λ w at. settled_by p a w asked flag c.is_implied-known.result c.is_sure.ensures (λ e. c.ask_if_open.ensures.open e w at) (c.is_implied-known.ensures.yes w at) (c.is_implied-known.ensures.no w at))
+          (λ m w x. still_settled p a w was asked x more)
+          (settled_by p c.agents.ensures.well_formed c.requires.levels.range a c.requires.action.first k c.awaited_at-awaited.result c.awaited_at-awaited.ensures.awaited asked c.reaches_need-known.result
+          (λ e. c.ask_if.ensures.open (is_set c.is_none.result (sym c.is_none.ensures ∙ ap is_some e))) c.reaches_need-known.ensures.yes c.reaches_need-known.ensures.no flag c.unwrap_or.ensures)
           c.loop-k.invariant.settled;
       more = λ j set. more j (c.loop-k.invariant.more j set);
     }

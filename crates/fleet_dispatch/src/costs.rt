@@ -1,6 +1,6 @@
 //! What the actions of a program cost, by the lines of a text.
 
-ghost use Rattle.std.specs.Prelude.{◌≡◌, [], ◌+◌, ◌<◌, ◌≤◌, ◌^◌, ℕ, length, map, replicate, get_or, IfOk, IfErr, IfSome, List};
+ghost use Rattle.std.specs.Prelude.{◌≡◌, [], ◌+◌, ◌<◌, ◌≤◌, ◌^◌, ℕ, length, replicate, get_or, IfOk, IfErr, IfSome, List};
 ghost use Rattle.fleet_model.specs.declared.program.ActionId.{ActionId};
 ghost use Rattle.fleet_text.specs.Text.{lines};
 ghost use Rattle.fleet_dispatch.specs.Breaks.{named_action};

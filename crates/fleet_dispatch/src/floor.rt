@@ -16,7 +16,7 @@ pub enum HearFault {
 /// A floor of robots. All that is said to it, heard from it and logged is one talk, in turn, so a contract says which
 /// bytes were said before a report was heard, and that it was logged before others were said.
 pub trait Floor {
-    ghost use Rattle.std.specs.Prelude.{ℕ, List, [], ◌++◌};
+    ghost use Rattle.std.specs.Prelude.{[], ◌++◌};
     ghost use Rattle.fleet_dispatch.specs.Talk.{Talk, Tells, Logs, Hears};
 
     /// From the first to the second this was said, heard and logged.

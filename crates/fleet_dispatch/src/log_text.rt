@@ -1,23 +1,23 @@
 //! The lines of a log.
 
-ghost use Rattle.std.specs.Prelude.{◌≡◌, ◌<◌, ◌≤◌, ◌+◌, ◌++◌, length, drop};
+ghost use Rattle.std.specs.Prelude.{◌≡◌, ◌≤◌, ◌+◌, ◌++◌, length, drop};
 ghost use Rattle.fleet_dispatch.specs.ReportText.{word_text, log_line};
 
 use crate::report::{Report, Reported};
 use fleet_model::MAX_AGENTS;
 use fleet_text::{write_byte, write_count};
 
-/// How many bytes the longest word of a report has, with the byte after it.
-const WORD: usize = 22;
+/// How many bytes the longest word of a report has: two numbers, and a colon between them.
+pub(crate) const WORD: usize = 21;
 
-/// How many bytes the longest line of a log has.
-pub const LOG_LINE: usize = MAX_AGENTS * WORD + 1;
+/// How many bytes the longest line of a log has: words, each with a byte before it, and the line's end.
+pub const LOG_LINE: usize = MAX_AGENTS * (1 + WORD) + 1;
 
 /// Writes a word of a report so that it ends before `end`, and answers where it begins.
 pub(crate) fn write_word(word: Reported, row: &mut [u8], end: usize) -> usize
-    requires room { 21 ≤ end }
+    requires room { WORD ≤ end }
     requires within { end ≤ length row.old }
-    ensures low { end ≤ result + 21 }
+    ensures low { end ≤ result + WORD }
     ensures high { result ≤ end }
     ensures written { drop result row.new ≡ word_text word ++ drop end row.old }
 {

@@ -7,13 +7,13 @@ ghost use Rattle.fleet_dispatch.specs.Talk.{Tells};
 
 use crate::floor::Floor;
 use crate::form::ReportForm;
-use crate::log_text::write_word;
+use crate::log_text::{WORD, write_word};
 use crate::report::Reported;
 use fleet_model::Place;
 use fleet_text::{OutFault, PLACE, write_byte, write_bytes, write_count_line, write_place};
 
-/// How many bytes the longest order has: two places, the agent and the number, between a word and a line's end.
-pub const ORDER: usize = 2 * PLACE + 25;
+/// How many bytes the longest order has: how it names its action, and two places, between a word and a line's end.
+pub const ORDER: usize = 3 + WORD + 2 * PLACE + 1;
 
 /// The word of a report by which an order names action `n` of agent `i`.
 #[inline(always)]
@@ -30,9 +30,9 @@ fn word_for(form: ReportForm, i: u16, n: u32) -> Reported
 
 /// Writes how an order names action `n` of agent `i`, so that it ends before `end`, and answers where it begins.
 fn write_name(form: ReportForm, i: u16, n: u32, row: &mut [u8], end: usize) -> usize
-    requires room { 21 ≤ end }
+    requires room { WORD ≤ end }
     requires within { end ≤ length row.old }
-    ensures low { end ≤ result + 21 }
+    ensures low { end ≤ result + WORD }
     ensures high { result ≤ end }
     ensures written { drop result row.new ≡ name_text form i n ++ drop end row.old }
 {

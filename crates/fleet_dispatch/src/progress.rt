@@ -121,7 +121,7 @@ fn places_after<P: ProgramView>(
 }
 
 /// The same counts.
-fn copied(alloc: Global, counts: &[u32]) -> Result<Vec<u32>, AllocError>
+fn copy_of(alloc: Global, counts: &[u32]) -> Result<Vec<u32>, AllocError>
     ensures { IfOk result (λ v. v.items ≡ counts.now) }
 {
     counts.iter().copied().collect(alloc)
@@ -141,8 +141,8 @@ impl Progress {
     {
         let agents = program.agents();
         let places = places_after(alloc, program, done)?;
-        let told = copied(alloc, done)?;
-        let done = copied(alloc, done)?;
+        let told = copy_of(alloc, done)?;
+        let done = copy_of(alloc, done)?;
         let waiting = WaitLists::new(alloc, agents as usize, agents as usize)?;
         let mut progress = Progress {
             done,

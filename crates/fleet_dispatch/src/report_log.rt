@@ -30,7 +30,7 @@ pub trait ReportLog {
 pub struct NoLog;
 
 impl ReportLog for NoLog {
-    ghost use Rattle.std.specs.Prelude.{ℕ, List, None, false, true, ⊤};
+    ghost use Rattle.std.specs.Prelude.{None, false, true, ⊤};
 
     ghost state = { λ _. record { taken = None; has_failed = false; is_flushed = true } };
 

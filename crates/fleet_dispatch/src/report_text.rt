@@ -1,6 +1,6 @@
 //! What a line says: a report, or the question where the agents are.
 
-ghost use Rattle.std.specs.Prelude.{◌≡◌, [], position, MatchBool, Some, None, IfSome, option_map};
+ghost use Rattle.std.specs.Prelude.{◌≡◌, [], position, MatchBool, Some, None, option_map};
 ghost use Rattle.std.specs.List.{slice_split};
 ghost use Rattle.fleet_text.specs.Text.{is_space};
 ghost use Rattle.fleet_dispatch.specs.ReportText.{is_colon, word_of, words_of, report_of, is_question, line_of, heard_line};

@@ -115,7 +115,7 @@ fn tell_orders<P: ProgramView, F: Floor>(
 }
 
 /// How many reports are taken with one more, which is a repeat or not.
-fn counted(taken: u32, is_repeat: bool) -> u32
+fn count_with(taken: u32, is_repeat: bool) -> u32
     requires few { taken < MAX_REPORTS }
     ensures { result ≡ taken + (if is_repeat then 0 else 1) }
 {
@@ -167,7 +167,7 @@ fn take_report<P: ProgramView, F: Floor>(
         return Err(DispatchFault::LogWrite { line });
     }
     session.progress.take(program, &session.report);
-    session.taken = counted(session.taken, is_repeat);
+    session.taken = count_with(session.taken, is_repeat);
     Ok(())
 }
 

@@ -4,12 +4,16 @@ ghost use Rattle.std.specs.Prelude.{◌≡◌, ◌+◌, ◌<◌, ◌≤◌, ◌+
 ghost use Rattle.std.specs.Option.{option_map_or};
 ghost use Rattle.fleet_dispatch.specs.Standings.{await_text, standing_text};
 
+use crate::log_text::WORD;
 use crate::orders::add_text;
 use fleet_model::{Await, Place};
 use fleet_text::{PLACE, write_byte, write_bytes, write_count, write_place};
 
-/// How many bytes the longest line has: a place and five numbers, between words.
-pub const STANDING: usize = PLACE + 72;
+/// How many bytes the longest await has for which an agent waits, after a word.
+const WAITS: usize = 7 + WORD;
+
+/// How many bytes the longest line has: a place, three numbers and an await, between words.
+pub const STANDING: usize = PLACE + 44 + WAITS;
 
 /// Where an agent stands, how many of its actions it has carried out, of how many, and an await for which it waits.
 #[derive(Clone, Copy)]
@@ -23,9 +27,9 @@ pub struct Whereabouts {
 
 /// Writes for what an agent waits, if it does, so that it ends before `end`, and answers where it begins.
 fn write_waits(waits: Option<Await>, row: &mut [u8], end: usize) -> usize
-    requires room { 28 ≤ end }
+    requires room { WAITS ≤ end }
     requires within { end ≤ length row.old }
-    ensures low { end ≤ result + 28 }
+    ensures low { end ≤ result + WAITS }
     ensures high { result ≤ end }
     ensures written { drop result row.new ≡ option_map_or await_text waits [] ++ drop end row.old }
 {

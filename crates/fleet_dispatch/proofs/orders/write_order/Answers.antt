@@ -1,4 +1,4 @@
-use Rattle.fleet_dispatch.proofs.Cited.{◌++◌, ◌∙◌, [], append-nil, ap, arith, ℕ, List, drop_all, codes, place_text, name_text, order_text}
+use Rattle.fleet_dispatch.proofs.Cited.{◌++◌, ◌∙◌, append-nil, ap, arith, ℕ, List, drop_all, codes, place_text, name_text, order_text}
 use Rattle.fleet_dispatch.proofs.Written.{five_joined}
 use Rattle.fleet_dispatch.proofs.orders.write_order.Goals as goal
 

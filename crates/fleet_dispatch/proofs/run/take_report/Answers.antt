@@ -21,7 +21,7 @@ returns g c =
       ready = record { leads = c.take.ensures.leads c.args._pace.ahead c.requires.ready.leads; row = c.requires.ready.row; line = kept; answer = c.requires.ready.answer };
       done = c.take.ensures.done;
       told = c.take.ensures.told;
-      taken = c.counted-session.ensures ∙ ap (λ b. s.taken + cond b 0 1) c.is_repeat-is_repeat.ensures;
+      taken = c.count_with-session.ensures ∙ ap (λ b. s.taken + cond b 0 1) c.is_repeat-is_repeat.ensures;
     }
 
 pub first_unordered-requires-clause-counts : goal.first_unordered-requires-clause-counts

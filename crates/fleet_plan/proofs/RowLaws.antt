@@ -1,5 +1,5 @@
 -- Loops over the agents of a row, where something is known of all others.
-use Rattle.fleet_plan.proofs.Words.{◌≡◌, ◌≢◌, ℕ, zero, suc, ◌+◌, ◌-◌, ◌<◌, ◌≤◌, Bool, true, false, List, [], ◌∷◌, length, get_or, slice_get, slice_index, filter, All, Some, ◌⊎◌, inl, inr, sym, ap, ◌∙◌, subst, arith, cases_eq, cases_lt, cases_Bool, lt-ltb, le-ltb, get_or-set_same, get_or-set_other, get_or_default, All-filter, FiltersInPlace, range_with_len, length-range_with_len, get_or-range_with_len, get_or_from_slice_get, MAX_AGENTS, Plan, Path, path_of, IsComing, IsSoForOthers, is_under_way, Covers}
+use Rattle.fleet_plan.proofs.Words.{◌≡◌, ◌≢◌, ℕ, zero, suc, ◌+◌, ◌-◌, ◌<◌, ◌≤◌, Bool, true, false, List, [], ◌∷◌, length, get_or, slice_get, slice_index, filter, All, Some, ◌⊎◌, inl, inr, sym, ap, ◌∙◌, subst, arith, cases_eq, cases_lt, cases_Bool, lt-ltb, le-ltb, All-filter, FiltersInPlace, range_with_len, length-range_with_len, get_or-range_with_len, get_or_from_slice_get, MAX_AGENTS, Plan, Path, path_of, IsComing, IsSoForOthers, is_under_way, Covers}
 
 -- ---- one agent of the row after another
 

@@ -1,5 +1,5 @@
 -- What the places of agents at two times say of the conflicts of their plan.
-use Rattle.fleet_plan.proofs.Words.{◌≡◌, ◌≢◌, ℕ, zero, suc, ◌+◌, ◌<◌, ◌≤◌, Bool, true, false, IsTrue, List, [], ◌∷◌, length, get_or, slice_index, All, Option, Some, None, IfSome, IfNone, inl, inr, refl, sym, ap, ◌∙◌, subst, arith, map, ◌==◌, EachIndex, range_with_len, cases_eq, cases_lt, cases_order, get_or_past, get_or_default, length-map-range_with_len, get_or-map-range_with_len, Cell, place_of, after_in, place_of-injective, Table, value_in, Ground, IsGround, is_passable, cell_index, Conflict, Vertex, Swapping, Cycle, Plan, cell_of, motion_of, steps, IsPath, GoesRight, path_of, HasConflict, HasNoConflict, time_of, IsKindUpTo, IsConflictUpTo, IsFirstConflict, NamesAgents, ahead_of, walk_of, Leads, IsOnRing, IsLeastOnRing, StandOnMap, StandOnPlaces, Meet, IsFirstMeeting, IsAhead, AreAhead, Exchange, IsFirstExchange, HasNoMeeting, HasNoExchange, IsFirstIn, IsFreeIn, IsEntered, IsAgentSettled, NamesMovers, IsSweep, IsSwept, SweepRows, AreFresh, HasComeTo, HaveArrived, IsSoForOthers, Covers, MAX_HORIZON}
+use Rattle.fleet_plan.proofs.Words.{◌≡◌, ◌≢◌, ℕ, zero, suc, ◌+◌, ◌<◌, ◌≤◌, Bool, true, false, IsTrue, List, [], ◌∷◌, length, get_or, slice_index, All, Option, Some, None, IfSome, IfNone, inl, inr, refl, sym, ap, ◌∙◌, subst, arith, map, ◌==◌, EachIndex, range_with_len, cases_eq, cases_lt, cases_order, get_or_past, get_or_default, length-map-range_with_len, get_or-map-range_with_len, Cell, place_of, after_in, place_of-injective, Table, value_in, Ground, IsGround, is_passable, cell_index, Conflict, Vertex, Swapping, Cycle, Plan, cell_of, motion_of, steps, IsPath, GoesRight, path_of, HasConflict, HasNoConflict, time_of, IsKindUpTo, IsConflictUpTo, IsFirstConflict, NamesAgents, ahead_of, walk_of, Leads, IsOnRing, IsLeastOnRing, StandOnMap, StandOnPlaces, Meet, IsFirstMeeting, IsAhead, AreAhead, Exchange, IsFirstExchange, HasNoMeeting, HasNoExchange, IsFirstIn, IsFreeIn, IsEntered, IsAgentSettled, NamesMovers, IsSweep, IsSwept, SweepRows, AreFresh, HasComeTo, IsSoForOthers, MAX_HORIZON}
 use Rattle.std.specs.List.{IsDistinct}
 use Rattle.fleet_grid.specs.Ground.{is_ground_at as ground_at}
 use Rattle.fleet_plan.proofs.RingLaws.{some_is, none_is_not, shortened, each_ahead, each_reached, ends_with, each_on_ring, ring-reaches}
@@ -384,21 +384,6 @@ module _ (g : Ground) (plan : Plan) (table : Table ℕ) (places next : List ℕ)
         | inl c ↦ inl c
         | inr e ↦ let alone = nobody_ahead places next' ahead' are i b e in inr (record { same = e; nobody = alone; unwalked = none i alone })
       ]
-
--- the step is done
-pub swept_on : (g : Ground) (plan : Plan) (table : Table ℕ) (places next : List ℕ) (ahead walks : List (Option ℕ)) (row : List ℕ) (t : ℕ) → IsSweep g plan next t → length places ≡ length next → IsEntered table next → ((i : ℕ) → i < length next → IsAgentSettled places next ahead walks i) → Covers plan t row → IsSwept g plan table places next ahead walks row t
-swept_on g plan table places next ahead walks row t s all entered settled covers = record {
-  sweep = record {
-    here = record {
-      all = all ∙ s.here.all;
-      each = λ i l. let b : i < length next = omega (arith, s.here.all) in sym ((settled i b).same) ∙ s.here.each i l;
-    };
-    earlier = s.earlier;
-  };
-  entered = λ i l. let b : i < length next = omega arith in ap (value_in table) (sym ((settled i b).same)) ∙ entered i b;
-  settled = settled;
-  covers = covers;
-}
 
 -- the sweep begins
 pub come_first : (g : Ground) (plan : Plan) (table : Table ℕ) (places : List ℕ) (rows : SweepRows) → AreFresh plan rows → StandOnPlaces g plan 0 places → IsEntered table places

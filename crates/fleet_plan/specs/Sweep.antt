@@ -26,7 +26,7 @@ OthersStandAt g plan t row places = IsSoForOthers row (length plan) (StandsInPla
 -- the agents stand in these places at time t
 pub record StandOnPlaces (g : Ground) (plan : Plan) (t : ℕ) (places : List ℕ) : Type 0 where
   pub all : length places ≡ length plan
-  pub each : (i : ℕ) → i < length plan → slice_index places i ≡ cell_index g (cell_of plan i t)
+  pub each : (i : ℕ) → i < length plan → StandsInPlace g plan t places i
 
 -- the agents stand in one place
 pub record Meet (places : List ℕ) (i j : ℕ) : Type 0 where
@@ -45,7 +45,7 @@ HasIn table places i = value_in table (slice_index places i) ≡ i
 
 -- the table has each agent in its place
 abbrev pub IsEntered : Table ℕ → List ℕ → Type 0
-IsEntered table places = (i : ℕ) → i < length places → value_in table (slice_index places i) ≡ i
+IsEntered table places = (i : ℕ) → i < length places → HasIn table places i
 
 -- the agent goes to no other place
 abbrev pub Stays : List ℕ → List ℕ → ℕ → Type 0
@@ -57,7 +57,7 @@ IsUnblocked ahead i = ahead_of ahead i ≡ None
 
 -- who is ahead of the agent: who stands in the place to which it goes, if it goes to another one
 abbrev pub IsAhead : List ℕ → List ℕ → ℕ → Option ℕ → Type 0
-IsAhead places next i None = (slice_index next i ≡ slice_index places i) ⊎ ((j : ℕ) → j < length places → slice_index places j ≢ slice_index next i)
+IsAhead places next i None = Stays places next i ⊎ ((j : ℕ) → j < length places → slice_index places j ≢ slice_index next i)
 IsAhead places next i (Some j) = (slice_index next i ≢ slice_index places i) × (j < length places) × (slice_index places j ≡ slice_index next i)
 
 -- who is ahead of each agent
@@ -81,7 +81,7 @@ HasNone P = (i j : ℕ) → P i j → ⊥
 
 -- nobody meets another
 abbrev pub HasNoMeeting : List ℕ → Type 0
-HasNoMeeting places = (i j : ℕ) → Meet places i j → ⊥
+HasNoMeeting places = HasNone (Meet places)
 
 -- nobody meets another, and no two agents are ahead of each other
 pub record HasNoExchange (places : List ℕ) (ahead : List (Option ℕ)) : Type 0 where
@@ -120,8 +120,8 @@ pub record IsFreeAhead (ahead : List (Option ℕ)) : Type 0 where
 
 -- the agent is where it goes, nobody is ahead of it, and no walk has met it
 pub record IsAgentSettled (places next : List ℕ) (ahead walks : List (Option ℕ)) (i : ℕ) : Type 0 where
-  pub same : slice_index next i ≡ slice_index places i
-  pub nobody : ahead_of ahead i ≡ None
+  pub same : Stays places next i
+  pub nobody : IsUnblocked ahead i
   pub unwalked : walk_of walks i ≡ None
 
 -- all agents are settled
@@ -164,7 +164,7 @@ pub record FitsPlan (plan : Plan) (rows : SweepRows) : Type 0 where
 -- nobody is ahead of anybody, no walk has met anybody, and all agents are looked at
 pub record AreFresh (plan : Plan) (rows : SweepRows) : Type 0 where
   pub fits : FitsPlan plan rows
-  pub nobody : (i : ℕ) → ahead_of rows.ahead i ≡ None
+  pub nobody : (i : ℕ) → IsUnblocked rows.ahead i
   pub unwalked : (i : ℕ) → walk_of rows.walks i ≡ None
   pub covers : Covers plan 0 rows.agents
 

@@ -106,9 +106,12 @@ manhattan-step a b s (East, h) = let x = ap (λ (p : Place). p.x) h in let y = a
 manhattan-step a b s (South, h) = let x = ap (λ (p : Place). p.x) h in let y = ap (λ (p : Place). p.y) h in in_row a b s (omega (arith, ints, x)) (diff-step b.y a.y s.y (omega (arith, ints, y)))
 manhattan-step a b s (West, h) = let x = ap (λ (p : Place). p.x) h in let y = ap (λ (p : Place). p.y) h in in_column a b s (omega (arith, ints, y)) (turn_round (diff-step a.x b.x s.x (omega (arith, ints, x))))
 
--- on one line a step up leads nearer exactly to the numbers above, and a step down to those below
-step-up : (x y s : ℕ) → x ≡ y + 1 → (y < s → abs_diff x s + 1 ≡ abs_diff y s) × (s ≤ y → abs_diff x s ≡ abs_diff y s + 1)
-step-up x y s e = (λ h. omega arith, λ h. omega arith)
+-- a sum that changes as the way to a number on one line does falls by a step exactly on that side
+fall-down : (x y s m n : ℕ) → x ≡ y + 1 → n + abs_diff x s ≡ m + abs_diff y s → IsTrue (ltb s x) ↔ (n < m)
+fall-down x y s m n e d = (λ l. let below = ltb-true s x l in omega arith, λ l. elim (cases_lt s x) [ inl below ↦ lt-ltb s x below | inr past ↦ absurd (omega arith) ])
+
+fall-up : (x y s m n : ℕ) → y ≡ x + 1 → n + abs_diff x s ≡ m + abs_diff y s → IsTrue (ltb x s) ↔ (n < m)
+fall-up x y s m n e d = (λ l. let above = ltb-true x s l in omega arith, λ l. elim (cases_lt x s) [ inl above ↦ lt-ltb x s above | inr past ↦ absurd (omega arith) ])
 
 -- whether a neighbour is nearer to a cell, by the numbers in which the two differ
 abbrev pub NearerIf : Bool → Cell → Cell → Cell → Type 0
@@ -119,32 +122,28 @@ unfolding manhattan
 nearer-north a b s h =
     let e : a.x ≡ b.x = omega (arith, ints, ap (λ (p : Place). p.x) h) in
     let k = ap (λ n. abs_diff n s.x) e in
-    let f : a.y ≡ b.y + 1 = omega (arith, ints, ap (λ (p : Place). p.y) h) in
-    (λ y. let l = ltb-true s.y a.y y in let z = (step-up a.y b.y s.y f).1 (omega arith) in omega arith, λ y. elim (cases_lt s.y a.y) [ inl l ↦ lt-ltb s.y a.y l | inr l ↦ let z = (step-up a.y b.y s.y f).0 (omega arith) in absurd (omega arith) ])
+    fall-down a.y b.y s.y (manhattan a s) (manhattan b s) (omega (arith, ints, ap (λ (p : Place). p.y) h)) (omega (arith, k))
 
 pub nearer-south : (a b s : Cell) → place_of b ≡ moved (place_of a) South → NearerIf (ltb a.y s.y) a b s
 unfolding manhattan
 nearer-south a b s h =
     let e : a.x ≡ b.x = omega (arith, ints, ap (λ (p : Place). p.x) h) in
     let k = ap (λ n. abs_diff n s.x) e in
-    let f : b.y ≡ a.y + 1 = omega (arith, ints, ap (λ (p : Place). p.y) h) in
-    (λ y. let l = ltb-true a.y s.y y in let z = (step-up b.y a.y s.y f).0 l in omega arith, λ y. elim (cases_lt a.y s.y) [ inl l ↦ lt-ltb a.y s.y l | inr l ↦ let z = (step-up b.y a.y s.y f).1 l in absurd (omega arith) ])
+    fall-up a.y b.y s.y (manhattan a s) (manhattan b s) (omega (arith, ints, ap (λ (p : Place). p.y) h)) (omega (arith, k))
 
 pub nearer-east : (a b s : Cell) → place_of b ≡ moved (place_of a) East → NearerIf (ltb a.x s.x) a b s
 unfolding manhattan
 nearer-east a b s h =
     let e : a.y ≡ b.y = omega (arith, ints, ap (λ (p : Place). p.y) h) in
     let k = ap (λ n. abs_diff n s.y) e in
-    let f : b.x ≡ a.x + 1 = omega (arith, ints, ap (λ (p : Place). p.x) h) in
-    (λ y. let l = ltb-true a.x s.x y in let z = (step-up b.x a.x s.x f).0 l in omega arith, λ y. elim (cases_lt a.x s.x) [ inl l ↦ lt-ltb a.x s.x l | inr l ↦ let z = (step-up b.x a.x s.x f).1 l in absurd (omega arith) ])
+    fall-up a.x b.x s.x (manhattan a s) (manhattan b s) (omega (arith, ints, ap (λ (p : Place). p.x) h)) (omega (arith, k))
 
 pub nearer-west : (a b s : Cell) → place_of b ≡ moved (place_of a) West → NearerIf (ltb s.x a.x) a b s
 unfolding manhattan
 nearer-west a b s h =
     let e : a.y ≡ b.y = omega (arith, ints, ap (λ (p : Place). p.y) h) in
     let k = ap (λ n. abs_diff n s.y) e in
-    let f : a.x ≡ b.x + 1 = omega (arith, ints, ap (λ (p : Place). p.x) h) in
-    (λ y. let l = ltb-true s.x a.x y in let z = (step-up a.x b.x s.x f).1 (omega arith) in omega arith, λ y. elim (cases_lt s.x a.x) [ inl l ↦ lt-ltb s.x a.x l | inr l ↦ let z = (step-up a.x b.x s.x f).0 (omega arith) in absurd (omega arith) ])
+    fall-down a.x b.x s.x (manhattan a s) (manhattan b s) (omega (arith, ints, ap (λ (p : Place). p.x) h)) (omega (arith, k))
 
 pub manhattan-near : (a b s : Cell) → AreNeighbours a b → manhattan b s ≤ manhattan a s + 1
 manhattan-near a b s n = elim (manhattan-step a b s n) [ inl e ↦ omega arith | inr e ↦ omega arith ]

@@ -5,11 +5,8 @@ pub mod Placed
 pub mod Counting
 pub mod NextBlock
 pub mod Answered
-mod Pushed
 pub mod PiecePairs
 pub mod Gathered
-pub mod GatheredAll
-pub mod LatestPiece
 pub mod AwaitOrder
 mod Settling
 pub mod ByLevel

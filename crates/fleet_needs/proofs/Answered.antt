@@ -18,18 +18,6 @@ answer_is p q n some col = (
         below : nat_lt n q.first.number ≡ false → q.first.number ≤ n
         below f = elim (cases_lt n q.first.number) [ inr g ↦ g | inl l ↦ absurd (let t : nat_lt n q.first.number ≡ true = lt-ltb n q.first.number l in cc) ]
 
--- if the first action is reached, a flag that is not set is the answer
-pub near_answer : (p : Program) (q : Question) (flag : Bool) → flag ≡ false → Reaches p q.first q.last → IsAnswer p q flag
-near_answer p q flag e r = ((λ set none. false≢true (sym e ∙ set)), (λ none. absurd (none r)))
-
--- if no agent's column is asked for, flags that are not set are the answers
-pub none_asked : (p : Program) (questions : List Question) (asked flags : Vec Bool Global) → AreAskedTo p questions (length questions) asked → ((k : ℕ) → get_or asked.items k false ≡ false) → length flags.items ≡ length questions
-    → ((k : ℕ) → get_or flags.items k false ≡ false) → AreAnswersIn p questions flags
-none_asked p questions asked flags h none long clear = record {
-  all = long;
-  each = λ k q e. near_answer p q (get_or flags.items k false) (clear k) (elim (h.flagged k q (slice_get_within questions k q e) e) [ inr r ↦ r | inl set ↦ absurd (false≢true (sym (none q.first.agent) ∙ set)) ]);
-}
-
 -- a question of a list of questions
 pub question_at : (p : Program) (questions : List Question) → All (IsQuestion p) questions → (k : ℕ) (q : Question) → slice_get questions k ≡ Some q → IsQuestion p q
 question_at p questions h k q e = subst (IsQuestion p) (get_or_from_slice_get questions k q q e) (h k q (slice_get_within questions k q e))

@@ -193,15 +193,3 @@ pub own_first : (p : Program) (first last : ActionId) → 1 ≤ first.number →
 own_first p first last some k same l =
     let e : record { agent = last.agent; number = first.number } ≡ first = (λ t. record { agent = same t; number = first.number }) in
     subst (λ (x : ActionId). Reaches p x last) e (own_reach p last.agent first.number last.number k.agent some l k.last)
-
-pub by_await : (p : Program) (range : AreInRange p) (first last : ActionId) (k : ℕ) (w : Await) → IsAction p last → slice_get (awaits_of p last.agent last.number) k ≡ Some w
-    → Reaches p first (awaited w) → Reaches p first last
-by_await p range first last k w is at r =
-    Reaches-trans p first (awaited w) last r
-    (Reaches-need p (awaited w) last (awaited_action p range last.agent last.number k w at) is
-    (inr (k, slice_get_within (awaits_of p last.agent last.number) k w at, get_or_from_slice_get (awaits_of p last.agent last.number) k w w at)))
-
-pub by_before : (p : Program) (first last : ActionId) (n : ℕ) → IsAction p last → 1 ≤ n → n + 1 ≡ last.number → Reaches p first (record { agent = last.agent; number = n }) → Reaches p first last
-by_before p first last n is some e r =
-    let before : IsAction p (record { agent = last.agent; number = n }) = record { agent = is.agent; first = some; last = (let l : last.number ≤ moves p last.agent = is.last in omega arith) } in
-    Reaches-trans p first (record { agent = last.agent; number = n }) last r (Reaches-need p (record { agent = last.agent; number = n }) last before is (inl (refl, omega arith, some)))

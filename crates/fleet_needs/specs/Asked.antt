@@ -1,5 +1,5 @@
 -- Questions for chains of needs, and their answers.
-use Rattle.std.specs.Prelude.{◌≡◌, ◌⊎◌, ℕ, ◌<◌, ◌≤◌, Bool, true, false, List, length, get_or, slice_get, Some, ◌↔◌, Vec}
+use Rattle.std.specs.Prelude.{◌≡◌, ℕ, ◌<◌, ◌≤◌, Bool, true, false, List, length, get_or, slice_get, Some, ◌↔◌, Vec}
 use Rattle.std.specs.declared.alloc.Global.{Global}
 use Rattle.fleet_needs.specs.Words.{Program, IsAction, Reaches}
 use Rattle.fleet_needs.specs.declared.questions.Question.{Question}
@@ -20,7 +20,7 @@ pub record AreAnswers (p : Program) (questions : List Question) (flags : List Bo
 abbrev pub AreAnswersIn : Program → List Question → Vec Bool Global → Type 0
 AreAnswersIn p questions flags = AreAnswers p questions flags.items
 
--- a flag for each agent, and of each of the first n questions the first agent is flagged, or its chain is found
+-- a flag for each agent, and of each of the first n questions the first agent is flagged
 pub record AreAskedTo (p : Program) (questions : List Question) (n : ℕ) (asked : Vec Bool Global) : Type 0 where
   pub all : length asked.items ≡ length p
-  pub flagged : (k : ℕ) (q : Question) → k < n → slice_get questions k ≡ Some q → (get_or asked.items q.first.agent false ≡ true) ⊎ Reaches p q.first q.last
+  pub flagged : (k : ℕ) (q : Question) → k < n → slice_get questions k ≡ Some q → get_or asked.items q.first.agent false ≡ true

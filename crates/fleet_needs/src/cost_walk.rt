@@ -86,7 +86,8 @@ impl CostWalk {
         requires all { HasAll (P.program program.now) self.old }
         requires action { IsAction (P.program program.now) action }
         ensures { self.new ≡ record self.old {
-            costs = set self.old.costs (action_place self.old.places action) cost } }
+          costs = set self.old.costs (action_place self.old.places action) cost;
+        } }
     {
         let place = self.places.place_of(program, action);
         self.costs[place] = cost;

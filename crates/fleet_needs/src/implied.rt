@@ -16,9 +16,8 @@ use crate::await_places::AwaitPlaces;
 use crate::critical::CriticalCosts;
 use crate::join_pass::{JoinRow, JoinUse, use_joins};
 use crate::level_order::LevelOrder;
-use crate::questions::is_any;
 use crate::schedule::{Blocks, Schedule};
-use crate::settled::settle_all;
+use crate::settled::{is_any, settle_all};
 use fleet_model::{ActionId, Await, OutOfMemory, ProgramView, total_awaits};
 use std::alloc::Global;
 

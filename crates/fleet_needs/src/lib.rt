@@ -23,9 +23,8 @@
 //! each awaited agent is that of all needs but this await. What is done with a row is a `JoinUse`, which is shown the
 //! row after either step; there are three, in `questions`, `gather` and `implied`.
 //!
-//! `questions` answers questions for chains: it looks a few steps back from the end of a chain first, and asks what
-//! this leaves open agent by agent, in blocks of columns. Each question is listed by the row that stands for its last
-//! action, and answered when that row is made.
+//! `questions` answers questions for chains, agent by agent, in blocks of columns. Each question is listed by the row
+//! that stands for its last action, and answered when that row is made.
 //!
 //! `gather` gathers the counts of all rows: by each row it goes on with the last *piece* of the two agents, or begins a
 //! new one, block by block of columns. It sorts the pieces (`Pieces`) and looks counts up in them.

@@ -1,12 +1,10 @@
-//! Questions for chains: those that a look a few steps back answers, and the others, agent by agent, by the rows of a
-//! block.
+//! Questions for chains, answered agent by agent, by the rows of a block.
 
-ghost use Rattle.std.specs.Prelude.{◌≡◌, ◌↔◌, ◌+◌, ℕ, false, length, get_or, All, IfOk, ◌<◌, ◌≤◌, IsTrue, ◌≢◌, slice_index, None};
+ghost use Rattle.std.specs.Prelude.{◌≡◌, ◌≢◌, ◌+◌, ◌<◌, ◌≤◌, ℕ, length, slice_index, All, IfOk, None};
 ghost use Rattle.fleet_model.specs.Program.{AreInRange};
 ghost use Rattle.fleet_needs.specs.Asked.{AreAnswersIn, AreAskedTo, IsQuestion};
 ghost use Rattle.fleet_needs.specs.Block.{IsAnswer, HasColumn};
 ghost use Rattle.fleet_needs.specs.Schedule.{IsSchedule, AreColumnsOf, AreCounts, AreRowCounts, joins_in};
-ghost use Rattle.fleet_model.specs.Chain.{IsAction, Reaches};
 ghost use Rattle.fleet_needs.specs.Columns.{column_of};
 ghost use Rattle.fleet_needs.specs.Answering.{AreAnsweredTo, AreListed, IsAnswering, AreOthersLeft, questions_in};
 ghost use Rattle.fleet_needs.specs.Counts.{counts_of};
@@ -19,7 +17,6 @@ use crate::join_pass::{JoinRow, JoinUse, use_joins};
 use crate::joins::Joins;
 use crate::level_order::OrderSource;
 use crate::schedule::{Blocks, Columns, Schedule};
-use crate::settled::ask_if;
 use fleet_model::{ActionId, OutOfMemory, ProgramView};
 use std::alloc::Global;
 
@@ -31,8 +28,7 @@ pub struct Question {
 }
 
 /// For each question whether no chain of needs begins with its first action and ends with its last. The order of the
-/// actions is made if a look a few steps back leaves some question open. Rows of counts are kept as long as some
-/// action is still to take them.
+/// actions is made if there is a question. Rows of counts are kept as long as some action is still to take them.
 pub fn answer_questions<P: ProgramView, S: OrderSource + Drop>(
     alloc: Global,
     program: &P,
@@ -45,10 +41,10 @@ pub fn answer_questions<P: ProgramView, S: OrderSource + Drop>(
     ensures { IfOk result (AreAnswersIn (P.program program.now) questions.now) }
 {
     let flags = vec![in alloc; false; questions.len()]?;
-    let asked = asked_agents(alloc, program, questions)?;
-    if !is_any(&asked) {
+    if questions.is_empty() {
         return Ok(flags);
     }
+    let asked = asked_agents(alloc, program, questions)?;
     let order = source.order(alloc, program)?;
     let (schedule, listed) = Schedule::for_questions(alloc, program, order, questions)?;
     let answering = Answering {
@@ -56,13 +52,6 @@ pub fn answer_questions<P: ProgramView, S: OrderSource + Drop>(
         flags,
     };
     answer_all(alloc, program, &schedule, &asked, answering)
-}
-
-/// Whether some agent is flagged.
-pub fn is_any(asked: &[bool]) -> bool
-    ensures { (result ≡ false) ↔ ((k : ℕ) → get_or asked.now k false ≡ false) }
-{
-    asked.contains(&true)
 }
 
 /// The answers to the questions, block by block, each with as many columns as there is room for.
@@ -89,62 +78,21 @@ fn answer_all<P: ProgramView>(
     Ok(answering.flags)
 }
 
-/// How many steps back from the end of a chain are looked at.
-const STEPS: u8 = 3;
-
-/// How many awaits of an action are looked at.
-const AWAITS: u16 = 4;
-
-/// Flags the agents whose columns are asked for: those of questions for which few steps back find no chain.
+/// Flags the agents whose columns are asked for.
 fn asked_agents<P: ProgramView>(
     alloc: Global,
     program: &P,
     questions: &[Question],
 ) -> Result<Vec<bool>, OutOfMemory>
-    requires range { AreInRange (P.program program.now) }
-    requires questions { All (IsQuestion (P.program program.now)) questions.now }
+    requires { All (IsQuestion (P.program program.now)) questions.now }
     ensures { IfOk result (AreAskedTo
         (P.program program.now) questions.now (length questions.now)) }
 {
     let mut asked = vec![in alloc; false; usize::from(program.agents())]?;
     for question in questions {
-        let Question { first, last } = *question;
-        ask_if(!is_near(program, first, last, STEPS), first.agent, &mut asked);
+        asked[usize::from(question.first.agent)] = true;
     }
     Ok(asked)
-}
-
-/// Whether so many steps back from the last action find a chain that begins with the first. If they find none, there
-/// may still be one.
-fn is_near<P: ProgramView>(program: &P, first: ActionId, last: ActionId, steps: u8) -> bool
-    requires range { AreInRange (P.program program.now) }
-    requires agent { first.agent < length (P.program program.now) }
-    requires number { 1 ≤ first.number }
-    requires last { IsAction (P.program program.now) last }
-    ensures { IsTrue result → Reaches (P.program program.now) first last }
-{
-    if last.agent == first.agent {
-        return first.number <= last.number;
-    }
-    if steps == 0 {
-        return false;
-    }
-    let awaits = program.await_count(last.agent, last.number).min(AWAITS);
-    for k in 0..awaits {
-        let awaited = program.await_at(last.agent, last.number, k);
-        let needed = ActionId {
-            agent: awaited.agent,
-            number: awaited.count,
-        };
-        if is_near(program, first, needed, steps - 1) {
-            return true;
-        }
-    }
-    let before = ActionId {
-        agent: last.agent,
-        number: last.number.saturating_sub(1),
-    };
-    before.number > 0 && is_near(program, first, before, steps - 1)
 }
 
 /// Questions by the rows that stand for their last actions: for each row, from 0 on, the last question, and for each

@@ -1,6 +1,6 @@
 //! Awaits for which a few steps back from their action show whether others imply them.
 
-ghost use Rattle.std.specs.Prelude.{◌≡◌, ◌<◌, ◌≤◌, true, false, length, get_or, slice_get, Some, IfOk, OnOk};
+ghost use Rattle.std.specs.Prelude.{◌≡◌, ◌↔◌, ◌<◌, ◌≤◌, ℕ, true, false, length, get_or, slice_get, Some, IfOk, OnOk};
 ghost use Rattle.fleet_model.specs.Program.{AreInRange, awaits_of, moves};
 ghost use Rattle.fleet_model.specs.Chain.{IsAction, Reaches};
 ghost use Rattle.fleet_needs.specs.Flags.{AreFlags, flags_of};
@@ -46,6 +46,13 @@ pub fn settle_all<P: ProgramView>(
         settle_agent(program, levels, looks, agent, implied, &mut asked);
     }
     Ok(asked)
+}
+
+/// Whether some agent is flagged.
+pub fn is_any(asked: &[bool]) -> bool
+    ensures { (result ≡ false) ↔ ((k : ℕ) → get_or asked.now k false ≡ false) }
+{
+    asked.contains(&true)
 }
 
 /// How many actions are looked at for one await: fewer once most agents are asked for, since rows answer for all these,
@@ -121,7 +128,7 @@ fn settle_action<P: ProgramView>(
 }
 
 /// Flags an agent, if that is so.
-pub(crate) fn ask_if(is_open: bool, agent: u16, asked: &mut [bool])
+fn ask_if(is_open: bool, agent: u16, asked: &mut [bool])
     requires { agent < length asked.old }
     ensures more { AreMoreAsked asked.old asked.new }
     ensures open { is_open ≡ true → get_or asked.new agent false ≡ true }

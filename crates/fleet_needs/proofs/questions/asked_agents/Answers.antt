@@ -1,16 +1,6 @@
-use Rattle.fleet_needs.proofs.Words.{◌≡◌, ◌⊎◌, ℕ, ◌+◌, ◌<◌, Bool, true, false, List, length, get_or, drop, sym, subst, ap, ◌∙◌, arith, inl, inr, not, slice_get, Some, refl, take_at, get_or_from_slice_get, Program, Reaches, Question}
-use borrow.Author.Count.{below_more}
+use Rattle.fleet_needs.proofs.Words.{◌≡◌, ℕ, ◌+◌, ◌<◌, Bool, true, false, List, length, get_or, set, sym, subst, ap, ◌∙◌, arith, inl, inr, slice_get, Some, cases_eq, length-set, get_or-set_same, get_or-set_other, get_or_from_slice_get, Question}
 use Rattle.fleet_needs.proofs.Answered.{no_question}
 use Rattle.fleet_needs.proofs.questions.asked_agents.Goals as goal
-
--- the agent of a question is flagged, or its chain is found
-abbrev IsAsked : Program → List Bool → Question → Type 0
-IsAsked p asked q = (get_or asked q.first.agent false ≡ true) ⊎ Reaches p q.first q.last
-
--- .. whichever of both is so
-asked_or_near : (p : Program) (asked : List Bool) (q : Question) (near : Bool) → (near ≡ true → Reaches p q.first q.last) → (not near ≡ true → get_or asked q.first.agent false ≡ true) → IsAsked p asked q
-asked_or_near p asked q true found left = inr (found refl)
-asked_or_near p asked q false found left = inl (left refl)
 
 pub loop-question-init : goal.loop-question-init
 loop-question-init g c = record {
@@ -18,21 +8,28 @@ loop-question-init g c = record {
   flagged = λ k q l. absurd (omega arith);
 }
 
+pub index_mut-requires : goal.index_mut-requires
+index_mut-requires g c =
+    let question = c.requires c.loop-question.question-index no_question c.loop-question-test.true in
+    omega (arith, c.from-in-loop-question.ensures, question.agent, c.loop-question.invariant.all)
+
 pub loop-question-preserved : goal.loop-question-preserved
 loop-question-preserved g c =
-    let p = g.P.ProgramView.program c.args.program.now in
-    let questions : List Question = c.args.questions.now in
     let n : ℕ = c.loop-question.question-index in
+    let i : ℕ = c.from-in-loop-question.result in
+    let old : List Bool = c.loop-question.asked.items in
     let was = c.loop-question.invariant in
-    let new : List Bool = c.ask_if.new.asked in
-    let long : length new ≡ c.loop-question.asked.len = omega (arith, c.ask_if.auto.asked, c.deref_mut.ensures.len) in
-    let items = take_at new (drop (length new) c.loop-question.asked.items) c.loop-question.asked.len long in
-    let old = c.deref_mut.ensures.value in
+    let question = c.requires n no_question c.loop-question-test.true in
+    let within : i < length old = omega (arith, c.from-in-loop-question.ensures, question.agent, was.all) in
     record {
-      all = ap (λ (xs : List Bool). length xs) items ∙ c.ask_if.auto.asked ∙ ap (λ (xs : List Bool). length xs) old ∙ was.all;
-      flagged = λ k q l e. subst (λ (xs : List Bool). IsAsked p xs q) (sym items) (below_more (λ m. (x : Question) → slice_get questions m ≡ Some x → IsAsked p new x) n
-          (λ m less x at. elim (was.flagged m x less at) [ inl flagged ↦ inl (c.ask_if.ensures.more x.first.agent (ap (λ (xs : List Bool). get_or xs x.first.agent false) old ∙ flagged)) | inr near ↦ inr near ])
-          (λ x at. subst (IsAsked p new) (get_or_from_slice_get questions n x no_question at) (asked_or_near p new (get_or questions n no_question) c.is_near.result c.is_near.ensures c.ask_if.ensures.open)) k l q e);
+      all = length-set old i true ∙ was.all;
+      flagged = λ k q l at. elim (cases_eq q.first.agent i) [
+        | inl e ↦ ap (λ (j : ℕ). get_or (set old i true) j false) e ∙ get_or-set_same old i true false within
+        | inr other ↦ get_or-set_other old i q.first.agent true false other ∙ was.flagged k q (elim (cases_eq k n) [
+          | inr ne ↦ omega (arith, l, ne)
+          | inl e ↦ absurd (other (ap (λ (x : Question). x.first.agent) (sym (get_or_from_slice_get c.args.questions.now k q no_question at) ∙ ap (λ (m : ℕ). get_or c.args.questions.now m no_question) e) ∙ sym c.from-in-loop-question.ensures))
+        ]) at
+      ];
     }
 
 pub returns : goal.returns
@@ -40,8 +37,3 @@ returns g c = record {
   all = c.loop-question.invariant.all;
   flagged = λ k q l. c.loop-question.invariant.flagged k q (omega (arith, l, c.loop-question-test.false));
 }
-
-pub ask_if-requires : goal.ask_if-requires
-ask_if-requires g c =
-    let question = c.requires.questions c.loop-question.question-index no_question c.loop-question-test.true in
-    omega (arith, question.agent, c.loop-question.invariant.all, ap (λ (xs : List Bool). length xs) c.deref_mut.ensures.value)

@@ -1,8 +1,8 @@
 -- Answers of questions, one after another.
-use Rattle.fleet_needs.proofs.Words.{◌≡◌, ◌≢◌, ℕ, ◌+◌, ◌-◌, ◌<◌, ◌≤◌, Bool, true, false, List, [], ◌∷◌, ◌++◌, length, get_or, set, Some, refl, sym, ap, subst, ◌∙◌, arith, inl, inr, ◌⊎◌, Bor, slice_get, slice_index, nat_lt, All, None, Vec, Global, get_or-set_same, get_or-set_other, length-set, get_or_append_left, get_or_push, slice_get_within, get_or_from_slice_get, same_Some, cases_lt, cases_eq, cases_order, ltb-true, lt-ltb, false≢true, ActionId, Program, Reaches, IsColumn, IsQuestion, AreAnswersIn, AreAskedTo, HasColumn, IsAnswer, BlocksLeft, IsNextBlock, column_of, counts_of, IsJoinRow, HasWhole, AreOwn, StandsFor, row_of, AreCounts, AreRowCounts, next_action, IsLastOf, AreAnsweredTo, IsAnswering, IsAnsweringRow, AreOthersLeft, others_joined, questions_in, Columns, Schedule, JoinRow, Joins, Answering, ListedQuestions, Question}
+use Rattle.fleet_needs.proofs.Words.{◌≡◌, ◌≢◌, ℕ, ◌+◌, ◌-◌, ◌<◌, ◌≤◌, Bool, true, false, List, [], ◌∷◌, ◌++◌, length, get_or, set, Some, refl, sym, ap, subst, ◌∙◌, arith, inl, inr, ◌⊎◌, Bor, slice_get, slice_index, nat_lt, All, None, get_or-set_same, get_or-set_other, length-set, get_or_append_left, get_or_push, slice_get_within, get_or_from_slice_get, same_Some, cases_lt, cases_eq, cases_order, ltb-true, lt-ltb, Program, Reaches, IsColumn, IsQuestion, AreAnswersIn, HasColumn, IsAnswer, BlocksLeft, IsNextBlock, column_of, AreOwn, StandsFor, row_of, AreCounts, AreRowCounts, IsLastOf, AreAnsweredTo, IsAnswering, IsAnsweringRow, AreOthersLeft, questions_in, Columns, Schedule, Joins, Answering, ListedQuestions, Question}
 use Rattle.fleet_needs.proofs.Joining.{own_column}
 use Rattle.fleet_needs.proofs.NextBlock.{column_cases}
-use Rattle.fleet_needs.proofs.RowsMade.{counts_none, counts_row}
+use Rattle.fleet_needs.proofs.RowsMade.{counts_none}
 
 -- a count of the row that is below the number of the first action says that no chain begins with it
 pub answer_is : (p : Program) (q : Question) (n : ℕ) → 1 ≤ q.first.number → IsColumn p q.last q.first.agent n → IsAnswer p q (nat_lt n q.first.number)
@@ -106,14 +106,6 @@ module _ (p : Program) (s : Schedule) (columns : Columns) (r : ℕ) where
 pub none_counts : (p : Program) (s : Schedule) (columns : Columns) (count : ℕ → ℕ) → ((k : ℕ) → count k ≡ 0) → AreRowCounts p s columns 0 count
 none_counts p s columns count zeros i n stands = counts_none p s columns 0 i n stands refl count zeros
 
--- the row of an action has those that it stands for
-pub row_has_counts : (p : Program) (row : JoinRow) → IsJoinRow p row → HasWhole p row → AreRowCounts p row.schedule.now row.columns.now (row.n + 1) (slice_index (counts_of row.counts.now))
-row_has_counts p row is whole i n stands =
-    let e : row.n + 1 - 1 ≡ row.n = omega arith in
-    let of : row.action ≡ next_action row.schedule.now (row.n + 1 - 1) = is.of ∙ ap (next_action row.schedule.now) (sym e) in
-    counts_row p row.schedule.now row.columns.now (row.n + 1) i n stands (omega arith) (slice_index (counts_of row.counts.now))
-    (subst (λ (a : ActionId). AreCounts p row.columns.now a.agent a.number (slice_index (counts_of row.counts.now))) of whole)
-
 -- ---- blocks
 
 -- before the first row of a block none needs an answer by it
@@ -127,10 +119,9 @@ answers_begun p s asked from columns qs m h = record {
 }
 
 -- once all rows are used, all questions whose agents have a column are answered
-pub answered_after : (p : Program) (s : Schedule) (now after : BlocksLeft) (columns : Columns) → IsNextBlock now after columns → (qs : List Question) (old mid new : Answering) → AreAnsweredTo p s now.asked now.from qs old → AreOthersLeft p columns old mid
-    → AreOthersLeft p columns mid new → IsAnswering p s columns (length s.joins.items + 1) new → AreAnsweredTo p s after.asked after.from qs new
-answered_after p s now after columns next qs old mid new was begun on is =
-    let left = others_joined p columns old mid new begun on in
+pub answered_after : (p : Program) (s : Schedule) (now after : BlocksLeft) (columns : Columns) → IsNextBlock now after columns → (qs : List Question) (old new : Answering) → AreAnsweredTo p s now.asked now.from qs old
+    → AreOthersLeft p columns old new → IsAnswering p s columns (length s.joins.items + 1) new → AreAnsweredTo p s after.asked after.from qs new
+answered_after p s now after columns next qs old new was left is =
     rw next.asked (rw next.from (record {
       agents = was.agents;
       of = ap (λ l. l.now.questions.now) left.listed ∙ was.of;

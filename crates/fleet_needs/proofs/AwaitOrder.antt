@@ -24,6 +24,16 @@ other_agent awaits rising k m v w at there ne same = elim (cases_order k m) [
   | inr (inr l) ↦ (let less : w.agent < v.agent = await_below awaits rising m k w v there at l in omega arith)
 ]
 
+-- two actions are the same or not
+same_or_not : (a b : ActionId) → (a ≡ b) ⊎ (a ≢ b)
+same_or_not a b = elim (cases_eq a.agent b.agent) [
+  | inr ne ↦ inr (λ e. ne (ap (λ x. x.agent) e))
+  | inl e ↦ elim (cases_eq a.number b.number) [
+    | inr ne ↦ inr (λ g. ne (ap (λ x. x.number) g))
+    | inl f ↦ inl (λ t. record { agent = e t; number = f t })
+  ]
+]
+
 -- ---- the awaits of one action stand beside those of another
 
 module _ (p : Program) where
@@ -60,6 +70,13 @@ module _ (p : Program) where
     ]
   ]
 
+  -- .. and those of one are apart
+  pub flag_other : (b a : ActionId) → IsAction p b → IsAction p a → (j k : ℕ) → j < length (awaits_of p b.agent b.number) → k < length (awaits_of p a.agent a.number) → ((b ≡ a) × (j ≡ k)) ⊎ (first_await p b + j ≢ first_await p a + k)
+  flag_other b a kb ka j k l m = elim (same_or_not b a) [
+    | inr ne ↦ inr (λ e. elim (flag_apart b a kb ka ne j l) [ inl below ↦ omega (arith, below, e) | inr above ↦ omega (arith, above, e, m) ])
+    | inl same ↦ elim (cases_eq j k) [ inl e ↦ inl (same, e) | inr ne ↦ inr (λ e. ne (omega (arith, e, ap (first_await p) same))) ]
+  ]
+
 -- ---- flags, one after another
 
 pub noted_none : (p : Program) (a : ActionId) (Is : ℕ → Await → Bool → Type 0) (flags : List Bool) → AreNoted p a Is 0 flags flags
@@ -81,16 +98,6 @@ noted_next p a Was Is k flag old mid new within put still here h = record {
 
     own : get_or new (first_await p a + k) false ≡ flag
     own = ap (λ (xs : List Bool). get_or xs (first_await p a + k) false) put ∙ get_or-set_same mid (first_await p a + k) flag false within
-
--- two actions are the same or not
-same_or_not : (a b : ActionId) → (a ≡ b) ⊎ (a ≢ b)
-same_or_not a b = elim (cases_eq a.agent b.agent) [
-  | inr ne ↦ inr (λ e. ne (ap (λ x. x.agent) e))
-  | inl e ↦ elim (cases_eq a.number b.number) [
-    | inr ne ↦ inr (λ g. ne (ap (λ x. x.number) g))
-    | inl f ↦ inl (λ t. record { agent = e t; number = f t })
-  ]
-]
 
 -- one action more
 pub noted_on : (p : Program) (a : ActionId) (Here : ℕ → Await → Bool → Type 0) (old new : List Bool) → IsAction p a → AreNoted p a Here (length (awaits_of p a.agent a.number)) old new

@@ -1,9 +1,6 @@
 -- The flags of awaits, one action and one block more.
-use Rattle.fleet_needs.proofs.Words.{rules, None, ◌≡◌, ℕ, ◌+◌, ◌<◌, ◌≤◌, Bool, true, false, List, [], ◌∷◌, length, get_or, refl, sym, ap, subst, ◌∙◌, arith, inl, inr, not, Contains, slice_get, slice_index, Some, Option, nat_le, cases_lt, false≢true, slice_get_within, same_Some, ActionId, Await, Program, awaits_of, AreInRange, IsWellFormed, IsAction, HasColumn, AreColumns, BlocksLeft, IsNextBlock, AreOthers, IsMade, Columns, Schedule, IsImplied, IsImpliedFlag, EachFlag, first_await, AreSettled, IsSettled, AreSure, AreSureIf, IsFirstSet, IsPassed, AreSet, AreFlags, IsFlagged, IsFlaggedAt, AreFlagged, AreFlaggedFor, IsLeft, AreLeft, AreAllFlagged, AreAwaitFlags, AreFlaggedTo, AreImplied, flags_of, ImpliedAwaits}
-use Rattle.std.specs.Borrow.{Bor}
-use Rattle.fleet_needs.specs.Joins.{AddsNone, HasRowOr}
-use Rattle.fleet_needs.proofs.NextBlock.{column_cases}
-use Rattle.fleet_needs.proofs.AwaitOrder.{noted_next}
+use Rattle.fleet_needs.proofs.Words.{refl, not, None, ◌≡◌, ℕ, ◌+◌, ◌-◌, ◌<◌, ◌≤◌, Bool, true, false, List, length, get_or, set, sym, ap, subst, ◌∙◌, arith, inl, inr, ◌⊎◌, Contains, slice_get, slice_index, Some, nat_le, cases_lt, cases_eq, false≢true, length-set, get_or-set_same, get_or-set_other, slice_get_within, slice_get-get_or, same_Some, ActionId, Await, Program, awaits_of, AreInRange, IsWellFormed, IsAction, HasColumn, column_of, AreColumns, AreOthers, Columns, Schedule, IsImplied, IsImpliedFlag, first_await, AreSettled, AreSure, AreSet, IsLeftOut, AreFlags, AreAllFlagged, AreKnownBut, IsLeft, IsLeftIn, AreFlaggedIn, AreFlaggedTo, AreImplied, flags_of, ImpliedAwaits, AddsNone, HasRowOr, IsRow, join_at}
+use Rattle.fleet_needs.proofs.AwaitOrder.{flag_other, flag_within}
 use Rattle.fleet_needs.proofs.Joining.{awaited_action, adds_none_if_implied}
 use Rattle.fleet_needs.proofs.RowFlags.{flagged}
 
@@ -14,114 +11,142 @@ pub flagged_of : (p : Program) → AreInRange p → IsWellFormed p → (columns 
 flagged_of p range formed columns a row is others c w known has =
     flagged p range a w known (formed.awaits a.agent a.number) (slice_index row c) (others w.agent c has (range a.agent a.number w known).other) is.first
 
-pub flagged_next : (p : Program) (columns : Columns) (a : ActionId) (k : ℕ) (one : Await) → slice_get (awaits_of p a.agent a.number) k ≡ Some one → (old mid new : ImpliedAwaits) → first_await p a + k < length (flags_of mid) → IsFlaggedAt p columns a k one mid new
-    → AreFlagged p columns a k (flags_of old) (flags_of mid) → AreFlagged p columns a (k + 1) (flags_of old) (flags_of new)
-flagged_next p columns a k one there old mid new within now h =
-    noted_next p a Is Is k now.flag (flags_of old) (flags_of mid) (flags_of new) within now.put (λ m w x is. is)
-    (λ w at. subst (λ (v : Await). IsFlagged p columns a v (get_or (flags_of old) (first_await p a + k) false) now.flag) (same_Some one w (sym there ∙ at))
-    (subst (λ (was : Bool). IsFlagged p columns a one was now.flag) (h.others (first_await p a + k) (inr (omega arith))) now.is)) h
-  where
-    Is : ℕ → Await → Bool → Type 0
-    Is m w flag = IsFlagged p columns a w (get_or (flags_of old) (first_await p a + m) false) flag
-
--- a flag that says whether its await is implied, or is as it was, is left
-pub flagged_left : (p : Program) (columns : Columns) (a : ActionId) (w : Await) (was flag : Bool) → IsFlagged p columns a w was flag → IsLeft p columns a w was flag
-flagged_left p columns a w was flag h = record {
-  none = h.none;
-  set = λ implied set. elim (column_cases columns w.agent) [ inl has ↦ (h.some has.0 has.1).1 implied | inr none ↦ h.none none ∙ set ];
-}
-
-pub flagged_none : (p : Program) (s : Schedule) (columns : Columns) (flags : List Bool) → AreFlaggedFor p columns (IsMade s 0) flags
-flagged_none p s columns flags a is (r, le, row) = absurd (omega (arith, le, row.some))
-
 -- a flag is set only of an await that others imply
-pub sure_of : (p : Program) (asked flags : List Bool) → AreSettled p asked flags → EachFlag p (IsAction p) (λ a k w flag. flag ≡ true → IsImplied p a w) flags
+pub sure_of : (p : Program) (asked flags : List Bool) → AreSettled p asked flags → AreSure p flags
 sure_of p asked flags settled a is too k w at set = elim (settled a is too k w at) [ inl it ↦ it.1 set | inr told ↦ told.0 set ]
-
-module _ (p : Program) (s : Schedule) (columns : Columns) (old new : List Bool) (asked : List Bool) (settled : AreSettled p asked old) (left : AreLeft p columns old new) (rows : HasRowOr (AreSet p old) p s.joins.items (IsAction p)) where
-  -- .. and those that are set stay so
-  passed_on : HasRowOr (AreSet p new) p s.joins.items (IsAction p)
-  passed_on a is these = elim (rows a is these) [
-    | inl row ↦ inl row
-    | inr set ↦ inr (λ k w at. (left a is is k w at).set (sure_of p asked old settled a is is k w at (set k w at)) (set k w at))
-  ]
-
-  module _ (h : AreFlaggedFor p columns (IsMade s (length s.joins.items)) new) where
-    -- once all rows are used, the flags of awaits of agents with a column say whether they are implied: they are of
-    -- actions that have rows, or whose flags were set
-    flagged_all : AreFlaggedFor p columns (IsAction p) new
-    flagged_all a is these k w at c has = elim (rows a is is) [
-      | inl made ↦ h a is (made.0, made.1.upto, made.1) k w at c has
-      | inr set ↦ (let implied = sure_of p asked old settled a is is k w at (set k w at) in ((λ f. implied), (λ i. (left a is is k w at).set implied (set k w at))))
-    ]
-
-    -- flags that tell of awaits of agents who are not asked for still do
-    settled_after : AreSettled p asked new
-    settled_after a is too k w at = elim (column_cases columns w.agent) [
-      | inl has ↦ inr (flagged_all a is is k w at has.0 has.1)
-      | inr none ↦ subst (IsSettled p asked a w) (sym ((left a is is k w at).none none)) (settled a is too k w at)
-    ]
-
-    flagged_to : (from : ℕ) → AreColumns asked from columns → EachFlag p (IsAction p) (λ a k w flag. w.agent < from → IsImpliedFlag p a w flag) old → EachFlag p (IsAction p) (λ a k w flag. w.agent < columns.end → IsImpliedFlag p a w flag) new
-    flagged_to from chosen before a is too k w at l = elim (column_cases columns w.agent) [
-      | inl has ↦ flagged_all a is is k w at has.0 has.1
-      | inr none ↦ subst (IsImpliedFlag p a w) (sym ((left a is is k w at).none none)) (elim (cases_lt w.agent from) [
-        | inl low ↦ before a is too k w at low
-        | inr high ↦ elim (settled a is is k w at) [ inl set ↦ absurd (chosen.chosen w.agent high l set.0 none) | inr was ↦ was ]
-      ])
-    ]
 
 -- if no agent is asked for, all flags say whether their await is implied
 pub flagged_if_none : (p : Program) (asked flags : List Bool) → ((j : ℕ) → get_or asked j false ≡ false) → AreSettled p asked flags → AreAllFlagged p flags
 flagged_if_none p asked flags none settled a is too k w at = elim (settled a is too k w at) [ inr was ↦ was | inl set ↦ absurd (false≢true (sym (none w.agent) ∙ set.0)) ]
 
+-- ---- the awaits that are left
+
+-- those that were left still are
+known_on : (p : Program) (Open Next : ActionId → ℕ → Await → Type 0) (flags : List Bool) → ((a : ActionId) (k : ℕ) (w : Await) → slice_get (awaits_of p a.agent a.number) k ≡ Some w → Open a k w → Next a k w) → AreKnownBut p Open flags → AreKnownBut p Next flags
+known_on p Open Next flags on h a is too k w at = elim (h a is too k w at) [ inl left ↦ inl (on a k w at left.0, left.1) | inr known ↦ inr known ]
+
+-- one await of a row more
+module _ (p : Program) (s : Schedule) (asked : List Bool) (columns : Columns) (n k : ℕ) (a : ActionId) (row : IsRow s.joins.items (n + 1) a) (w : Await) (at : slice_get (awaits_of p a.agent a.number) k ≡ Some w) where
+  left_on : (b : ActionId) (j : ℕ) (v : Await) → IsLeftIn s asked columns n k b j v → IsLeftIn s asked columns n (k + 1) b j v ⊎ ((b ≡ a) × (j ≡ k))
+  left_on b j v (h, inl past) = inl (h, inl past)
+  left_on b j v (h, inr (inl later)) = inl (h, inr (inl later))
+  left_on b j v (h, inr (inr (e, from))) = elim (cases_lt k j) [
+    | inl more ↦ inl (h, inr (inr (e, omega arith)))
+    | inr less ↦ inr (sym h.of.of ∙ ap (λ (r : ℕ). (join_at s.joins.items (r - 1)).action) e ∙ row.of, omega arith)
+  ]
+
+  -- whose agent has no column
+  pub flag_passed : (m : ImpliedAwaits) → AreColumns asked columns.first columns → column_of columns w.agent ≡ None → AreFlaggedIn p s asked columns n k m → AreFlaggedIn p s asked columns n (k + 1) m
+  flag_passed m chosen none h = record {
+    flags = h.flags;
+    known = known_on p (IsLeftIn s asked columns n k) (IsLeftIn s asked columns n (k + 1)) (flags_of m)
+        (λ b j v there left. elim (left_on b j v left) [
+          | inl on ↦ on
+          | inr (e, f) ↦
+              let same : v ≡ w = same_Some v w (sym there ∙ ap (slice_get (awaits_of p b.agent b.number)) f ∙ ap (λ (x : ActionId). slice_get (awaits_of p x.agent x.number) k) e ∙ at) in
+              elim (cases_lt v.agent columns.end) [
+                | inl low ↦ absurd (chosen.chosen v.agent left.0.upon low left.0.asks (ap (λ (x : Await). column_of columns x.agent) same ∙ none))
+                | inr past ↦ (left.0, inl past)
+              ]
+        ]) h.known;
+  }
+
+  -- .. or whose flag is set right
+  pub flag_put : (old new : ImpliedAwaits) (flag : Bool) → IsAction p a → IsImpliedFlag p a w flag → new.places ≡ old.places → flags_of new ≡ set (flags_of old) (first_await p a + k) flag → AreFlaggedIn p s asked columns n k old → AreFlaggedIn p s asked columns n (k + 1) new
+  flag_put old new flag is right places put h = record {
+    flags = record { places = rw places h.flags.places; all = ap (λ (xs : List Bool). length xs) put ∙ length-set (flags_of old) (first_await p a + k) flag ∙ h.flags.all };
+    known = λ b kb too j v there. elim (flag_other p b a kb is j k (slice_get_within _ j v there) l) [
+      | inl (e, f) ↦ inr (subst (λ (x : Bool). IsImpliedFlag p b v x) (sym (ap (λ (x : ℕ). get_or (flags_of new) x false) (ap (λ (x : ActionId). first_await p x + j) e ∙ ap (λ (x : ℕ). first_await p a + x) f) ∙ here))
+          (subst (λ (x : ActionId). IsImpliedFlag p x v flag) (sym e) (subst (λ (x : Await). IsImpliedFlag p a x flag) (same_Some w v (sym at ∙ ap (λ (x : ActionId). slice_get (awaits_of p x.agent x.number) k) (sym e) ∙ ap (slice_get (awaits_of p b.agent b.number)) (sym f) ∙ there)) right)))
+      | inr ne ↦ subst (λ (x : Bool). (IsLeftIn s asked columns n (k + 1) b j v × (x ≡ true → IsImplied p b v)) ⊎ IsImpliedFlag p b v x) (sym (ap (λ (xs : List Bool). get_or xs (first_await p b + j) false) put ∙ get_or-set_other (flags_of old) (first_await p a + k) (first_await p b + j) flag false ne)) (elim (h.known b kb too j v there) [
+        | inr known ↦ inr known
+        | inl left ↦ elim (left_on b j v left.0) [ inl on ↦ inl (on, left.1) | inr (e, f) ↦ absurd (ne (ap (λ (x : ActionId). first_await p x + j) e ∙ ap (λ (x : ℕ). first_await p a + x) f)) ]
+      ])
+    ];
+  }
+    where
+      l : k < length (awaits_of p a.agent a.number)
+      l = slice_get_within (awaits_of p a.agent a.number) k w at
+
+      here : get_or (flags_of new) (first_await p a + k) false ≡ flag
+      here = ap (λ (xs : List Bool). get_or xs (first_await p a + k) false) put ∙ get_or-set_same (flags_of old) (first_await p a + k) flag false (omega (arith, l, flag_within p a is, h.flags.all))
+
+-- all awaits of a row
+pub row_flagged : (p : Program) (s : Schedule) (asked : List Bool) (columns : Columns) (n k : ℕ) (a : ActionId) → IsRow s.joins.items (n + 1) a → k ≡ length (awaits_of p a.agent a.number) → (m : ImpliedAwaits) → AreFlaggedIn p s asked columns n k m → AreFlaggedIn p s asked columns (n + 1) 0 m
+row_flagged p s asked columns n k a row all m h = record {
+  flags = h.flags;
+  known = known_on p (IsLeftIn s asked columns n k) (IsLeftIn s asked columns (n + 1) 0) (flags_of m)
+      (λ b j v there left. elim left.1 [
+        | inl past ↦ (left.0, inl past)
+        | inr (inl later) ↦ (left.0, inr (elim (cases_eq left.0.row (n + 1 + 1)) [ inl e ↦ inr (e, omega arith) | inr ne ↦ inl (omega (arith, later, ne)) ]))
+        | inr (inr (e, from)) ↦
+            let same : b ≡ a = sym left.0.of.of ∙ ap (λ (r : ℕ). (join_at s.joins.items (r - 1)).action) e ∙ row.of in
+            absurd (omega (arith, from, all, slice_get_within (awaits_of p b.agent b.number) j v there, ap (λ (x : ActionId). length (awaits_of p x.agent x.number)) same))
+      ]) h.known;
+}
+
 -- ---- block by block
 
 -- before the first block
-pub flags_first : (p : Program) (s : Schedule) (asked : List Bool) (m : ImpliedAwaits) → AreFlags p m → AreSettled p asked m.flags.items → HasRowOr (AreSet p m.flags.items) p s.joins.items (IsAction p)
-    → AreFlaggedTo p s asked 0 m
-flags_first p s asked m flags settled passed = record { flags = flags; settled = settled; passed = passed; flagged = λ a is _ k w at l. absurd (omega arith) }
+pub flags_first : (p : Program) (s : Schedule) (asked : List Bool) (m : ImpliedAwaits) → AreFlags p m → AreSettled p asked (flags_of m) → HasRowOr (AreSet p (flags_of m)) p s.joins.items (IsAction p) → AreFlaggedTo p s asked 0 m
+flags_first p s asked m flags settled passed = record {
+  flags = flags;
+  known = λ a is too k w at. elim (settled a is too k w at) [
+    | inr known ↦ inr known
+    | inl (asks, sure) ↦ elim (passed a is is) [
+      | inl (r, row) ↦ inl (record { row = r; of = row; asks = asks; upon = omega arith }, sure)
+      | inr set ↦ inr ((λ f. sure f), (λ i. set k w at))
+    ]
+  ];
+}
 
--- .. and before the first row of each
-pub flags_begun : (p : Program) (s : Schedule) (asked : List Bool) (from : ℕ) (columns : Columns) (m : ImpliedAwaits) → AreFlaggedTo p s asked from m → AreAwaitFlags p s columns 0 m
-flags_begun p s asked from columns m h = record { flags = h.flags; flagged = flagged_none p s columns m.flags.items }
+-- before the first row of a block
+pub flags_begun : (p : Program) (s : Schedule) (asked : List Bool) (columns : Columns) (m : ImpliedAwaits) → AreFlaggedTo p s asked columns.first m → AreFlaggedIn p s asked columns 0 0 m
+flags_begun p s asked columns m h = record {
+  flags = h.flags;
+  known = known_on p (λ a k w. IsLeft s asked columns.first a w) (IsLeftIn s asked columns 0 0) (flags_of m)
+      (λ a k w at left. (left, inr (elim (cases_eq left.row 1) [ inl e ↦ inr (e, omega arith) | inr ne ↦ inl (omega (arith, ne, left.of.some)) ]))) h.known;
+}
 
--- one block more
-pub flags_after : (p : Program) (s : Schedule) (now after : BlocksLeft) (columns : Columns) → IsNextBlock now after columns → (old new : ImpliedAwaits) → AreFlaggedTo p s now.asked now.from old
-    → AreAwaitFlags p s columns (length s.joins.items) new → AreLeft p columns old.flags.items new.flags.items → AreFlaggedTo p s after.asked after.from new
-flags_after p s now after columns next old new was made left =
-    rw next.asked (rw next.from (record {
-      flags = made.flags;
-      passed = passed_on p s columns old.flags.items new.flags.items now.asked was.settled left was.passed;
-      settled = settled_after p s columns old.flags.items new.flags.items now.asked was.settled left was.passed made.flagged;
-      flagged = flagged_to p s columns old.flags.items new.flags.items now.asked was.settled left was.passed made.flagged now.from next.chosen was.flagged;
-    }))
+-- after its last one
+pub flags_after : (p : Program) (s : Schedule) (asked : List Bool) (columns : Columns) (m : ImpliedAwaits) → AreFlaggedIn p s asked columns (length s.joins.items) 0 m → AreFlaggedTo p s asked columns.end m
+flags_after p s asked columns m h = record {
+  flags = h.flags;
+  known = known_on p (IsLeftIn s asked columns (length s.joins.items) 0) (λ a k w. IsLeft s asked columns.end a w) (flags_of m)
+      (λ a k w at left. record {
+        row = left.0.row;
+        of = left.0.of;
+        asks = left.0.asks;
+        upon = elim left.1 [
+          | inl past ↦ past
+          | inr later ↦ absurd (elim later [ inl more ↦ omega (arith, more, left.0.of.upto) | inr last ↦ omega (arith, last.0, left.0.of.upto) ])
+        ];
+      }) h.known;
+}
 
 -- after the last block
 pub flags_end : (p : Program) → AreInRange p → (s : Schedule) (asked : List Bool) (from : ℕ) (m : ImpliedAwaits) → length p ≤ from → AreFlaggedTo p s asked from m → AreImplied p m
 flags_end p range s asked from m end h = record {
   flags = h.flags;
-  flagged = λ a is too k w at. (let there = awaited_action p range a.agent a.number k w at in h.flagged a is too k w at (omega (arith, there.agent, end)));
+  flagged = λ a is too k w at. elim (h.known a is too k w at) [
+    | inr known ↦ known
+    | inl left ↦ absurd (let there = awaited_action p range a.agent a.number k w at in omega (arith, there.agent, end, left.0.upon))
+  ];
 }
 
 -- ---- an action of one await, the flag of which is set
 
-none_if_set_of : (p : Program) (m : ImpliedAwaits) (a : ActionId) → AreSure p m → IsAction p a → (ws : List Await) → ws ≡ awaits_of p a.agent a.number → length ws ≡ 1 → get_or (flags_of m) (first_await p a) false ≡ true → AddsNone p a.agent a.number
-none_if_set_of p m a sure is [] e one set = absurd (omega arith)
-none_if_set_of p m a sure is (w ∷ ws) e one set =
-    let at : slice_get (awaits_of p a.agent a.number) 0 ≡ Some w = ap (λ (x : List Await). slice_get x 0) (sym e) in
-    let flag : get_or (flags_of m) (first_await p a + 0) false ≡ true = (let f : first_await p a + 0 ≡ first_await p a = omega arith in ap (λ (n : ℕ). get_or (flags_of m) n false) f ∙ set) in
-    adds_none_if_implied p a w (ap (λ (x : List Await). length x) (sym e) ∙ one) at (sure.sure a is is 0 w at flag)
+pub none_if_set : (p : Program) (flags : List Bool) (a : ActionId) → AreSure p flags → IsAction p a → IsLeftOut p flags a → AddsNone p a.agent a.number
+none_if_set p flags a sure is (one, set) =
+    let no_await : Await = record { agent = 0; count = 0 } in
+    let at = slice_get-get_or (awaits_of p a.agent a.number) 0 no_await (omega (arith, one)) in
+    let e : first_await p a ≡ first_await p a + 0 = omega arith in
+    adds_none_if_implied p a (get_or (awaits_of p a.agent a.number) 0 no_await) one at (sure a is is 0 _ at (subst (λ (n : ℕ). get_or flags n false ≡ true) e set))
 
-pub none_if_set : (p : Program) (implied : Option (Bor ImpliedAwaits)) (a : ActionId) → AreSureIf p implied → IsAction p a → length (awaits_of p a.agent a.number) ≡ 1 → IsFirstSet p implied a → AddsNone p a.agent a.number
-none_if_set p implied a sure is one first =
-    none_if_set_of p first.of.now a (subst (AreSureIf p) first.some sure) is (awaits_of p a.agent a.number) refl one first.set
-
-pub passed_if_set : (p : Program) (implied : Option (Bor ImpliedAwaits)) (a : ActionId) → length (awaits_of p a.agent a.number) ≡ 1 → IsFirstSet p implied a → IsPassed p implied a
-passed_if_set p implied a one first = subst (λ (o : Option (Bor ImpliedAwaits)). IsPassed p o a) (sym first.some) (λ k w at.
-    let l : k < length (awaits_of p a.agent a.number) = slice_get_within (awaits_of p a.agent a.number) k w at in
-    let e : first_await p a + k ≡ first_await p a = omega (arith, l, one) in
-    ap (λ (n : ℕ). get_or (flags_of first.of.now) n false) e ∙ first.set)
+pub passed_if_set : (p : Program) (flags : List Bool) (a : ActionId) → IsLeftOut p flags a → AreSet p flags a
+passed_if_set p flags a (one, set) k w at =
+    let e : first_await p a ≡ first_await p a + k = (let l = slice_get_within (awaits_of p a.agent a.number) k w at in omega (arith, l, one)) in
+    subst (λ (n : ℕ). get_or flags n false ≡ true) e set
 
 -- what is not unset is set
 pub is_set : (flag : Bool) → not flag ≡ false → flag ≡ true
@@ -129,6 +154,5 @@ is_set true e = refl
 is_set false e = absurd (false≢true (sym e))
 
 -- an action that awaits nothing
-pub passed_if_none : (p : Program) (implied : Option (Bor ImpliedAwaits)) (a : ActionId) → length (awaits_of p a.agent a.number) ≡ 0 → IsPassed p implied a
-passed_if_none p None a none = search rules
-passed_if_none p (Some m) a none = λ k w at. absurd (let l : k < length (awaits_of p a.agent a.number) = slice_get_within (awaits_of p a.agent a.number) k w at in omega (arith, l, none))
+pub passed_if_none : (p : Program) (flags : List Bool) (a : ActionId) → length (awaits_of p a.agent a.number) ≡ 0 → AreSet p flags a
+passed_if_none p flags a none k w at = absurd (let l = slice_get_within (awaits_of p a.agent a.number) k w at in omega (arith, l, none))

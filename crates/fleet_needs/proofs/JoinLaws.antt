@@ -1,8 +1,16 @@
 -- Rows that are made: one row more, one action more.
-use Rattle.fleet_needs.proofs.Words.{◌≡◌, ◌≢◌, ℕ, ◌+◌, ◌-◌, ◌<◌, ◌≤◌, Bool, false, List, [], ◌∷◌, ◌++◌, length, get_or, slice_index, refl, sym, ap, subst, ◌∙◌, arith, inl, inr, ◌⊎◌, slice_get, Some, Vec, with_item, Global, cases_lt, cases_eq, slice_get-get_or, same_Some, get_or-set_same, get_or-set_other, length-set, length_push, get_or_append_left, get_or_push, ActionId, Await, Program, awaits_of, IsAction, awaited, IsAwaiting, row_place, AddsNone, HasRowOr, join_at, IsRow, StandsFor, need_at, IsNeed, IsJoin, Takes, row_of, IsStanding, IsUpToLast, AreUpTo, AreJoinsOf, CanJoin, AreTaken, HasJoined, IsAdded, Join, Need, Joins, action_before}
-use Rattle.fleet_needs.specs.Joins.{HaveGrown}
+use Rattle.fleet_needs.proofs.Words.{◌≡◌, ◌≢◌, ℕ, ◌+◌, ◌-◌, ◌<◌, ◌≤◌, List, [], ◌∷◌, ◌++◌, length, get_or, slice_index, refl, sym, ap, subst, ◌∙◌, arith, inl, inr, ◌⊎◌, slice_get, Some, Vec, with_item, Global, cases_lt, cases_eq, slice_get-get_or, same_Some, get_or-set_same, get_or-set_other, length-set, length_push, get_or_append_left, get_or_push, ActionId, Await, Program, awaits_of, IsAction, awaited, IsAwaiting, row_place, AddsNone, HasRowOr, join_at, IsRow, StandsFor, need_at, IsNeed, IsJoin, Takes, row_of, IsStanding, IsUpToLast, AreUpTo, AreJoinsOf, CanJoin, AreTaken, IsAdded, Join, Need, Joins, action_before}
+use Rattle.fleet_needs.specs.Joins.{AreSound, HaveGrown}
 use Rattle.fleet_needs.proofs.Joining.{adds_none_if_quiet}
 use Rattle.fleet_needs.proofs.RowPlaces.{row_within, row_other, row_sooner, row_same, no_awaits}
+
+-- the row r stands for the action, and is its own unless it is passed
+pub record HasJoined (p : Program) (Passed : ActionId → Type 0) (a : ActionId) (r : ℕ) (old new : Joins) : Type 0 where
+  pub sound : AreSound p new
+  pub standing : new.standing ≡ old.standing
+  pub grown : HaveGrown a old.joins.items new.joins.items
+  pub stands : StandsFor p new.joins.items r a.agent a.number
+  pub here : IsRow new.joins.items r a ⊎ (AddsNone p a.agent a.number × Passed a)
 
 -- ---- what more rows keep
 
@@ -103,7 +111,7 @@ module _ (p : Program) (a : ActionId) (old : Joins) where
 base_stands : (p : Program) (a : ActionId) (m : Joins) (base : ℕ) → base ≡ row_of p m (action_before a) → CanJoin p m a → StandsFor p m.joins.items base a.agent (a.number - 1)
 base_stands p a m base is can = subst (λ (r : ℕ). StandsFor p m.joins.items r a.agent (a.number - 1)) (sym is) can.before
 
-module _ (p : Program) (a : ActionId) (old mid : Joins) (base first count : ℕ) (joins : Vec Join Global) (can : CanJoin p old a) (is : base ≡ row_of p old (action_before a)) (many : count ≡ length (awaits_of p a.agent a.number)) (begin : first ≡ length old.needs.items)
+module _ (p : Program) (a : ActionId) (old mid : Joins) (base first count : ℕ) (joins : Vec Join Global) (can : CanJoin p old a) (is : base ≡ row_of p old (action_before a)) (many : count ≡ length (awaits_of p a.agent a.number)) (some : 1 ≤ length (awaits_of p a.agent a.number)) (begin : first ≡ length old.needs.items)
     (taken : AreTaken p a (length (awaits_of p a.agent a.number)) old mid) (pushed : joins.items ≡ mid.joins.items ++ record { action = a; base = base; first = first; count = count } ∷ []) where
   abbrev one : Join
   one = record { action = a; base = base; first = first; count = count }
@@ -143,6 +151,7 @@ module _ (p : Program) (a : ActionId) (old mid : Joins) (base first count : ℕ)
           base = still_stands j.base j.action.agent (j.action.number - 1) was.base;
           sooner = was.sooner;
           count = was.count;
+          some = was.some;
           within = (let w = was.within in omega (arith, w, taken.all));
           each = λ k m.
               let need = was.each k m in
@@ -154,6 +163,7 @@ module _ (p : Program) (a : ActionId) (old mid : Joins) (base first count : ℕ)
       base = still_stands base a.agent (a.number - 1) (base_stands p a old base is can);
       sooner = omega (arith, is, stands_within p old.joins.items _ _ _ can.before);
       count = many;
+      some = omega (arith, many, some);
       within = omega (arith, taken.all, begin);
       each = λ k m.
           let w : Await = get_or (awaits_of p a.agent a.number) k (record { agent = 0; count = 0 }) in
@@ -167,8 +177,8 @@ module _ (p : Program) (a : ActionId) (old mid : Joins) (base first count : ℕ)
   newest_row : IsRow joins.items (length old.joins.items + 1) a
   newest_row = record { some = omega arith; upto = omega (arith, long); of = (let e : length old.joins.items + 1 - 1 ≡ length old.joins.items = omega arith in ap (λ (n : ℕ). (join_at joins.items n).action) e ∙ ap (λ (x : Join). x.action) newest) }
 
-  pub joined_on : (made : Bool) → HasJoined p a made (length old.joins.items + 1) old new
-  joined_on made = record {
+  pub joined_on : (Passed : ActionId → Type 0) → HasJoined p Passed a (length old.joins.items + 1) old new
+  joined_on Passed = record {
     sound = record { joins = join_on; room = ap (λ xs. length xs.items) taken.standing ∙ can.sound.room };
     standing = taken.standing;
     grown = grown;
@@ -177,18 +187,18 @@ module _ (p : Program) (a : ActionId) (old mid : Joins) (base first count : ℕ)
   }
 
 -- an action that adds no chain has no row of its own
-pub joined_none : (p : Program) (a : ActionId) (made : Bool) (m : Joins) (base : ℕ) → made ≡ false → CanJoin p m a → base ≡ row_of p m (action_before a) → AddsNone p a.agent a.number → HasJoined p a made base m m
-joined_none p a made m base left can is none = record {
+pub joined_none : (p : Program) (Passed : ActionId → Type 0) (a : ActionId) (m : Joins) (base : ℕ) → CanJoin p m a → base ≡ row_of p m (action_before a) → AddsNone p a.agent a.number → Passed a → HasJoined p Passed a base m m
+joined_none p Passed a m base can is none passed = record {
   sound = can.sound;
   standing = refl;
   grown = record { more = omega arith; same = λ n l. refl; last = λ n l. inl l };
   stands = stands_on p m.joins.items base a can.action.first none (base_stands p a m base is can);
-  here = inr left;
+  here = inr (none, passed);
 }
 
 -- ---- the row of the action is noted
 
-module _ (p : Program) (a : ActionId) (made : Bool) (r : ℕ) (old mid : Joins) (up : IsUpToLast p a) (h : HasJoined p a made r old mid) (place : ℕ) (at : place ≡ row_place p a) where
+module _ (p : Program) (Passed : ActionId → Type 0) (a : ActionId) (r : ℕ) (old mid : Joins) (up : IsUpToLast p a) (h : HasJoined p Passed a r old mid) (place : ℕ) (at : place ≡ row_place p a) where
   abbrev noted : Joins
   noted = record { joins = mid.joins; needs = mid.needs; standing = with_item mid.standing place r }
 
@@ -198,7 +208,7 @@ module _ (p : Program) (a : ActionId) (made : Bool) (r : ℕ) (old mid : Joins) 
   at_other : (x : ActionId) → row_place p x ≢ row_place p a → row_of p noted x ≡ row_of p old x
   at_other x ne = get_or-set_other mid.standing.items place (row_place p x) r 0 (λ e. ne (e ∙ at)) ∙ ap (λ xs. slice_index xs.items (row_place p x)) h.standing
 
-  pub added : IsAdded p a made old noted
+  pub added : IsAdded p Passed a old noted
   added = record {
     sound = record { joins = h.sound.joins; room = length-set mid.standing.items place r ∙ h.sound.room };
     grown = h.grown;
@@ -206,15 +216,15 @@ module _ (p : Program) (a : ActionId) (made : Bool) (r : ℕ) (old mid : Joins) 
         let e : row_of p noted x ≡ row_of p old x = at_other x ne in
         subst (λ (s : ℕ). StandsFor p mid.joins.items s x.agent x.number) (sym e) (stands_kept p a old.joins.items mid.joins.items h.grown (row_of p old x) x.agent x.number s);
     here = subst (λ (s : ℕ). StandsFor p mid.joins.items s a.agent a.number) (sym at_own) h.stands;
-    row = elim h.here [ inl row ↦ inl (r, row) | inr left ↦ inr left ];
+    row = elim h.here [ inl row ↦ inl (r, row) | inr passed ↦ inr passed ];
   }
 
 -- ---- one action more
 
 -- what has come, one more action, before which all of its agent have come that await something
 module _ (p : Program) (Passed Old New : ActionId → Type 0) (a : ActionId) (is : IsAwaiting p a) (back : (x : ActionId) → New x → Old x ⊎ (x ≡ a)) (on : (x : ActionId) → Old x → New x) (here : New a)
-    (sooner : (x : ActionId) → IsAction p x → Old x → x.agent ≡ a.agent → x.number < a.number) (old new : Joins) (made : Bool)
-    (none : made ≡ false → AddsNone p a.agent a.number × Passed a) (h : AreJoinsOf p Passed Old old) (added : IsAdded p a made old new) where
+    (sooner : (x : ActionId) → IsAction p x → Old x → x.agent ≡ a.agent → x.number < a.number) (old new : Joins)
+    (h : AreJoinsOf p Passed Old old) (added : IsAdded p Passed a old new) where
   kept : (x : ActionId) (r : ℕ) → IsRow old.joins.items r x → IsRow new.joins.items r x
   kept x r = row_kept a old.joins.items new.joins.items added.grown r x
 
@@ -237,7 +247,7 @@ module _ (p : Program) (Passed Old New : ActionId → Type 0) (a : ActionId) (is
   rows_on : HasRowOr (λ x. AddsNone p x.agent x.number × Passed x) p new.joins.items New
   rows_on x k done = elim (back x done) [
     | inl was ↦ elim (h.rows x k was) [ inl row ↦ inl (row.0, kept x row.0 row.1) | inr other ↦ inr other ]
-    | inr e ↦ subst (λ (y : ActionId). ((r : ℕ) × IsRow new.joins.items r y) ⊎ (AddsNone p y.agent y.number × Passed y)) (sym e) (elim added.row [ inl row ↦ inl row | inr left ↦ inr (none left) ])
+    | inr e ↦ subst (λ (y : ActionId). ((r : ℕ) × IsRow new.joins.items r y) ⊎ (AddsNone p y.agent y.number × Passed y)) (sym e) added.row
   ]
 
   -- up to an action of another agent, or up to one before

@@ -1,5 +1,5 @@
 -- The counts of rows that are made of rows in their slots.
-use Rattle.fleet_needs.proofs.Words.{◌≡◌, ◌≢◌, ℕ, ◌+◌, ◌-◌, ◌*◌, ◌<◌, ◌≤◌, List, length, max, slice_index, refl, sym, ap, subst, ◌∙◌, arith, inl, inr, ◌⊎◌, slice_get, Some, cases_lt, cases_eq, ActionId, Await, Program, AreInRange, awaits_of, moves, IsAction, awaited, HasColumn, counts_of, are_narrow, CanHold, AreAlike, Reaches, IsColumn, IsJoined, ByBeforeOr, OfOthers, action_before, Columns, JoinRow, SlotRows, Schedule, IsJoinRow, IsMade, Counts, AreQuiet, join_at, need_of, row_taken, IsJoin, AreOwn, Need, joins_in, next_action, IsSchedule, AreColumnsOf, AreCounts, AreRowsTo, IsRowFor, IsThere, StandsThere, IsNextJoin, IsNextNeed, AreJoinedWith, count_in_slot, IsStill, Join}
+use Rattle.fleet_needs.proofs.Words.{◌≡◌, ◌≢◌, ℕ, ◌+◌, ◌-◌, ◌*◌, ◌<◌, ◌≤◌, List, length, max, slice_index, refl, sym, ap, subst, ◌∙◌, arith, inl, inr, ◌⊎◌, slice_get, Some, cases_lt, cases_eq, ActionId, Await, Program, AreInRange, awaits_of, moves, IsAction, awaited, HasColumn, counts_of, are_narrow, CanHold, AreAlike, Reaches, IsColumn, IsJoined, ByBeforeOr, OfOthers, action_before, Columns, JoinRow, SlotRows, Schedule, IsJoinRow, IsMade, Counts, AreQuiet, IsRow, join_at, need_of, row_taken, IsJoin, AreOwn, Need, joins_in, next_action, IsSchedule, AreColumnsOf, AreCounts, AreRowsTo, IsRowFor, IsThere, StandsThere, IsNextJoin, IsNextNeed, AreRowCounts, count_in_slot, slot_of, IsStill, Join}
 use Rattle.fleet_needs.proofs.Placed.{row_ends}
 use Rattle.fleet_needs.proofs.Joining.{quiet_on, column_stays, column_none, IsOwnTo, some_first, some_more, some_same, part_all, own_column, awaited_action}
 
@@ -37,16 +37,28 @@ module _ (p : Program) (schedule : Schedule) (columns : Columns) (r i b : ℕ) (
         )
   ]
 
--- they are in its slot, if the row is still there
-pub counts_some : (p : Program) (m : SlotRows) (n : ℕ) → AreRowsTo p m n → (r i b : ℕ) → StandsThere p m.schedule.now r i b → 1 ≤ r → IsThere m.schedule.now n r → AreCounts p m.columns i b (count_in_slot m r)
-counts_some p m n rows r i b s some there = counts_row p m.schedule.now m.columns r i b s some (count_in_slot m r) (rows.right r some there.made (omega (arith, there.made, there.within)) (there.still some))
+-- the row that is made after n others
+pub made_counts : (p : Program) (schedule : Schedule) (columns : Columns) (n : ℕ) (count : ℕ → ℕ) → AreCounts p columns (next_action schedule n).agent (next_action schedule n).number count → AreRowCounts p schedule columns (n + 1) count
+made_counts p schedule columns n count made i b s =
+    let e : n ≡ n + 1 - 1 = omega arith in
+    counts_row p schedule columns (n + 1) i b s (omega arith) count (subst (λ (x : ℕ). AreCounts p columns (next_action schedule x).agent (next_action schedule x).number count) e made)
 
 -- where they stand there is room for a whole row
-pub slot_room : (p : Program) (m : SlotRows) (n : ℕ) → AreRowsTo p m n → (r : ℕ) → 1 ≤ r → IsThere m.schedule.now n r → slice_index m.schedule.now.outs.items (r - 1) * m.columns.width + m.columns.width ≤ length (counts_of m.counts)
-slot_room p m n rows r some there =
-    let within : r - 1 < length m.schedule.now.outs.items = omega (arith, some, there.made, there.within, rows.schedule.all) in
-    let ends = row_ends m.columns.width (slice_index m.schedule.now.outs.items (r - 1)) m.schedule.now.slots (rows.schedule.within (r - 1) within) in
+pub slot_room : (p : Program) (m : SlotRows) (n : ℕ) → AreRowsTo p m n → (r : ℕ) → IsThere m.schedule.now n r → slot_of m.schedule.now r * m.columns.width + m.columns.width ≤ length (counts_of m.counts)
+slot_room p m n rows r there =
+    let ends = row_ends m.columns.width (slot_of m.schedule.now r) m.schedule.now.slots (rows.schedule.within r (omega (arith, there.made, there.within))) in
     omega (arith, ends, rows.room)
+
+-- no row is made, and all counts are zeros
+pub rows_none : (p : Program) (m : SlotRows) → IsSchedule p m.schedule.now → AreColumnsOf p m.columns → length (counts_of m.counts) ≡ m.schedule.now.slots * m.columns.width → are_narrow m.counts ≡ m.schedule.now.is_narrow
+    → ((k : ℕ) → slice_index (counts_of m.counts) k ≡ 0) → AreRowsTo p m 0
+rows_none p m schedule columns room narrow zeros = record {
+  schedule = schedule;
+  columns = columns;
+  room = room;
+  narrow = narrow;
+  right = λ r upto still i b s. counts_none p m.schedule.now m.columns r i b s (omega arith) (count_in_slot m r) (λ k. zeros _);
+}
 
 -- a row of these counts
 pub counts_same : (p : Program) (columns : Columns) (i b : ℕ) (f g : ℕ → ℕ) → ((j k : ℕ) → HasColumn columns j k → g k ≡ f k) → AreCounts p columns i b f → AreCounts p columns i b g
@@ -54,17 +66,6 @@ counts_same p columns i b f g same h j k has = (
   (λ ne. subst (λ (v : ℕ). IsColumn p (record { agent = i; number = b }) j v) (sym (same j k has)) ((h j k has).0 ne)),
   (λ e. same j k has ∙ (h j k has).1 e),
 )
-
--- a row that is joined with them
-pub counts_joined : (p : Program) (columns : Columns) (i b : ℕ) (f : ℕ → ℕ) (old new : List ℕ) → ((j k : ℕ) → HasColumn columns j k → slice_index new k ≡ max (slice_index old k) (f k)) → AreCounts p columns i b f
-    → AreJoinedWith p columns i b old new
-counts_joined p columns i b f old new joined h j k has = (
-  (λ ne. (f k, (h j k has).0 ne, joined j k has)),
-  (λ e. (let z : f k ≡ 0 = (h j k has).1 e in joined j k has ∙ ap (max (slice_index old k)) z ∙ max_zero (slice_index old k))),
-)
-  where
-    max_zero : (v : ℕ) → max v 0 ≡ v
-    max_zero v = omega arith
 
 -- ---- the join that is next, and what it needs
 
@@ -77,7 +78,8 @@ module _ (p : Program) (s : Schedule) (is : IsSchedule p s) (n : ℕ) (l : n < j
     is = refl;
     action = next_is.action;
     count = next_is.count;
-    base = record { made = next_is.sooner; within = omega arith; still = λ some. is.still n (join_at s.joins.items n).base l (inl refl) some };
+    some = next_is.some;
+    base = record { made = next_is.sooner; within = omega arith; still = is.still n (join_at s.joins.items n).base l (inl refl) };
     stands = record { agent = next_is.action.agent; last = (let m : (next_action s n).number ≤ moves p (next_action s n).agent = next_is.action.last in omega arith); stands = next_is.base };
   })
 
@@ -88,7 +90,7 @@ module _ (p : Program) (s : Schedule) (is : IsSchedule p s) (n : ℕ) (l : n < j
       subst (IsNextNeed p s n (next_action s n) k) (sym e) (record {
         await = need.await;
         action = action;
-        row = record { made = need.sooner; within = omega arith; still = λ some. is.still n (row_taken s.needs.items (join_at s.joins.items n) k) l (inr (k, m, refl)) some };
+        row = record { made = need.sooner; within = omega arith; still = is.still n (row_taken s.needs.items (join_at s.joins.items n) k) l (inr (k, m, refl)) };
         stands = record { agent = action.agent; last = action.last; stands = need.stands };
       })
 
@@ -104,12 +106,11 @@ module _ (p : Program) (row : JoinRow) (is : IsJoinRow p row) where
   pub row_need : (k : ℕ) (x : Need) → IsNextNeed p row.schedule.now row.n (next_action row.schedule.now row.n) k x → IsNextNeed p row.schedule.now row.n row.action k x
   row_need k x = subst (λ (a : ActionId). IsNextNeed p row.schedule.now row.n a k x) (sym is.of)
 
+  pub row_here : IsRow row.schedule.now.joins.items (row.n + 1) row.action
+  row_here = record { some = omega arith; upto = omega (arith, is.next); of = (let e : row.n + 1 - 1 ≡ row.n = omega arith in ap (next_action row.schedule.now) e ∙ sym is.of) }
+
   pub made_here : IsMade row.schedule.now (row.n + 1) row.action
-  made_here = (
-    row.n + 1,
-    omega arith,
-    record { some = omega arith; upto = omega (arith, is.next); of = (let e : row.n + 1 - 1 ≡ row.n = omega arith in ap (next_action row.schedule.now) e ∙ sym is.of) },
-  )
+  made_here = (row.n + 1, omega arith, row_here)
 
   pub made_still : (x : ActionId) → IsMade row.schedule.now row.n x → IsMade row.schedule.now (row.n + 1) x
   made_still x (r, le, made) = (r, omega arith, made)
@@ -123,8 +124,8 @@ module _ (p : Program) (row : JoinRow) (is : IsJoinRow p row) where
 -- ---- the row of an action, await by await
 
 -- the part of the first k awaits
-abbrev pub AreOthersTo : Program → Columns → ActionId → ℕ → List ℕ → Type 0
-AreOthersTo p columns a k row = (j m : ℕ) → HasColumn columns j m → j ≢ a.agent → IsJoined (OfOthers j k) p a j (slice_index row m)
+abbrev pub AreOthersTo : Program → Columns → ActionId → ℕ → (ℕ → ℕ) → Type 0
+AreOthersTo p columns a k count = (j m : ℕ) → HasColumn columns j m → j ≢ a.agent → IsJoined (OfOthers j k) p a j (count m)
 
 -- .. and then of the awaited agents' own columns
 abbrev pub AreOwnTo : Program → Columns → ActionId → ℕ → List ℕ → Type 0
@@ -143,24 +144,25 @@ module _ (p : Program) (columns : Columns) (a : ActionId) where
   abbrev Own : ℕ → Await → Type 0
   Own j w = w.agent ≡ j
 
-  pub others_first : (row : List ℕ) → AreCounts p columns a.agent (a.number - 1) (slice_index row) → AreOthersTo p columns a 0 row
-  others_first row h j m has ne = some_first p a j (Before j) (Other j) (slice_index row m) ((h j m has).0 ne)
+  pub others_first : (count : ℕ → ℕ) → AreCounts p columns a.agent (a.number - 1) count → AreOthersTo p columns a 0 count
+  others_first count h j m has ne = some_first p a j (Before j) (Other j) (count m) ((h j m has).0 ne)
 
-  pub own_first : (row : List ℕ) → AreOthersTo p columns a (length (awaits_of p a.agent a.number)) row → AreOwnTo p columns a 0 row
+  pub own_first : (row : List ℕ) → AreOthersTo p columns a (length (awaits_of p a.agent a.number)) (slice_index row) → AreOwnTo p columns a 0 row
   own_first row h j m has ne = some_first p a j (Others j) (Own j) (slice_index row m) (h j m has ne)
 
-  module _ (k : ℕ) (w : Await) (at : slice_get (awaits_of p a.agent a.number) k ≡ Some w) (old new : List ℕ) where
-    pub others_next : AreJoinedWith p columns w.agent w.count old new → AreOthersTo p columns a k old → AreOthersTo p columns a (k + 1) new
-    others_next joined h j m has ne = elim (cases_eq w.agent j) [
-      | inl e ↦ subst (IsJoined (OfOthers j (k + 1)) p a j) (sym ((joined j m has).1 (sym e))) (some_same p a j (Before j) (Other j) k w at (slice_index old m) (λ apart. apart e) (h j m has ne))
-      | inr apart ↦
-          let made = (joined j m has).0 (λ e. apart (sym e)) in
-          subst (IsJoined (OfOthers j (k + 1)) p a j) (sym made.2) (some_more p a j (Before j) (Other j) k w at (slice_index old m) made.0 apart made.1 (h j m has ne))
-    ]
+  module _ (k : ℕ) (w : Await) (at : slice_get (awaits_of p a.agent a.number) k ≡ Some w) where
+    pub others_next : (old count new : ℕ → ℕ) → AreCounts p columns w.agent w.count count → ((j m : ℕ) → HasColumn columns j m → new m ≡ max (old m) (count m)) → AreOthersTo p columns a k old → AreOthersTo p columns a (k + 1) new
+    others_next old count new counts joined h j m has ne = subst (IsJoined (OfOthers j (k + 1)) p a j) (sym (joined j m has)) (elim (cases_eq w.agent j) [
+      | inl e ↦
+          let none : count m ≡ 0 = (counts j m has).1 (sym e) in
+          let same : old m ≡ max (old m) (count m) = omega (arith, none) in
+          subst (IsJoined (OfOthers j (k + 1)) p a j) same (some_same p a j (Before j) (Other j) k w at (old m) (λ apart. apart e) (h j m has ne))
+      | inr apart ↦ some_more p a j (Before j) (Other j) k w at (old m) (count m) apart ((counts j m has).0 (λ e. apart (sym e))) (h j m has ne)
+    ])
 
-    pub own_next : AreOwn p → IsAction p (awaited w) → ((m : ℕ) → HasColumn columns w.agent m → slice_index new m ≡ max (slice_index old m) w.count) → ((j m : ℕ) → j ≢ w.agent → HasColumn columns j m → slice_index new m ≡ slice_index old m)
+    pub own_next : (old new : List ℕ) → AreOwn p → IsAction p (awaited w) → ((m : ℕ) → HasColumn columns w.agent m → slice_index new m ≡ max (slice_index old m) w.count) → ((j m : ℕ) → j ≢ w.agent → HasColumn columns j m → slice_index new m ≡ slice_index old m)
         → AreOwnTo p columns a k old → AreOwnTo p columns a (k + 1) new
-    own_next own is here others h j m has ne = elim (cases_eq w.agent j) [
+    own_next old new own is here others h j m has ne = elim (cases_eq w.agent j) [
       | inl e ↦
           let col : IsColumn p (awaited w) j w.count = subst (λ (x : ℕ). IsColumn p (awaited w) x w.count) e (own_column p w.agent w.count is (λ c r. own (awaited w) c is r)) in
           subst (IsOwnTo p a j (k + 1)) (sym (here m (subst (λ (x : ℕ). HasColumn columns x m) (sym e) has))) (some_more p a j (Others j) (Own j) k w at (slice_index old m) w.count e col (h j m has ne))
@@ -190,24 +192,22 @@ row_alike m old new alike fits = record { width = alike.all ∙ fits.width; narr
 
 module _ (p : Program) (new : SlotRows) (n : ℕ) (was : ℕ → ℕ → ℕ) (row : List ℕ) (schedule : IsSchedule p new.schedule.now) (columns : AreColumnsOf p new.columns)
     (room : length (counts_of new.counts) ≡ new.schedule.now.slots * new.columns.width) (narrow : are_narrow new.counts ≡ new.schedule.now.is_narrow)
-    (right : (r : ℕ) → 1 ≤ r → r ≤ n → r ≤ joins_in new.schedule.now → IsStill new.schedule.now.outs.items r n
-    → AreCounts p new.columns (next_action new.schedule.now (r - 1)).agent (next_action new.schedule.now (r - 1)).number (was (slice_index new.schedule.now.outs.items (r - 1))))
-    (others : (t k : ℕ) → t ≢ slice_index new.schedule.now.outs.items n → k < new.columns.width → slice_index (counts_of new.counts) (t * new.columns.width + k) ≡ was t k)
-    (here : (j k : ℕ) → HasColumn new.columns j k → slice_index (counts_of new.counts) (slice_index new.schedule.now.outs.items n * new.columns.width + k) ≡ slice_index row k)
+    (right : (r : ℕ) → r ≤ n → IsStill new.schedule.now.outs.items r n → AreRowCounts p new.schedule.now new.columns r (was (slot_of new.schedule.now r)))
+    (others : (t k : ℕ) → t ≢ slot_of new.schedule.now (n + 1) → k < new.columns.width → slice_index (counts_of new.counts) (t * new.columns.width + k) ≡ was t k)
+    (here : (j k : ℕ) → HasColumn new.columns j k → count_in_slot new (n + 1) k ≡ slice_index row k)
     (made : AreCounts p new.columns (next_action new.schedule.now n).agent (next_action new.schedule.now n).number (slice_index row)) where
-  still_right : (r : ℕ) → 1 ≤ r → r ≤ n + 1 → r ≤ joins_in new.schedule.now → IsStill new.schedule.now.outs.items r (n + 1)
-      → AreCounts p new.columns (next_action new.schedule.now (r - 1)).agent (next_action new.schedule.now (r - 1)).number (count_in_slot new r)
-  still_right r some upto at still = elim (cases_lt n r) [
-    | inl newest ↦
-        let e : r - 1 ≡ n = omega arith in
-        counts_same p new.columns (next_action new.schedule.now (r - 1)).agent (next_action new.schedule.now (r - 1)).number (slice_index row) (count_in_slot new r)
-        (λ i k has. ap (λ (x : ℕ). slice_index (counts_of new.counts) (slice_index new.schedule.now.outs.items x * new.columns.width + k)) e ∙ here i k has)
-        (subst (λ (x : ℕ). AreCounts p new.columns (next_action new.schedule.now x).agent (next_action new.schedule.now x).number (slice_index row)) (sym e) made)
-    | inr old ↦
-        counts_same p new.columns (next_action new.schedule.now (r - 1)).agent (next_action new.schedule.now (r - 1)).number (was (slice_index new.schedule.now.outs.items (r - 1))) (count_in_slot new r)
-        (λ i k has. others (slice_index new.schedule.now.outs.items (r - 1)) k (λ e. still n old (omega arith) (sym e)) (columns.within i k has))
-        (right r some old at (λ m from l. still m from (omega arith)))
-  ]
+  newest_right : AreRowCounts p new.schedule.now new.columns (n + 1) (count_in_slot new (n + 1))
+  newest_right i b s = counts_same p new.columns i b (slice_index row) (count_in_slot new (n + 1)) here (made_counts p new.schedule.now new.columns n (slice_index row) made i b s)
 
   pub rows_more : AreRowsTo p new (n + 1)
-  rows_more = record { schedule = schedule; columns = columns; room = room; narrow = narrow; right = still_right }
+  rows_more = record {
+    schedule = schedule;
+    columns = columns;
+    room = room;
+    narrow = narrow;
+    right = λ r upto still. elim (cases_lt n r) [
+      | inl newest ↦ (let e : n + 1 ≡ r = omega arith in subst (λ (x : ℕ). AreRowCounts p new.schedule.now new.columns x (count_in_slot new x)) e newest_right)
+      | inr old ↦ λ i b s. counts_same p new.columns i b (was (slot_of new.schedule.now r)) (count_in_slot new r) (λ j k has. others (slot_of new.schedule.now r) k (λ e. still (n + 1) (omega arith) (omega arith) (sym e)) (columns.within j k has))
+          (right r old (λ m from l. still m from (omega arith)) i b s)
+    ];
+  }

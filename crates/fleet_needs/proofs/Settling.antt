@@ -1,5 +1,5 @@
 -- What is reached, and what is not, by the levels of actions and by what they directly need.
-use Rattle.fleet_needs.proofs.Words.{◌≡◌, ◌≢◌, ℕ, ◌+◌, ◌-◌, ◌<◌, ◌≤◌, Bool, true, false, List, length, get_or, set, refl, sym, ap, subst, ◌∙◌, arith, inl, inr, ◌⊎◌, Contains, slice_get, Some, None, Option, unwrap_or, cases_lt, cases_eq, false≢true, true≢false, get_or-set_same, get_or-set_other, get_or_past, slice_get_within, get_or_from_slice_get, same_Some, ActionId, Await, Program, moves, awaits_of, AreInRange, IsWellFormed, IsAction, Reaches, IsNumbering, awaited, chain_ends_by_step, Reaches-rises, Reaches-last, IsImplied, IsSettled, AreSettledOf, AreMoreAsked, ReachesNeed, IsUpTo, action_before, ByBeforeOr, OfFirst, OfOthers}
+use Rattle.fleet_needs.proofs.Words.{◌≡◌, ◌≢◌, ℕ, ◌+◌, ◌-◌, ◌<◌, ◌≤◌, Bool, true, false, List, length, get_or, set, refl, sym, ap, subst, ◌∙◌, arith, inl, inr, ◌⊎◌, Contains, slice_get, Some, None, Option, unwrap_or, cases_lt, false≢true, true≢false, slice_get_within, get_or_from_slice_get, same_Some, ActionId, Await, Program, moves, awaits_of, AreInRange, IsWellFormed, IsAction, Reaches, IsNumbering, awaited, chain_ends_by_step, Reaches-rises, Reaches-last, IsImplied, IsSettled, AreSettledOf, AreMoreAsked, ReachesNeed, IsUpTo, action_before, ByBeforeOr, OfFirst, OfOthers}
 use Rattle.fleet_needs.proofs.AwaitOrder.{other_agent}
 use Rattle.fleet_needs.proofs.RowFlags.{implied_by, implied_back}
 use Rattle.fleet_needs.proofs.Joining.{one_of, own_first, step_back, step_on}

@@ -1,35 +1,35 @@
 -- Slots for rows, from the last row back to the first.
-use Rattle.fleet_needs.proofs.Words.{◌≡◌, ◌≢◌, ℕ, ◌+◌, ◌-◌, ◌<◌, ◌≤◌, List, [], ◌∷◌, ◌++◌, length, slice_index, refl, sym, ap, subst, ◌∙◌, arith, inl, inr, cases_lt, cases_eq, get_or-set_other, get_or_past, length-set, length_push, get_or_append_left, get_or_push, Vec, with_item, Global, Program, AreAllJoins, IsJoin, Takes, join_at, row_taken, AreSlotted, HasSlotNow, IsFree, IsHeld, IsStill, TakesIn, owner_of, slot_in, slots_in, Join, Joins, Slots}
+use Rattle.fleet_needs.proofs.Words.{◌≡◌, ◌≢◌, ℕ, ◌+◌, ◌<◌, ◌≤◌, List, [], ◌∷◌, ◌++◌, length, get_or, slice_index, Option, None, same_Some, none-some, refl, sym, ap, subst, ◌∙◌, arith, inl, inr, cases_lt, cases_eq, get_or-set_other, get_or_past, length-set, length_push, get_or_append_left, get_or_push, Vec, with_item, Global, Program, AreAllJoins, IsJoin, Takes, join_at, row_taken, AreSlotted, HasSlotNow, IsFree, IsHeld, TakesIn, owner_of, slot_in, slots_in, Join, Joins, Slots}
 
 -- the slot of a row is one of them
-pub slot_within : (m : Slots) (r : ℕ) → 1 ≤ r → HasSlotNow m r → slot_in m r < slots_in m
-slot_within m r some has = elim (cases_lt (slot_in m r) (slots_in m)) [
+pub slot_within : (m : Slots) (r : ℕ) → HasSlotNow m r → slot_in m r < slots_in m
+slot_within m r has = elim (cases_lt (slot_in m r) (slots_in m)) [
   | inl l ↦ l
-  | inr past ↦ absurd (omega (arith, has, some, get_or_past m.owners.items (slot_in m r) 0 past))
+  | inr past ↦ absurd (none-some r (sym (get_or_past m.owners.items (slot_in m r) None past) ∙ has))
 ]
 
 -- .. and that of no other row
 slots_apart : (m : Slots) (r x : ℕ) → r ≢ x → HasSlotNow m r → HasSlotNow m x → slot_in m r ≢ slot_in m x
-slots_apart m r x ne has other same = ne (sym has ∙ ap (owner_of m) same ∙ other)
+slots_apart m r x ne has other same = ne (same_Some r x (sym has ∙ ap (owner_of m) same ∙ other))
 
 -- a new slot is free
-pub free_new : (old new : Slots) (slot : ℕ) → slot ≡ slots_in old → new.owners.items ≡ old.owners.items ++ 0 ∷ [] → IsFree slot old new
+pub free_new : (old new : Slots) (slot : ℕ) → slot ≡ slots_in old → new.owners.items ≡ old.owners.items ++ None ∷ [] → IsFree slot old new
 free_new old new slot is put = record {
   within = omega (arith, is, long);
-  none = same slot ∙ get_or_past old.owners.items slot 0 (omega (arith, is));
+  none = same slot ∙ get_or_past old.owners.items slot None (omega (arith, is));
   more = omega (arith, long);
   same = same;
 }
   where
     long : slots_in new ≡ slots_in old + 1
-    long = ap (λ (xs : List ℕ). length xs) put ∙ length_push old.owners.items 0
+    long = ap (λ (xs : List (Option ℕ)). length xs) put ∙ length_push old.owners.items None
 
     same : (x : ℕ) → owner_of new x ≡ owner_of old x
-    same x = ap (λ (xs : List ℕ). slice_index xs x) put ∙ elim (cases_lt x (slots_in old)) [
-      | inl low ↦ get_or_append_left old.owners.items (0 ∷ []) 0 x low
+    same x = ap (λ (xs : List (Option ℕ)). get_or xs x None) put ∙ elim (cases_lt x (slots_in old)) [
+      | inl low ↦ get_or_append_left old.owners.items (None ∷ []) None x low
       | inr high ↦ elim (cases_eq x (slots_in old)) [
-        | inl e ↦ ap (slice_index (old.owners.items ++ 0 ∷ [])) e ∙ get_or_push old.owners.items 0 0 (slots_in old) refl ∙ sym (get_or_past old.owners.items x 0 high)
-        | inr ne ↦ get_or_past (old.owners.items ++ 0 ∷ []) x 0 (omega (arith, high, ne, length_push old.owners.items 0)) ∙ sym (get_or_past old.owners.items x 0 high)
+        | inl e ↦ ap (λ (n : ℕ). get_or (old.owners.items ++ None ∷ []) n None) e ∙ get_or_push old.owners.items None None (slots_in old) refl ∙ sym (get_or_past old.owners.items x None high)
+        | inr ne ↦ get_or_past (old.owners.items ++ None ∷ []) x None (omega (arith, high, ne, length_push old.owners.items None)) ∙ sym (get_or_past old.owners.items x None high)
       ]
     ]
 
@@ -38,45 +38,42 @@ module _ (Takes : ℕ → ℕ → Type 0) (from n : ℕ) where
   pub held_on : (r : ℕ) (old new : Slots) → r ≤ n → IsHeld r old new → AreSlotted Takes from n old → AreSlotted Takes from n new
   held_on r old new low h was = record {
     within = λ x after upto. (let w = was.within x after (omega (arith, upto, h.rows)) in omega (arith, w, h.more, settled x after));
-    taken = λ k x later takes some upto. (h.kept x some (was.taken k x later takes some upto)).0;
-    still = λ k x y later takes some less after upto same. was.still k x y later takes some less after upto (sym (settled y after) ∙ same ∙ stays k x later takes some);
+    taken = λ k x later takes upto. (h.kept x (was.taken k x later takes upto)).0;
+    still = λ k x y later takes less after upto same. was.still k x y later takes less after upto (sym (settled y after) ∙ same ∙ stays k x later takes);
   }
     where
       settled : (x : ℕ) → n < x → slot_in new x ≡ slot_in old x
-      settled x after = h.others x (omega arith) (λ e. omega (arith, e, after, low))
+      settled x after = h.others x (λ e. omega (arith, e, after, low))
 
-      stays : (k x : ℕ) → from ≤ k → Takes k x → 1 ≤ x → slot_in new x ≡ slot_in old x
-      stays k x later takes some = elim (cases_lt n x) [ inl after ↦ settled x after | inr upto ↦ (h.kept x some (was.taken k x later takes some upto)).1 ]
+      stays : (k x : ℕ) → from ≤ k → Takes k x → slot_in new x ≡ slot_in old x
+      stays k x later takes = elim (cases_lt n x) [ inl after ↦ settled x after | inr upto ↦ (h.kept x (was.taken k x later takes upto)).1 ]
 
 -- one row more is settled: it has a slot, which is free before it is made
-module _ (Takes : ℕ → ℕ → Type 0) (n : ℕ) (old mid : Slots) (h : IsHeld (n + 1) old mid) (free : Vec ℕ Global) (slot : ℕ) (at : slot ≡ slice_index mid.outs.items n) (was : AreSlotted Takes (n + 1) (n + 1) old) where
+module _ (Takes : ℕ → ℕ → Type 0) (n : ℕ) (old mid : Slots) (h : IsHeld (n + 1) old mid) (free : Vec ℕ Global) (slot : ℕ) (at : slot ≡ slice_index mid.outs.items (n + 1)) (was : AreSlotted Takes (n + 1) (n + 1) old) where
   abbrev new : Slots
-  new = record { outs = mid.outs; owners = with_item mid.owners slot 0; free = free }
+  new = record { outs = mid.outs; owners = with_item mid.owners slot None; free = free }
 
   own : HasSlotNow mid (n + 1)
-  own = h.here (omega arith)
-
-  slot_is : slot ≡ slot_in mid (n + 1)
-  slot_is = at ∙ ap (slice_index mid.outs.items) (let e : n ≡ n + 1 - 1 = omega arith in e)
+  own = h.here
 
   held : AreSlotted Takes (n + 1) (n + 1) mid
   held = held_on Takes (n + 1) (n + 1) (n + 1) old mid (omega arith) h was
 
   wide : slots_in new ≡ slots_in mid
-  wide = length-set mid.owners.items slot 0
+  wide = length-set mid.owners.items slot None
 
   pub row_ended : AreSlotted Takes (n + 1) n new
   row_ended = record {
     within = λ x after last. elim (cases_eq x (n + 1)) [
-      | inl e ↦ omega (arith, ap (slot_in mid) e, slot_within mid (n + 1) (omega arith) own, wide)
+      | inl e ↦ omega (arith, ap (slot_in mid) e, slot_within mid (n + 1) own, wide)
       | inr ne ↦ omega (arith, held.within x (omega (arith, after, ne)) last, wide)
     ];
-    taken = λ k r later takes some low.
-        let has = held.taken k r later takes some (omega (arith, low)) in
-        get_or-set_other mid.owners.items slot (slot_in mid r) 0 0 (λ e. slots_apart mid r (n + 1) (λ f. omega (arith, f, low)) has own (e ∙ slot_is)) ∙ has;
-    still = λ k r x later takes some less after last. elim (cases_eq x (n + 1)) [
-      | inr ne ↦ held.still k r x later takes some less (omega (arith, after, ne)) last
-      | inl e ↦ (λ same. slots_apart mid (n + 1) r (λ f. omega (arith, f, e, less)) own (held.taken k r later takes some (omega (arith, e, less))) (ap (slot_in mid) (sym e) ∙ same))
+    taken = λ k r later takes low.
+        let has = held.taken k r later takes (omega (arith, low)) in
+        get_or-set_other mid.owners.items slot (slot_in mid r) None None (λ e. slots_apart mid r (n + 1) (λ f. omega (arith, f, low)) has own (e ∙ at)) ∙ has;
+    still = λ k r x later takes less after last. elim (cases_eq x (n + 1)) [
+      | inr ne ↦ held.still k r x later takes less (omega (arith, after, ne)) last
+      | inl e ↦ (λ same. slots_apart mid (n + 1) r (λ f. omega (arith, f, e, less)) own (held.taken k r later takes (omega (arith, e, less))) (ap (slot_in mid) (sym e) ∙ same))
     ];
   }
 
@@ -95,24 +92,18 @@ module _ (p : Program) (joins : Joins) (h : AreAllJoins p joins) (n : ℕ) (with
   pub need_sooner : (k : ℕ) → k < j.count → row_taken joins.needs.items j k ≤ n
   need_sooner k l = (is_join.each k (omega (arith, l, is_join.count))).sooner
 
-  module _ (m : Slots) (base : 1 ≤ j.base → HasSlotNow m j.base) (each : (k : ℕ) → k < j.count → 1 ≤ row_taken joins.needs.items j k → HasSlotNow m (row_taken joins.needs.items j k)) where
-    has_slot : (r : ℕ) → Takes p joins.needs.items j r → 1 ≤ r → HasSlotNow m r
-    has_slot r (inl e) some = subst (HasSlotNow m) (sym e) (base (omega (arith, e, some)))
-    has_slot r (inr (k, l, e)) some = subst (HasSlotNow m) (sym e) (each k (omega (arith, l, is_join.count)) (omega (arith, e, some)))
+  module _ (m : Slots) (base : HasSlotNow m j.base) (each : (k : ℕ) → k < j.count → HasSlotNow m (row_taken joins.needs.items j k)) where
+    has_slot : (r : ℕ) → Takes p joins.needs.items j r → HasSlotNow m r
+    has_slot r (inl e) = subst (HasSlotNow m) (sym e) base
+    has_slot r (inr (k, l, e)) = subst (HasSlotNow m) (sym e) (each k (omega (arith, l, is_join.count)))
 
     -- once all of it has slots
     pub join_settled : AreSlotted (TakesIn p joins) (n + 1) n m → AreSlotted (TakesIn p joins) n n m
     join_settled was = record {
       within = was.within;
-      taken = λ k r later takes some upto. elim (cases_eq k n) [
-        | inl e ↦ has_slot r (subst (λ (x : Join). Takes p joins.needs.items x r) (ap (join_at joins.joins.items) e ∙ sym same) takes.1) some
-        | inr ne ↦ was.taken k r (omega (arith, later, ne)) takes some upto
+      taken = λ k r later takes upto. elim (cases_eq k n) [
+        | inl e ↦ has_slot r (subst (λ (x : Join). Takes p joins.needs.items x r) (ap (join_at joins.joins.items) e ∙ sym same) takes.1)
+        | inr ne ↦ was.taken k r (omega (arith, later, ne)) takes upto
       ];
-      still = λ k r x later takes some less after upto. was.still k r x (omega (arith, after, upto)) takes some less after upto;
+      still = λ k r x later takes less after upto. was.still k r x (omega (arith, after, upto)) takes less after upto;
     }
-
--- in the end each row is still in its slot whenever it is taken
-pub still_all : (Takes : ℕ → ℕ → Type 0) (m : Slots) → AreSlotted Takes 0 0 m → (k r : ℕ) → Takes k r → 1 ≤ r → IsStill m.outs.items r k
-still_all Takes m h k r takes some x from less =
-    let e : x + 1 - 1 ≡ x = omega arith in
-    λ same. h.still k r (x + 1) (omega arith) takes some (omega (arith, from)) (omega arith) (omega (arith, less)) (ap (slice_index m.outs.items) e ∙ same)

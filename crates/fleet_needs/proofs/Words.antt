@@ -22,9 +22,9 @@ pub use Rattle.fleet_model.proofs.Chains.{but_last, need_action, ends_alone, end
 pub use Rattle.fleet_needs.specs.Block.{HasColumn, IsAnswer}
 pub use Rattle.fleet_needs.specs.Columns.{AreColumns, BlocksLeft, IsNextBlock, column_of}
 pub use Rattle.fleet_needs.specs.CostWalk.{Walked, after, IsGreatestTo, IsStage, IsReadyStage, IsFinished, HasAll, IsCostWalk, HaveGrown, IsUnmet, IsOpen, stage_in, finished_in, no_stage, gone_on}
-pub use Rattle.fleet_needs.specs.Counts.{counts_of, are_narrow, CanHold, AreAlike}
+pub use Rattle.fleet_needs.specs.Counts.{counts_of, count_from, are_narrow, CanHold, AreAlike}
 pub use Rattle.fleet_needs.specs.Critical.{IsNumberedTo, IsNotedCost, AreNotedCosts, CostsByPlace, AreCriticalCosts, AreLevels, critical_cost, value_at}
-pub use Rattle.fleet_needs.specs.Flags.{AreSure, AreSureIf, IsFirstSet, IsPassed, AreSet, AreFlags, IsFlagged, IsFlaggedAt, AreFlagged, AreFlaggedFor, IsLeft, AreLeft, AreAllFlagged, AreAwaitFlags, AreFlaggedTo, AreImplied, flags_of, IsLeftOut}
+pub use Rattle.fleet_needs.specs.Flags.{AreSure, AreSet, AreFlags, AreKnownBut, IsLeft, IsLeftIn, AreFlaggedIn, AreAllFlagged, AreFlaggedTo, AreImplied, flags_of, IsLeftOut}
 pub use Rattle.fleet_needs.specs.Gather.{raised, IsNoted, IsPairAt, HasSamePieces, link_at, no_link, AreLinked, IsWithin, AreBelow, IsOfBlock, IsNotedTo, AreNotedOf, IsGathering, IsGatheringRow, GoesOn, IsOpenPiece}
 pub use Rattle.fleet_needs.specs.Implied.{EachFlag, AreNoted, first_await, IsImplied, IsImpliedFlag, AreAwaitPlaces}
 pub use Rattle.fleet_needs.specs.JoinPass.{AreOthers, IsMade, IsJoinRow, HasOthers, HasWhole}
@@ -45,7 +45,7 @@ pub use Rattle.fleet_needs.specs.declared.join_pass.JoinRow.{JoinRow}
 pub use Rattle.fleet_needs.specs.declared.join_pass.SlotRows.{SlotRows}
 pub use Rattle.fleet_needs.specs.declared.counts.Counts.{Counts}
 pub use Rattle.fleet_needs.specs.declared.implied.ImpliedAwaits.{ImpliedAwaits}
-pub use Rattle.fleet_needs.specs.Joins.{AddsNone, AreQuiet, HasRowOr, join_at, IsRow, StandsFor, need_at, IsNeed, IsJoin, Takes, row_of, IsStanding, IsUpToLast, AreUpTo, AreJoinsOf, CanJoin, AreTaken, HasJoined, IsAdded, AreNone, AreJoinsBelow, AreJoinsEnd, AreJoinsFrom, HasCome, AreOwn, AreAllJoins, row_taken, need_of, rows_made}
+pub use Rattle.fleet_needs.specs.Joins.{AddsNone, AreQuiet, HasRowOr, join_at, IsRow, StandsFor, need_at, IsNeed, IsJoin, Takes, row_of, IsStanding, IsUpToLast, AreUpTo, AreJoinsOf, CanJoin, AreTaken, IsAdded, AreNone, AreJoinsBelow, AreJoinsEnd, AreJoinsFrom, HasCome, AreOwn, AreAllJoins, row_taken, need_of, rows_made}
 pub use Rattle.fleet_needs.specs.Order.{IsAwaiting, IsItem, IsLastOf, IsLevelOrder, action_of, item_at, items_of, last_of_level, levels_in, listed, IsOrderOf, IsOrderTo, HasListed}
 pub use Rattle.fleet_needs.specs.declared.joins.Join.{Join}
 pub use Rattle.fleet_needs.specs.declared.joins.Need.{Need}
@@ -53,7 +53,7 @@ pub use Rattle.fleet_needs.specs.declared.joins.Joins.{Joins}
 pub use Rattle.fleet_needs.specs.declared.level_order.Item.{Item}
 pub use Rattle.fleet_needs.specs.declared.level_order.LevelOrder.{LevelOrder}
 pub use Rattle.fleet_needs.specs.Asked.{IsQuestion, AreAnswersIn, AreAskedTo}
-pub use Rattle.fleet_needs.specs.Schedule.{AreCounts, AreRowCounts, next_action, joins_in, IsSchedule, AreColumnsOf, AreRowsTo, IsRowFor, IsThere, StandsThere, IsNextJoin, IsNextNeed, AreJoinedWith, count_in_slot, slot_of}
+pub use Rattle.fleet_needs.specs.Schedule.{AreCounts, AreRowCounts, next_action, joins_in, IsSchedule, AreColumnsOf, AreRowsTo, IsRowFor, IsThere, StandsThere, IsNextJoin, IsNextNeed, count_in_slot, slot_of}
 pub use Rattle.fleet_needs.specs.Answering.{AreAnsweredTo, IsAnswering, IsAnsweringRow, AreOthersLeft, others_joined, questions_in, others_same}
 pub use Rattle.fleet_needs.specs.declared.questions.Answering.{Answering}
 pub use Rattle.fleet_needs.specs.declared.questions.ListedQuestions.{ListedQuestions}

@@ -1,11 +1,15 @@
 -- The counts of rows, as they are kept.
-use Rattle.std.specs.Prelude.{◌≡◌, ℕ, ◌≤◌, Bool, true, false, List, length}
+use Rattle.std.specs.Prelude.{◌≡◌, ℕ, ◌≤◌, Bool, true, false, List, length, slice_index, ◌+◌}
 use Rattle.fleet_needs.specs.declared.counts.Counts.{Counts}
 
 -- the counts, one after another
 abbrev pub counts_of : Counts → List ℕ
 counts_of (Counts.Narrow v) = v.items
 counts_of (Counts.Wide v) = v.items
+
+-- the counts from this place on
+abbrev pub count_from : Counts → ℕ → ℕ → ℕ
+count_from m from k = slice_index (counts_of m) (from + k)
 
 -- they take two bytes each
 abbrev pub are_narrow : Counts → Bool

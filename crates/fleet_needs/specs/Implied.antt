@@ -1,5 +1,5 @@
 -- Awaits that others imply, and the places of their flags.
-use Rattle.std.specs.Prelude.{◌≡◌, ◌≢◌, ℕ, ◌+◌, ◌-◌, ◌<◌, ◌≤◌, ◌⊎◌, Bool, true, false, List, length, take, slice_index, slice_get, get_or, Some, ◌↔◌}
+use Rattle.std.specs.Prelude.{◌≡◌, ◌≢◌, ℕ, ◌+◌, ◌-◌, ◌<◌, ◌≤◌, ◌⊎◌, Bool, true, false, List, length, take, slice_get, get_or, Some, ◌↔◌}
 use Rattle.fleet_needs.specs.Words.{Await, ActionId, Program, awaits_before, awaits_of, total_awaits, IsAction, DirectlyNeeds, Reaches, awaited}
 use Rattle.fleet_needs.specs.Places.{AreFirsts}
 

@@ -1,5 +1,5 @@
 -- Rows that are made, and the rows that they are joined of.
-use Rattle.std.specs.Prelude.{◌≡◌, ◌≢◌, ℕ, ◌+◌, ◌-◌, ◌<◌, ◌≤◌, ◌⊎◌, Bool, false, List, length, get_or, slice_index, slice_get, Some}
+use Rattle.std.specs.Prelude.{◌≡◌, ◌≢◌, ℕ, ◌+◌, ◌-◌, ◌<◌, ◌≤◌, ◌⊎◌, List, length, get_or, slice_index, slice_get, Some}
 use Rattle.fleet_model.specs.declared.program.Await.{Await}
 use Rattle.fleet_model.specs.declared.program.ActionId.{ActionId}
 use Rattle.fleet_model.specs.Program.{Program, awaits_of, moves, total_awaits}
@@ -62,6 +62,7 @@ pub record IsJoin (p : Program) (joins : List Join) (needs : List Need) (n : ℕ
   pub base : StandsFor p joins j.base j.action.agent (j.action.number - 1)
   pub sooner : j.base ≤ n
   pub count : j.count ≡ length (awaits_of p j.action.agent j.action.number)
+  pub some : 1 ≤ j.count
   pub within : j.first + length (awaits_of p j.action.agent j.action.number) ≤ length needs
   pub each : (k : ℕ) → k < length (awaits_of p j.action.agent j.action.number) → IsNeed p joins (awaits_of p j.action.agent j.action.number) n k (need_of needs j k)
 
@@ -184,21 +185,13 @@ pub record HaveGrown (a : ActionId) (old new : List Join) : Type 0 where
   pub same : (n : ℕ) → n < length old → join_at new n ≡ join_at old n
   pub last : (n : ℕ) → n < length new → (n < length old) ⊎ ((n ≡ length old) × ((join_at new n).action ≡ a))
 
--- the row r is that of the action or stands for it
-pub record HasJoined (p : Program) (a : ActionId) (made : Bool) (r : ℕ) (old new : Joins) : Type 0 where
-  pub sound : AreSound p new
-  pub standing : new.standing ≡ old.standing
-  pub grown : HaveGrown a old.joins.items new.joins.items
-  pub stands : StandsFor p new.joins.items r a.agent a.number
-  pub here : IsRow new.joins.items r a ⊎ (made ≡ false)
-
--- the action has been added
-pub record IsAdded (p : Program) (a : ActionId) (made : Bool) (old new : Joins) : Type 0 where
+-- the action has been added, with a row unless it is passed
+pub record IsAdded (p : Program) (Passed : ActionId → Type 0) (a : ActionId) (old new : Joins) : Type 0 where
   pub sound : AreSound p new
   pub grown : HaveGrown a old.joins.items new.joins.items
   pub kept : (x : ActionId) → row_place p x ≢ row_place p a → IsStanding p old x → IsStanding p new x
   pub here : IsStanding p new a
-  pub row : ((r : ℕ) × IsRow new.joins.items r a) ⊎ (made ≡ false)
+  pub row : ((r : ℕ) × IsRow new.joins.items r a) ⊎ (AddsNone p a.agent a.number × Passed a)
 
 -- the joins of all actions of the program, in which no action needs a later one of its agent
 pub record AreAllJoins (p : Program) (m : Joins) : Type 0 where

@@ -1,11 +1,11 @@
 -- A schedule of rows, and the counts of rows in their slots.
-use Rattle.std.specs.Prelude.{◌≡◌, ◌≢◌, true, ℕ, ◌+◌, ◌-◌, ◌*◌, ◌<◌, ◌≤◌, List, length, max, slice_index, slice_get, Some}
+use Rattle.std.specs.Prelude.{◌≡◌, ◌≢◌, true, ℕ, ◌+◌, ◌-◌, ◌*◌, ◌<◌, ◌≤◌, List, length, slice_index, slice_get, Some}
 use Rattle.fleet_model.specs.declared.program.ActionId.{ActionId}
 use Rattle.fleet_model.specs.Program.{Program, awaits_of, moves}
 use Rattle.fleet_model.specs.Chain.{IsAction, awaited}
 use Rattle.fleet_needs.specs.Block.{HasColumn}
 use Rattle.fleet_needs.specs.Columns.{agents_in}
-use Rattle.fleet_needs.specs.Counts.{counts_of, are_narrow}
+use Rattle.fleet_needs.specs.Counts.{counts_of, count_from, are_narrow}
 use Rattle.fleet_needs.specs.Joins.{AreJoins, join_at, Takes, StandsFor, HasAllRows, AreRising, AreOwn}
 use Rattle.fleet_needs.specs.Rows.{IsColumn}
 use Rattle.fleet_needs.specs.Slots.{IsStill}
@@ -20,9 +20,9 @@ use Rattle.fleet_needs.specs.declared.join_pass.SlotRows.{SlotRows}
 pub record IsSchedule (p : Program) (s : Schedule) : Type 0 where
   pub joins : AreJoins p s.joins.items s.needs.items
   pub rows : HasAllRows p s.joins.items (IsAction p)
-  pub all : length s.outs.items ≡ length s.joins.items
-  pub within : (n : ℕ) → n < length s.outs.items → slice_index s.outs.items n < s.slots
-  pub still : (n r : ℕ) → n < length s.joins.items → Takes p s.needs.items (join_at s.joins.items n) r → 1 ≤ r → IsStill s.outs.items r n
+  pub all : length s.outs.items ≡ length s.joins.items + 1
+  pub within : (r : ℕ) → r ≤ length s.joins.items → slice_index s.outs.items r < s.slots
+  pub still : (n r : ℕ) → n < length s.joins.items → Takes p s.needs.items (join_at s.joins.items n) r → IsStill s.outs.items r n
   pub rising : AreRising s.joins.items
   pub own : AreOwn p
   pub narrow : s.is_narrow ≡ true → (i : ℕ) → i < length p → moves p i ≤ 65535
@@ -43,13 +43,9 @@ joins_in s = length s.joins.items
 abbrev pub next_action : Schedule → ℕ → ActionId
 next_action s n = (join_at s.joins.items n).action
 
--- row r has a slot
-abbrev pub HasSlot : Schedule → ℕ → Type 0
-HasSlot s r = r ≤ length s.outs.items
-
--- .. which is this one
+-- the slot of row r
 abbrev pub slot_of : Schedule → ℕ → ℕ
-slot_of s r = slice_index s.outs.items (r - 1)
+slot_of s r = slice_index s.outs.items r
 
 -- the columns are of agents of the program, no two in one
 pub record AreColumnsOf (p : Program) (columns : Columns) : Type 0 where
@@ -62,30 +58,6 @@ abbrev pub AreCounts : Program → Columns → ℕ → ℕ → (ℕ → ℕ) →
 AreCounts p columns i n count =
     (j k : ℕ) → HasColumn columns j k → (j ≢ i → IsColumn p (record { agent = i; number = n }) j (count k)) × (j ≡ i → count k ≡ 0)
 
--- count k of the row in the slot of row r
-abbrev pub count_in_slot : SlotRows → ℕ → ℕ → ℕ
-count_in_slot m r k = slice_index (counts_of m.counts) (slot_of m.schedule.now r * m.columns.width + k)
-
--- each of the first n rows that is still in its slot is that of its action
-pub record AreRowsTo (p : Program) (m : SlotRows) (n : ℕ) : Type 0 where
-  pub schedule : IsSchedule p m.schedule.now
-  pub columns : AreColumnsOf p m.columns
-  pub room : length (counts_of m.counts) ≡ m.schedule.now.slots * m.columns.width
-  pub narrow : are_narrow m.counts ≡ m.schedule.now.is_narrow
-  pub right : (r : ℕ) → 1 ≤ r → r ≤ n → r ≤ joins_in m.schedule.now → IsStill m.schedule.now.outs.items r n
-      → AreCounts p m.columns (next_action m.schedule.now (r - 1)).agent (next_action m.schedule.now (r - 1)).number (count_in_slot m r)
-
--- the row has a count for each column, of as many bytes as those that are kept
-pub record IsRowFor (m : SlotRows) (row : Counts) : Type 0 where
-  pub width : length (counts_of row) ≡ m.columns.width
-  pub narrow : are_narrow row ≡ m.schedule.now.is_narrow
-
--- row r can be taken after n rows
-pub record IsThere (s : Schedule) (n r : ℕ) : Type 0 where
-  pub made : r ≤ n
-  pub within : n ≤ joins_in s
-  pub still : 1 ≤ r → IsStill s.outs.items r n
-
 -- row r stands for this action of the program, or for none if the number is 0
 pub record StandsThere (p : Program) (s : Schedule) (r i n : ℕ) : Type 0 where
   pub agent : i < length p
@@ -96,11 +68,35 @@ pub record StandsThere (p : Program) (s : Schedule) (r i n : ℕ) : Type 0 where
 abbrev pub AreRowCounts : Program → Schedule → Columns → ℕ → (ℕ → ℕ) → Type 0
 AreRowCounts p s columns r count = (i n : ℕ) → StandsThere p s r i n → AreCounts p columns i n count
 
+-- the counts in the slot of row r
+abbrev pub count_in_slot : SlotRows → ℕ → ℕ → ℕ
+count_in_slot m r = count_from m.counts (slot_of m.schedule.now r * m.columns.width)
+
+-- each of the first n rows that is still in its slot has the counts of what it stands for; row 0 has zeros
+pub record AreRowsTo (p : Program) (m : SlotRows) (n : ℕ) : Type 0 where
+  pub schedule : IsSchedule p m.schedule.now
+  pub columns : AreColumnsOf p m.columns
+  pub room : length (counts_of m.counts) ≡ m.schedule.now.slots * m.columns.width
+  pub narrow : are_narrow m.counts ≡ m.schedule.now.is_narrow
+  pub right : (r : ℕ) → r ≤ n → IsStill m.schedule.now.outs.items r n → AreRowCounts p m.schedule.now m.columns r (count_in_slot m r)
+
+-- the row has a count for each column, of as many bytes as those that are kept
+pub record IsRowFor (m : SlotRows) (row : Counts) : Type 0 where
+  pub width : length (counts_of row) ≡ m.columns.width
+  pub narrow : are_narrow row ≡ m.schedule.now.is_narrow
+
+-- row r can be taken after n rows
+pub record IsThere (s : Schedule) (n r : ℕ) : Type 0 where
+  pub made : r ≤ n
+  pub within : n ≤ joins_in s
+  pub still : IsStill s.outs.items r n
+
 -- the join after n others, which is made for action a: how many awaits that has, and what the join's base stands for
 pub record IsNextJoin (p : Program) (s : Schedule) (n : ℕ) (a : ActionId) (j : Join) : Type 0 where
   pub is : j ≡ join_at s.joins.items n
   pub action : IsAction p a
   pub count : j.count ≡ length (awaits_of p a.agent a.number)
+  pub some : 1 ≤ j.count
   pub base : IsThere s n j.base
   pub stands : StandsThere p s j.base a.agent (a.number - 1)
 
@@ -110,14 +106,3 @@ pub record IsNextNeed (p : Program) (s : Schedule) (n : ℕ) (a : ActionId) (k :
   pub action : IsAction p (awaited x.wait)
   pub row : IsThere s n x.row
   pub stands : StandsThere p s x.row x.wait.agent x.wait.count
-
--- the row was joined with that of action n of agent i, but for the agent's own column, which is as before
-abbrev pub AreJoinedWith : Program → Columns → ℕ → ℕ → List ℕ → List ℕ → Type 0
-AreJoinedWith p columns i n old new =
-    (j k : ℕ) → HasColumn columns j k
-    → (j ≢ i → (u : ℕ) × IsColumn p (record { agent = i; number = n }) j u × (slice_index new k ≡ max (slice_index old k) u))
-    × (j ≡ i → slice_index new k ≡ slice_index old k)
-
--- the counts are those of action n of agent i, joined with those of action l of agent j, but for agent j's own column
-abbrev pub AreCountsOfTwo : Program → Columns → ℕ → ℕ → ℕ → ℕ → List ℕ → Type 0
-AreCountsOfTwo p columns i n j l new = (mid : List ℕ) × AreCounts p columns i n (slice_index mid) × AreJoinedWith p columns j l mid new

@@ -1,5 +1,5 @@
 -- Slots for rows, given from the last row back to the first: each row is kept until it has been taken for the last time.
-use Rattle.std.specs.Prelude.{◌≡◌, ◌≢◌, ℕ, ◌-◌, ◌<◌, ◌≤◌, List, length, slice_index}
+use Rattle.std.specs.Prelude.{◌≡◌, ◌≢◌, ℕ, ◌<◌, ◌≤◌, List, length, get_or, slice_index, Option, Some, None}
 use Rattle.fleet_model.specs.Program.{Program}
 use Rattle.fleet_needs.specs.Joins.{Takes, join_at}
 use Rattle.fleet_needs.specs.declared.joins.Joins.{Joins}
@@ -7,27 +7,27 @@ use Rattle.fleet_needs.specs.declared.schedule.Slots.{Slots}
 
 -- no row after row r, among the first n, was put into its slot
 abbrev pub IsStill : List ℕ → ℕ → ℕ → Type 0
-IsStill outs r n = (m : ℕ) → r ≤ m → m < n → slice_index outs m ≢ slice_index outs (r - 1)
+IsStill outs r n = (m : ℕ) → r < m → m ≤ n → slice_index outs m ≢ slice_index outs r
 
--- how many rows there are
+-- how many rows there are, with row 0
 abbrev pub rows_in : Slots → ℕ
 rows_in m = length m.outs.items
 
 -- the slot of row r, if it has one
 abbrev pub slot_in : Slots → ℕ → ℕ
-slot_in m r = slice_index m.outs.items (r - 1)
+slot_in m r = slice_index m.outs.items r
 
 -- how many slots there are
 abbrev pub slots_in : Slots → ℕ
 slots_in m = length m.owners.items
 
--- the row that has slot x, or 0
-abbrev pub owner_of : Slots → ℕ → ℕ
-owner_of m x = slice_index m.owners.items x
+-- the row that has slot x, if one has
+abbrev pub owner_of : Slots → ℕ → Option ℕ
+owner_of m x = get_or m.owners.items x None
 
 -- row r has a slot
 abbrev pub HasSlotNow : Slots → ℕ → Type 0
-HasSlotNow m r = owner_of m (slot_in m r) ≡ r
+HasSlotNow m r = owner_of m (slot_in m r) ≡ Some r
 
 -- the join after k others takes row r
 abbrev pub TakesIn : Program → Joins → ℕ → ℕ → Type 0
@@ -36,21 +36,21 @@ TakesIn p joins k r = (k < length joins.joins.items) × Takes p joins.needs.item
 -- the rows after the first n have their slots for good, in each of which what is taken stays as long as joins after the
 -- first `from` take it; and what these take of the first n has a slot
 pub record AreSlotted (Takes : ℕ → ℕ → Type 0) (from n : ℕ) (m : Slots) : Type 0 where
-  pub within : (r : ℕ) → n < r → r ≤ rows_in m → slot_in m r < slots_in m
-  pub taken : (k r : ℕ) → from ≤ k → Takes k r → 1 ≤ r → r ≤ n → HasSlotNow m r
-  pub still : (k r x : ℕ) → from ≤ k → Takes k r → 1 ≤ r → r < x → n < x → x ≤ k → slot_in m x ≢ slot_in m r
+  pub within : (r : ℕ) → n < r → r < rows_in m → slot_in m r < slots_in m
+  pub taken : (k r : ℕ) → from ≤ k → Takes k r → r ≤ n → HasSlotNow m r
+  pub still : (k r x : ℕ) → from ≤ k → Takes k r → r < x → n < x → x ≤ k → slot_in m x ≢ slot_in m r
 
 -- no row has the slot, and no other has changed hands
 pub record IsFree (slot : ℕ) (old new : Slots) : Type 0 where
   pub within : slot < slots_in new
-  pub none : owner_of new slot ≡ 0
+  pub none : owner_of new slot ≡ None
   pub more : slots_in old ≤ slots_in new
   pub same : (x : ℕ) → owner_of new x ≡ owner_of old x
 
--- row r has a slot, if it is not 0, and each that had one has kept it
+-- row r has a slot, and each that had one has kept it
 pub record IsHeld (r : ℕ) (old new : Slots) : Type 0 where
   pub rows : rows_in new ≡ rows_in old
   pub more : slots_in old ≤ slots_in new
-  pub here : 1 ≤ r → HasSlotNow new r
-  pub kept : (x : ℕ) → 1 ≤ x → HasSlotNow old x → HasSlotNow new x × (slot_in new x ≡ slot_in old x)
-  pub others : (x : ℕ) → 1 ≤ x → x ≢ r → slot_in new x ≡ slot_in old x
+  pub here : HasSlotNow new r
+  pub kept : (x : ℕ) → HasSlotNow old x → HasSlotNow new x × (slot_in new x ≡ slot_in old x)
+  pub others : (x : ℕ) → x ≢ r → slot_in new x ≡ slot_in old x

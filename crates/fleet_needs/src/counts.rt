@@ -55,38 +55,6 @@ impl Counts {
         }
     }
 
-    /// Zeros at all places.
-    pub(crate) fn clear(&mut self)
-        ensures alike { AreAlike self.old self.new }
-        ensures zeros { (k : ℕ) → slice_index (counts_of self.new) k ≡ 0 }
-    {
-        match self {
-            Counts::Narrow(counts) => counts.fill(0),
-            Counts::Wide(counts) => counts.fill(0),
-        }
-    }
-
-    /// Reads the counts of all places from others, from this place on.
-    pub(crate) fn read(&mut self, other: &Counts, from: usize)
-        requires within { from + length (counts_of self.old) ≤ length (counts_of other.now) }
-        requires alike { are_narrow other.now ≡ are_narrow self.old }
-        ensures alike { AreAlike self.old self.new }
-        ensures counts { (k : ℕ) → k < length (counts_of self.old)
-            → slice_index (counts_of self.new) k ≡ slice_index (counts_of other.now) (from + k) }
-    {
-        match (self, other) {
-            (Counts::Narrow(row), Counts::Narrow(counts)) => {
-                let end = from + row.len();
-                row.copy_from_slice(&counts[from..end]);
-            }
-            (Counts::Wide(row), Counts::Wide(counts)) => {
-                let end = from + row.len();
-                row.copy_from_slice(&counts[from..end]);
-            }
-            _ => unreachable!(),
-        }
-    }
-
     /// Reads the counts of all places from others: at each the greater one of those from two places on.
     pub(crate) fn read_joined(&mut self, other: &Counts, first: usize, second: usize)
         requires first { first + length (counts_of self.old) ≤ length (counts_of other.now) }

@@ -8,17 +8,19 @@ ghost use Rattle.fleet_needs.specs.Critical.{IsNumberedTo};
 ghost use Rattle.fleet_needs.specs.Implied.{IsImpliedFlag, first_await};
 ghost use Rattle.fleet_needs.specs.Joins.{HasRowOr};
 ghost use Rattle.fleet_needs.specs.Settled.{AreSettled};
-ghost use Rattle.fleet_needs.specs.Schedule.{IsSchedule, joins_of};
-ghost use Rattle.fleet_needs.specs.Flags.{AreImplied, AreSet, flags_of, AreFlags, IsFlaggedAt};
+ghost use Rattle.fleet_needs.specs.Schedule.{AreColumnsOf, IsSchedule, joins_in, joins_of};
+ghost use Rattle.fleet_needs.specs.Columns.{AreColumns};
+ghost use Rattle.fleet_needs.specs.Flags.{AreImplied, AreSet, flags_of, AreFlags, AreFlaggedIn};
 ghost use Rattle.fleet_needs.specs.JoinPass.{IsJoinRow, HasOthers};
 
 use crate::await_places::AwaitPlaces;
+use crate::counts::Counts;
 use crate::critical::CriticalCosts;
-use crate::join_pass::{JoinRow, JoinUse, use_joins};
+use crate::join_pass::{JoinRow, SlotRows, join_others, raise_awaited};
 use crate::level_order::LevelOrder;
-use crate::schedule::{Blocks, Schedule};
+use crate::schedule::{Blocks, Columns, Schedule};
 use crate::settled::{is_any, settle_all};
-use fleet_model::{ActionId, Await, OutOfMemory, ProgramView, total_awaits};
+use fleet_model::{ActionId, OutOfMemory, ProgramView, total_awaits};
 use std::alloc::Global;
 
 /// Which awaits of a program others imply.
@@ -77,7 +79,7 @@ pub fn implied_awaits<P: ProgramView>(
     }
     let order = LevelOrder::by_levels(alloc, program, &levels, most)?;
     drop(levels);
-    let schedule = Schedule::of(alloc, program, &order, Some(&implied))?;
+    let schedule = Schedule::of(alloc, program, &order, &implied.flags)?;
     // The rows need its room.
     drop(order);
     flag_all(alloc, program, &schedule, &asked, &mut implied)?;
@@ -85,7 +87,7 @@ pub fn implied_awaits<P: ProgramView>(
 }
 
 /// Flags the awaits of the asked agents, block by block, each with as many columns as there is room for.
-#[tactic(auto, using(crate::proofs::NextBlock::columns_of, crate::proofs::NextBlock::fewer_left, crate::proofs::Flagged::flags_begun))]
+#[tactic(auto, using(crate::proofs::NextBlock::columns_of, crate::proofs::NextBlock::fewer_left))]
 fn flag_all<P: ProgramView>(
     alloc: Global,
     program: &P,
@@ -104,60 +106,61 @@ fn flag_all<P: ProgramView>(
 {
     let mut blocks = Blocks::of(program, schedule, asked);
     while let Some(columns) = blocks.next_block(alloc)? {
-        use_joins(alloc, program, schedule, columns, implied)?;
+        flag_block(alloc, program, schedule, columns, asked, implied)?;
     }
     Ok(())
 }
 
-impl JoinUse for ImpliedAwaits {
-    ghost use Rattle.std.proofs.Common.{◌+◌};
-    ghost use Rattle.fleet_needs.specs.Flags.{AreLeft, AreAwaitFlags, flags_of, left_same, left_joined};
-
-    ghost used = { AreAwaitFlags };
-
-    ghost seen = { λ p s columns n. AreAwaitFlags p s columns (n + 1) };
-
-    ghost keeps = { λ p columns old new. AreLeft p columns (flags_of old) (flags_of new) };
-
-    /// Flags the awaits of the action whose agents have a column: whether others imply them.
-    fn see_others<P: ProgramView>(&mut self, program: &P, row: &JoinRow) {
-        let join = row.schedule.join_after(program, row.n);
-        for k in 0..join.count {
-            let need = row.schedule.need(program, row.n, &join, k);
-            flag_await(program, row, k, need.wait, self);
-        }
+/// Flags the awaits of the asked agents of a block, row by row.
+fn flag_block<P: ProgramView>(
+    alloc: Global,
+    program: &P,
+    schedule: &Schedule,
+    columns: Columns,
+    asked: &[bool],
+    implied: &mut ImpliedAwaits,
+) -> Result<(), OutOfMemory>
+    requires range { AreInRange (P.program program.now) }
+    requires schedule { IsSchedule (P.program program.now) schedule.now }
+    requires columns { AreColumnsOf (P.program program.now) columns }
+    requires block { AreColumns asked.now columns.first columns }
+    requires flags { AreFlaggedIn
+        (P.program program.now) schedule.now asked.now columns 0 0 implied.old }
+    ensures { OnOk result (AreFlaggedIn (P.program program.now)
+        schedule.now asked.now columns (joins_in schedule.now) 0 implied.new) }
+{
+    let mut row = Counts::zeros(alloc, usize::from(columns.width), schedule.is_narrow)?;
+    let mut rows = SlotRows::new(alloc, program, schedule, columns)?;
+    for n in 0..schedule.joins.len() {
+        join_others(program, &rows, n, &mut row);
+        let others = JoinRow::new(schedule, &rows.columns, n, &row);
+        flag_row(program, &others, asked, implied);
+        raise_awaited(program, &rows, n, &mut row);
+        rows.keep_row(program, n, &row);
     }
-
-    /// The awaits are flagged already.
-    fn use_row<P: ProgramView>(&mut self, _: &P, _: &JoinRow) -> Result<(), OutOfMemory> {
-        Ok(())
-    }
-
-    ghost same = { λ p columns s. left_same p columns (flags_of s) };
-
-    ghost joined = { λ p columns s t u.
-        left_joined p columns (flags_of s) (flags_of t) (flags_of u) };
+    Ok(())
 }
 
-/// Flags await `k` of the action, if its agent has a column: whether others imply it.
-fn flag_await<P: ProgramView>(
-    program: &P,
-    row: &JoinRow,
-    k: u16,
-    wait: Await,
-    implied: &mut ImpliedAwaits,
-)
+/// Flags the awaits of an action whose agents have a column: whether others imply them.
+fn flag_row<P: ProgramView>(program: &P, row: &JoinRow, asked: &[bool], implied: &mut ImpliedAwaits)
     requires range { AreInRange (P.program program.now) }
     requires row { IsJoinRow (P.program program.now) row.now }
     requires others { HasOthers (P.program program.now) row.now }
-    requires flags { AreFlags (P.program program.now) implied.old }
-    requires waits { slice_get (awaits_of (P.program program.now)
-        row.now.action.agent row.now.action.number) k ≡ Some wait }
-    ensures { IsFlaggedAt (P.program program.now)
-        row.now.columns.now row.now.action k wait implied.old implied.new }
+    requires block { AreColumns asked.now row.now.columns.now.first row.now.columns.now }
+    requires flags { AreFlaggedIn (P.program program.now)
+        row.now.schedule.now asked.now row.now.columns.now row.now.n 0 implied.old }
+    ensures { AreFlaggedIn (P.program program.now)
+        row.now.schedule.now asked.now row.now.columns.now (row.now.n + 1) 0 implied.new }
 {
     let _ = program.agents();
-    if let Some(column) = row.columns.of(wait.agent) {
+    // Of who is asked for the contract alone speaks.
+    let _ = asked;
+    let join = row.schedule.join_after(program, row.n);
+    for k in 0..join.count {
+        let wait = row.schedule.need(program, row.n, &join, k).wait;
+        let Some(column) = row.columns.of(wait.agent) else {
+            continue;
+        };
         let place = implied.places.first(program, row.action) + usize::from(k);
         implied.flags[place] = wait.count <= row.counts.get(usize::from(column));
     }

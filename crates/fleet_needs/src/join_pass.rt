@@ -1,13 +1,13 @@
 //! A pass over the rows of a schedule, in the columns of one block: each is made of rows whose counts are still in
-//! their slots, used, and kept in its own slot.
+//! their slots, and kept in its own slot.
 
-ghost use Rattle.std.specs.Prelude.{◌≡◌, ◌≢◌, ◌+◌, ◌<◌, ℕ, length, max, slice_index, OnOk, ◌-◌, ◌*◌, ◌≤◌, Some};
+ghost use Rattle.std.specs.Prelude.{◌≡◌, ◌≢◌, ◌+◌, ◌<◌, ℕ, length, max, slice_index, IfOk, ◌-◌, ◌*◌, ◌≤◌, Some};
 ghost use Rattle.fleet_needs.specs.Columns.{agents_in};
 ghost use Rattle.fleet_needs.specs.Block.{HasColumn};
 ghost use Rattle.fleet_model.specs.Program.{AreInRange};
-ghost use Rattle.fleet_needs.specs.Counts.{counts_of, CanHold, AreAlike};
-ghost use Rattle.fleet_needs.specs.Schedule.{IsSchedule, AreColumnsOf, AreRowsTo, IsRowFor, joins_in, AreCounts, IsThere, StandsThere, AreJoinedWith, AreCountsOfTwo, HasSlot, slot_of, next_action};
-ghost use Rattle.fleet_needs.specs.JoinPass.{AreOthers, AreWhole, IsJoinRow, HasOthers, HasWhole};
+ghost use Rattle.fleet_needs.specs.Counts.{counts_of, count_from, CanHold, AreAlike};
+ghost use Rattle.fleet_needs.specs.Schedule.{IsSchedule, AreColumnsOf, AreRowsTo, IsRowFor, joins_in, AreCounts, IsThere, AreRowCounts, next_action};
+ghost use Rattle.fleet_needs.specs.JoinPass.{AreOthers, AreWhole};
 
 use crate::counts::Counts;
 use crate::schedule::{Columns, Schedule};
@@ -26,7 +26,7 @@ pub struct JoinRow<'a> {
 
 impl<'a> JoinRow<'a> {
     /// The row with these counts of the join after n others.
-    fn new(
+    pub(crate) fn new(
         schedule: &'a Schedule,
         columns: &'a Columns,
         n: usize,
@@ -51,116 +51,14 @@ impl<'a> JoinRow<'a> {
     }
 }
 
-/// A use of the rows of a block, which come in the order of the schedule.
-pub trait JoinUse {
-    ghost use Rattle.std.specs.Prelude.{ℕ, OnOk, ◌≡◌, ◌+◌, length};
-    ghost use Rattle.fleet_model.specs.Program.{Program};
-    ghost use Rattle.fleet_needs.specs.declared.schedule.Columns.{Columns};
-    ghost use Rattle.fleet_needs.specs.declared.schedule.Schedule.{Schedule};
-
-    /// The state of the use once so many rows were used.
-    ghost used: { Program → Schedule → Columns → ℕ → Self → Type 0 };
-
-    /// .. and what the next action needs was seen.
-    ghost seen: { Program → Schedule → Columns → ℕ → Self → Type 0 };
-
-    /// The part of the state that the rows of a block leave as it was.
-    ghost keeps: { Program → Columns → Self → Self → Type 0 };
-
-    /// Sees what the action needs: its row, but for the count of each awaited action's own agent.
-    fn see_others<P: ProgramView>(&mut self, program: &P, row: &JoinRow)
-        requires range { AreInRange (P.program program.now) }
-        requires row { IsJoinRow (P.program program.now) row.now }
-        requires others { HasOthers (P.program program.now) row.now }
-        requires used { used (P.program program.now)
-            row.now.schedule.now row.now.columns.now row.now.n self.old }
-        ensures seen { seen (P.program program.now)
-            row.now.schedule.now row.now.columns.now row.now.n self.new }
-        ensures keeps { keeps (P.program program.now) row.now.columns.now self.old self.new };
-
-    /// Uses the row of the action.
-    fn use_row<P: ProgramView>(&mut self, program: &P, row: &JoinRow) -> Result<(), OutOfMemory>
-        requires range { AreInRange (P.program program.now) }
-        requires row { IsJoinRow (P.program program.now) row.now }
-        requires made { HasWhole (P.program program.now) row.now }
-        requires seen { seen (P.program program.now)
-            row.now.schedule.now row.now.columns.now row.now.n self.old }
-        ensures used { OnOk result (used (P.program program.now)
-            row.now.schedule.now row.now.columns.now (row.now.n + 1) self.new) }
-        ensures keeps { OnOk result (keeps
-            (P.program program.now) row.now.columns.now self.old self.new) };
-
-    /// If no row is used, that part is as it was.
-    ghost same: { (p : Program) (c : Columns) (s : Self) → keeps p c s s };
-
-    /// If some rows leave that part as it was, and then others do, all of them do.
-    ghost joined: { (p : Program) (c : Columns) (s t u : Self)
-        → keeps p c s t → keeps p c t u → keeps p c s u };
-}
-
-/// Makes and uses all rows of the schedule in these columns.
-pub(crate) fn use_joins<P: ProgramView, U: JoinUse>(
-    alloc: Global,
-    program: &P,
-    schedule: &Schedule,
-    columns: Columns,
-    uses: &mut U,
-) -> Result<(), OutOfMemory>
-    requires range { AreInRange (P.program program.now) }
-    requires schedule { IsSchedule (P.program program.now) schedule.now }
-    requires columns { AreColumnsOf (P.program program.now) columns }
-    requires used { U.used (P.program program.now) schedule.now columns 0 uses.old }
-    ensures used { OnOk result (U.used (P.program program.now)
-        schedule.now columns (joins_in schedule.now) uses.new) }
-    ensures keeps { OnOk result (U.keeps (P.program program.now) columns uses.old uses.new) }
-{
-    let mut row = Counts::zeros(alloc, usize::from(columns.width), schedule.is_narrow)?;
-    let room = schedule.slots as usize * usize::from(columns.width);
-    let mut rows = SlotRows {
-        schedule,
-        columns,
-        counts: Counts::zeros(alloc, room, schedule.is_narrow)?,
-    };
-    for n in 0..schedule.joins.len() {
-        make_row(program, &rows, n, &mut row, uses)?;
-        rows.keep_row(program, n, &row);
-    }
-    Ok(())
-}
-
-/// Makes the row of the join after n others, and uses it.
-fn make_row<P: ProgramView, U: JoinUse>(
+/// Makes the row of all that the action of the join after n others directly needs, but for the count of each awaited
+/// action's own agent.
+pub(crate) fn join_others<P: ProgramView>(
     program: &P,
     rows: &SlotRows<'_>,
     n: usize,
     row: &mut Counts,
-    uses: &mut U,
-) -> Result<(), OutOfMemory>
-    requires range { AreInRange (P.program program.now) }
-    requires rows { AreRowsTo (P.program program.now) rows.now n }
-    requires next { n < joins_in rows.now.schedule.now }
-    requires row { IsRowFor rows.now row.old }
-    requires used { U.used (P.program program.now) rows.now.schedule.now rows.now.columns
-        n uses.old }
-    ensures row { OnOk result (IsRowFor rows.now row.new) }
-    ensures made { OnOk result (AreWhole (P.program program.now) rows.now.columns
-        (next_action rows.now.schedule.now n) (counts_of row.new)) }
-    ensures used { OnOk result (U.used (P.program program.now) rows.now.schedule.now
-        rows.now.columns (n + 1) uses.new) }
-    ensures keeps { OnOk result (U.keeps
-        (P.program program.now) rows.now.columns uses.old uses.new) }
-{
-    join_others(program, rows, n, row);
-    let others = JoinRow::new(rows.schedule, &rows.columns, n, row);
-    uses.see_others(program, &others);
-    raise_awaited(program, rows, n, row);
-    let whole = JoinRow::new(rows.schedule, &rows.columns, n, row);
-    uses.use_row(program, &whole)
-}
-
-/// Makes the row of all that the action of the join after n others directly needs, but for the count of each awaited
-/// action's own agent.
-fn join_others<P: ProgramView>(program: &P, rows: &SlotRows<'_>, n: usize, row: &mut Counts)
+)
     requires range { AreInRange (P.program program.now) }
     requires rows { AreRowsTo (P.program program.now) rows.now n }
     requires next { n < joins_in rows.now.schedule.now }
@@ -170,21 +68,22 @@ fn join_others<P: ProgramView>(program: &P, rows: &SlotRows<'_>, n: usize, row: 
         (next_action rows.now.schedule.now n) (counts_of row.new) }
 {
     let join = rows.schedule.join_after(program, n);
-    let is_quiet = join.count == 0;
-    if is_quiet {
-        rows.begin_row(program, n, join.base, row);
-        return;
-    }
     let first = rows.schedule.need(program, n, &join, 0);
-    rows.begin_joined(program, n, join.base, first.row, row);
+    let base = rows.begin(program, n, join.base);
+    row.read_joined(&rows.counts, base, rows.begin(program, n, first.row));
     for k in 1..join.count {
         let need = rows.schedule.need(program, n, &join, k);
-        rows.join_row(program, n, need.row, row);
+        row.join(&rows.counts, rows.begin(program, n, need.row));
     }
 }
 
 /// Makes the row that this leaves the row of the action.
-fn raise_awaited<P: ProgramView>(program: &P, rows: &SlotRows<'_>, n: usize, row: &mut Counts)
+pub(crate) fn raise_awaited<P: ProgramView>(
+    program: &P,
+    rows: &SlotRows<'_>,
+    n: usize,
+    row: &mut Counts,
+)
     requires range { AreInRange (P.program program.now) }
     requires rows { AreRowsTo (P.program program.now) rows.now n }
     requires next { n < joins_in rows.now.schedule.now }
@@ -248,75 +147,60 @@ pub struct SlotRows<'a> {
 }
 
 impl<'a> SlotRows<'a> {
-    /// Where the counts of a row that is still in its slot begin.
-    fn begin(&self, r: u32) -> usize
-        requires some { 1 ≤ r }
-        requires within { HasSlot self.now.schedule.now r }
-        requires slot { slot_of self.now.schedule.now r < self.now.schedule.now.slots }
-        ensures { result ≡ slot_of self.now.schedule.now r * self.now.columns.width }
-    {
-        let width = usize::from(self.columns.width);
-        self.schedule.outs[r as usize - 1] as usize * width
-    }
-
-    /// Puts into `row` the counts of what row `r` stands for.
-    pub(crate) fn begin_row<P: ProgramView>(&self, program: &P, n: usize, r: u32, row: &mut Counts)
-        requires rows { AreRowsTo (P.program program.now) self.now n }
-        requires there { IsThere self.now.schedule.now n r }
-        requires row { IsRowFor self.now row.old }
-        ensures row { IsRowFor self.now row.new }
-        ensures counts { (i m : ℕ) → StandsThere (P.program program.now) self.now.schedule.now r i m
-            → AreCounts (P.program program.now) self.now.columns i m
-            (slice_index (counts_of row.new)) }
-    {
-        if r == 0 {
-            row.clear();
-            return;
-        }
-        row.read(&self.counts, self.begin(r));
-    }
-
-    /// Puts into `row` the counts of what row `r` stands for, joined with what row `other` stands for.
-    fn begin_joined<P: ProgramView>(
-        &self,
+    /// The rows of a schedule in these columns, none of which is made yet.
+    pub(crate) fn new<P: ProgramView>(
+        alloc: Global,
         program: &P,
-        n: usize,
-        r: u32,
-        other: u32,
-        row: &mut Counts,
-    )
-        requires rows { AreRowsTo (P.program program.now) self.now n }
-        requires there { IsThere self.now.schedule.now n r }
-        requires other { IsThere self.now.schedule.now n other }
-        requires row { IsRowFor self.now row.old }
-        ensures row { IsRowFor self.now row.new }
-        ensures counts { (i m j l : ℕ)
-            → StandsThere (P.program program.now) self.now.schedule.now r i m
-            → StandsThere (P.program program.now) self.now.schedule.now other j l
-            → AreCountsOfTwo (P.program program.now) self.now.columns i m j l (counts_of row.new) }
+        schedule: &'a Schedule,
+        columns: Columns,
+    ) -> Result<SlotRows<'a>, OutOfMemory>
+        requires schedule { IsSchedule (P.program program.now) schedule.now }
+        requires columns { AreColumnsOf (P.program program.now) columns }
+        ensures schedule { IfOk result (λ m. m.schedule.now ≡ schedule.now) }
+        ensures columns { IfOk result (λ m. m.columns ≡ columns) }
+        ensures rows { IfOk result (λ m. AreRowsTo (P.program program.now) m 0) }
     {
-        if r == 0 || other == 0 {
-            self.begin_row(program, n, r, row);
-            self.join_row(program, n, other, row);
-            return;
-        }
-        row.read_joined(&self.counts, self.begin(r), self.begin(other));
+        // Of the program the contract alone speaks.
+        let _ = program;
+        let room = schedule.slots as usize * usize::from(columns.width);
+        Ok(SlotRows {
+            schedule,
+            columns,
+            counts: Counts::zeros(alloc, room, schedule.is_narrow)?,
+        })
     }
 
-    /// Joins what row `r` stands for into `row`.
-    pub(crate) fn join_row<P: ProgramView>(&self, program: &P, n: usize, r: u32, row: &mut Counts)
+    /// Makes the row of the join after n others, and keeps it.
+    pub(crate) fn make_row<P: ProgramView>(&mut self, program: &P, n: usize, row: &mut Counts)
+        requires range { AreInRange (P.program program.now) }
+        requires rows { AreRowsTo (P.program program.now) self.old n }
+        requires next { n < joins_in self.old.schedule.now }
+        requires row { IsRowFor self.old row.old }
+        ensures schedule { self.new.schedule ≡ self.old.schedule }
+        ensures columns { self.new.columns ≡ self.old.columns }
+        ensures row { IsRowFor self.new row.new }
+        ensures made { AreWhole (P.program program.now) self.old.columns
+            (next_action self.old.schedule.now n) (counts_of row.new) }
+        ensures rows { AreRowsTo (P.program program.now) self.new (n + 1) }
+    {
+        join_others(program, self, n, row);
+        raise_awaited(program, self, n, row);
+        self.keep_row(program, n, row);
+    }
+
+    /// Where the counts of what row `r` stands for begin.
+    fn begin<P: ProgramView>(&self, program: &P, n: usize, r: u32) -> usize
         requires rows { AreRowsTo (P.program program.now) self.now n }
         requires there { IsThere self.now.schedule.now n r }
-        requires row { IsRowFor self.now row.old }
-        ensures row { IsRowFor self.now row.new }
-        ensures joined { (i m : ℕ) → StandsThere (P.program program.now) self.now.schedule.now r i m
-            → AreJoinedWith (P.program program.now) self.now.columns i m
-            (counts_of row.old) (counts_of row.new) }
+        ensures within { result + self.now.columns.width ≤ length (counts_of self.now.counts) }
+        ensures counts { AreRowCounts (P.program program.now)
+            self.now.schedule.now self.now.columns r (count_from self.now.counts result) }
     {
-        if r == 0 {
-            return;
-        }
-        row.join(&self.counts, self.begin(r));
+        // Of the program, and of how many rows are made, the contract alone speaks.
+        let _ = program;
+        let _ = n;
+        let width = usize::from(self.columns.width);
+        self.schedule.outs[r as usize] as usize * width
     }
 
     /// Keeps the row that is made after n others.
@@ -332,7 +216,7 @@ impl<'a> SlotRows<'a> {
         ensures rows { AreRowsTo (P.program program.now) self.new (n + 1) }
     {
         let width = usize::from(self.columns.width);
-        let from = self.schedule.outs[n] as usize * width;
+        let from = self.schedule.outs[n + 1] as usize * width;
         self.counts.write(from, row);
     }
 }

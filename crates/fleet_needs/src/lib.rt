@@ -20,8 +20,8 @@
 //! `join_pass` makes the rows in that order, in the columns of one block, and keeps their counts slot by slot. A row is
 //! made in two steps: first of the rows of all that its action needs, and then, for each await, with the awaited
 //! action's own number. A row in its slot has 0 in the column of its own agent, so after the first step the count of
-//! each awaited agent is that of all needs but this await. What is done with a row is a `JoinUse`, which is shown the
-//! row after either step; there are three, in `questions`, `gather` and `implied`.
+//! each awaited agent is that of all needs but this await. Who uses the rows of a block goes over them in a loop of its
+//! own: `questions`, `gather` and, between the two steps, `implied`.
 //!
 //! `questions` answers questions for chains, agent by agent, in blocks of columns. Each question is listed by the row
 //! that stands for its last action, and answered when that row is made.

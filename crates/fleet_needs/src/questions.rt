@@ -1,6 +1,6 @@
 //! Questions for chains, answered agent by agent, by the rows of a block.
 
-ghost use Rattle.std.specs.Prelude.{◌≡◌, ◌≢◌, ◌+◌, ◌<◌, ◌≤◌, ℕ, length, slice_index, All, IfOk, None};
+ghost use Rattle.std.specs.Prelude.{◌≡◌, ◌≢◌, ◌+◌, ◌<◌, ◌≤◌, ℕ, length, slice_index, All, IfOk, OnOk, None};
 ghost use Rattle.fleet_model.specs.Program.{AreInRange};
 ghost use Rattle.fleet_needs.specs.Asked.{AreAnswersIn, AreAskedTo, IsQuestion};
 ghost use Rattle.fleet_needs.specs.Block.{IsAnswer, HasColumn};
@@ -13,7 +13,7 @@ ghost use Rattle.fleet_needs.specs.Joins.{AreOwn, AreStanding, joins_made};
 
 use crate::await_places::AwaitPlaces;
 use crate::counts::Counts;
-use crate::join_pass::{JoinRow, JoinUse, use_joins};
+use crate::join_pass::SlotRows;
 use crate::joins::Joins;
 use crate::level_order::OrderSource;
 use crate::schedule::{Blocks, Columns, Schedule};
@@ -71,11 +71,36 @@ fn answer_all<P: ProgramView>(
     let mut answering = answering;
     let mut blocks = Blocks::of(program, schedule, asked);
     while let Some(columns) = blocks.next_block(alloc)? {
-        let none = Counts::zeros(alloc, usize::from(columns.width), schedule.is_narrow)?;
-        answering.answer_row(program, schedule, &columns, &none, 0);
-        use_joins(alloc, program, schedule, columns, &mut answering)?;
+        answer_block(alloc, program, schedule, columns, &mut answering)?;
     }
     Ok(answering.flags)
+}
+
+/// Answers the questions whose first agents have a column, row by row.
+fn answer_block<P: ProgramView>(
+    alloc: Global,
+    program: &P,
+    schedule: &Schedule,
+    columns: Columns,
+    answering: &mut Answering<'_>,
+) -> Result<(), OutOfMemory>
+    requires range { AreInRange (P.program program.now) }
+    requires schedule { IsSchedule (P.program program.now) schedule.now }
+    requires columns { AreColumnsOf (P.program program.now) columns }
+    requires answers { IsAnswering (P.program program.now) schedule.now columns 0 answering.old }
+    ensures answers { OnOk result (IsAnswering (P.program program.now)
+        schedule.now columns (joins_in schedule.now + 1) answering.new) }
+    ensures keeps { OnOk result (AreOthersLeft
+        (P.program program.now) columns answering.old answering.new) }
+{
+    let mut row = Counts::zeros(alloc, usize::from(columns.width), schedule.is_narrow)?;
+    answering.answer_row(program, schedule, &columns, &row, 0);
+    let mut rows = SlotRows::new(alloc, program, schedule, columns)?;
+    for n in 0..schedule.joins.len() {
+        rows.make_row(program, n, &mut row);
+        answering.answer_row(program, schedule, &rows.columns, &row, n + 1);
+    }
+    Ok(())
 }
 
 /// Flags the agents whose columns are asked for.
@@ -140,29 +165,6 @@ impl<'a> ListedQuestions<'a> {
 pub(crate) struct Answering<'a> {
     listed: &'a ListedQuestions<'a>,
     flags: Vec<bool>,
-}
-
-impl<'a> JoinUse for Answering<'a> {
-    ghost use Rattle.std.proofs.Common.{◌+◌};
-    ghost use Rattle.fleet_needs.specs.Answering.{IsAnswering, AreOthersLeft, others_same, others_joined};
-
-    ghost used = { λ p s columns n. IsAnswering p s columns (n + 1) };
-
-    ghost seen = { λ p s columns n. IsAnswering p s columns (n + 1) };
-
-    ghost keeps = { AreOthersLeft };
-
-    /// The whole row alone is used.
-    fn see_others<P: ProgramView>(&mut self, _: &P, _: &JoinRow) {}
-
-    fn use_row<P: ProgramView>(&mut self, program: &P, row: &JoinRow) -> Result<(), OutOfMemory> {
-        self.answer_row(program, row.schedule, row.columns, row.counts, row.n + 1);
-        Ok(())
-    }
-
-    ghost same = { others_same };
-
-    ghost joined = { others_joined };
 }
 
 impl<'a> Answering<'a> {

@@ -7,14 +7,13 @@ ghost use Rattle.fleet_model.specs.Program.{AreInRange, moves};
 ghost use Rattle.fleet_model.specs.Chain.{IsAction};
 ghost use Rattle.fleet_needs.specs.Asked.{IsQuestion};
 ghost use Rattle.fleet_needs.specs.Joins.{AreAllJoins, HasRowOr, join_at, joins_made, rows_made};
-ghost use Rattle.fleet_needs.specs.Flags.{AreSureIf, IsPassed};
+ghost use Rattle.fleet_needs.specs.Flags.{AreSet, AreSure};
 ghost use Rattle.fleet_needs.specs.Order.{IsLevelOrder};
 ghost use Rattle.fleet_needs.specs.Answering.{AreListed};
 ghost use Rattle.fleet_needs.specs.Schedule.{IsSchedule, IsNextJoin, IsNextNeed, joins_of, joins_in, next_action};
 ghost use Rattle.fleet_needs.specs.Slots.{AreSlotted, HasSlotNow, IsFree, IsHeld, TakesIn, rows_in};
 ghost use Rattle.fleet_needs.specs.Columns.{AreColumns, IsNextBlock, agents_in, column_of};
 
-use crate::implied::ImpliedAwaits;
 use crate::joins::{Join, Joins, Need, joins_of, need_of};
 use crate::level_order::LevelOrder;
 use crate::questions::{ListedQuestions, Question};
@@ -37,7 +36,7 @@ pub struct Schedule {
     pub(crate) joins: Vec<Join>,
     /// For each await of the joins what it needs.
     pub(crate) needs: Vec<Need>,
-    /// For each row, from row 1 on, its slot.
+    /// For each row, from row 0 on, its slot.
     pub(crate) outs: Vec<u32>,
     /// How many slots there are.
     pub(crate) slots: u32,
@@ -46,18 +45,19 @@ pub struct Schedule {
 }
 
 impl Schedule {
-    /// The schedule of a program, in which an action of one await alone has no row if that is known to be implied.
+    /// The schedule of a program, in which an action of one await alone has no row if that is known to be implied:
+    /// `implied` has flags of awaits, some of those that others imply, by their places, or none.
     pub(crate) fn of<P: ProgramView>(
         alloc: Global,
         program: &P,
         order: &LevelOrder,
-        implied: Option<&ImpliedAwaits>,
+        implied: &[bool],
     ) -> Result<Schedule, OutOfMemory>
         requires range { AreInRange (P.program program.now) }
         requires order { IsLevelOrder (P.program program.now) order.now }
-        requires sure { AreSureIf (P.program program.now) implied }
+        requires sure { AreSure (P.program program.now) implied.now }
         ensures schedule { IfOk result (IsSchedule (P.program program.now)) }
-        ensures passed { IfOk result (λ s. HasRowOr (IsPassed (P.program program.now) implied.entry)
+        ensures passed { IfOk result (λ s. HasRowOr (AreSet (P.program program.now) implied.now)
             (P.program program.now) (joins_of s) (IsAction (P.program program.now))) }
     {
         let joins = joins_of(alloc, program, order, implied)?;
@@ -80,7 +80,7 @@ impl Schedule {
         ensures listed { IfOk result (λ made.
             AreListed (P.program program.now) (joins_of made.0) made.1) }
     {
-        let joins = joins_of(alloc, program, &order, None)?;
+        let joins = joins_of(alloc, program, &order, &[])?;
         let listed = ListedQuestions::of(alloc, program, &order.places, &joins, questions)?;
         // The slots need its room.
         drop(order);
@@ -170,10 +170,10 @@ fn is_narrow<P: ProgramView>(program: &P) -> bool
 /// has no slot yet when another takes it is taken there for the last time.
 #[derive(Drop)]
 pub(crate) struct Slots {
-    /// For each row, from row 1 on, its slot, once it has one.
+    /// For each row, from row 0 on, its slot, once it has one.
     pub(crate) outs: Vec<u32>,
-    /// For each slot, the row that has it, or 0.
-    pub(crate) owners: Vec<u32>,
+    /// For each slot, the row that has it.
+    pub(crate) owners: Vec<Option<u32>>,
     /// Slots that are free.
     free: Vec<u32>,
 }
@@ -181,21 +181,23 @@ pub(crate) struct Slots {
 /// The slots of all rows.
 fn slots_of<P: ProgramView>(alloc: Global, program: &P, joins: &Joins) -> Result<Slots, OutOfMemory>
     requires { AreAllJoins (P.program program.now) joins.now }
-    ensures all { IfOk result (λ m. rows_in m ≡ rows_made joins.now) }
+    ensures all { IfOk result (λ m. rows_in m ≡ rows_made joins.now + 1) }
     ensures slotted { IfOk result (AreSlotted (TakesIn (P.program program.now) joins.now) 0 0) }
+    ensures none { IfOk result (λ m. HasSlotNow m 0) }
 {
     let rows = joins.joins.len();
     if rows > u32::MAX as usize {
         return Err(OutOfMemory);
     }
     let mut slots = Slots {
-        outs: vec![in alloc; 0; rows]?,
+        outs: vec![in alloc; 0; rows + 1]?,
         owners: Vec::new(alloc),
         free: Vec::new(alloc),
     };
     for n in (0..rows).rev() {
         slots.settle(program, joins, n, &joins.joins[n])?;
     }
+    slots.hold(0)?;
     Ok(slots)
 }
 
@@ -213,7 +215,7 @@ impl Slots {
         requires within { n < rows_made joins.now }
         requires join { join.now ≡ join_at joins.now.joins.items n }
         requires few { rows_made joins.now ≤ u32.MAX }
-        requires rows { rows_in self.old ≡ rows_made joins.now }
+        requires rows { rows_in self.old ≡ rows_made joins.now + 1 }
         requires slotted { AreSlotted (TakesIn (P.program program.now) joins.now)
             (n + 1) (n + 1) self.old }
         ensures rows { OnOk result (rows_in self.new ≡ rows_in self.old) }
@@ -223,8 +225,8 @@ impl Slots {
         // Of the program the contract alone speaks.
         let _ = program;
         self.hold(n as u32 + 1)?;
-        let slot = self.outs[n];
-        self.owners[slot as usize] = 0;
+        let slot = self.outs[n + 1];
+        self.owners[slot as usize] = None;
         self.free.push(slot)?;
         self.hold(join.base)?;
         for k in 0..join.count {
@@ -234,28 +236,27 @@ impl Slots {
         Ok(())
     }
 
-    /// Gives a slot to a row, if it has none: a free one, or a new one if none is left. Row 0 gets none.
+    /// Gives a slot to a row, if it has none: a free one, or a new one if none is left.
     fn hold(&mut self, row: u32) -> Result<(), OutOfMemory>
-        requires { row ≤ rows_in self.old }
+        requires { row < rows_in self.old }
         ensures { OnOk result (IsHeld row self.old self.new) }
     {
-        if row == 0 || self.is_held(row) {
+        if self.is_held(row) {
             return Ok(());
         }
         let slot = self.take_free()?;
-        self.owners[slot as usize] = row;
-        self.outs[row as usize - 1] = slot;
+        self.owners[slot as usize] = Some(row);
+        self.outs[row as usize] = slot;
         Ok(())
     }
 
     /// Whether the row has a slot.
     fn is_held(&self, row: u32) -> bool
-        requires some { 1 ≤ row }
-        requires within { row ≤ rows_in self.now }
+        requires { row < rows_in self.now }
         ensures { (result ≡ true) ↔ HasSlotNow self.now row }
     {
-        let slot = self.outs[row as usize - 1] as usize;
-        slot < self.owners.len() && self.owners[slot] == row
+        let slot = self.outs[row as usize] as usize;
+        slot < self.owners.len() && self.owners[slot] == Some(row)
     }
 
     /// A slot that no row has, which is new if no free one is left.
@@ -264,7 +265,7 @@ impl Slots {
         ensures free { IfOk result (λ slot. IsFree slot self.old self.new) }
     {
         if let Some(slot) = self.free.pop() {
-            if (slot as usize) < self.owners.len() && self.owners[slot as usize] == 0 {
+            if (slot as usize) < self.owners.len() && self.owners[slot as usize].is_none() {
                 return Ok(slot);
             }
         }
@@ -272,7 +273,7 @@ impl Slots {
         if slot > u32::MAX as usize {
             return Err(OutOfMemory);
         }
-        self.owners.push(0)?;
+        self.owners.push(None)?;
         Ok(slot as u32)
     }
 }

@@ -1,4 +1,4 @@
-use Rattle.fleet_needs.proofs.Words.{ap, arith, length, length-replicate, ℕ}
+use Rattle.fleet_needs.proofs.Words.{arith}
 use Rattle.fleet_needs.proofs.Walking.{walk_begins}
 use Rattle.fleet_needs.proofs.cost_walk.begin.Goals as goal
 

@@ -1,4 +1,5 @@
-use Rattle.fleet_needs.proofs.Words.{◌∙◌, Bool, false, List, get_or, sym, subst, ap, flags_of, AreSettled}
+use Rattle.fleet_needs.proofs.Words.{◌∙◌, Bool, false, List, get_or, sym, subst, ap, flags_of, AreSettled, AreSet, AreSure, HasRowOr, IsAction}
+use Rattle.fleet_needs.specs.Schedule.{joins_of}
 use Rattle.fleet_needs.proofs.Flagged.{flagged_if_none, sure_of}
 use Rattle.fleet_needs.proofs.implied.implied_awaits.Goals as goal
 
@@ -10,11 +11,15 @@ returns-then-not-is_any g c = record {
 }
 
 pub of-requires-2-clause-sure : goal.of-requires-2-clause-sure
-of-requires-2-clause-sure g c = record {
-  flags = c.in_ok-asked.ensures.flags;
-  sure = sure_of (g.P.ProgramView.program c.args.program.now) c.in_ok-asked.asked.items _ c.in_ok-asked.ensures.asked.settled;
-}
+of-requires-2-clause-sure g c =
+    let p = g.P.ProgramView.program c.args.program.now in
+    subst (AreSure p) (sym c.deref-2.ensures.value) (sure_of p c.in_ok-asked.asked.items _ c.in_ok-asked.ensures.asked.settled)
 
 pub flag_all-requires-clause-settled : goal.flag_all-requires-clause-settled
 flag_all-requires-clause-settled g c =
-    subst (λ (xs : List Bool). AreSettled (g.P.ProgramView.program c.args.program.now) xs (flags_of c.settle_all.new.implied)) (sym c.deref-2.ensures.value) c.in_ok-asked.ensures.asked.settled
+    subst (λ (xs : List Bool). AreSettled (g.P.ProgramView.program c.args.program.now) xs (flags_of c.settle_all.new.implied)) (sym c.deref-3.ensures.value) c.in_ok-asked.ensures.asked.settled
+
+pub flag_all-requires-clause-passed : goal.flag_all-requires-clause-passed
+flag_all-requires-clause-passed g c =
+    let p = g.P.ProgramView.program c.args.program.now in
+    subst (λ (xs : List Bool). HasRowOr (AreSet p xs) p (joins_of c.in_ok-schedule.schedule) (IsAction p)) c.deref-2.ensures.value c.in_ok-schedule.ensures.passed

@@ -1,12 +1,13 @@
-use Rattle.fleet_needs.proofs.Words.{◌≡◌, ◌+◌, ℕ, false, true, get_or, ap, subst, ◌∙◌, sym, arith, Bor, same_Some, flags_of, first_await, action_of, ImpliedAwaits}
+use Rattle.fleet_needs.proofs.Words.{◌∙◌, ℕ, false, get_or, ap, sym, arith, false≢true, ltb-true, get_or_past}
 use Rattle.fleet_needs.proofs.joins.is_left_out.Goals as goal
 
-pub returns-then-item-eq1 : goal.returns-then-item-eq1
-returns-then-item-eq1 g c =
-    let first = first_await (g.P.ProgramView.program c.args.program.now) (action_of c.args.item.now) in
-    let m = c.in-Some.implied in
-    let e : first ≡ first + 0 = omega arith in
-    let there : get_or (flags_of m.now) first false ≡ c.is_set.result = ap (λ (n : ℕ). get_or (flags_of m.now) n false) e ∙ sym c.is_set.ensures in (
-      (λ set. (omega (arith, c.if-item-eq1.true, c.requires.item.awaits), record { of = m; some = c.in-Some.is; set = there ∙ set })),
-      (λ is. sym there ∙ subst (λ (x : Bor ImpliedAwaits). get_or (flags_of x.now) first false ≡ true) (same_Some is.1.of m (sym is.1.some ∙ c.in-Some.is)) is.1.set),
-    )
+pub returns-then-place-implied : goal.returns-then-place-implied
+returns-then-place-implied g c =
+    let same = ap (λ (n : ℕ). get_or c.args.implied.now n false) c.first-place.ensures.place in
+    ((λ set. (omega (arith, c.if-item-ne1.false, c.requires.item.awaits), sym same ∙ set)), (λ is. same ∙ is.1))
+
+pub returns-else-place-implied : goal.returns-else-place-implied
+returns-else-place-implied g c =
+    let past = c.if-place-implied.false in
+    let same = ap (λ (n : ℕ). get_or c.args.implied.now n false) c.first-place.ensures.place in
+    ((λ low. absurd (let l = ltb-true _ _ low in omega (arith, l, past))), (λ is. absurd (false≢true (sym (get_or_past c.args.implied.now _ false past) ∙ same ∙ is.1))))

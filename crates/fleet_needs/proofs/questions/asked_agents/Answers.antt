@@ -1,4 +1,4 @@
-use Rattle.fleet_needs.proofs.Words.{◌≡◌, ℕ, ◌+◌, ◌<◌, Bool, true, false, List, length, get_or, set, sym, subst, ap, ◌∙◌, arith, inl, inr, slice_get, Some, cases_eq, length-set, get_or-set_same, get_or-set_other, get_or_from_slice_get, Question}
+use Rattle.fleet_needs.proofs.Words.{ℕ, ◌<◌, Bool, true, false, List, length, get_or, set, sym, ap, ◌∙◌, arith, inl, inr, cases_eq, length-set, get_or-set_same, get_or-set_other, get_or_from_slice_get, Question}
 use Rattle.fleet_needs.proofs.Answered.{no_question}
 use Rattle.fleet_needs.proofs.questions.asked_agents.Goals as goal
 

@@ -9,10 +9,10 @@ write-requires-clause-within g c =
     let m = c.args.self.now in
     let w : ℕ = m.columns.width in
     let outs : List ℕ = m.schedule.now.outs.items in
-    let within : c.args.n < length outs = omega (arith, c.requires.next, c.requires.rows.schedule.all) in
-    let slot : ℕ = slice_index outs c.args.n in
-    let read : c.index.result.now ≡ slot = count_read outs c.args.n c.args.n c.index.result.now refl within c.index.ensures in
-    let ends : slot * w + w ≤ m.schedule.now.slots * w = row_ends w slot m.schedule.now.slots (c.requires.rows.schedule.within c.args.n within) in
+    let within : c.args.n + 1 < length outs = omega (arith, c.requires.next, c.requires.rows.schedule.all) in
+    let slot : ℕ = slice_index outs (c.args.n + 1) in
+    let read : c.index.result.now ≡ slot = count_read outs (c.args.n + 1) (c.args.n + 1) c.index.result.now refl within c.index.ensures in
+    let ends : slot * w + w ≤ m.schedule.now.slots * w = row_ends w slot m.schedule.now.slots (c.requires.rows.schedule.within (c.args.n + 1) (omega (arith, c.requires.next))) in
     let from : c.index.result.now * c.from-width.result ≡ slot * w = ap (λ (x : ℕ). x * c.from-width.result) read ∙ ap (λ (x : ℕ). slot * x) c.from-width.ensures in
     omega (arith, ends, from, c.requires.row.width, c.requires.rows.room)
 
@@ -22,9 +22,9 @@ returns-clause-rows g c =
     let m = c.args.self.now in
     let w : ℕ = m.columns.width in
     let outs : List ℕ = m.schedule.now.outs.items in
-    let within : c.args.n < length outs = omega (arith, c.requires.next, c.requires.rows.schedule.all) in
-    let slot : ℕ = slice_index outs c.args.n in
-    let read : c.index.result.now ≡ slot = count_read outs c.args.n c.args.n c.index.result.now refl within c.index.ensures in
+    let within : c.args.n + 1 < length outs = omega (arith, c.requires.next, c.requires.rows.schedule.all) in
+    let slot : ℕ = slice_index outs (c.args.n + 1) in
+    let read : c.index.result.now ≡ slot = count_read outs (c.args.n + 1) (c.args.n + 1) c.index.result.now refl within c.index.ensures in
     let from : c.index.result.now * c.from-width.result ≡ slot * w = ap (λ (x : ℕ). x * c.from-width.result) read ∙ ap (λ (x : ℕ). slot * x) c.from-width.ensures in
     rows_more p _ c.args.n (λ t k. slice_index (counts_of m.counts) (t * w + k)) (counts_of c.args.row.now) c.requires.rows.schedule c.requires.rows.columns
     (c.write.ensures.alike.all ∙ c.requires.rows.room)

@@ -8,7 +8,7 @@ loop-k-init g c =
     let p = g.P.ProgramView.program c.args.program.now in
     let m = c.args.joins.now in
     let mid = c.hold.new.self in
-    let read = count_read mid.outs.items c.args.n c.args.n c.index-slot.result.now refl (omega (arith, c.requires.within, c.requires.rows, c.in_ok-hold.ensures.rows)) c.index-slot.ensures in
+    let read = count_read mid.outs.items (c.args.n + 1) (c.args.n + 1) c.index-slot.result.now refl (omega (arith, c.requires.within, c.requires.rows, c.in_ok-hold.ensures.rows)) c.index-slot.ensures in
     let ended = row_ended (TakesIn p m) c.args.n c.args.self.now mid c.in_ok-hold.ensures c.push.new.self c.index-slot.result.now read c.requires.slotted in
     record {
       rows = c.in_ok-hold-2.ensures.rows ∙ c.in_ok-hold.ensures.rows;
@@ -31,12 +31,12 @@ loop-k-preserved g c =
     record {
       rows = h.rows ∙ was.rows;
       slotted = held_on (TakesIn p m) (c.args.n + 1) c.args.n c.need_of-need.result.row c.loop-k.self new (omega (arith, row, low)) h was.slotted;
-      base = λ some. (h.kept j.base some (was.base some)).0;
-      each = λ i l some. elim (cases_lt i k) [
-        | inl less ↦ (h.kept (row_taken m.needs.items j i) some (was.each i less some)).0
+      base = (h.kept j.base was.base).0;
+      each = λ i l. elim (cases_lt i k) [
+        | inl less ↦ (h.kept (row_taken m.needs.items j i) (was.each i less)).0
         | inr more ↦
             let e : c.need_of-need.result.row ≡ row_taken m.needs.items j i = row ∙ ap (row_taken m.needs.items j) (let e : k ≡ i = omega (arith, l, more) in e) in
-            subst (HasSlotNow new) e (h.here (omega (arith, e, some)))
+            subst (HasSlotNow new) e h.here
       ];
     }
 

@@ -1,4 +1,4 @@
-use Rattle.fleet_verify.proofs.Words.{is_passable, ℕ, List, ◌∙◌, ap, arith, refl, inl, inr, Runner, climbed_in, count_in}
+use Rattle.fleet_verify.proofs.Words.{is_passable, ℕ, List, ◌∙◌, ap, arith, refl, inl, inr, err_from_is_err_and, Runner, climbed_in, count_in}
 use Rattle.fleet_verify.proofs.Climbing.{runner_begins, runner_count, runner_within, kept_back, runner_there}
 use Rattle.fleet_verify.proofs.FewerLeft.{ran_on, has_run}
 use Rattle.fleet_verify.proofs.ahead.run_agent.Goals as goal
@@ -61,3 +61,8 @@ pub returns-clause-ahead : goal.returns-clause-ahead
 returns-clause-ahead g c =
     let made = c.stop_at-2.ensures in
     rw (made.rows, made.cells, made.last, made.pairs) c.loop-runner.invariant.runner.ahead
+
+pub returns-in_err-runner-in-Ok : goal.returns-in_err-runner-in-Ok
+returns-in_err-runner-in-Ok g c =
+    let e = err_from_is_err_and c.from_residual.result c.from_residual.ensures.1 in
+    rw (e.1, e.2) (record { ahead = tt; waits = tt; stopped = tt; run_on = tt; stop = c.in_err-runner-in-Ok.ensures.stop })

@@ -1,4 +1,4 @@
-use Rattle.fleet_verify.proofs.Words.{◌∙◌, inl, inr, arith}
+use Rattle.fleet_verify.proofs.Words.{◌∙◌, inl, inr, arith, err_from_is_err_and}
 use Rattle.fleet_verify.proofs.Climbing.{runner_within}
 use Rattle.fleet_verify.proofs.ahead.run_bare.Goals as goal
 
@@ -21,3 +21,8 @@ returns-clause-rest g c = inl (omega (arith, c.loop-runner-test.false, c.moves-m
 
 pub returns-in_default-clause-rest : goal.returns-in_default-clause-rest
 returns-in_default-clause-rest g c = inr (inl c.in_default.ensures.none)
+
+pub returns-in_err-runner : goal.returns-in_err-runner
+returns-in_err-runner g c =
+    let e = err_from_is_err_and c.from_residual.result c.from_residual.ensures.1 in
+    rw (e.1, e.2) (record { runner = tt; finished = tt; rest = tt; others = tt; stop = c.in_err-runner.ensures.stop })

@@ -1,5 +1,5 @@
 use Rattle.std.proofs.Common.{get_or}
-use Rattle.fleet_verify.proofs.Asked.{asked_again, asked_apart, known_asked, chained_later}
+use Rattle.fleet_verify.proofs.Asked.{asked_again, asked_apart, known_asked, known_none, chained_later}
 use Rattle.fleet_verify.proofs.LevelOrder.{has_levels}
 use Rattle.fleet_verify.proofs.chained.unless_chained.Goals as goal
 
@@ -28,3 +28,6 @@ returns-in-Some-clause-chained g c = c.answer_asked.ensures.chained
 
 pub returns-in-Some-clause-unchained : goal.returns-in-Some-clause-unchained
 returns-in-Some-clause-unchained g c = c.answer_asked.ensures.unchained
+
+pub returns-in-None-clause-known : goal.returns-in-None-clause-known
+returns-in-None-clause-known g c = known_none (g.P.ProgramView.program c.args.program.now) c.none.result c.none.ensures.questions c.none.ensures.flags

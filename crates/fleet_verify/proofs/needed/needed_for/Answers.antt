@@ -18,3 +18,9 @@ close-requires g c = record {
   none_needed = λ j. ap (λ (xs : List ℕ). slice_index xs j) c.deref_mut.ensures.value ∙ c.in_ok-needed.ensures.zero j;
   none_looked = λ j. ap (λ (xs : List ℕ). slice_index xs j) c.deref_mut-2.ensures.value ∙ c.in_ok-looked.ensures.zero j;
 }
+
+pub returns-clause-all : goal.returns-clause-all
+returns-clause-all g c =
+    let long : length c.close.new.needed ≡ c.in_ok-needed.needed.len = omega (arith, c.close.auto.needed, c.deref_mut.ensures.len) in
+    let wide = ap length c.deref_mut.ensures.value ∙ (c.in_ok-needed.ensures.all ∙ c.agents.ensures.count) in
+    ap (λ (xs : List ℕ). length xs) (written_back c.in_ok-needed.needed.len c.close.new.needed c.in_ok-needed.needed.items long) ∙ (c.close.auto.needed ∙ wide)

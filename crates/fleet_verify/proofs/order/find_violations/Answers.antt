@@ -36,3 +36,8 @@ returns g c =
 
 pub to-requires-clause-source : goal.to-requires-clause-source
 to-requires-clause-source g c = finish_numbers (g.P.ProgramView.program c.args.program.now) c.requires.range c.args.ticks c.requires.finish
+
+pub first_flagged-requires-2 : goal.first_flagged-requires-2
+first_flagged-requires-2 g c =
+    let asked = c.in_ok-asked.ensures in
+    ap (λ (fs : List Bool). length fs) c.deref-2.ensures.value ∙ (asked.answers.all ∙ (ap (λ (qs : List Question). length qs) (asked.questions ∙ c.in_ok-questions.ensures) ∙ length-map c.args.pairs.now (question_of (g.P.ProgramView.program c.args.program.now))))

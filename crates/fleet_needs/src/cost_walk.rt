@@ -156,27 +156,35 @@ fn next_stage<P: ProgramView, C: ActionCosts>(
         b.stage.met b.awaited) }
 {
     let _ = program.agents();
-    let mut stage = walk.stage(agent);
+    let stage = walk.stage(agent);
+    let finished = stage.finished;
+    let mut at = stage.at;
+    let mut greatest = stage.greatest;
     for k in stage.met..MOST_INSTRUCTIONS {
-        let reading = program.read(agent, stage.finished, k, stage.at);
+        let reading = program.read(agent, finished, k, at);
         match reading.instruction {
             Instruction::Await(awaited) => {
                 if walk.is_open(awaited) {
+                    let met = k;
+                    let stage = Stage {
+                        finished,
+                        met,
+                        at,
+                        greatest,
+                    };
                     return Err(Block { stage, awaited });
                 }
-                stage = Stage {
-                    finished: stage.finished,
-                    met: k + 1,
-                    at: reading.after,
-                    greatest: stage.greatest.max(walk.cost(program, awaited)),
-                };
+                at = reading.after;
+                greatest = greatest.max(walk.cost(program, awaited));
             }
             Instruction::Step(_) => {
+                let finished = finished + 1;
+                let at = reading.after;
                 return Ok(Stage {
-                    finished: stage.finished + 1,
+                    finished,
                     met: 0,
-                    at: reading.after,
-                    greatest: stage.greatest,
+                    at,
+                    greatest,
                 });
             }
         }

@@ -1,6 +1,6 @@
 -- The counts of rows that are made of rows in their slots.
-use Rattle.fleet_needs.proofs.Words.{◌≡◌, ◌≢◌, ℕ, ◌+◌, ◌-◌, ◌*◌, ◌<◌, ◌≤◌, List, length, max, slice_index, refl, sym, ap, subst, ◌∙◌, arith, inl, inr, ◌⊎◌, slice_get, Some, cases_lt, cases_eq, ActionId, Await, Program, AreInRange, awaits_of, moves, IsAction, awaited, HasColumn, counts_of, are_narrow, CanHold, AreAlike, Reaches, IsColumn, IsJoined, ByBeforeOr, OfOthers, action_before, Columns, JoinRow, SlotRows, Schedule, IsJoinRow, IsMade, Counts, AreQuiet, IsRow, join_at, need_of, row_taken, IsJoin, AreOwn, Need, joins_in, next_action, IsSchedule, AreColumnsOf, AreCounts, AreRowsTo, IsRowFor, IsThere, StandsThere, IsNextJoin, IsNextNeed, AreRowCounts, count_in_slot, slot_of, IsStill, Join}
-use Rattle.fleet_needs.proofs.Placed.{row_ends}
+use Rattle.fleet_needs.proofs.Words.{◌≡◌, ◌≢◌, ℕ, ◌+◌, ◌-◌, ◌*◌, ◌<◌, ◌≤◌, List, length, max, slice_index, refl, sym, ap, subst, ◌∙◌, arith, inl, inr, ◌⊎◌, slice_get, Some, cases_lt, cases_eq, ActionId, Await, Program, AreInRange, awaits_of, moves, IsAction, awaited, HasColumn, counts_of, are_narrow, CanHold, AreAlike, Reaches, IsColumn, IsJoined, ByBeforeOr, OfOthers, action_before, Columns, JoinRow, SlotRows, Schedule, IsJoinRow, IsMade, Counts, AreQuiet, IsRow, join_at, need_of, row_taken, IsJoin, AreOwn, Need, joins_in, next_action, IsSchedule, AreColumnsOf, AreCounts, AreRowsTo, IsRowFor, IsThere, StandsThere, IsNextJoin, IsNextNeed, AreRowCounts, count_from, count_in_slot, slot_of, Join}
+use Rattle.fleet_needs.proofs.Placed.{outside}
 use Rattle.fleet_needs.proofs.Joining.{quiet_on, column_stays, column_none, IsOwnTo, some_first, some_more, some_same, part_all, own_column, awaited_action}
 
 -- ---- actions that add no chain
@@ -43,11 +43,9 @@ made_counts p schedule columns n count made i b s =
     let e : n ≡ n + 1 - 1 = omega arith in
     counts_row p schedule columns (n + 1) i b s (omega arith) count (subst (λ (x : ℕ). AreCounts p columns (next_action schedule x).agent (next_action schedule x).number count) e made)
 
--- where they stand there is room for a whole row
-pub slot_room : (p : Program) (m : SlotRows) (n : ℕ) → AreRowsTo p m n → (r : ℕ) → IsThere m.schedule.now n r → slot_of m.schedule.now r * m.columns.width + m.columns.width ≤ length (counts_of m.counts)
-slot_room p m n rows r there =
-    let ends = row_ends m.columns.width (slot_of m.schedule.now r) m.schedule.now.slots (rows.schedule.within r (omega (arith, there.made, there.within))) in
-    omega (arith, ends, rows.room)
+-- the counts in the slot of a row that is still there, from this place on
+pub counts_at : (p : Program) (m : SlotRows) (n : ℕ) → AreRowsTo p m n → (r place : ℕ) → IsThere m.schedule.now n r → place ≡ slot_of m.schedule.now r * m.columns.width → (i b : ℕ) → StandsThere p m.schedule.now r i b → AreCounts p m.columns i b (count_from m.counts place)
+counts_at p m n rows r place there is i b s = subst (λ (x : ℕ). AreCounts p m.columns i b (count_from m.counts x)) (sym is) (rows.right r there.made there.still i b s)
 
 -- no row is made, and all counts are zeros
 pub rows_none : (p : Program) (m : SlotRows) → IsSchedule p m.schedule.now → AreColumnsOf p m.columns → length (counts_of m.counts) ≡ m.schedule.now.slots * m.columns.width → are_narrow m.counts ≡ m.schedule.now.is_narrow
@@ -190,24 +188,33 @@ row_alike m old new alike fits = record { width = alike.all ∙ fits.width; narr
 
 -- ---- one row more in its slot
 
-module _ (p : Program) (new : SlotRows) (n : ℕ) (was : ℕ → ℕ → ℕ) (row : List ℕ) (schedule : IsSchedule p new.schedule.now) (columns : AreColumnsOf p new.columns)
-    (room : length (counts_of new.counts) ≡ new.schedule.now.slots * new.columns.width) (narrow : are_narrow new.counts ≡ new.schedule.now.is_narrow)
-    (right : (r : ℕ) → r ≤ n → IsStill new.schedule.now.outs.items r n → AreRowCounts p new.schedule.now new.columns r (was (slot_of new.schedule.now r)))
-    (others : (t k : ℕ) → t ≢ slot_of new.schedule.now (n + 1) → k < new.columns.width → slice_index (counts_of new.counts) (t * new.columns.width + k) ≡ was t k)
-    (here : (j k : ℕ) → HasColumn new.columns j k → count_in_slot new (n + 1) k ≡ slice_index row k)
-    (made : AreCounts p new.columns (next_action new.schedule.now n).agent (next_action new.schedule.now n).number (slice_index row)) where
-  newest_right : AreRowCounts p new.schedule.now new.columns (n + 1) (count_in_slot new (n + 1))
-  newest_right i b s = counts_same p new.columns i b (slice_index row) (count_in_slot new (n + 1)) here (made_counts p new.schedule.now new.columns n (slice_index row) made i b s)
+module _ (p : Program) (old : SlotRows) (n place : ℕ) (counts : Counts) (row : List ℕ) (rows : AreRowsTo p old n) (at : place ≡ slot_of old.schedule.now (n + 1) * old.columns.width) (width : length row ≡ old.columns.width)
+    (alike : AreAlike old.counts counts) (put : (k : ℕ) → k < length row → slice_index (counts_of counts) (place + k) ≡ slice_index row k) (before : (k : ℕ) → k < place → slice_index (counts_of counts) k ≡ slice_index (counts_of old.counts) k)
+    (after : (k : ℕ) → place + length row ≤ k → slice_index (counts_of counts) k ≡ slice_index (counts_of old.counts) k)
+    (made : AreCounts p old.columns (next_action old.schedule.now n).agent (next_action old.schedule.now n).number (slice_index row)) where
+  abbrev new : SlotRows
+  new = record { schedule = old.schedule; columns = old.columns; counts = counts }
+
+  newest : AreRowCounts p old.schedule.now old.columns (n + 1) (count_in_slot new (n + 1))
+  newest i b s =
+      counts_same p old.columns i b (slice_index row) (count_in_slot new (n + 1)) (λ j k has. ap (λ (x : ℕ). count_from counts x k) (sym at) ∙ put k (let l = rows.columns.within j k has in omega (arith, l, width)))
+      (made_counts p old.schedule.now old.columns n (slice_index row) made i b s)
+
+  kept : (r : ℕ) → slot_of old.schedule.now r ≢ slot_of old.schedule.now (n + 1) → (k : ℕ) → k < old.columns.width → count_in_slot new r k ≡ count_in_slot old r k
+  kept r ne k l = elim (outside old.columns.width (slot_of old.schedule.now r) (slot_of old.schedule.now (n + 1)) k ne l) [
+    | inl below ↦ before _ (omega (arith, at, below))
+    | inr above ↦ after _ (omega (arith, at, above, width))
+  ]
 
   pub rows_more : AreRowsTo p new (n + 1)
   rows_more = record {
-    schedule = schedule;
-    columns = columns;
-    room = room;
-    narrow = narrow;
+    schedule = rows.schedule;
+    columns = rows.columns;
+    room = alike.all ∙ rows.room;
+    narrow = alike.narrow ∙ rows.narrow;
     right = λ r upto still. elim (cases_lt n r) [
-      | inl newest ↦ (let e : n + 1 ≡ r = omega arith in subst (λ (x : ℕ). AreRowCounts p new.schedule.now new.columns x (count_in_slot new x)) e newest_right)
-      | inr old ↦ λ i b s. counts_same p new.columns i b (was (slot_of new.schedule.now r)) (count_in_slot new r) (λ j k has. others (slot_of new.schedule.now r) k (λ e. still (n + 1) (omega arith) (omega arith) (sym e)) (columns.within j k has))
-          (right r old (λ m from l. still m from (omega arith)) i b s)
+      | inl last ↦ (let e : n + 1 ≡ r = omega arith in subst (λ (x : ℕ). AreRowCounts p old.schedule.now old.columns x (count_in_slot new x)) e newest)
+      | inr sooner ↦ λ i b s. counts_same p old.columns i b (count_in_slot old r) (count_in_slot new r) (λ j k has. kept r (λ e. still (n + 1) (omega arith) (omega arith) (sym e)) k (rows.columns.within j k has))
+          (rows.right r sooner (λ m from l. still m from (omega arith)) i b s)
     ];
   }

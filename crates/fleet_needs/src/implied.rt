@@ -16,7 +16,7 @@ ghost use Rattle.fleet_needs.specs.JoinPass.{IsJoinRow, HasOthers};
 use crate::await_places::AwaitPlaces;
 use crate::counts::Counts;
 use crate::critical::CriticalCosts;
-use crate::join_pass::{JoinRow, SlotRows, join_others, raise_awaited};
+use crate::join_pass::{JoinRow, SlotRows};
 use crate::level_order::LevelOrder;
 use crate::schedule::{Blocks, Columns, Schedule};
 use crate::settled::{is_any, settle_all};
@@ -132,11 +132,10 @@ fn flag_block<P: ProgramView>(
     let mut row = Counts::zeros(alloc, usize::from(columns.width), schedule.is_narrow)?;
     let mut rows = SlotRows::new(alloc, program, schedule, columns)?;
     for n in 0..schedule.joins.len() {
-        join_others(program, &rows, n, &mut row);
+        rows.join_others(program, n, &mut row);
         let others = JoinRow::new(schedule, &rows.columns, n, &row);
         flag_row(program, &others, asked, implied);
-        raise_awaited(program, &rows, n, &mut row);
-        rows.keep_row(program, n, &row);
+        rows.finish_row(program, n, &mut row);
     }
     Ok(())
 }

@@ -5,8 +5,8 @@ ghost use Rattle.std.specs.Prelude.{◌≡◌, ◌≢◌, ◌+◌, ◌<◌, ℕ,
 ghost use Rattle.fleet_needs.specs.Columns.{agents_in};
 ghost use Rattle.fleet_needs.specs.Block.{HasColumn};
 ghost use Rattle.fleet_model.specs.Program.{AreInRange};
-ghost use Rattle.fleet_needs.specs.Counts.{counts_of, count_from, CanHold, AreAlike};
-ghost use Rattle.fleet_needs.specs.Schedule.{IsSchedule, AreColumnsOf, AreRowsTo, IsRowFor, joins_in, AreCounts, IsThere, AreRowCounts, next_action};
+ghost use Rattle.fleet_needs.specs.Counts.{counts_of, CanHold, AreAlike};
+ghost use Rattle.fleet_needs.specs.Schedule.{IsSchedule, AreColumnsOf, AreRowsTo, IsRowFor, joins_in, slot_of, next_action};
 ghost use Rattle.fleet_needs.specs.JoinPass.{AreOthers, AreWhole};
 
 use crate::counts::Counts;
@@ -49,57 +49,6 @@ impl<'a> JoinRow<'a> {
             counts,
         }
     }
-}
-
-/// Makes the row of all that the action of the join after n others directly needs, but for the count of each awaited
-/// action's own agent.
-pub(crate) fn join_others<P: ProgramView>(
-    program: &P,
-    rows: &SlotRows<'_>,
-    n: usize,
-    row: &mut Counts,
-)
-    requires range { AreInRange (P.program program.now) }
-    requires rows { AreRowsTo (P.program program.now) rows.now n }
-    requires next { n < joins_in rows.now.schedule.now }
-    requires row { IsRowFor rows.now row.old }
-    ensures row { IsRowFor rows.now row.new }
-    ensures others { AreOthers (P.program program.now) rows.now.columns
-        (next_action rows.now.schedule.now n) (counts_of row.new) }
-{
-    let join = rows.schedule.join_after(program, n);
-    let first = rows.schedule.need(program, n, &join, 0);
-    let base = rows.begin(program, n, join.base);
-    row.read_joined(&rows.counts, base, rows.begin(program, n, first.row));
-    for k in 1..join.count {
-        let need = rows.schedule.need(program, n, &join, k);
-        row.join(&rows.counts, rows.begin(program, n, need.row));
-    }
-}
-
-/// Makes the row that this leaves the row of the action.
-pub(crate) fn raise_awaited<P: ProgramView>(
-    program: &P,
-    rows: &SlotRows<'_>,
-    n: usize,
-    row: &mut Counts,
-)
-    requires range { AreInRange (P.program program.now) }
-    requires rows { AreRowsTo (P.program program.now) rows.now n }
-    requires next { n < joins_in rows.now.schedule.now }
-    requires row { IsRowFor rows.now row.old }
-    requires others { AreOthers (P.program program.now) rows.now.columns
-        (next_action rows.now.schedule.now n) (counts_of row.old) }
-    ensures row { IsRowFor rows.now row.new }
-    ensures made { AreWhole (P.program program.now) rows.now.columns
-        (next_action rows.now.schedule.now n) (counts_of row.new) }
-{
-    let join = rows.schedule.join_after(program, n);
-    for k in 0..join.count {
-        let need = rows.schedule.need(program, n, &join, k);
-        raise_own(&rows.columns, row, need.wait.agent, need.wait.count);
-    }
-    clear_own(&rows.columns, row, join.action.agent);
 }
 
 /// Raises the count in the agent's own column, if it has one, to the number of an action.
@@ -170,12 +119,53 @@ impl<'a> SlotRows<'a> {
         })
     }
 
-    /// Makes the row of the join after n others, and keeps it.
-    pub(crate) fn make_row<P: ProgramView>(&mut self, program: &P, n: usize, row: &mut Counts)
+    /// Where the counts of a row that is made, or is the next, stand in its slot.
+    fn place<P: ProgramView>(&self, program: &P, n: usize, r: usize) -> usize
+        requires rows { AreRowsTo (P.program program.now) self.now n }
+        requires within { r ≤ joins_in self.now.schedule.now }
+        ensures is { result ≡ slot_of self.now.schedule.now r * self.now.columns.width }
+        ensures within { result + self.now.columns.width ≤ length (counts_of self.now.counts) }
+    {
+        // Of the program, and of how many rows are made, the contract alone speaks.
+        let _ = program;
+        let _ = n;
+        let width = usize::from(self.columns.width);
+        self.schedule.outs[r] as usize * width
+    }
+
+    /// Makes the row of all that the action of the join after n others directly needs, but for the count of each
+    /// awaited action's own agent.
+    pub(crate) fn join_others<P: ProgramView>(&self, program: &P, n: usize, row: &mut Counts)
+        requires range { AreInRange (P.program program.now) }
+        requires rows { AreRowsTo (P.program program.now) self.now n }
+        requires next { n < joins_in self.now.schedule.now }
+        requires row { IsRowFor self.now row.old }
+        ensures row { IsRowFor self.now row.new }
+        ensures others { AreOthers (P.program program.now) self.now.columns
+            (next_action self.now.schedule.now n) (counts_of row.new) }
+    {
+        let join = self.schedule.join_after(program, n);
+        let first = self.schedule.need(program, n, &join, 0);
+        let base = self.place(program, n, join.base as usize);
+        row.read_joined(
+            &self.counts,
+            base,
+            self.place(program, n, first.row as usize),
+        );
+        for k in 1..join.count {
+            let need = self.schedule.need(program, n, &join, k);
+            row.join(&self.counts, self.place(program, n, need.row as usize));
+        }
+    }
+
+    /// Makes the row that this leaves the row of the action, and keeps it.
+    pub(crate) fn finish_row<P: ProgramView>(&mut self, program: &P, n: usize, row: &mut Counts)
         requires range { AreInRange (P.program program.now) }
         requires rows { AreRowsTo (P.program program.now) self.old n }
         requires next { n < joins_in self.old.schedule.now }
         requires row { IsRowFor self.old row.old }
+        requires others { AreOthers (P.program program.now) self.old.columns
+            (next_action self.old.schedule.now n) (counts_of row.old) }
         ensures schedule { self.new.schedule ≡ self.old.schedule }
         ensures columns { self.new.columns ≡ self.old.columns }
         ensures row { IsRowFor self.new row.new }
@@ -183,40 +173,13 @@ impl<'a> SlotRows<'a> {
             (next_action self.old.schedule.now n) (counts_of row.new) }
         ensures rows { AreRowsTo (P.program program.now) self.new (n + 1) }
     {
-        join_others(program, self, n, row);
-        raise_awaited(program, self, n, row);
-        self.keep_row(program, n, row);
-    }
-
-    /// Where the counts of what row `r` stands for begin.
-    fn begin<P: ProgramView>(&self, program: &P, n: usize, r: u32) -> usize
-        requires rows { AreRowsTo (P.program program.now) self.now n }
-        requires there { IsThere self.now.schedule.now n r }
-        ensures within { result + self.now.columns.width ≤ length (counts_of self.now.counts) }
-        ensures counts { AreRowCounts (P.program program.now)
-            self.now.schedule.now self.now.columns r (count_from self.now.counts result) }
-    {
-        // Of the program, and of how many rows are made, the contract alone speaks.
-        let _ = program;
-        let _ = n;
-        let width = usize::from(self.columns.width);
-        self.schedule.outs[r as usize] as usize * width
-    }
-
-    /// Keeps the row that is made after n others.
-    pub(crate) fn keep_row<P: ProgramView>(&mut self, program: &P, n: usize, row: &Counts)
-        requires rows { AreRowsTo (P.program program.now) self.old n }
-        requires next { n < joins_in self.old.schedule.now }
-        requires row { IsRowFor self.old row.now }
-        requires counts { AreWhole (P.program program.now) self.old.columns
-            (next_action self.old.schedule.now n) (counts_of row.now) }
-        ensures schedule { self.new.schedule ≡ self.old.schedule }
-        ensures columns { self.new.columns ≡ self.old.columns }
-        ensures row { IsRowFor self.new row.now }
-        ensures rows { AreRowsTo (P.program program.now) self.new (n + 1) }
-    {
-        let width = usize::from(self.columns.width);
-        let from = self.schedule.outs[n + 1] as usize * width;
-        self.counts.write(from, row);
+        let join = self.schedule.join_after(program, n);
+        for k in 0..join.count {
+            let wait = self.schedule.need(program, n, &join, k).wait;
+            raise_own(&self.columns, row, wait.agent, wait.count);
+        }
+        clear_own(&self.columns, row, join.action.agent);
+        let place = self.place(program, n, n + 1);
+        self.counts.write(place, row);
     }
 }

@@ -97,7 +97,8 @@ fn answer_block<P: ProgramView>(
     answering.answer_row(program, schedule, &columns, &row, 0);
     let mut rows = SlotRows::new(alloc, program, schedule, columns)?;
     for n in 0..schedule.joins.len() {
-        rows.make_row(program, n, &mut row);
+        rows.join_others(program, n, &mut row);
+        rows.finish_row(program, n, &mut row);
         answering.answer_row(program, schedule, &rows.columns, &row, n + 1);
     }
     Ok(())

@@ -8,4 +8,4 @@ answer_row-requires-clause-counts g c = none_counts (g.P.ProgramView.program c.a
 
 pub answer_row-requires-in-loop-n-clause-counts : goal.answer_row-requires-in-loop-n-clause-counts
 answer_row-requires-in-loop-n-clause-counts g c =
-    rw c.make_row.ensures.columns (made_counts (g.P.ProgramView.program c.args.program.now) c.args.schedule.now c.loop-n.rows.columns c.loop-n.n (slice_index (counts_of c.make_row.new.row)) (rw (← c.loop-n.invariant.schedule) c.make_row.ensures.made))
+    rw c.finish_row.ensures.columns (made_counts (g.P.ProgramView.program c.args.program.now) c.args.schedule.now c.loop-n.rows.columns c.loop-n.n (slice_index (counts_of c.finish_row.new.row)) (rw (← c.loop-n.invariant.schedule) c.finish_row.ensures.made))

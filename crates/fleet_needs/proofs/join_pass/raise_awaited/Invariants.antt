@@ -1,9 +1,0 @@
-use Rattle.fleet_needs.proofs.Words.{counts_of, IsRowFor, next_action}
-use Rattle.fleet_needs.proofs.RowsMade.{AreOwnTo}
-use Rattle.fleet_needs.proofs.join_pass.raise_awaited.Given as goal
-
-abbrev pub invariant-loop-k : goal.invariant-loop-k
-invariant-loop-k g l = record {
-  row : IsRowFor l.rows l.row;
-  own : AreOwnTo (g.P.ProgramView.program l.program) l.rows.columns (next_action l.rows.schedule.now l.n) l.k (counts_of l.row);
-}

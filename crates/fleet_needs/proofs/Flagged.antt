@@ -1,15 +1,7 @@
 -- The flags of awaits, one action and one block more.
-use Rattle.fleet_needs.proofs.Words.{refl, not, None, ◌≡◌, ℕ, ◌+◌, ◌-◌, ◌<◌, ◌≤◌, Bool, true, false, List, length, get_or, set, sym, ap, subst, ◌∙◌, arith, inl, inr, ◌⊎◌, Contains, slice_get, slice_index, Some, nat_le, cases_lt, cases_eq, false≢true, length-set, get_or-set_same, get_or-set_other, slice_get_within, slice_get-get_or, same_Some, ActionId, Await, Program, awaits_of, AreInRange, IsWellFormed, IsAction, HasColumn, column_of, AreColumns, AreOthers, Columns, Schedule, IsImplied, IsImpliedFlag, first_await, AreSettled, AreSure, AreSet, IsLeftOut, AreFlags, AreAllFlagged, AreKnownBut, IsLeft, IsLeftIn, AreFlaggedIn, AreFlaggedTo, AreImplied, flags_of, ImpliedAwaits, AddsNone, HasRowOr, IsRow, join_at}
+use Rattle.fleet_needs.proofs.Words.{refl, not, None, ◌≡◌, ℕ, ◌+◌, ◌-◌, ◌<◌, ◌≤◌, Bool, true, false, List, length, get_or, set, sym, ap, subst, ◌∙◌, arith, inl, inr, ◌⊎◌, slice_get, Some, cases_lt, cases_eq, false≢true, length-set, get_or-set_same, get_or-set_other, slice_get_within, slice_get-get_or, same_Some, ActionId, Await, Program, awaits_of, AreInRange, IsAction, column_of, AreColumns, Columns, Schedule, IsImplied, IsImpliedFlag, first_await, AreSettled, AreSure, AreSet, IsLeftOut, AreFlags, AreAllFlagged, AreKnownBut, IsLeft, IsLeftIn, AreFlaggedIn, AreFlaggedTo, AreImplied, flags_of, ImpliedAwaits, AddsNone, HasRowOr, IsRow, join_at}
 use Rattle.fleet_needs.proofs.AwaitOrder.{flag_other, flag_within}
 use Rattle.fleet_needs.proofs.Joining.{awaited_action, adds_none_if_implied}
-use Rattle.fleet_needs.proofs.RowFlags.{flagged}
-
--- ---- the flags of one action, one after another
-
-pub flagged_of : (p : Program) → AreInRange p → IsWellFormed p → (columns : Columns) (a : ActionId) (row : List ℕ) → IsAction p a → AreOthers p columns a row
-    → (c : ℕ) (w : Await) → Contains (awaits_of p a.agent a.number) w → HasColumn columns w.agent c → IsImpliedFlag p a w (nat_le w.count (slice_index row c))
-flagged_of p range formed columns a row is others c w known has =
-    flagged p range a w known (formed.awaits a.agent a.number) (slice_index row c) (others w.agent c has (range a.agent a.number w known).other) is.first
 
 -- a flag is set only of an await that others imply
 pub sure_of : (p : Program) (asked flags : List Bool) → AreSettled p asked flags → AreSure p flags

@@ -1,5 +1,6 @@
-use Rattle.fleet_needs.proofs.Words.{◌≡◌, ◌+◌, ◌∙◌, ℕ, Bool, length, refl, sym, subst, ap, arith, nat_le, slice_index, set, slice_get_within, get_or_from_slice_get, awaits_of, counts_of, first_await, flags_of, IsImpliedFlag}
-use Rattle.fleet_needs.proofs.Flagged.{flagged_of, flag_passed, flag_put, row_flagged}
+use Rattle.fleet_needs.proofs.Words.{Contains, ◌≡◌, ◌+◌, ◌∙◌, ℕ, Bool, length, refl, sym, subst, ap, arith, nat_le, slice_index, set, slice_get_within, get_or_from_slice_get, awaits_of, counts_of, first_await, flags_of, IsImpliedFlag}
+use Rattle.fleet_needs.proofs.Flagged.{flag_passed, flag_put, row_flagged}
+use Rattle.fleet_needs.proofs.RowFlags.{flagged}
 use Rattle.fleet_needs.proofs.RowsMade.{row_of_action, row_need, row_join, row_here}
 use Rattle.fleet_needs.proofs.implied.flag_row.Goals as goal
 
@@ -22,7 +23,9 @@ loop-k-preserved g c =
     let is = row_of_action p row c.requires.row in
     let flag : Bool = nat_le w.count c.get.result in
     let count : c.get.result ≡ slice_index (counts_of row.counts.now) c.in-Some.column = c.get.ensures ∙ ap (slice_index (counts_of row.counts.now)) c.from-in-loop-k.ensures in
-    let right = flagged_of p c.requires.range c.agents.ensures.well_formed row.columns.now a (counts_of row.counts.now) is c.requires.others c.in-Some.column w (k, slice_get_within ws k w at, get_or_from_slice_get ws k w w at) (sym c.of.ensures ∙ c.in-Some.is) in
+    let known : Contains ws w = (k, slice_get_within ws k w at, get_or_from_slice_get ws k w w at) in
+    let right = flagged p c.requires.range a w known (c.agents.ensures.well_formed.awaits a.agent a.number) (slice_index (counts_of row.counts.now) c.in-Some.column)
+    (c.requires.others w.agent c.in-Some.column (sym c.of.ensures ∙ c.in-Some.is) (c.requires.range a.agent a.number w known).other) is.first in
     let place : c.first.result + c.from.result ≡ first_await p a + k = omega (arith, c.from.ensures, c.first.ensures.place) in
     flag_put p row.schedule.now c.args.asked.now row.columns.now row.n k a (row_here p row c.requires.row) w at c.loop-k.implied _ flag is (subst (IsImpliedFlag p a w) (ap (nat_le w.count) (sym count)) right) refl (ap (λ (n : ℕ). set (flags_of c.loop-k.implied) n flag) place)
     c.loop-k.invariant

@@ -1,4 +1,4 @@
-use Rattle.fleet_verify.proofs.Words.{◌≡◌, ◌+◌, [], ℕ, List, length, get_or, set, sym, ap, subst, arith, length-set, Cell, is_passable, IsAheadBy, AddsLevel, climbed_in, stand, kept_at, numbered_cell, climbed}
+use Rattle.fleet_verify.proofs.Words.{◌≡◌, ◌+◌, [], ℕ, List, length, get_or, set, sym, ap, ◌∙◌, subst, arith, length-set, Cell, is_passable, IsAheadBy, AddsLevel, climbed_in, stand, kept_at, numbered_cell, climbed}
 use Rattle.fleet_verify.proofs.NextLevel.{ahead_more, next_level_some}
 use Rattle.fleet_verify.proofs.Climbing.{runner_there, runner_count, runner_rows, raised_last}
 use Rattle.fleet_verify.proofs.ahead.finish_next.Goals as goal
@@ -36,3 +36,12 @@ returns-clause-runner g c =
           old.pairs.items c.arrive.new.ahead.pairs.items i (r.finished + 1) c.args.needs.level (stand r) (numbered_cell c.in_ok-number.number) c.requires.runner.ahead c.requires.runner.agent
           (omega (arith, runner_count c.requires.runner)) (omega (arith, c.requires.left)) c.requires.needs.level long adds come.added come.here come.ground);
     }
+
+pub overflow_add-finished : goal.overflow_add-finished
+overflow_add-finished g c = omega (arith, c.requires.left, c.agents-agents.ensures.well_formed.moves_each c.args.agent)
+
+pub raise-requires-clause-few : goal.raise-requires-clause-few
+raise-requires-clause-few g c = omega (arith, c.requires.left, c.agents-agents.ensures.well_formed.moves_each c.args.agent)
+
+pub returns-clause-others : goal.returns-clause-others
+returns-clause-others g c = λ j ne. c.in_ok-raise.ensures.others j ne ∙ ap (λ (rs : List (List ℕ)). get_or rs j []) c.in_ok-number.ensures.rows

@@ -1,4 +1,4 @@
-use Rattle.fleet_verify.proofs.Words.{ℕ, List, slice_index, map, subst, sym, IfOk-weaker, AreNeeded}
+use Rattle.fleet_verify.proofs.Words.{ℕ, List, slice_index, map, subst, sym, err_from_is_err_and, IfOk-weaker, AreNeeded}
 use Rattle.fleet_verify.proofs.BreakingHolds.{breaking_conflict}
 use Rattle.fleet_verify.proofs.Rows.{rising_rows}
 use Rattle.fleet_verify.proofs.breaking.breaking_holds.Goals as goal
@@ -15,3 +15,13 @@ returns-clause-meet g c =
 
 pub returns-clause-rising : goal.returns-clause-rising
 returns-clause-rising g c = IfOk-weaker c.holds_by.result _ _ (λ holds h. rising_rows (λ row. row.items) holds.items h.rising) c.holds_by.ensures
+
+pub returns-in_err-machine : goal.returns-in_err-machine
+returns-in_err-machine g c =
+    let e = err_from_is_err_and c.from_residual-in_err-machine.result c.from_residual-in_err-machine.ensures.1 in
+    rw (e.1, e.2) (record { holds = tt; rising = tt; meet = tt })
+
+pub returns-in_err-needed : goal.returns-in_err-needed
+returns-in_err-needed g c =
+    let e = err_from_is_err_and c.from_residual.result c.from_residual.ensures.1 in
+    rw e.1 (record { holds = tt; rising = tt; meet = tt })

@@ -1,10 +1,17 @@
-//! The sentences of the faults that readers answer. Their lines are in `tests/texts.sh`.
+//! The sentences of faults. The lines that commands make of them are in `tests/texts.sh` and docs/REFUSALS.md.
 
 use crate::due::due_bytes;
+use fleet_adg::{CompileFault, ThinFault};
+use fleet_cli::{AutoFault, FileFault};
 use fleet_code::{EncodeFault, HexFault, LoadFault};
+use fleet_dispatch::{DispatchFault, TimesFault};
 use fleet_grid::MapFault;
-use fleet_plan::TextFault;
+use fleet_model::{Cell, OutOfMemory, Visit};
+use fleet_plan::{Conflict, PlanFault, TextFault};
+use fleet_run::RunFault;
 use fleet_scen::ScenFault;
+use fleet_search::{PlanStop, SearchFault};
+use fleet_verify::VerifyFault;
 use std::alloc::{AllocError, Global};
 use std::fmt::Display;
 use std::test::Fail;
@@ -79,12 +86,144 @@ fn program_sentences(alloc: Global) -> Result<String, AllocError> {
     Ok(text)
 }
 
-#[test]
-fn faults_have_sentences(rt: HostRuntime) -> Result<(), Fail> {
-    due_bytes(
-        &rt,
-        text_sentences(rt.alloc())?.as_bytes(),
-        b"line 1 of the header is missing or has another form
+/// .. of plans, and of what is made of them.
+fn plan_sentences(alloc: Global) -> Result<String, AllocError> {
+    let mut text = String::new(alloc);
+    put_all(
+        &mut text,
+        &[
+            PlanFault::OutOfMemory,
+            PlanFault::Agents,
+            PlanFault::Start { agent: 1 },
+            PlanFault::Goal { agent: 2 },
+            PlanFault::Step { agent: 3, time: 4 },
+            PlanFault::Conflict(Conflict::Cycle { time: 5, least: 6 }),
+        ],
+    )?;
+    put_all(
+        &mut text,
+        &[
+            Conflict::Vertex {
+                time: 9,
+                i: 7,
+                j: 8,
+            },
+            Conflict::Swapping {
+                time: 9,
+                i: 7,
+                j: 8,
+            },
+        ],
+    )?;
+    put_all(&mut text, &[SearchFault::OutOfMemory, SearchFault::NoPath])?;
+    put_all(
+        &mut text,
+        &[PlanStop::OutOfMemory, PlanStop::NoPath { agent: 1 }],
+    )?;
+    put_all(
+        &mut text,
+        &[CompileFault::OutOfMemory, CompileFault::TooLong],
+    )?;
+    put_all(&mut text, &[ThinFault::OutOfMemory])?;
+    Ok(text)
+}
+
+/// .. of programs that are not accepted.
+fn verify_sentences(alloc: Global) -> Result<String, AllocError> {
+    let mut text = String::new(alloc);
+    put_all(
+        &mut text,
+        &[
+            VerifyFault::OutOfMemory,
+            VerifyFault::OtherFleet,
+            VerifyFault::Start { agent: 1 },
+            VerifyFault::Goal { agent: 2 },
+            VerifyFault::Step {
+                agent: 3,
+                action: 4,
+            },
+            VerifyFault::AwaitRange {
+                agent: 5,
+                action: 6,
+            },
+            VerifyFault::Cyclic(Vec::new(alloc)),
+            VerifyFault::Unordered {
+                cell: Cell { x: 0, y: 0 },
+                first: Visit {
+                    agent: 0,
+                    position: 0,
+                },
+                second: Visit {
+                    agent: 1,
+                    position: 0,
+                },
+            },
+        ],
+    )?;
+    Ok(text)
+}
+
+/// .. of runs and of files.
+fn run_sentences(alloc: Global) -> Result<String, AllocError> {
+    let mut text = String::new(alloc);
+    put_all(&mut text, &[OutOfMemory])?;
+    put_all(
+        &mut text,
+        &[
+            RunFault::OutOfMemory,
+            RunFault::Source { tick: 1 },
+            RunFault::Hold { line: 2 },
+            RunFault::Write,
+            RunFault::HoldLimit,
+        ],
+    )?;
+    put_all(
+        &mut text,
+        &[
+            AutoFault::OutOfMemory,
+            AutoFault::Map(MapFault::Size),
+            AutoFault::Scen(ScenFault::Version),
+            AutoFault::Plan(PlanStop::NoPath { agent: 1 }),
+            AutoFault::Compile(CompileFault::TooLong),
+            AutoFault::Run(RunFault::Write),
+        ],
+    )?;
+    put_all(&mut text, &[FileFault::OutOfMemory, FileFault::Failed])?;
+    Ok(text)
+}
+
+/// .. of dispatches, of times and of rests.
+fn dispatch_sentences(alloc: Global) -> Result<String, AllocError> {
+    let mut text = String::new(alloc);
+    put_all(
+        &mut text,
+        &[
+            DispatchFault::OutOfMemory,
+            DispatchFault::Form { line: 1 },
+            DispatchFault::NotOrdered { line: 2, agent: 3 },
+            DispatchFault::Ended { line: 4 },
+            DispatchFault::Write,
+            DispatchFault::ReportLimit,
+            DispatchFault::Log { line: 5 },
+            DispatchFault::LogWrite { line: 6 },
+            DispatchFault::OtherLog,
+            DispatchFault::Input,
+        ],
+    )?;
+    put_all(
+        &mut text,
+        &[
+            TimesFault::OutOfMemory,
+            TimesFault::Broken,
+            TimesFault::Cost { line: 1 },
+            TimesFault::Dead,
+        ],
+    )?;
+    Ok(text)
+}
+
+/// What is said of faults in texts.
+const TEXT_SENTENCES: &[u8] = b"line 1 of the header is missing or has another form
 a side of the map is 0 or above 4096
 there are fewer rows than the header says
 row 0 is not as wide as the header says
@@ -103,12 +242,10 @@ there are fewer agents than were asked for
 line 1 is no list of cells
 line 2 has more than 65536 cells
 there are not 1 to 1024 agents
-",
-    );
-    due_bytes(
-        &rt,
-        program_sentences(rt.alloc())?.as_bytes(),
-        b"the bytes begin neither with MPF1 nor with MPF2
+";
+
+/// What is said of faults in program bytes.
+const PROGRAM_SENTENCES: &[u8] = b"the bytes begin neither with MPF1 nor with MPF2
 the bytes end within the program
 the number of agents is 0 or above 1024
 an agent has more than 1000000 actions, or the agents have more than 4194304 together
@@ -121,7 +258,83 @@ the byte at offset 4 is no hexadecimal digit
 the last digit has no partner
 an agent has more than 65535 actions, or the count of an await is above 65535
 an action of the program stays on its cell
-",
+";
+
+/// What is said of faults in plans.
+const PLAN_SENTENCES: &[u8] = b"out of memory
+the plan has another number of agents than the instance
+agent 1 does not begin on its start
+agent 2 does not end on its goal
+agent 3 goes wrong at time 4
+agent 6 and others go round in a ring after time 5
+agents 7 and 8 are on one cell at time 9
+agents 7 and 8 change places after time 9
+out of memory
+no path arrives by the horizon
+out of memory
+no path of agent 1 arrives by the horizon, past those of the agents before it
+out of memory
+an agent has more than 1000000 actions, or the agents have more than 4194304 together
+out of memory
+";
+
+/// What is said of programs that are not accepted.
+const VERIFY_SENTENCES: &[u8] = b"out of memory
+the program and the instance have different numbers of agents
+agent 1 does not begin on its start
+agent 2 does not end on its goal
+action 4 of agent 3 leads off the passable cells
+action 6 of agent 5 awaits more actions than there are
+some actions need each other
+a visit of a cell does not wait for the one before to be left
+";
+
+/// What is said of runs and of files.
+const RUN_SENTENCES: &[u8] = b"out of memory
+out of memory
+the holds broke off at tick 1
+line 2 of the holds is no tick
+the text cannot be written
+the holds have more ticks than a run takes
+out of memory
+the map: a side of the map is 0 or above 4096
+the scenario: the first line that is not empty is no version line
+the plan: no path of agent 1 arrives by the horizon, past those of the agents before it
+the program: an agent has more than 1000000 actions, or the agents have more than 4194304 together
+the run: the text cannot be written
+out of memory
+the file cannot be read or written
+";
+
+/// What is said of dispatches, of times and of rests.
+const DISPATCH_SENTENCES: &[u8] = b"out of memory
+line 1 is no report
+line 2 reports an action of agent 3 that is not ordered
+the reports ended before line 4, and actions are left
+the orders cannot be told
+there are more reports than are taken
+line 5 of the log is no report of this dispatch
+the report of line 6 cannot be logged
+the log holds other bytes than the reports after which the dispatch goes on
+the reports cannot be read
+out of memory
+what is broken is no list of actions of the program
+line 1 says no cost of an agent or an action of the program
+what is dead is no agent and its cells
+";
+
+#[test]
+fn faults_have_sentences(rt: HostRuntime) -> Result<(), Fail> {
+    let alloc = rt.alloc();
+    due_bytes(&rt, text_sentences(alloc)?.as_bytes(), TEXT_SENTENCES);
+    due_bytes(&rt, program_sentences(alloc)?.as_bytes(), PROGRAM_SENTENCES);
+    due_bytes(&rt, plan_sentences(alloc)?.as_bytes(), PLAN_SENTENCES);
+    due_bytes(&rt, verify_sentences(alloc)?.as_bytes(), VERIFY_SENTENCES);
+    due_bytes(&rt, run_sentences(alloc)?.as_bytes(), RUN_SENTENCES);
+    due_bytes(
+        &rt,
+        dispatch_sentences(alloc)?.as_bytes(),
+        DISPATCH_SENTENCES,
     );
     Ok(())
 }

@@ -481,7 +481,8 @@ impl Progress {
             (IsOrdered (P.program program.now) k self.now.done word → ⊥) }
     {
         let agents = u32::from(program.agents());
-        if word.agent >= agents {
+        let is_nobody = word.agent >= agents;
+        if is_nobody {
             return false;
         }
         self.said(program, word) <= self.told_of(word.agent as u16)

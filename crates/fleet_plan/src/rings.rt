@@ -60,7 +60,8 @@ fn walk(ahead: &[Option<u16>], walks: &mut [Option<u16>], number: u16, first: u1
     loop {
         let next = ahead[usize::from(agent)]?;
         if let Some(walk) = walks[usize::from(agent)] {
-            return if walk == number { Some(agent) } else { None };
+            let is_own = walk == number;
+            return if is_own { Some(agent) } else { None };
         }
         walks[usize::from(agent)] = Some(number);
         agent = next;

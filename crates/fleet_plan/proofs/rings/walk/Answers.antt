@@ -6,37 +6,37 @@ use Rattle.fleet_plan.proofs.rings.walk.Goals as goal
 pub loop-next-init : goal.loop-next-init
 loop-next-init c = walk_begins c.args.ahead.now c.args.walks.now c.args.number c.args.first c.requires.closed c.requires.agent
 
-pub returns-then-walk-number-clause-closed : goal.returns-then-walk-number-clause-closed
-returns-then-walk-number-clause-closed c =
+pub returns-then-is_own-clause-closed : goal.returns-then-is_own-clause-closed
+returns-then-is_own-clause-closed c =
     let here : walk_of c.loop-next.walks c.loop-next.agent ≡ Some c.in-Some.walk = ap (walk_of c.loop-next.walks) (sym c.from-in-loop-next.ensures) ∙ c.in-Some.is in
     stop-closed c.args.ahead.now c.args.walks.now c.loop-next.walks c.args.number c.args.first c.loop-next.agent c.loop-next.invariant c.requires.closed (c.in-Some.walk, here)
 
-pub returns-then-walk-number-clause-walked : goal.returns-then-walk-number-clause-walked
-returns-then-walk-number-clause-walked c =
+pub returns-then-is_own-clause-walked : goal.returns-then-is_own-clause-walked
+returns-then-is_own-clause-walked c =
     let here : walk_of c.loop-next.walks c.loop-next.agent ≡ Some c.in-Some.walk = ap (walk_of c.loop-next.walks) (sym c.from-in-loop-next.ensures) ∙ c.in-Some.is in
     stop-walked c.args.ahead.now c.args.walks.now c.loop-next.walks c.args.number c.args.first c.loop-next.agent c.loop-next.invariant c.requires.closed (c.in-Some.walk, here)
 
-pub returns-then-walk-number-clause-some : goal.returns-then-walk-number-clause-some
-returns-then-walk-number-clause-some c =
+pub returns-then-is_own-clause-some : goal.returns-then-is_own-clause-some
+returns-then-is_own-clause-some c =
     let here : walk_of c.loop-next.walks c.loop-next.agent ≡ Some c.in-Some.walk = ap (walk_of c.loop-next.walks) (sym c.from-in-loop-next.ensures) ∙ c.in-Some.is in (
-      stop-ring c.args.ahead.now c.args.walks.now c.loop-next.walks c.args.number c.args.first c.loop-next.agent c.loop-next.invariant c.requires.closed (c.in-Some.walk, here) (here ∙ ap (λ n. Some n) c.if-walk-number.true),
+      stop-ring c.args.ahead.now c.args.walks.now c.loop-next.walks c.args.number c.args.first c.loop-next.agent c.loop-next.invariant c.requires.closed (c.in-Some.walk, here) (here ∙ ap (λ n. Some n) c.if-is_own.true),
       stop-some c.args.ahead.now c.args.walks.now c.loop-next.walks c.args.number c.args.first c.loop-next.agent c.loop-next.invariant c.requires.closed (c.in-Some.walk, here),
     )
 
-pub returns-else-walk-number-clause-closed : goal.returns-else-walk-number-clause-closed
-returns-else-walk-number-clause-closed c =
+pub returns-else-is_own-clause-closed : goal.returns-else-is_own-clause-closed
+returns-else-is_own-clause-closed c =
     let here : walk_of c.loop-next.walks c.loop-next.agent ≡ Some c.in-Some.walk = ap (walk_of c.loop-next.walks) (sym c.from-in-loop-next.ensures) ∙ c.in-Some.is in
     stop-closed c.args.ahead.now c.args.walks.now c.loop-next.walks c.args.number c.args.first c.loop-next.agent c.loop-next.invariant c.requires.closed (c.in-Some.walk, here)
 
-pub returns-else-walk-number-clause-walked : goal.returns-else-walk-number-clause-walked
-returns-else-walk-number-clause-walked c =
+pub returns-else-is_own-clause-walked : goal.returns-else-is_own-clause-walked
+returns-else-is_own-clause-walked c =
     let here : walk_of c.loop-next.walks c.loop-next.agent ≡ Some c.in-Some.walk = ap (walk_of c.loop-next.walks) (sym c.from-in-loop-next.ensures) ∙ c.in-Some.is in
     stop-walked c.args.ahead.now c.args.walks.now c.loop-next.walks c.args.number c.args.first c.loop-next.agent c.loop-next.invariant c.requires.closed (c.in-Some.walk, here)
 
-pub returns-else-walk-number-clause-none : goal.returns-else-walk-number-clause-none
-returns-else-walk-number-clause-none c =
+pub returns-else-is_own-clause-none : goal.returns-else-is_own-clause-none
+returns-else-is_own-clause-none c =
     let here : walk_of c.loop-next.walks c.loop-next.agent ≡ Some c.in-Some.walk = ap (walk_of c.loop-next.walks) (sym c.from-in-loop-next.ensures) ∙ c.in-Some.is in
-    stop-none c.args.ahead.now c.args.walks.now c.loop-next.walks c.args.number c.args.first c.loop-next.agent c.loop-next.invariant c.requires.closed (c.in-Some.walk, here) (λ e. c.if-walk-number.false (some_is c.in-Some.walk c.args.number (walk_of c.loop-next.walks c.loop-next.agent) here e))
+    stop-none c.args.ahead.now c.args.walks.now c.loop-next.walks c.args.number c.args.first c.loop-next.agent c.loop-next.invariant c.requires.closed (c.in-Some.walk, here) (λ e. c.if-is_own.false (some_is c.in-Some.walk c.args.number (walk_of c.loop-next.walks c.loop-next.agent) here e))
 
 pub returns-in_err-next-clause-closed : goal.returns-in_err-next-clause-closed
 returns-in_err-next-clause-closed c =
@@ -64,11 +64,11 @@ loop-next-smaller c =
     let free : walk_of c.loop-next.walks c.loop-next.agent ≡ None = ap (walk_of c.loop-next.walks) (sym c.from-in-loop-next.ensures) ∙ c.in_default.is in
     rw c.from-in-loop-next-2.ensures (fewer c.loop-next.walks c.loop-next.agent c.args.number (omega (arith, c.loop-next.invariant.within, c.loop-next.invariant.all)) free)
 
-pub returns-then-walk-number-clause-kept : goal.returns-then-walk-number-clause-kept
-returns-then-walk-number-clause-kept c = λ k walked. (walked.0, c.loop-next.invariant.kept k walked.0 walked.1)
+pub returns-then-is_own-clause-kept : goal.returns-then-is_own-clause-kept
+returns-then-is_own-clause-kept c = λ k walked. (walked.0, c.loop-next.invariant.kept k walked.0 walked.1)
 
-pub returns-else-walk-number-clause-kept : goal.returns-else-walk-number-clause-kept
-returns-else-walk-number-clause-kept c = λ k walked. (walked.0, c.loop-next.invariant.kept k walked.0 walked.1)
+pub returns-else-is_own-clause-kept : goal.returns-else-is_own-clause-kept
+returns-else-is_own-clause-kept c = λ k walked. (walked.0, c.loop-next.invariant.kept k walked.0 walked.1)
 
 pub returns-in_err-next-clause-kept : goal.returns-in_err-next-clause-kept
 returns-in_err-next-clause-kept c = λ k walked. (walked.0, c.loop-next.invariant.kept k walked.0 walked.1)

@@ -1,4 +1,3 @@
-mod CommandLemmas
 mod RequestLemmas
 mod NoCommand
 pub mod ValueLaws

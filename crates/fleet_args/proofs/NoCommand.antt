@@ -9,7 +9,7 @@ use Rattle.clap.specs.Simple.{built, filled, help_rule, help_shape, names_of, ve
 use Rattle.clap.specs.Walk.{Held, Step, after_flag, answers_to, bundle_met, bundle_step, idle, long_or_other, nothing_held, plain, short_or_plain, subcommand_met, subcommand_or_other, trailing, value, walk_from, walked}
 use Rattle.clap.specs.Faults.{bundle_fault, bundle_step_fault, defaults_fault, flag_word_fault, flags_fault, long_fault, other_fault, short_fault, step_fault, turn_fault, walk_fault}
 use Rattle.clap.specs.declared.error.kind.ErrorKind.{ErrorKind}
-use Rattle.fleet_args.specs.declared.{arguments.Argument.Argument, arguments.OptionNames.OptionNames}
+use Rattle.fleet_args.specs.declared.{arguments.Form.Form, arguments.OptionNames.OptionNames}
 use Rattle.fleet_args.specs.{Commands.commands, Commands.fleet, Commands.fleet_top, Request.command_and_rest}
 
 first_fault : (a b : Kinds) → a ≢ [] → or_else a b ≢ []
@@ -81,12 +81,7 @@ long_word_fault word (Some p) = first_fault _ _ (long_flag (bytes_eq (codes "hel
 abbrev met_fault : Option Text → Text → Kinds
 met_fault o word = after (other_fault top o word nothing_held) (subcommand_or_other flags o idle 1 word nothing_held)
 
-no_dashes : (word : Text) (b : Bool) → b ≡ false
-    → after (cond b [] (flag_word_fault flags false (long_of word) word nothing_held)) (cond b (nothing_held, trailing 1) (long_or_other flags idle word (long_of word) nothing_held)) ≢ []
-no_dashes word true e = absurd (true≢false e)
-no_dashes word false e = long_word_fault word (long_of word)
-
-only_help : (word : Text) (cs : List (Text × List Argument)) → find (λ c. bytes_eq c.0 word) cs ≡ None
+only_help : (word : Text) (cs : List (Text × List (Text × Form))) → find (λ c. bytes_eq c.0 word) cs ≡ None
     → find (answers_to word) (map (λ c. (c.0, [])) cs ++ (codes "help", []) ∷ []) ≡ find (answers_to word) ((codes "help", []) ∷ [])
 only_help word [] none = refl
 only_help word (c ∷ cs) none = go (bytes_eq c.0 word) none (only_help word cs)
@@ -106,7 +101,7 @@ no_name names word none other =
   where
     go : (b : Bool) → met_fault (option_map (λ (s : Text × List Text). s.0) (cond b (Some (codes "help", [])) None)) word ≢ []
     go true = faulty _ _
-    go false = no_dashes word (bytes_eq word (45 ∷ 45 ∷ [])) other
+    go false = rw other (long_word_fault word (long_of word))
 
 -- `--`, after which no word has a place, and without a word a command is wanted
 dashes : (names : OptionNames) (rest : List Text) → fault_of (fleet names) ((45 ∷ 45 ∷ []) ∷ rest) ≢ []

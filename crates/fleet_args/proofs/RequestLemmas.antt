@@ -1,128 +1,80 @@
 -- From the getters of the matches to what the words ask.
-use Rattle.std.proofs.Common.{◌≡◌, ◌∙◌, ◌⊎◌, inl, inr, not, ℕ, Bool, cond, true, false, List, [], ◌∷◌, Option, Some, None, Result, Ok, Err, is_some, map, option_map, unwrap_or, refl, sym, ap, subst, true≢false}
-use Rattle.std.proofs.lemmas.Bool.{or_right}
-use Rattle.std.specs.{Borrow.Bor, List.find, List.list_all, List.list_any, Str.bytes_eq, Str.Parse.ParsesUnsigned}
-use Rattle.clap.specs.Words.{App, Text, HasMatchesOf, rows_of, first_of, found_of, one_of, first_value, one_text, fault_of, is_simple_and_free, matches_of, IsAmong}
-use Rattle.clap.specs.{Matches.ReadsOne, declared.error.ErrorKind.ErrorKind, declared.parser.ArgMatches.ArgMatches, declared.parser.matches.Found.Found}
-use Rattle.clap.specs.declared.error.ErrorKind.TheVariants as kind
+use Rattle.std.proofs.Common.{◌≡◌, ◌∙◌, ℕ, Bool, cond, true, List, [], ◌∷◌, Option, Some, None, Ok, Err, map, option_map, unwrap_or, refl, sym, ap, ap₂, false, is_some, subst}
+use Rattle.std.specs.{Borrow.Bor, List.find, List.list_all, Str.bytes_eq}
+use Rattle.std.specs.Str.Parse.{ParsesUnsigned, ExplainsUnsignedError, HasUnsignedDigitsIfOk}
+use Rattle.std.specs.declared.num.ParseIntError.{ParseIntError}
+use Rattle.clap.specs.Words.{App, Row, Text, rows_of, first_of, one_of, first_value, one_text, fault_of, is_simple_and_free, matches_of}
+use Rattle.clap.specs.{Matches.ReadsOne, declared.parser.matches.Found.Found}
 use Rattle.clap.proofs.WalkLemmas.{both, find-map, first_value-rows, one_text-rows}
-use Rattle.fleet_args.specs.Values.{IsNumberIfUsed, SpellsNumber, values_found, values_of}
-use Rattle.fleet_args.specs.{Arguments.own, Arguments.said, Commands.AsksCommand, Commands.IsCommand, Commands.IsCommandName, Commands.commands}
-use Rattle.fleet_args.specs.Request.{Asks, IsStopOf, StopsFor, command_and_rest, is_help}
-use Rattle.fleet_args.specs.declared.{arguments.Argument.Argument, arguments.CommandText.CommandText, arguments.OptionNames.OptionNames, commands.Request.Request, request.WordStop.WordStop}
-use Rattle.fleet_args.specs.declared.request.WordStop.TheVariants as stop
+use Rattle.fleet_args.specs.Values.{IsNumberIfUsed, SpellsNumber}
+use Rattle.fleet_args.specs.{Arguments.CommandText, Arguments.own, Arguments.said, Commands.AsksCommand, Commands.IsCommandName, Commands.commands, Values.AreNames}
+use Rattle.fleet_args.specs.Request.{ReadsBy, ReadsFleet, StopsFor, command_and_rest}
+use Rattle.fleet_args.specs.declared.{arguments.Form.Form, arguments.OptionNames.OptionNames, commands.Request.Request, request.WordStop.WordStop}
+
+-- what `get_str` gives stands in the rows
+pub first_rows : (f : Found) (id : Text) → first_value f id ≡ first_of id (rows_of f)
+first_rows = first_value-rows
 
 -- what `get_one` gives is the option's number
 pub number_used :
-    {E : Type 0} (bits : ℕ) (gives : Text → Result ℕ E → Type 0) → ((t : Text) (r : Result ℕ E) → gives t r → ParsesUnsigned bits 10 t r)
-    → (f : Found) (id : Text) (r : Option ℕ) → (one_text f id ≡ None → r ≡ None) → ((t : Text) → one_text f id ≡ Some t → ReadsOne gives t r)
-    → IsNumberIfUsed bits (values_found f) id r
-number_used bits gives parses f id None none some = λ t n is spelled. parses t (Err (some t is).0) (some t is).1 spelled.0
-number_used bits gives parses f id (Some v) none some = go (one_text f id) refl
+    (bits : ℕ) (f : Found) (id : Text) (r : Option ℕ) → (one_text f id ≡ None → r ≡ None)
+    → ((t : Text) → one_text f id ≡ Some t → ReadsOne {E = ParseIntError} (λ bs r. ParsesUnsigned bits 10 bs r × ExplainsUnsignedError 10 bs r × HasUnsignedDigitsIfOk bs r) t r)
+    → IsNumberIfUsed bits (rows_of f) id r
+number_used bits f id None none some = λ t n is spelled. (some t (one_text-rows f id ∙ is)).1.0 spelled.0
+number_used bits f id (Some v) none some = go (one_text f id) refl
   where
-    go : (o : Option Text) → one_text f id ≡ o → (t : Text) × (one_text f id ≡ Some t) × SpellsNumber bits t v
+    go : (o : Option Text) → one_text f id ≡ o → (t : Text) × (one_of id (rows_of f) ≡ Some t) × SpellsNumber bits t v
     go None e =
         let bad : Some v ≡ None = none e in
         cc
-    go (Some t) e = (t, e, parses t (Ok v) (some t e))
+    go (Some t) e = (t, sym (one_text-rows f id) ∙ e, (some t e).0)
 
--- the values that the matches give are those of their rows
-same_values : (f : Found) → values_found f ≡ values_of (rows_of f)
-same_values f =
-    let firsts : ◌≡◌ {A = Text → Option Text} (first_value f) (λ id. first_of id (rows_of f)) = λ i id. first_value-rows f id i in
-    let ones : ◌≡◌ {A = Text → Option Text} (one_text f) (λ id. one_of id (rows_of f)) = λ i id. one_text-rows f id i in
-    rw (firsts, ones) refl
-
--- what is found passes what all pass
-found_passes : {X : Type 0} (p q : X → Bool) (xs : List X) (x : X) → list_all q xs ≡ true → find p xs ≡ Some x → q x ≡ true
-found_passes p q [] x all e = cc
-found_passes {X} p q (y ∷ ys) x all e = go (p y) e (found_passes p q ys x (both _ _ all).1)
+-- the command whose text is found in the table by the first word, with the words after it
+pub named : (table : List CommandText) → map said table ≡ commands → (words rest : List Text) (word name : Text) → words ≡ word ∷ rest → name ≡ word → (r : Option (Bor CommandText))
+    → option_map (λ text. text.now) r ≡ find (λ text. bytes_eq text.0.now name) table → option_map {U = (Text × List (Text × Form)) × List Text} (λ text. (said text.now, rest)) r ≡ command_and_rest words
+named table same words rest word name is spelled r found =
+    twice r ∙ ap (λ o. with_rest (option_map said o)) found ∙ ap with_rest (find-map (λ c. bytes_eq c.0 name) said table)
+    ∙ ap₂ (λ cs n. with_rest (find (λ c. bytes_eq c.0 n) cs)) same spelled ∙ ap command_and_rest (sym is)
   where
-    go : (b : Bool) → cond b (Some y) (find p ys) ≡ Some x → (find p ys ≡ Some x → q x ≡ true) → q x ≡ true
-    go true e later = ap q (sym (ap (λ (o : Option X). unwrap_or o y) e)) ∙ (both _ _ all).0
+    with_rest : Option (Text × List (Text × Form)) → Option ((Text × List (Text × Form)) × List Text)
+    with_rest = option_map (λ c. (c, rest))
+
+    twice : (r : Option (Bor CommandText)) → option_map {U = (Text × List (Text × Form)) × List Text} (λ text. (said text.now, rest)) r ≡ with_rest (option_map said (option_map (λ text. text.now) r))
+    twice None = refl
+    twice (Some text) = refl
+
+-- what is so of all commands is so of the one with whose name the words begin
+first_passes : (p q : Text × List (Text × Form) → Bool) (cs : List (Text × List (Text × Form))) (rest : List Text) (found : (Text × List (Text × Form)) × List Text)
+    → list_all q cs ≡ true → Some found ≡ option_map (λ c. (c, rest)) (find p cs) → q found.0 ≡ true
+first_passes p q [] rest found all e = cc
+first_passes p q (c ∷ cs) rest found all e = go (p c) e (first_passes p q cs rest found (both _ _ all).1)
+  where
+    go : (b : Bool) → Some found ≡ option_map (λ d. (d, rest)) (cond b (Some c) (find p cs)) → (Some found ≡ option_map (λ d. (d, rest)) (find p cs) → q found.0 ≡ true) → q found.0 ≡ true
+    go true e later = ap (λ o. q (unwrap_or o found).0) e ∙ (both _ _ all).0
     go false e later = later e
 
--- ---- the command of a name
+pub known : (q : Text × List (Text × Form) → Bool) → list_all q commands ≡ true → (words : List Text) (found : (Text × List (Text × Form)) × List Text)
+    → Some found ≡ command_and_rest words → q found.0 ≡ true
+known q all [] found e = cc
+known q all (word ∷ words) found e = first_passes (λ d. bytes_eq d.0 word) q commands words found all e
 
--- what is found among the texts of the commands is what is found among these
-pub named : (texts : List CommandText) → map said texts ≡ commands → (name : Text) (r : Option (Bor CommandText))
-    → option_map (λ text. text.now) r ≡ find (λ text. bytes_eq text.name.now name) texts → option_map (λ text. said text.now) r ≡ find (λ c. bytes_eq c.0 name) commands
-named texts same name r is = go r is
-  where
-    all : option_map said (find (λ text. bytes_eq text.name.now name) texts) ≡ find (λ c. bytes_eq c.0 name) commands
-    all = find-map (λ c. bytes_eq c.0 name) said texts ∙ ap (find (λ c. bytes_eq c.0 name)) same
+-- ---- what is read of words that begin with the name of a command, by an app that is this command by itself
+module _ (names : OptionNames) (are : AreNames names) (words : List Text) (found : (Text × List (Text × Form)) × List Text) (is : Some found ≡ command_and_rest words) (app : App) (same : app ≡ own names found.0) where
+  pub free : is_simple_and_free app ≡ true
+  free = ap is_simple_and_free same ∙ known (λ c. is_simple_and_free (own names c)) refl words found is
 
-    go : (r : Option (Bor CommandText)) → option_map (λ text. text.now) r ≡ find (λ text. bytes_eq text.name.now name) texts → option_map (λ text. said text.now) r ≡ find (λ c. bytes_eq c.0 name) commands
-    go None is = ap (option_map said) is ∙ all
-    go (Some text) is = ap (option_map said) is ∙ all
+  pub stops : (s : WordStop) → StopsFor (fault_of app found.1) s → ReadsFleet words (Err s)
+  stops s h = (names, are, subst (λ o. ReadsBy names words o (Err s)) is (subst (λ (a : App). StopsFor (fault_of a found.1) s) same h))
 
--- .. with the words after it
-pub named_first : (word name : Text) (rest : List Text) (c : Text × List Argument) → name ≡ word → Some c ≡ find (λ d. bytes_eq d.0 name) commands → Some (c, rest) ≡ command_and_rest (word ∷ rest)
-named_first word name rest c same is = ap (option_map (λ d. (d, rest))) (is ∙ ap (λ n. find (λ d. bytes_eq d.0 n) commands) same)
+  pub asks : (rows : List Row) (request : Request) → (fault_of app found.1 ≡ []) × (rows ≡ matches_of app found.1) → AsksCommand found.0.0 rows request → ReadsFleet words (Ok request)
+  asks rows request takes h = (
+    names,
+    are,
+    subst (λ o. ReadsBy names words o (Ok request)) is (
+      ap (λ (a : App). fault_of a found.1) (sym same) ∙ takes.0,
+      subst (λ rows. AsksCommand found.0.0 rows request) (takes.1 ∙ ap (λ (a : App). matches_of a found.1) same) h,
+    ),
+  )
 
-pub named_is : (words : List Text) (found : (Text × List Argument) × List Text) → Some found ≡ command_and_rest words → IsCommand found.0
-named_is [] found e = cc
-named_is (word ∷ words) found e = (word, go (find (λ d. bytes_eq d.0 word) commands) e)
-  where
-    go : (o : Option (Text × List Argument)) → Some found ≡ option_map (λ d. (d, words)) o → o ≡ Some found.0
-    go None e = cc
-    go (Some d) e = ap (option_map (λ f. f.0)) (sym e)
-
--- a command by itself is one of which the matches and the faults are defined
-each_free : (names : OptionNames) → list_all (λ c. is_simple_and_free (own names c)) commands ≡ true
-each_free names = refl
-
--- .. and has its name
-pub own_name : (c : Text × List Argument) → IsCommand c → IsCommandName c.0
-own_name c known = found_passes (λ d. bytes_eq d.0 known.0) (λ d. is_some (find (λ e. bytes_eq d.0 e.0) commands)) commands c refl known.1
-
--- ---- a stop
-
-among_any : (passes : ErrorKind → Bool) (k : ErrorKind) (ks : List ErrorKind) → IsAmong k ks → passes k ≡ true → list_any passes ks ≡ true
-among_any passes k [] h t = absurd h
-among_any passes k (x ∷ xs) h t = elim h [
-  | inl same ↦ rw (sym (ap passes same) ∙ t) refl
-  | inr rest ↦ or_right (passes x) _ (among_any passes k xs rest t)
-]
-
-stops_for : (app : App) (words : List Text) (k : ErrorKind) (s : WordStop) → (k ≡ kind.OutOfMemory) ⊎ IsAmong k (fault_of app words) → IsStopOf k s → StopsFor app words s
-stops_for app words k stop.OutOfMemory among h = tt
-stops_for app words k (stop.Usage text) among h = elim among [
-  | inl memory ↦ absurd (h.1 memory)
-  | inr a ↦ among_any (λ x. not (is_help x)) k _ a (ap not h.0)
-]
-stops_for app words k (stop.Help text) among h = elim among [
-  | inl memory ↦ absurd (true≢false (sym h ∙ ap is_help memory))
-  | inr a ↦ among_any is_help k _ a h
-]
-
--- ---- an answer of what was built as this command line
-
-module _ (built app : App) (is : built ≡ app) (free : is_simple_and_free app ≡ true) (words : List Text) where
-  built_free : is_simple_and_free built ≡ true
-  built_free = ap is_simple_and_free is ∙ free
-
-  -- it finds no fault in the words
-  pub faultless : (is_simple_and_free built ≡ true → fault_of built words ≡ []) → fault_of app words ≡ []
-  faultless none = ap (λ x. fault_of x words) (sym is) ∙ none built_free
-
-  -- it stops at them
-  pub stops_by : (k : ErrorKind) (s : WordStop) → (is_simple_and_free built ≡ true → (k ≡ kind.OutOfMemory) ⊎ IsAmong k (fault_of built words)) → IsStopOf k s → StopsFor app words s
-  stops_by k s kinds h = stops_for app words k s (subst (λ x. (k ≡ kind.OutOfMemory) ⊎ IsAmong k (fault_of x words)) is (kinds built_free)) h
-
--- .. as a command by itself
-module _ (names : OptionNames) (c : Text × List Argument) (known : IsCommand c) (built : App) (is : built ≡ own names c) (words : List Text) where
-  free : is_simple_and_free (own names c) ≡ true
-  free = found_passes (λ d. bytes_eq d.0 known.0) (λ d. is_simple_and_free (own names d)) commands c (each_free names) known.1
-
-  -- it asks what its matches have
-  pub asks : (m : ArgMatches) (request : Request) → (is_simple_and_free built ≡ true → fault_of built words ≡ []) → HasMatchesOf built words m → AsksCommand c.0 (values_found (found_of m)) request
-      → Asks names c words request
-  asks m request none has h =
-      let rows = (has (both _ _ (ap is_simple_and_free is ∙ free)).0).0 in (
-        faultless built (own names c) is free words none,
-        subst (λ values. AsksCommand c.0 values request) (same_values (found_of m) ∙ ap values_of (rows ∙ ap (λ a. matches_of a words) is)) h,
-      )
-
-  pub stops : (k : ErrorKind) (s : WordStop) → (is_simple_and_free built ≡ true → (k ≡ kind.OutOfMemory) ⊎ IsAmong k (fault_of built words)) → IsStopOf k s → StopsFor (own names c) words s
-  stops = stops_by built (own names c) is free words
+pub is_name : (words : List Text) (found : (Text × List (Text × Form)) × List Text) → Some found ≡ command_and_rest words → IsCommandName found.0.0
+is_name = known (λ c. is_some (find (λ d. bytes_eq c.0 d.0) commands)) refl

@@ -1,16 +1,15 @@
 -- Each text that an option takes stands for something: it spells a number of its range, or is one of its names.
-use Rattle.std.proofs.Common.{◌≡◌, ◌∙◌, ◌<◌, ◌≤◌, ◌^◌, ◌||◌, ℕ, Bool, cond, true, false, List, map, Option, Some, None, codes, is_some, unwrap_or, refl, sym, ap, subst}
+use Rattle.std.proofs.Common.{◌≡◌, ◌∙◌, ◌<◌, ◌≤◌, ◌^◌, ◌||◌, ℕ, Bool, cond, true, false, List, [], ◌∷◌, map, Option, Some, None, codes, is_some, option_map, unwrap_or, refl, sym, ap, subst, if◌then◌else◌, true≢false}
 use Rattle.std.specs.Prelude.{nat_lt, pos}
-use Rattle.std.specs.{Borrow.Bor, List.list_all, List.list_any, Str.bytes_eq, Str.Parse.ParsesUnsigned}
+use Rattle.std.specs.{Borrow.Bor, List.find, List.list_all, List.list_any, Str.bytes_eq, Str.Parse.ParsesUnsigned}
 use Rattle.std.proofs.lemmas.Slice.Eq.{bytes_eq-Decides}
 use Rattle.clap.specs.Words.{Text, ReadsOne, without_minus}
 use Rattle.clap.specs.ValueTests.{accepts}
 use Rattle.clap.specs.declared.builder.ValueParser.TheVariants as parser
 use Rattle.clap.proofs.{CallerReads.signed_reads, ValueTestLemmas.accepts-Accepts, WalkLemmas.list_any-map}
-use Rattle.fleet_args.specs.{Arguments.AreNames, Arguments.described, Commands.commands, declared.arguments.OptionNames.OptionNames, declared.arguments.Argument.Argument, declared.arguments.Form.Form}
-use Rattle.fleet_args.specs.declared.arguments.Argument.TheVariants as a
+use Rattle.fleet_args.specs.{Commands.commands, declared.arguments.OptionNames.OptionNames, declared.arguments.Form.Form}
 use Rattle.fleet_args.specs.declared.arguments.Form.TheVariants as form
-use Rattle.fleet_args.specs.Values.{IsSpelled, SpellsNumber, best_in, deps_in}
+use Rattle.fleet_args.specs.Values.{AreNames, IsSpelled, SpellsNumber, best_names, deps_names, named_in}
 
 -- a text that passes as a number of a range spells a number of that range, if it has so few bits
 pub number_spelled : (bits low high : ℕ) (text : Text) (n : Option ℕ) → high < 2 ^ bits → accepts false (parser.Signed (pos low) (pos high)) text ≡ true
@@ -22,41 +21,38 @@ number_spelled bits low high text n fits pass is =
     read None is = (tt, λ h. is (without_minus text) _ refl (h, refl))
     read (Some m) is = subst (λ t. SpellsNumber bits t m) (ap (λ o. unwrap_or o is.0) (sym is.1)) is.2
 
--- the bits of the number of an argument, as it is read
-abbrev pub bits_of : Argument → ℕ
-bits_of a.TryCount = 32
-bits_of a.Dwell = 32
-bits_of _ = 16
+-- the bits of the number of an argument of this name, as it is read
+abbrev pub bits_of : Text → ℕ
+bits_of name = if bytes_eq name (codes "tries") || bytes_eq name (codes "dwell") then 32 else 16
 
 abbrev pub fits : Form → ℕ → Bool
 fits (form.Numbers low high) bits = nat_lt high (2 ^ bits)
 fits _ bits = true
 
 -- no command takes a number with more bits than those with which it is read
-pub numbers_fit : list_all (λ c. list_all (λ x. fits (described x).1 (bits_of x)) c.1) commands ≡ true
+pub numbers_fit : list_all (λ c. list_all (λ argument. fits argument.1 (bits_of argument.0)) c.1) commands ≡ true
 numbers_fit = refl
 
-turned : (a b : Text) → bytes_eq a b ≡ true → bytes_eq b a ≡ true
-turned a b h = (bytes_eq-Decides b a).1 (sym ((bytes_eq-Decides a b).0 h))
-
-one_of_two : {A : Type 0} (one two text : Text) (x y : A) → (bytes_eq one text || (bytes_eq two text || false)) ≡ true
-    → is_some (cond (bytes_eq text one) (Some x) (cond (bytes_eq text two) (Some y) None)) ≡ true
-one_of_two {A} one two text x y h = go (bytes_eq text one) (bytes_eq text two) (bytes_eq one text) (bytes_eq two text) (turned one text) (turned two text) h
+-- a text that is one of these names names something
+among : {A : Type 0} (text : Text) (names : List (Text × A)) → list_any (λ name. bytes_eq name text) (map (λ n. n.0) names) ≡ true → is_some (named_in names text) ≡ true
+among text [] h = h
+among {A} text (n ∷ names) h = go (bytes_eq text n.0) (bytes_eq n.0 text) (λ e. (bytes_eq-Decides text n.0).1 (sym ((bytes_eq-Decides n.0 text).0 e))) (among text names) h
   where
-    go : (a b c d : Bool) → (c ≡ true → a ≡ true) → (d ≡ true → b ≡ true) → (c || (d || false)) ≡ true → is_some (cond a (Some x) (cond b (Some y) None)) ≡ true
-    go true b c d f g h = refl
-    go false true c d f g h = refl
-    go false false true d f g h = f refl
-    go false false false true f g h = g refl
-    go false false false false f g h = h
+    go : (a b : Bool) → (b ≡ true → a ≡ true) → (list_any (λ name. bytes_eq name text) (map (λ m. m.0) names) ≡ true → is_some (named_in names text) ≡ true) → (b || list_any (λ name. bytes_eq name text) (map (λ m. m.0) names)) ≡ true
+        → is_some (option_map {U = A} (λ m. m.1) (cond a (Some n) (find (λ m. bytes_eq text m.0) names))) ≡ true
+    go true b f later h = refl
+    go false true f later h = absurd (true≢false (sym (f refl)))
+    go false false f later h = later h
 
 -- a text that passes as one of the names of an option names something
 module _ (names : OptionNames) (are : AreNames names) (text : Text) where
-  passed : (lent : Bor (List (Bor Text))) → accepts false (parser.Names lent) text ≡ true → list_any (λ name. bytes_eq name text) (map (λ name. name.now) lent.now) ≡ true
-  passed lent pass = sym (list_any-map (λ name. bytes_eq name text) (λ name. name.now) lent.now) ∙ pass
+  passed : {A : Type 0} (named : List (Text × A)) (lent : Bor (List (Bor Text))) → map (λ name. name.now) lent.now ≡ map (λ n. n.0) named
+      → accepts false (parser.Names lent) text ≡ true → is_some (named_in named text) ≡ true
+  passed named lent same pass =
+      among text named (sym (ap (list_any (λ name. bytes_eq name text)) same) ∙ (sym (list_any-map (λ name. bytes_eq name text) (λ name. name.now) lent.now) ∙ pass))
 
-  pub deps_named : accepts false (parser.Names names.deps) text ≡ true → is_some (deps_in text) ≡ true
-  deps_named pass = one_of_two (codes "all") (codes "last") text _ _ (sym (ap (list_any (λ name. bytes_eq name text)) are.deps) ∙ passed names.deps pass)
+  pub deps_named : accepts false (parser.Names names.deps) text ≡ true → is_some (named_in deps_names text) ≡ true
+  deps_named = passed deps_names names.deps are.deps
 
-  pub best_named : accepts false (parser.Names names.best) text ≡ true → is_some (best_in text) ≡ true
-  best_named pass = one_of_two (codes "chain") (codes "cost") text _ _ (sym (ap (list_any (λ name. bytes_eq name text)) are.best) ∙ passed names.best pass)
+  pub best_named : accepts false (parser.Names names.best) text ≡ true → is_some (named_in best_names text) ≡ true
+  best_named = passed best_names names.best are.best

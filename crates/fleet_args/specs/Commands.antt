@@ -1,13 +1,12 @@
 -- The commands, each with its arguments and with what it is asked for, and the command line that has them.
-use Rattle.std.specs.Prelude.{◌≡◌, true, List, [], ◌∷◌, Some, IsSome, codes, fold, map}
-use Rattle.std.specs.{List.find, Str.bytes_eq}
-use Rattle.clap.specs.Words.{App, Shape, Text, new_app, with_subcommand}
-pub use Rattle.fleet_args.specs.{Arguments.AreNames, declared.arguments.OptionNames.OptionNames}
-use Rattle.fleet_args.specs.Arguments.{shape_in}
-use Rattle.fleet_args.specs.Values.{Values, IsText, IsTextIfUsed, IsNumberIfUsed, IsNumberOr, AreDepsOr, IsBestIfUsed, IsFlag}
-use Rattle.fleet_args.specs.declared.{arguments.Argument.Argument, commands.ProgramFor.ProgramFor, commands.Tasks.Tasks, commands.Tries.Tries, commands.Request.Request}
+use Rattle.std.specs.Prelude.{◌≡◌, true, List, [], ◌∷◌, IsSome, codes, find, fold, map, unwrap_or}
+use Rattle.std.specs.Str.{bytes_eq}
+use Rattle.clap.specs.Words.{App, Row, Text, new_app, with_subcommand}
+use Rattle.fleet_args.specs.Arguments.{app_for}
+use Rattle.fleet_args.specs.Values.{IsText, IsTextIfUsed, IsNumberIfUsed, IsNumberOr, IsFlag, best_names, deps_names, named_by}
+use Rattle.fleet_args.specs.declared.{arguments.Form.Form, arguments.OptionNames.OptionNames, commands.ProgramFor.ProgramFor, commands.Tasks.Tasks, commands.Tries.Tries, commands.Request.Request}
+use Rattle.fleet_args.specs.declared.commands.TheConstants.{COMMANDS}
 use Rattle.fleet_model.specs.declared.deps.Deps.TheVariants.{Last}
-use Rattle.fleet_args.specs.declared.arguments.Argument.TheVariants as a
 use Rattle.fleet_args.specs.declared.commands.Request.TheVariants as r
 
 -- the command line before it has commands: its words do not begin with the program's name, it has a version, and one of
@@ -17,80 +16,66 @@ fleet_top = record (new_app (codes "fleet")) {
   top = record (new_app (codes "fleet")).top { no_binary_name = true; has_version = true; subcommand_required = true };
 }
 
--- the command line with commands of these shapes, one after another
-abbrev pub with_shapes : App → List Shape → App
-with_shapes = fold with_subcommand
+-- the command line with these commands after those that it has
+abbrev pub with_commands : OptionNames → App → List (Text × List (Text × Form)) → App
+with_commands names = fold (λ app c. with_subcommand app (app_for names c).top)
 
--- the commands in the order of help, each by its name and its arguments
-abbrev pub commands : List (Text × List Argument)
-commands =
-    (codes "instance", a.Map ∷ a.Scen ∷ a.Agents ∷ []) ∷
-    (codes "check", a.Map ∷ a.Scen ∷ a.Plan ∷ a.Agents ∷ a.Numbers ∷ []) ∷
-    (codes "plan", a.Map ∷ a.Scen ∷ a.Agents ∷ a.Horizon ∷ a.TryCount ∷ a.BestBy ∷ []) ∷
-    (codes "compile", a.Map ∷ a.Scen ∷ a.Plan ∷ a.Out ∷ a.Agents ∷ a.DepsKind ∷ a.Dwell ∷ []) ∷
-    (codes "verify", a.Map ∷ a.Scen ∷ a.Program ∷ a.Agents ∷ []) ∷
-    (codes "run", a.Map ∷ a.Scen ∷ a.Program ∷ a.Agents ∷ a.Holds ∷ []) ∷
-    (codes "rehearse", a.Program ∷ a.Holds ∷ []) ∷
-    (codes "auto", a.Map ∷ a.Scen ∷ a.Agents ∷ a.Horizon ∷ a.TryCount ∷ a.BestBy ∷ a.DepsKind ∷ a.Holds ∷ a.Numbers ∷ []) ∷
-    (codes "thin", a.Map ∷ a.Scen ∷ a.Program ∷ a.Out ∷ a.Agents ∷ []) ∷
-    (codes "migrate", a.Program ∷ a.Out ∷ []) ∷
-    (codes "list", a.Program ∷ []) ∷
-    (codes "dispatch", a.Map ∷ a.Scen ∷ a.Program ∷ a.Agents ∷ a.Ahead ∷ a.Unnumbered ∷ a.Resume ∷ a.Log ∷ []) ∷
-    (codes "times", a.Map ∷ a.Scen ∷ a.Program ∷ a.Agents ∷ a.Costs ∷ a.Broken ∷ []) ∷
-    (codes "rest", a.Map ∷ a.Scen ∷ a.Program ∷ a.Reports ∷ a.ScenOut ∷ a.ProgramOut ∷ a.Agents ∷ a.Without ∷ a.MapOut ∷ a.OthersOut ∷ []) ∷
-    []
+-- the commands in the order of help, each by its name and its arguments, as the table of the code has them
+abbrev pub commands : List (Text × List (Text × Form))
+commands = map (λ c. (c.0.now, map (λ argument. (argument.0.now, argument.1)) c.1.now)) COMMANDS
 
 -- the whole command line
 abbrev pub fleet : OptionNames → App
-fleet names = with_shapes fleet_top (map (shape_in names) commands)
-
--- the command is one that is found in this list
-abbrev pub IsCommand : Text × List Argument → Type 0
-IsCommand c = (name : Text) × (find (λ d. bytes_eq d.0 name) commands ≡ Some c)
+fleet names = with_commands names fleet_top commands
 
 -- this is the name of a command
 abbrev pub IsCommandName : Text → Type 0
 IsCommandName name = IsSome (find (λ c. bytes_eq name c.0) commands)
 
+-- this is the name of a command about a program for tasks
+abbrev pub IsProgramCommand : Text → Type 0
+IsProgramCommand name =
+    IsSome (find (bytes_eq name) (codes "verify" ∷ codes "run" ∷ codes "thin" ∷ codes "dispatch" ∷ codes "times" ∷ codes "rest" ∷ []))
+
 -- a map, a scenario and how many of its agents are asked for
-abbrev pub AsksTasks : Values → Tasks → Type 0
-AsksTasks values t = IsText values (codes "map") t.map × IsText values (codes "scen") t.scen × IsNumberIfUsed 16 values (codes "agents") t.agents
+abbrev pub AsksTasks : List Row → Tasks → Type 0
+AsksTasks rows t = IsText rows (codes "map") t.map × IsText rows (codes "scen") t.scen × IsNumberIfUsed 16 rows (codes "agents") t.agents
 
 -- the same with a program
-abbrev pub AsksProgram : Values → ProgramFor → Type 0
-AsksProgram values p = AsksTasks values p.tasks × IsText values (codes "program") p.program
+abbrev pub AsksProgram : List Row → ProgramFor → Type 0
+AsksProgram rows p = AsksTasks rows p.tasks × IsText rows (codes "program") p.program
 
 -- how many orders are tried, and what makes a plan the best
-abbrev pub AsksTries : Values → Tries → Type 0
-AsksTries values tries = IsNumberOr 1 32 values (codes "tries") tries.count × IsBestIfUsed values (codes "best") tries.best
+abbrev pub AsksTries : List Row → Tries → Type 0
+AsksTries rows tries = IsNumberOr 1 32 rows (codes "tries") tries.count × (tries.best ≡ named_by best_names rows (codes "best"))
 
--- the command of this name, with these values of its arguments, asks this
-abbrev pub AsksCommand : Text → Values → Request → Type 0
-AsksCommand name values (r.Instance q) = (name ≡ codes "instance") × AsksTasks values q
-AsksCommand name values (r.Check q) =
-    (name ≡ codes "check") × AsksTasks values q.tasks × IsText values (codes "plan") q.plan × IsFlag values (codes "numbers") q.numbers
-AsksCommand name values (r.Plan q) =
-    (name ≡ codes "plan") × AsksTasks values q.tasks × IsNumberOr 1024 16 values (codes "horizon") q.horizon × AsksTries values q.tries
-AsksCommand name values (r.Compile q) =
-    (name ≡ codes "compile") × AsksTasks values q.tasks × IsText values (codes "plan") q.plan × IsText values (codes "out") q.out
-    × AreDepsOr Last values (codes "deps") q.deps × IsNumberOr 0 32 values (codes "dwell") q.dwell
-AsksCommand name values (r.Verify q) = (name ≡ codes "verify") × AsksProgram values q
-AsksCommand name values (r.Run q) = (name ≡ codes "run") × AsksProgram values q.subject × IsTextIfUsed values (codes "holds") q.holds
-AsksCommand name values (r.Rehearse q) = (name ≡ codes "rehearse") × IsText values (codes "program") q.program × IsTextIfUsed values (codes "holds") q.holds
-AsksCommand name values (r.Auto q) =
-    (name ≡ codes "auto") × AsksTasks values q.tasks × IsNumberOr 1024 16 values (codes "horizon") q.horizon × AsksTries values q.tries
-    × AreDepsOr Last values (codes "deps") q.deps × IsTextIfUsed values (codes "holds") q.holds × IsFlag values (codes "numbers") q.numbers
-AsksCommand name values (r.Thin q) = (name ≡ codes "thin") × AsksProgram values q.subject × IsText values (codes "out") q.out
-AsksCommand name values (r.Migrate q) = (name ≡ codes "migrate") × IsText values (codes "program") q.program × IsText values (codes "out") q.out
-AsksCommand name values (r.List q) = (name ≡ codes "list") × IsText values (codes "program") q.program
-AsksCommand name values (r.Dispatch q) =
-    (name ≡ codes "dispatch") × AsksProgram values q.subject × IsNumberOr 1 16 values (codes "ahead") q.ahead
-    × IsFlag values (codes "unnumbered") q.unnumbered × IsTextIfUsed values (codes "resume") q.resume
-    × IsTextIfUsed values (codes "log") q.log
-AsksCommand name values (r.Times q) =
-    (name ≡ codes "times") × AsksProgram values q.subject × IsTextIfUsed values (codes "costs") q.costs
-    × IsTextIfUsed values (codes "broken") q.broken
-AsksCommand name values (r.Rest q) =
-    (name ≡ codes "rest") × AsksProgram values q.subject × IsText values (codes "reports") q.reports × IsText values (codes "scen_out") q.scen_out
-    × IsText values (codes "program_out") q.program_out × IsTextIfUsed values (codes "without") q.without
-    × IsTextIfUsed values (codes "map-out") q.map_out × IsTextIfUsed values (codes "others-out") q.others_out
+-- the command of this name, with these rows of its arguments, asks this
+abbrev pub AsksCommand : Text → List Row → Request → Type 0
+AsksCommand name rows (r.Instance q) = (name ≡ codes "instance") × AsksTasks rows q
+AsksCommand name rows (r.Check q) =
+    (name ≡ codes "check") × AsksTasks rows q.tasks × IsText rows (codes "plan") q.plan × IsFlag rows (codes "numbers") q.numbers
+AsksCommand name rows (r.Plan q) =
+    (name ≡ codes "plan") × AsksTasks rows q.tasks × IsNumberOr 1024 16 rows (codes "horizon") q.horizon × AsksTries rows q.tries
+AsksCommand name rows (r.Compile q) =
+    (name ≡ codes "compile") × AsksTasks rows q.tasks × IsText rows (codes "plan") q.plan × IsText rows (codes "out") q.out
+    × (q.deps ≡ unwrap_or (named_by deps_names rows (codes "deps")) Last) × IsNumberOr 0 32 rows (codes "dwell") q.dwell
+AsksCommand name rows (r.Verify q) = (name ≡ codes "verify") × AsksProgram rows q
+AsksCommand name rows (r.Run q) = (name ≡ codes "run") × AsksProgram rows q.subject × IsTextIfUsed rows (codes "holds") q.holds
+AsksCommand name rows (r.Rehearse q) = (name ≡ codes "rehearse") × IsText rows (codes "program") q.program × IsTextIfUsed rows (codes "holds") q.holds
+AsksCommand name rows (r.Auto q) =
+    (name ≡ codes "auto") × AsksTasks rows q.tasks × IsNumberOr 1024 16 rows (codes "horizon") q.horizon × AsksTries rows q.tries
+    × (q.deps ≡ unwrap_or (named_by deps_names rows (codes "deps")) Last) × IsTextIfUsed rows (codes "holds") q.holds × IsFlag rows (codes "numbers") q.numbers
+AsksCommand name rows (r.Thin q) = (name ≡ codes "thin") × AsksProgram rows q.subject × IsText rows (codes "out") q.out
+AsksCommand name rows (r.Migrate q) = (name ≡ codes "migrate") × IsText rows (codes "program") q.program × IsText rows (codes "out") q.out
+AsksCommand name rows (r.List q) = (name ≡ codes "list") × IsText rows (codes "program") q.program
+AsksCommand name rows (r.Dispatch q) =
+    (name ≡ codes "dispatch") × AsksProgram rows q.subject × IsNumberOr 1 16 rows (codes "ahead") q.ahead
+    × IsFlag rows (codes "unnumbered") q.unnumbered × IsTextIfUsed rows (codes "resume") q.resume
+    × IsTextIfUsed rows (codes "log") q.log
+AsksCommand name rows (r.Times q) =
+    (name ≡ codes "times") × AsksProgram rows q.subject × IsTextIfUsed rows (codes "costs") q.costs
+    × IsTextIfUsed rows (codes "broken") q.broken
+AsksCommand name rows (r.Rest q) =
+    (name ≡ codes "rest") × AsksProgram rows q.subject × IsText rows (codes "reports") q.reports × IsText rows (codes "scen_out") q.scen_out
+    × IsText rows (codes "program_out") q.program_out × IsTextIfUsed rows (codes "without") q.without
+    × IsTextIfUsed rows (codes "map-out") q.map_out × IsTextIfUsed rows (codes "others-out") q.others_out

@@ -1,17 +1,15 @@
 //! The commands: what each is asked for, its words and options, and how they are read from the matches.
 
-ghost use Rattle.std.specs.Prelude.{codes};
-ghost use Rattle.fleet_args.specs.Values.{values_in};
-ghost use Rattle.fleet_args.specs.Commands.{AsksCommand, AsksProgram, AsksTasks, AsksTries, IsCommandName};
+ghost use Rattle.std.specs.Prelude.{◌≡◌, codes, map};
+ghost use Rattle.fleet_args.specs.{Arguments.said, Values.rows_in};
+ghost use Rattle.fleet_args.specs.Commands.{AsksCommand, AsksProgram, AsksTasks, AsksTries, IsCommandName, IsProgramCommand, commands};
 
-use crate::arguments::Argument::{
-    Agents, Ahead, BestBy, Broken, Costs, DepsKind, Dwell, Holds, Horizon, Log, Map, MapOut,
-    Numbers, OthersOut, Out, Plan, Program, ProgramOut, Reports, Resume, Scen, ScenOut, TryCount,
-    Unnumbered, Without,
+use crate::arguments::{
+    Argument, CommandText, Form, text, used, used_best, used_count, used_deps, used_number,
+    used_text,
 };
-use crate::arguments::{CommandText, text, used, used_best, used_count, used_deps, used_number};
 use clap::ArgMatches;
-use fleet_model::Deps;
+use fleet_model::{Deps, MAX_MOVES, MAX_TRIES};
 
 /// What makes a plan the best of several.
 #[derive(Clone, Copy, Debug)]
@@ -166,56 +164,172 @@ pub enum Request<'a> {
     Rest(RestRequest<'a>),
 }
 
+const MAP: Argument = ("map", Form::Word);
+
+const SCEN: Argument = ("scen", Form::Word);
+
+const PLAN: Argument = ("plan", Form::Word);
+
+const OUT: Argument = ("out", Form::Word);
+
+const PROGRAM: Argument = ("program", Form::Word);
+
+const AGENTS: Argument = ("agents", Form::Numbers(0, u16::MAX as u32));
+
+const HORIZON: Argument = ("horizon", Form::Numbers(1, u16::MAX as u32));
+
+const TRIES: Argument = ("tries", Form::Numbers(1, MAX_TRIES));
+
+const BEST: Argument = ("best", Form::Best);
+
+const DEPS: Argument = ("deps", Form::Deps);
+
+const DWELL: Argument = ("dwell", Form::Numbers(0, MAX_MOVES));
+
+const HOLDS: Argument = ("holds", Form::Text);
+
+const NUMBERS: Argument = ("numbers", Form::Flag);
+
+const AHEAD: Argument = ("ahead", Form::Numbers(1, u8::MAX as u32));
+
+const UNNUMBERED: Argument = ("unnumbered", Form::Flag);
+
+const RESUME: Argument = ("resume", Form::Text);
+
+const COSTS: Argument = ("costs", Form::Text);
+
+const BROKEN: Argument = ("broken", Form::Text);
+
+const REPORTS: Argument = ("reports", Form::Word);
+
+const SCEN_OUT: Argument = ("scen_out", Form::Word);
+
+const PROGRAM_OUT: Argument = ("program_out", Form::Word);
+
+const WITHOUT: Argument = ("without", Form::Text);
+
+const MAP_OUT: Argument = ("map-out", Form::Text);
+
+const OTHERS_OUT: Argument = ("others-out", Form::Text);
+
+const LOG: Argument = ("log", Form::Text);
+
+/// The rows of a table of arguments, each with the name that help gives its value, and a text.
+macro_rules! argument_rows {
+    ($($argument:ident, $value:literal, $help:literal;)*) => { [$(($argument, ($value, $help))),*] };
+}
+
+/// What help says of each argument.
+static ARGUMENTS: [(Argument, (&str, &str)); 25] = argument_rows![
+    MAP, "MAP", "Map file (MovingAI), each side 1 to 4096";
+    SCEN, "SCEN", "Scenario file (MovingAI), one line per agent";
+    PLAN, "PLAN", "Plan text: a line per agent, its cells x,y at times 0, 1, 2 ..";
+    OUT, "OUT", "The file to which the program bytes are written";
+    PROGRAM, "PROGRAM", "Program file (bytes, not hexadecimal)";
+    AGENTS, "K", "Take the first K agents of the scenario, 1 to 1024 [default: all]";
+    HORIZON, "H",
+        "The latest time at which an agent may arrive, 1 to 65535; below its shortest way there is no path \
+         [default: 1024]";
+    TRIES, "N",
+        "How many orders of the agents are tried, 1 to 1000000: an agent that finds no path is planned first \
+         in the next one [default: 1]";
+    BEST, "BEST",
+        "Tries all N orders, and keeps the first plan with the shortest chain (chain) or the least sum of \
+         costs (cost)";
+    DEPS, "DEPS",
+        "What a move into a cell waits for: the last leaving by each other agent (all), or only the latest \
+         leaving (last) [default: last]";
+    DWELL, "N", "How many actions each agent stays on its last cell after its moves, 0 to 1000000 [default: 0]";
+    HOLDS, "FILE",
+        "Holds text: a line per tick, - for nobody or the numbers of the held agents, rising \
+         [default: nobody is held]";
+    NUMBERS, "", "Prints more numbers of the plan at the end";
+    AHEAD, "K", "How many orders an agent may have at most that it has not reported, 1 to 255 [default: 1]";
+    UNNUMBERED, "",
+        "Orders and reports name agents alone: go AGENT FROM TO, and a report that comes twice counts twice";
+    RESUME, "FILE",
+        "Goes on after the reports in this file: takes them first, and then prints the orders that are open";
+    COSTS, "FILE",
+        "What actions cost: lines A X, each action of agent A, and A:N X, its action N \
+         [default: each action costs 1]";
+    BROKEN, "ACTIONS",
+        "The actions in which robots break down: words A:N, rising, one space between two \
+         [default: all robots go on]";
+    REPORTS, "LOG", "The log of a dispatch: its reports, a line for each";
+    SCEN_OUT, "SCEN_OUT", "The file to which the tasks that are left are written, as a scenario";
+    PROGRAM_OUT, "PROGRAM_OUT", "The file to which the program bytes that are left are written";
+    WITHOUT, "CELLS",
+        "The agent of a dead robot, and the cells on which it stands: A:X,Y or A:X,Y:X,Y [default: no robot is dead]";
+    MAP_OUT, "FILE", "A file to which the map is written, in which the cells of the dead robot are blocked";
+    OTHERS_OUT, "FILE", "A file to which the tasks of all but the dead robot's agent are written, as a scenario";
+    LOG, "FILE", "Appends each report that is taken to this file, on the disk before anything follows from it";
+];
+
 /// The rows of a table of commands, each by its name, its arguments and its text for help.
 macro_rules! command_rows {
-    ($($name:literal, $arguments:expr, $about:literal;)*) => {
-        [$(CommandText { name: $name, line: concat!("fleet ", $name), about: $about, arguments: $arguments }),*]
+    ($($name:literal, [$($argument:ident),*], $about:literal;)*) => {
+        [$(($name, &[$($argument),*], $about, concat!("fleet ", $name))),*]
     };
 }
 
 /// The commands, in the order of help.
-pub(crate) static COMMANDS: [CommandText; 14] = command_rows![
-    "instance", &[Map, Scen, Agents],
+static COMMANDS: [CommandText; 14] = command_rows![
+    "instance", [MAP, SCEN, AGENTS],
         "Prints the size of a map, its passable cells, and each agent's start and goal";
-    "check", &[Map, Scen, Plan, Agents, Numbers],
+    "check", [MAP, SCEN, PLAN, AGENTS, NUMBERS],
         "Tells whether a plan is free of conflict, or its first fault";
-    "plan", &[Map, Scen, Agents, Horizon, TryCount, BestBy],
+    "plan", [MAP, SCEN, AGENTS, HORIZON, TRIES, BEST],
         "Plans a path for each agent in turn, and prints the plan text";
-    "compile", &[Map, Scen, Plan, Out, Agents, DepsKind, Dwell],
+    "compile", [MAP, SCEN, PLAN, OUT, AGENTS, DEPS, DWELL],
         "Compiles a conflict-free plan into a program, writes it to OUT, and prints its agents, moves, awaits and \
          bytes";
-    "verify", &[Map, Scen, Program, Agents],
+    "verify", [MAP, SCEN, PROGRAM, AGENTS],
         "Tells whether a program is safe and arrives whoever is held, or its first fault";
-    "run", &[Map, Scen, Program, Agents, Holds],
+    "run", [MAP, SCEN, PROGRAM, AGENTS, HOLDS],
         "Verifies a program and runs it: prints the positions tick by tick, then agents, ticks, chain and held";
-    "rehearse", &[Program, Holds],
+    "rehearse", [PROGRAM, HOLDS],
         "Runs any program until it is finished or stuck: prints the positions tick by tick, then agents, ticks and \
          held";
-    "auto", &[Map, Scen, Agents, Horizon, TryCount, BestBy, DepsKind, Holds, Numbers],
+    "auto", [MAP, SCEN, AGENTS, HORIZON, TRIES, BEST, DEPS, HOLDS, NUMBERS],
         "Plans, compiles, verifies and runs: prints the positions tick by tick, then agents, ticks, chain and held";
-    "thin", &[Map, Scen, Program, Out, Agents],
+    "thin", [MAP, SCEN, PROGRAM, OUT, AGENTS],
         "Drops the awaits of an accepted program that others imply, writes it to OUT, and prints its awaits before \
          and after";
-    "migrate", &[Program, Out],
+    "migrate", [PROGRAM, OUT],
         "Writes a program to OUT in version 2 of the bytes, and prints how many they are";
-    "list", &[Program],
+    "list", [PROGRAM],
         "Prints any program as text: a line for each agent, and after it one for each of its actions";
-    "dispatch", &[Map, Scen, Program, Agents, Ahead, Unnumbered, Resume, Log],
+    "dispatch", [MAP, SCEN, PROGRAM, AGENTS, AHEAD, UNNUMBERED, RESUME, LOG],
         "Dispatches robots: prints go AGENT:N FROM TO as each move may begin, and reads a line for each report of \
          which moves are done";
-    "times", &[Map, Scen, Program, Agents, Costs, Broken],
+    "times", [MAP, SCEN, PROGRAM, AGENTS, COSTS, BROKEN],
         "Tells when each agent of an accepted program arrives at the soonest, or how far it comes if robots break down";
-    "rest", &[Map, Scen, Program, Reports, ScenOut, ProgramOut, Agents, Without, MapOut, OthersOut],
+    "rest", [MAP, SCEN, PROGRAM, REPORTS, SCEN_OUT, PROGRAM_OUT, AGENTS, WITHOUT, MAP_OUT, OTHERS_OUT],
         "Writes what is left of an accepted program after the reports of a log: its tasks and its bytes, and prints \
          its agents, moves, awaits and bytes";
 ];
+
+/// The name that help gives the value of the argument of this name, and its text.
+pub(crate) fn help_of(name: &str) -> (&'static str, &'static str) {
+    match ARGUMENTS.iter().find(|argument| argument.0.0 == name) {
+        Some(argument) => argument.1,
+        None => ("", ""),
+    }
+}
+
+/// The commands.
+pub(crate) fn commands() -> &'static [CommandText]
+    ensures { map said result.now ≡ commands }
+{
+    COMMANDS.as_slice()
+}
 
 /// The horizon of a command that names none.
 const DEFAULT_HORIZON: u16 = 1_024;
 
 /// The tries that the matches of a command ask for.
 fn tries_in(matches: &ArgMatches<'_>) -> Tries
-    ensures { AsksTries (values_in matches.now) result }
+    ensures { AsksTries (rows_in matches.now) result }
 {
     Tries {
         count: used_count(matches, "tries").unwrap_or(1),
@@ -225,7 +339,7 @@ fn tries_in(matches: &ArgMatches<'_>) -> Tries
 
 /// The tasks that the matches of a command ask for.
 fn tasks_in<'a>(matches: &ArgMatches<'a>) -> Tasks<'a>
-    ensures { AsksTasks (values_in matches.now) result }
+    ensures { AsksTasks (rows_in matches.now) result }
 {
     Tasks {
         map: text(matches, "map"),
@@ -236,7 +350,7 @@ fn tasks_in<'a>(matches: &ArgMatches<'a>) -> Tasks<'a>
 
 /// The program, and the tasks that it is for, that the matches of a command ask for.
 fn program_in<'a>(matches: &ArgMatches<'a>) -> ProgramFor<'a>
-    ensures { AsksProgram (values_in matches.now) result }
+    ensures { AsksProgram (rows_in matches.now) result }
 {
     ProgramFor {
         tasks: tasks_in(matches),
@@ -244,118 +358,97 @@ fn program_in<'a>(matches: &ArgMatches<'a>) -> ProgramFor<'a>
     }
 }
 
-/// The request of `check`.
-fn check_in<'a>(matches: &ArgMatches<'a>) -> Request<'a>
-    ensures { AsksCommand (codes "check") (values_in matches.now) result }
-{
-    Request::Check(CheckRequest {
-        tasks: tasks_in(matches),
-        plan: text(matches, "plan"),
-        numbers: used(matches, "numbers"),
-    })
-}
-
-/// The request of `plan`.
-fn plan_in<'a>(matches: &ArgMatches<'a>) -> Request<'a>
-    ensures { AsksCommand (codes "plan") (values_in matches.now) result }
-{
-    Request::Plan(PlanRequest {
-        tasks: tasks_in(matches),
-        horizon: used_number(matches, "horizon").unwrap_or(DEFAULT_HORIZON),
-        tries: tries_in(matches),
-    })
-}
-
-/// The request of `compile`.
-fn compile_in<'a>(matches: &ArgMatches<'a>) -> Request<'a>
-    ensures { AsksCommand (codes "compile") (values_in matches.now) result }
-{
-    Request::Compile(CompileRequest {
-        tasks: tasks_in(matches),
-        plan: text(matches, "plan"),
-        out: text(matches, "out"),
-        deps: used_deps(matches, "deps").unwrap_or(Deps::Last),
-        dwell: used_count(matches, "dwell").unwrap_or(0),
-    })
-}
-
 /// The request of `auto`.
 fn auto_in<'a>(matches: &ArgMatches<'a>) -> Request<'a>
-    ensures { AsksCommand (codes "auto") (values_in matches.now) result }
+    ensures { AsksCommand (codes "auto") (rows_in matches.now) result }
 {
     Request::Auto(AutoRequest {
         tasks: tasks_in(matches),
         horizon: used_number(matches, "horizon").unwrap_or(DEFAULT_HORIZON),
         tries: tries_in(matches),
         deps: used_deps(matches, "deps").unwrap_or(Deps::Last),
-        holds: matches.get_str("holds"),
+        holds: used_text(matches, "holds"),
         numbers: used(matches, "numbers"),
-    })
-}
-
-/// The request of `dispatch`.
-fn dispatch_in<'a>(matches: &ArgMatches<'a>) -> Request<'a>
-    ensures { AsksCommand (codes "dispatch") (values_in matches.now) result }
-{
-    Request::Dispatch(DispatchRequest {
-        subject: program_in(matches),
-        ahead: used_number(matches, "ahead").unwrap_or(1),
-        unnumbered: used(matches, "unnumbered"),
-        resume: matches.get_str("resume"),
-        log: matches.get_str("log"),
-    })
-}
-
-/// The request of `times`.
-fn times_in<'a>(matches: &ArgMatches<'a>) -> Request<'a>
-    ensures { AsksCommand (codes "times") (values_in matches.now) result }
-{
-    Request::Times(TimesRequest {
-        subject: program_in(matches),
-        costs: matches.get_str("costs"),
-        broken: matches.get_str("broken"),
     })
 }
 
 /// The request of `rest`.
 fn rest_in<'a>(matches: &ArgMatches<'a>) -> Request<'a>
-    ensures { AsksCommand (codes "rest") (values_in matches.now) result }
+    ensures { AsksCommand (codes "rest") (rows_in matches.now) result }
 {
     Request::Rest(RestRequest {
         subject: program_in(matches),
         reports: text(matches, "reports"),
         scen_out: text(matches, "scen_out"),
         program_out: text(matches, "program_out"),
-        without: matches.get_str("without"),
-        map_out: matches.get_str("map-out"),
-        others_out: matches.get_str("others-out"),
+        without: used_text(matches, "without"),
+        map_out: used_text(matches, "map-out"),
+        others_out: used_text(matches, "others-out"),
     })
+}
+
+/// The request of the command of this name, which is about a program for tasks, by its matches.
+fn program_request<'a>(name: &str, matches: &ArgMatches<'a>) -> Request<'a>
+    requires { IsProgramCommand name.now }
+    ensures { AsksCommand name.now (rows_in matches.now) result }
+{
+    let subject = program_in(matches);
+    match name {
+        "verify" => Request::Verify(subject),
+        "run" => Request::Run(RunRequest {
+            subject,
+            holds: used_text(matches, "holds"),
+        }),
+        "thin" => Request::Thin(ThinRequest {
+            subject,
+            out: text(matches, "out"),
+        }),
+        "dispatch" => Request::Dispatch(DispatchRequest {
+            subject,
+            ahead: used_number(matches, "ahead").unwrap_or(1),
+            unnumbered: used(matches, "unnumbered"),
+            resume: used_text(matches, "resume"),
+            log: used_text(matches, "log"),
+        }),
+        "times" => Request::Times(TimesRequest {
+            subject,
+            costs: used_text(matches, "costs"),
+            broken: used_text(matches, "broken"),
+        }),
+        "rest" => rest_in(matches),
+        _ => unreachable!(),
+    }
 }
 
 /// The request of the command of this name, by its matches.
 pub(crate) fn request_by<'a>(name: &str, matches: &ArgMatches<'a>) -> Request<'a>
     requires { IsCommandName name.now }
-    ensures { AsksCommand name.now (values_in matches.now) result }
+    ensures { AsksCommand name.now (rows_in matches.now) result }
 {
     match name {
         "instance" => Request::Instance(tasks_in(matches)),
-        "check" => check_in(matches),
-        "plan" => plan_in(matches),
-        "compile" => compile_in(matches),
-        "verify" => Request::Verify(program_in(matches)),
-        "run" => Request::Run(RunRequest {
-            subject: program_in(matches),
-            holds: matches.get_str("holds"),
+        "check" => Request::Check(CheckRequest {
+            tasks: tasks_in(matches),
+            plan: text(matches, "plan"),
+            numbers: used(matches, "numbers"),
+        }),
+        "plan" => Request::Plan(PlanRequest {
+            tasks: tasks_in(matches),
+            horizon: used_number(matches, "horizon").unwrap_or(DEFAULT_HORIZON),
+            tries: tries_in(matches),
+        }),
+        "compile" => Request::Compile(CompileRequest {
+            tasks: tasks_in(matches),
+            plan: text(matches, "plan"),
+            out: text(matches, "out"),
+            deps: used_deps(matches, "deps").unwrap_or(Deps::Last),
+            dwell: used_count(matches, "dwell").unwrap_or(0),
         }),
         "rehearse" => Request::Rehearse(RehearseRequest {
             program: text(matches, "program"),
-            holds: matches.get_str("holds"),
+            holds: used_text(matches, "holds"),
         }),
         "auto" => auto_in(matches),
-        "thin" => Request::Thin(ThinRequest {
-            subject: program_in(matches),
-            out: text(matches, "out"),
-        }),
         "migrate" => Request::Migrate(MigrateRequest {
             program: text(matches, "program"),
             out: text(matches, "out"),
@@ -363,9 +456,6 @@ pub(crate) fn request_by<'a>(name: &str, matches: &ArgMatches<'a>) -> Request<'a
         "list" => Request::List(ListRequest {
             program: text(matches, "program"),
         }),
-        "dispatch" => dispatch_in(matches),
-        "times" => times_in(matches),
-        "rest" => rest_in(matches),
-        _ => unreachable!(),
+        _ => program_request(name, matches),
     }
 }

@@ -1,16 +1,16 @@
 //! The command line, and the request that its words make.
 
-ghost use Rattle.std.specs.Prelude.{◌≡◌, None, find, map, option_map, string_bytes, IfOk};
+ghost use Rattle.std.specs.Prelude.{◌≡◌, None, true, find, map, option_map, string_bytes, IfOk, MatchResult, []};
 ghost use Rattle.std.specs.Str.{bytes_eq};
-ghost use Rattle.clap.specs.Words.{kind_of, app_of, with_subcommand};
-ghost use Rattle.fleet_args.specs.Commands.{AreNames, IsCommand, commands, fleet, fleet_top, with_shapes};
-ghost use Rattle.fleet_args.specs.Request.{AsksOrStops, IsStopOf, ReadsFleet, StopsFor, command_and_rest};
-ghost use Rattle.fleet_args.specs.Arguments.{own, said, shape_for};
+ghost use Rattle.clap.specs.Words.{app_of, fault_of, is_simple_and_free, kind_of, matches_of, with_subcommand};
+ghost use Rattle.fleet_args.specs.Commands.{commands, fleet, fleet_top, with_commands};
+ghost use Rattle.fleet_args.specs.Request.{IsStopOf, ReadsFleet, StopsFor, command_and_rest};
+ghost use Rattle.fleet_args.specs.{Arguments.app_for, Arguments.own, Arguments.said, Values.AreNames, Values.rows_in};
 
 use crate::arguments::{CommandText, OptionNames, command_of};
-use crate::commands::{COMMANDS, Request, request_by};
-use clap::Command;
+use crate::commands::{Request, commands, request_by};
 use clap::error::ErrorKind;
+use clap::{ArgMatches, Command};
 use std::alloc::{AllocError, Global};
 use thiserror::Error;
 
@@ -39,34 +39,44 @@ fn stop_of(alloc: Global, error: &clap::Error) -> WordStop
     }
 }
 
+/// What `clap` finds in the words by this command, or why it does not take them.
+fn matches_by<'a>(
+    alloc: Global,
+    command: Command<'a>,
+    words: &'a [String],
+) -> Result<ArgMatches<'a>, WordStop>
+    requires { is_simple_and_free (app_of command) ≡ true }
+    ensures { MatchResult result
+        (λ matches. (fault_of (app_of command.entry) (map string_bytes words.entry.now) ≡ [])
+        × (rows_in matches ≡ matches_of (app_of command.entry) (map string_bytes words.entry.now)))
+        (StopsFor (fault_of (app_of command.entry) (map string_bytes words.entry.now))) }
+{
+    match command.try_get_matches_from(words) {
+        Ok(matches) => Ok(matches),
+        Err(error) => Err(stop_of(alloc, &error)),
+    }
+}
+
 /// Why the whole command line with these names does not take the words, which begin with the name of no command.
 fn stop_by_line<'a>(alloc: Global, names: OptionNames<'a>, words: &'a [String]) -> WordStop
     requires { command_and_rest (map string_bytes words.now) ≡ None }
-    ensures { StopsFor (fleet names.entry) (map string_bytes words.entry.now) result }
+    ensures { StopsFor (fault_of (fleet names.entry) (map string_bytes words.entry.now)) result }
 {
     let Ok(line) = fleet_command(alloc, names) else {
         return WordStop::OutOfMemory;
     };
-    match line.try_get_matches_from(words) {
+    match matches_by(alloc, line, words) {
         Ok(_) => unreachable!(),
-        Err(error) => stop_of(alloc, &error),
+        Err(stop) => stop,
     }
 }
 
 /// The first command of this name among these.
 fn command_among<'t>(texts: &'t [CommandText], name: &str) -> Option<&'t CommandText>
     ensures { option_map (λ text. text.now) result
-        ≡ find (λ text. bytes_eq text.name.now name.now) texts.now }
+        ≡ find (λ text. bytes_eq text.0.now name.now) texts.now }
 {
-    texts.iter().find(|text| text.name == name)
-}
-
-/// The command of this name.
-fn command_named(name: &str) -> Option<&'static CommandText>
-    ensures { option_map (λ text. said text.now) result
-        ≡ find (λ c. bytes_eq c.0 name.now) commands }
-{
-    command_among(COMMANDS.as_slice(), name)
+    texts.iter().find(|text| text.0 == name)
 }
 
 /// The command with whose name the words begin, and the words after it.
@@ -75,7 +85,10 @@ fn command_and_rest(words: &[String]) -> Option<(&'static CommandText, &[String]
         ≡ command_and_rest (map string_bytes words.entry.now) }
 {
     let (name, rest) = words.split_first()?;
-    Some((command_named(name.as_str())?, rest))
+    match command_among(commands(), name.as_str()) {
+        Some(text) => Some((text, rest)),
+        None => None,
+    }
 }
 
 /// The command by itself, whose words begin after its name.
@@ -88,45 +101,22 @@ fn own_command<'a>(
 {
     command_of(alloc, names, text)?
         .no_binary_name(true)
-        .bin_name(text.line)
+        .bin_name(text.3)
 }
-
-/// What the words after the name of this command ask of it. To make the command alone costs a tenth of what it costs to
-/// make the whole command line.
-fn read_rest<'a>(
-    alloc: Global,
-    names: OptionNames<'a>,
-    text: &CommandText,
-    words: &'a [String],
-) -> Result<Request<'a>, WordStop>
-    requires { IsCommand (said text.now) }
-    ensures { AsksOrStops names.entry (said text.now) (map string_bytes words.entry.now) result }
-{
-    let Ok(command) = own_command(alloc, names, text) else {
-        return Err(WordStop::OutOfMemory);
-    };
-    match command.try_get_matches_from(words) {
-        Ok(matches) => Ok(request_by(text.name, &matches)),
-        Err(error) => Err(stop_of(alloc, &error)),
-    }
-}
-
-static DEPS: [&str; 2] = ["all", "last"];
-
-static BEST: [&str; 2] = ["chain", "cost"];
 
 /// The names that options take.
 fn option_names() -> OptionNames<'static>
     ensures { AreNames result }
 {
     OptionNames {
-        deps: DEPS.as_slice(),
-        best: BEST.as_slice(),
+        deps: &["all", "last"],
+        best: &["chain", "cost"],
     }
 }
 
 /// Reads the words after the program's name, as `clap` reads them by the definition of the command with whose name they
-/// begin, or else by that of the command line.
+/// begin, or else by that of the command line. To make the command alone costs a tenth of what it costs to make the
+/// whole command line.
 ///
 /// Errors: `Usage` and `Help` only if that definition does not take the words, and `Help` only if they ask for help or
 /// for the version; `OutOfMemory`.
@@ -134,9 +124,15 @@ pub fn read_words<'a>(alloc: Global, words: &'a [String]) -> Result<Request<'a>,
     ensures { ReadsFleet (map string_bytes words.entry.now) result }
 {
     let names = option_names();
-    match command_and_rest(words) {
-        Some((text, rest)) => read_rest(alloc, names, text, rest),
-        None => Err(stop_by_line(alloc, names, words)),
+    let Some((text, rest)) = command_and_rest(words) else {
+        return Err(stop_by_line(alloc, names, words));
+    };
+    let Ok(command) = own_command(alloc, names, text) else {
+        return Err(WordStop::OutOfMemory);
+    };
+    match matches_by(alloc, command, rest) {
+        Ok(matches) => Ok(request_by(text.0, &matches)),
+        Err(stop) => Err(stop),
     }
 }
 
@@ -168,8 +164,8 @@ fn with_command<'a>(
     names: OptionNames<'a>,
     text: &CommandText,
 ) -> Result<Command<'a>, AllocError>
-    ensures { IfOk result (λ command. app_of command
-        ≡ with_subcommand (app_of line.entry) (shape_for names.entry text.now)) }
+    ensures { IfOk result (λ command. app_of command ≡ with_subcommand (app_of line.entry)
+        (app_for names.entry (said text.now)).top) }
 {
     line.subcommand(command_of(alloc, names, text)?)
 }
@@ -183,7 +179,7 @@ fn with_commands<'a>(
     texts: &[CommandText],
 ) -> Result<Command<'a>, AllocError>
     ensures { IfOk result (λ command. app_of command
-        ≡ with_shapes (app_of line.entry) (map (shape_for names.entry) texts.now)) }
+        ≡ with_commands names.entry (app_of line.entry) (map said texts.now)) }
 {
     match texts {
         [] => Ok(line),
@@ -197,5 +193,5 @@ fn with_commands<'a>(
 fn fleet_command<'a>(alloc: Global, names: OptionNames<'a>) -> Result<Command<'a>, AllocError>
     ensures { IfOk result (λ command. app_of command ≡ fleet names.entry) }
 {
-    with_commands(alloc, without_commands(alloc)?, names, COMMANDS.as_slice())
+    with_commands(alloc, without_commands(alloc)?, names, commands())
 }

@@ -1,9 +1,13 @@
-use Rattle.std.proofs.Common.{◌≡◌, Some, map, string_bytes, subst, sym}
-use Rattle.fleet_args.specs.{Arguments.said, Request.command_and_rest}
-use Rattle.fleet_args.proofs.RequestLemmas.{named_first}
+use Rattle.std.proofs.Common.{Some, None, ap, map, string_bytes}
+use Rattle.fleet_args.proofs.RequestLemmas.{named}
 use Rattle.fleet_args.proofs.request.command_and_rest.Goals as goal
 
-pub returns : goal.returns
-returns c =
-    let named = named_first (string_bytes c.in_ok-name.name.now) c.as_str.result.now (map string_bytes c.in_ok-name.rest.now) (said c.in_ok-command_named.field-0.now) c.as_str.ensures.value c.in_ok-command_named.ensures in
-    subst (λ words. Some (said c.in_ok-command_named.field-0.now, map string_bytes c.in_ok-name.rest.now) ≡ command_and_rest (map string_bytes words)) (sym c.in_ok-name.ensures.cases.0) named
+pub returns-in-Some : goal.returns-in-Some
+returns-in-Some c =
+    named c.commands.result.now c.commands.ensures (map string_bytes c.args.words.now) (map string_bytes c.in_ok-name.rest.now) (string_bytes c.in_ok-name.name.now) c.as_str.result.now
+    (ap (map string_bytes) c.in_ok-name.ensures.cases.0) c.as_str.ensures.value (Some c.in-Some.text) c.in-Some.ensures
+
+pub returns-in-None : goal.returns-in-None
+returns-in-None c =
+    named c.commands.result.now c.commands.ensures (map string_bytes c.args.words.now) (map string_bytes c.in_ok-name.rest.now) (string_bytes c.in_ok-name.name.now) c.as_str.result.now
+    (ap (map string_bytes) c.in_ok-name.ensures.cases.0) c.as_str.ensures.value None c.in-None.ensures

@@ -1,15 +1,18 @@
-use Rattle.std.proofs.Common.{map, refl, string_bytes}
-use Rattle.clap.specs.Words.{app_of, kind_of}
-use Rattle.fleet_args.specs.Commands.{fleet}
-use Rattle.fleet_args.proofs.{NoCommand.unnamed, RequestLemmas.faultless, RequestLemmas.stops_by}
+use Rattle.std.proofs.Common.{map, refl, inl, string_bytes, sym, ap, subst, ◌∙◌}
+use Rattle.clap.specs.Words.{App, app_of, fault_of, is_simple_and_free}
+use Rattle.clap.specs.declared.error.ErrorKind.TheVariants as kind
+use Rattle.fleet_args.specs.{Commands.fleet, Request.StopsFor}
+use Rattle.fleet_args.proofs.NoCommand.{unnamed}
 use Rattle.fleet_args.proofs.request.stop_by_line.Goals as goal
 
+pub returns-in_default : goal.returns-in_default
+returns-in_default c = (kind.OutOfMemory, inl refl, tt)
+
+pub matches_by-requires : goal.matches_by-requires
+matches_by-requires c = ap is_simple_and_free c.in-Ok.ensures
+
 pub unreachable-requires : goal.unreachable-requires
-unreachable-requires c =
-    unnamed c.args.names (map string_bytes c.args.words.now) c.requires
-    (faultless (app_of c.in-Ok.line) (fleet c.args.names) c.in-Ok.ensures refl (map string_bytes c.args.words.now) c.in-Ok-try_get_matches_from.ensures.kinds)
+unreachable-requires c = unnamed c.args.names (map string_bytes c.args.words.now) c.requires (ap (λ (a : App). fault_of a (map string_bytes c.args.words.now)) (sym c.in-Ok.ensures) ∙ c.in-Ok-matches_by.ensures.0)
 
 pub returns : goal.returns
-returns c =
-    stops_by (app_of c.in-Ok.line) (fleet c.args.names) c.in-Ok.ensures refl (map string_bytes c.args.words.now)
-    (kind_of c.in-Err.error) c.stop_of.result c.in-Err.ensures.kinds c.stop_of.ensures
+returns c = subst (λ (a : App). StopsFor (fault_of a (map string_bytes c.args.words.now)) c.in-Err.stop) c.in-Ok.ensures c.in-Err.ensures

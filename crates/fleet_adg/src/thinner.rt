@@ -81,7 +81,8 @@ fn have_few_moves<P: ProgramView>(program: &P) -> bool
     ensures { IsTrue result ↔ ((i : ℕ) → moves (P.program program.now) i ≤ MAX_MOVES_V1) }
 {
     for i in 0..program.agents() {
-        if program.moves(i) > MAX_MOVES_V1 {
+        let has_more = program.moves(i) > MAX_MOVES_V1;
+        if has_more {
             return false;
         }
     }

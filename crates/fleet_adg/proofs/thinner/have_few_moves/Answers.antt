@@ -6,7 +6,7 @@ loop-i-preserved g c = λ k lt. elim (cases_lt k c.loop-i.i) [
   | inl low ↦ c.loop-i.invariant k low
   | inr high ↦
       let same : c.loop-i.i ≡ k = omega arith in
-      subst (λ n. moves (g.P.ProgramView.program c.args.program.now) n ≤ MAX_MOVES_V1) same (omega (arith, c.moves.ensures, c.if-moves-gt-MAX_MOVES_V1.false))
+      subst (λ n. moves (g.P.ProgramView.program c.args.program.now) n ≤ MAX_MOVES_V1) same (omega (arith, c.moves-has_more.ensures, c.if-has_more.false))
 ]
 
 pub returns : goal.returns

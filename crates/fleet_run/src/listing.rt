@@ -74,7 +74,8 @@ fn put_awaits<P: ProgramView, O: TraceOut>(
         (next_words (await_words (awaits_of (P.program program.now) action.agent action.number))) }
 {
     let ActionId { agent, number } = action;
-    if program.await_count(agent, number) == 0 {
+    let has_none = program.await_count(agent, number) == 0;
+    if has_none {
         return Ok(());
     }
     put_next_word(row, out, Word::Text("after"))?;

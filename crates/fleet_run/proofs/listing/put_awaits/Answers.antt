@@ -5,14 +5,14 @@ use Rattle.fleet_run.proofs.listing.put_awaits.Goals as goal
 pub returns-in_err-put_next_word : goal.returns-in_err-put_next_word
 returns-in_err-put_next_word g c =
     let awaits = awaits_of (g.P.ProgramView.program c.args.program.now) c.args.action.agent c.args.action.number in
-    let some : length awaits ≢ 0 = omega (arith, c.await_count.ensures, c.if-await_count-eq0.false) in
+    let some : length awaits ≢ 0 = omega (arith, c.await_count-has_none.ensures, c.if-has_none.false) in
     rw (some_awaits awaits some)
     (gathers_err _ _ _ _ _ _ (search rules) (stops_before _ _ _ (32 ∷ codes "after") (next_words (map await_text awaits)) c.in_err-put_next_word.ensures))
 
 pub returns-in_err-put_next_word-2 : goal.returns-in_err-put_next_word-2
 returns-in_err-put_next_word-2 g c =
     let awaits = awaits_of (g.P.ProgramView.program c.args.program.now) c.args.action.agent c.args.action.number in
-    let some : length awaits ≢ 0 = omega (arith, c.await_count.ensures, c.if-await_count-eq0.false) in
+    let some : length awaits ≢ 0 = omega (arith, c.await_count-has_none.ensures, c.if-has_none.false) in
     let below : c.loop-k.k < length awaits = omega (arith, c.await_count-k-end.ensures, c.loop-k-test.true) in
     rw (some_awaits awaits some)
     (gathers_then _ _ _ _ _ _ _ (32 ∷ codes "after") (next_words (map await_text awaits)) c.in_ok-put_next_word.ensures
@@ -29,7 +29,7 @@ loop-k-preserved g c =
 pub returns : goal.returns
 returns g c =
     let awaits = awaits_of (g.P.ProgramView.program c.args.program.now) c.args.action.agent c.args.action.number in
-    let some : length awaits ≢ 0 = omega (arith, c.await_count.ensures, c.if-await_count-eq0.false) in
+    let some : length awaits ≢ 0 = omega (arith, c.await_count-has_none.ensures, c.if-has_none.false) in
     let whole : take c.loop-k.k awaits ≡ awaits = take_all c.loop-k.k awaits (omega (arith, c.await_count-k-end.ensures, c.loop-k-test.false)) in
     rw (some_awaits awaits some)
     (passes_more _ _ _ _ _ _ (32 ∷ codes "after") (next_words (map await_text awaits)) c.in_ok-put_next_word.ensures (rw whole at c.loop-k.invariant.written))

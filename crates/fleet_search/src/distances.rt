@@ -294,7 +294,8 @@ impl<'g> Distances<'g> {
         let Some(distance) = self.label(left) else {
             return Ok(());
         };
-        if u32::from(distance) + manhattan(left, self.start) != self.f_bound {
+        let was_expanded = u32::from(distance) + manhattan(left, self.start) != self.f_bound;
+        if was_expanded {
             return Ok(());
         }
         self.label_around(distance, left)

@@ -1,5 +1,5 @@
 -- Rows that are made: one row more, one action more.
-use Rattle.fleet_needs.proofs.Words.{◌≡◌, ◌≢◌, ℕ, ◌+◌, ◌-◌, ◌<◌, ◌≤◌, List, [], ◌∷◌, ◌++◌, length, get_or, slice_index, refl, sym, ap, subst, ◌∙◌, arith, inl, inr, ◌⊎◌, slice_get, Some, Vec, with_item, Global, cases_lt, cases_eq, slice_get-get_or, same_Some, get_or-set_same, get_or-set_other, length-set, length_push, get_or_append_left, get_or_push, ActionId, Await, Program, awaits_of, IsAction, awaited, IsAwaiting, row_place, AddsNone, HasRowOr, join_at, IsRow, StandsFor, need_at, IsNeed, IsJoin, Takes, row_of, IsStanding, IsUpToLast, AreUpTo, AreJoinsOf, CanJoin, AreTaken, IsAdded, Join, Need, Joins, action_before}
+use Rattle.fleet_needs.proofs.Words.{◌≡◌, ◌≢◌, ℕ, ◌+◌, ◌-◌, ◌<◌, ◌≤◌, List, [], ◌∷◌, ◌++◌, length, get_or, slice_index, refl, sym, ap, subst, ◌∙◌, arith, inl, inr, ◌⊎◌, slice_get, Some, Vec, with_item, Global, cases_lt, cases_eq, slice_get-get_or, same_Some, get_or-set_same, get_or-set_other, length-set, length_push, get_or_append_left, get_or_push, ActionId, Await, Program, awaits_of, IsAction, awaited, IsAwaiting, row_place, AddsNone, AreQuiet, HasRowOr, join_at, IsRow, StandsFor, need_at, IsNeed, IsJoin, Takes, row_of, IsStanding, IsUpToLast, AreUpTo, AreJoinsOf, CanJoin, AreTaken, IsAdded, Join, Need, Joins, action_before}
 use Rattle.fleet_needs.specs.Joins.{AreSound, HaveGrown}
 use Rattle.fleet_needs.proofs.Joining.{adds_none_if_quiet}
 use Rattle.fleet_needs.proofs.RowPlaces.{row_within, row_other, row_sooner, row_same, no_awaits}
@@ -33,27 +33,12 @@ stands_kept p a old new h r i n s = record {
 pub stands_within : (p : Program) (joins : List Join) (r i n : ℕ) → StandsFor p joins r i n → r ≤ length joins
 stands_within p joins r i n s = elim s.row [ inl none ↦ omega (arith, none.0) | inr k ↦ k.upto ]
 
--- an action that adds no chain has the row of the one before
-pub stands_on : (p : Program) (joins : List Join) (r : ℕ) (a : ActionId) → 1 ≤ a.number → AddsNone p a.agent a.number → StandsFor p joins r a.agent (a.number - 1) → StandsFor p joins r a.agent a.number
-stands_on p joins r a some none s = record {
-  number = s.number;
-  upto = (let l : s.number ≤ a.number - 1 = s.upto in omega arith);
-  quiet = λ m from upto. elim (cases_lt m a.number) [
-    | inl l ↦ s.quiet m from (omega arith)
-    | inr l ↦ (let e : a.number ≡ m = omega arith in subst (AddsNone p a.agent) e none)
-  ];
-  row = s.row;
-}
-
--- .. and so have all after it that await nothing
-stands_far : (p : Program) (joins : List Join) (r i m n : ℕ) → m ≤ n → ((k : ℕ) → m < k → k ≤ n → length (awaits_of p i k) ≡ 0) → StandsFor p joins r i m → StandsFor p joins r i n
-stands_far p joins r i m n le none s = record {
+-- so it does of later actions, as long as none adds a chain
+stands_to : (p : Program) (joins : List Join) (r i m n : ℕ) → m ≤ n → AreQuiet p i m n → StandsFor p joins r i m → StandsFor p joins r i n
+stands_to p joins r i m n le none s = record {
   number = s.number;
   upto = (let l : s.number ≤ m = s.upto in omega arith);
-  quiet = λ k from upto. elim (cases_lt m k) [
-    | inl l ↦ adds_none_if_quiet p i k (none k l upto)
-    | inr l ↦ s.quiet k from l
-  ];
+  quiet = λ k from upto. elim (cases_lt m k) [ inl l ↦ none k l upto | inr l ↦ s.quiet k from l ];
   row = s.row;
 }
 
@@ -61,7 +46,7 @@ stands_later : (p : Program) (m : Joins) (a x : ActionId) → x.agent ≡ a.agen
 stands_later p m a x same le none s =
     let e : row_of p m x ≡ row_of p m a = ap (slice_index m.standing.items) (row_same p x a same le none) in
     subst (λ (r : ℕ). StandsFor p m.joins.items r x.agent x.number) (sym e)
-    (subst (λ (i : ℕ). StandsFor p m.joins.items (row_of p m a) i x.number) (sym same) (stands_far p m.joins.items (row_of p m a) a.agent a.number x.number le none s))
+    (subst (λ (i : ℕ). StandsFor p m.joins.items (row_of p m a) i x.number) (sym same) (stands_to p m.joins.items (row_of p m a) a.agent a.number x.number le (λ k later upto. adds_none_if_quiet p a.agent k (none k later upto)) s))
 
 -- ---- what the awaits of an action take
 
@@ -192,7 +177,7 @@ joined_none p Passed a m base can is none passed = record {
   sound = can.sound;
   standing = refl;
   grown = record { more = omega arith; same = λ n l. refl; last = λ n l. inl l };
-  stands = stands_on p m.joins.items base a can.action.first none (base_stands p a m base is can);
+  stands = stands_to p m.joins.items base a.agent (a.number - 1) a.number (omega arith) (λ m from upto. (let e : a.number ≡ m = omega (arith, from, upto, can.action.first) in subst (AddsNone p a.agent) e none)) (base_stands p a m base is can);
   here = inr (none, passed);
 }
 

@@ -214,6 +214,10 @@ fn is_left_out<P: ProgramView>(
     ensures { (result ≡ true)
         ↔ IsLeftOut (P.program program.now) implied.now (action_of item.now) }
 {
+    let known = implied.len();
+    if known == 0 {
+        return false;
+    }
     if item.awaits != 1 {
         return false;
     }

@@ -8,15 +8,8 @@ use Rattle.fleet_needs.proofs.RowsMade.{counts_none}
 pub answer_is : (p : Program) (q : Question) (n : ℕ) → 1 ≤ q.first.number → IsColumn p q.last q.first.agent n → IsAnswer p q (nat_lt n q.first.number)
 answer_is p q n some col = (
   (λ e r. let l : n < q.first.number = ltb-true n q.first.number e in let le : q.first.number ≤ n = ((col q.first.number).0 r).1 in omega arith),
-  (λ none. go (nat_lt n q.first.number) refl none),
+  (λ none. elim (cases_lt n q.first.number) [ inl less ↦ lt-ltb n q.first.number less | inr below ↦ absurd (none ((col q.first.number).1 (some, below))) ]),
 )
-  where
-    go : (b : Bool) → nat_lt n q.first.number ≡ b → (Reaches p q.first q.last → ⊥) → nat_lt n q.first.number ≡ true
-    go true e none = e
-    go false e none = absurd (none ((col q.first.number).1 (some, below e)))
-      where
-        below : nat_lt n q.first.number ≡ false → q.first.number ≤ n
-        below f = elim (cases_lt n q.first.number) [ inr g ↦ g | inl l ↦ absurd (let t : nat_lt n q.first.number ≡ true = lt-ltb n q.first.number l in cc) ]
 
 -- a question of a list of questions
 pub question_at : (p : Program) (questions : List Question) → All (IsQuestion p) questions → (k : ℕ) (q : Question) → slice_get questions k ≡ Some q → IsQuestion p q

@@ -5,17 +5,10 @@ use Rattle.fleet_needs.proofs.Words.{◌≡◌, ◌≢◌, ℕ, ◌+◌, ◌*◌
 pub sums_rise : {X : Type 0} (f : X → ℕ) (xs : List X) (i j : ℕ) → i ≤ j → sum_by f (take i xs) ≤ sum_by f (take j xs)
 sums_rise f xs i j l = subst (λ ys. sum_by f ys ≤ sum_by f (take j xs)) (take-take i j xs l) (sum_by-take-le f (take j xs) i)
 
-pub rising_to : (p : Program) (i j : ℕ) → i ≤ j → total_moves (take i p) ≤ total_moves (take j p)
-rising_to p = sums_rise (λ (a : AgentProgram). length a.actions) p
-
 -- the actions of an agent stand before those of the next
 module _ (p : Program) (firsts : List ℕ) (h : ArePlaces p firsts) where
   pub before_next : (a : ActionId) → IsAction p a → action_place firsts a < total_moves (take (a.agent + 1) p)
-  before_next a k =
-      let e = h.each a.agent k.agent in
-      let f : 1 ≤ a.number = k.first in
-      let l : a.number ≤ moves p a.agent = k.last in
-      omega (arith, e, moves_more p a.agent)
+  before_next a k = omega (arith, h.each a.agent k.agent, k.first, k.last, moves_more p a.agent)
 
   pub place_within : (a : ActionId) → IsAction p a → action_place firsts a < total_moves p
   place_within a k =
@@ -24,19 +17,12 @@ module _ (p : Program) (firsts : List ℕ) (h : ArePlaces p firsts) where
 
   sooner : (a b : ActionId) → IsAction p a → IsAction p b → a.agent < b.agent → action_place firsts a < action_place firsts b
   sooner a b k m l =
-      let up : total_moves (take (a.agent + 1) p) ≤ total_moves (take b.agent p) = rising_to p (a.agent + 1) b.agent (omega arith) in
-      let e = h.each b.agent m.agent in
-      let f : 1 ≤ b.number = m.first in
-      omega (arith, before_next a k, e)
+      let up : total_moves (take (a.agent + 1) p) ≤ total_moves (take b.agent p) = sums_rise (λ (x : AgentProgram). length x.actions) p (a.agent + 1) b.agent (omega arith) in
+      omega (arith, before_next a k, h.each b.agent m.agent, m.first)
 
   pub place_apart : (a b : ActionId) → IsAction p a → IsAction p b → a ≢ b → action_place firsts a ≢ action_place firsts b
   place_apart a b k m n e = elim (cases_order a.agent b.agent) [
-    | inl same ↦
-        let f : 1 ≤ a.number = k.first in
-        let g : 1 ≤ b.number = m.first in
-        let first : slice_index firsts a.agent ≡ slice_index firsts b.agent = ap (slice_index firsts) same in
-        let number : a.number ≡ b.number = omega arith in
-        n (λ t. record { agent = same t; number = number t })
+    | inl same ↦ (let number : a.number ≡ b.number = omega (arith, e, ap (slice_index firsts) same, k.first, m.first) in n (λ t. record { agent = same t; number = number t }))
     | inr (inl l) ↦ (let s = sooner a b k m l in omega (arith, s))
     | inr (inr l) ↦ (let s = sooner b a m k l in omega (arith, s))
   ]

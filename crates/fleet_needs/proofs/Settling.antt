@@ -1,5 +1,5 @@
 -- What is reached, and what is not, by the levels of actions and by what they directly need.
-use Rattle.fleet_needs.proofs.Words.{◌≡◌, ◌≢◌, ℕ, ◌+◌, ◌-◌, ◌<◌, ◌≤◌, Bool, true, false, List, length, get_or, set, refl, sym, ap, subst, ◌∙◌, arith, inl, inr, ◌⊎◌, Contains, slice_get, Some, None, Option, unwrap_or, cases_lt, false≢true, true≢false, slice_get_within, get_or_from_slice_get, same_Some, ActionId, Await, Program, moves, awaits_of, AreInRange, IsWellFormed, IsAction, Reaches, IsNumbering, awaited, chain_ends_by_step, Reaches-rises, Reaches-last, IsImplied, IsSettled, AreSettledOf, AreMoreAsked, ReachesNeed, IsUpTo, action_before, ByBeforeOr, OfFirst, OfOthers}
+use Rattle.fleet_needs.proofs.Words.{◌≡◌, ◌≢◌, ℕ, ◌+◌, ◌-◌, ◌<◌, ◌≤◌, Bool, true, false, List, length, get_or, set, refl, sym, ap, subst, ◌∙◌, arith, inl, inr, ◌⊎◌, Contains, slice_get, Some, None, Option, unwrap_or, cases_lt, cases_eq, false≢true, true≢false, slice_get_within, get_or_from_slice_get, same_Some, ActionId, Await, Program, moves, awaits_of, AreInRange, IsWellFormed, IsAction, Reaches, IsNumbering, awaited, chain_ends_by_step, Reaches-rises, Reaches-last, IsImplied, IsSettled, AreSettledOf, AreMoreAsked, ReachesNeed, IsUpTo, action_before, ByBeforeOr, OfFirst, OfOthers}
 use Rattle.fleet_needs.proofs.AwaitOrder.{other_agent}
 use Rattle.fleet_needs.proofs.RowFlags.{implied_by, implied_back}
 use Rattle.fleet_needs.proofs.Joining.{one_of, own_first, step_back, step_on}
@@ -123,17 +123,11 @@ one_up i n b (inr (same, l)) = elim (cases_lt n b.number) [
   | inl more ↦ (let e : b.number ≡ n + 1 = omega arith in inr (λ t. record { agent = same t; number = e t }))
 ]
 
+-- .. and all that come before those of the next agent
+pub upto_next : (p : Program) (i : ℕ) (a : ActionId) → IsAction p a → IsUpTo (i + 1) 0 a → IsUpTo i (moves p i) a
+upto_next p i a is (inr (same, none)) = absurd (omega (arith, none, is.first))
+upto_next p i a is (inl low) = elim (cases_eq a.agent i) [ inr ne ↦ inl (omega (arith, low, ne)) | inl e ↦ inr (e, subst (λ (j : ℕ). a.number ≤ moves p j) e is.last) ]
+
 -- one agent more
 pub agent_up : (p : Program) (i : ℕ) (asked flags : List Bool) → AreSettledOf p asked (IsUpTo i (moves p i)) flags → AreSettledOf p asked (IsUpTo (i + 1) 0) flags
-agent_up p i asked flags h a k up = h a k (go up)
-  where
-    go : IsUpTo (i + 1) 0 a → IsUpTo i (moves p i) a
-    go (inr (same, none)) = absurd (let f : 1 ≤ a.number = k.first in omega arith)
-    go (inl low) = elim (cases_lt a.agent i) [
-      | inl less ↦ inl less
-      | inr high ↦
-          let e : a.agent ≡ i = omega arith in
-          let l : a.number ≤ moves p a.agent = k.last in
-          let same : moves p a.agent ≡ moves p i = ap (moves p) e in
-          inr (e, omega arith)
-    ]
+agent_up p i asked flags h a k up = h a k (upto_next p i a k up)

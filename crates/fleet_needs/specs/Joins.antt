@@ -101,10 +101,6 @@ joins_made m = m.joins.items
 abbrev pub rows_made : Joins → ℕ
 rows_made m = length m.joins.items
 
--- for each action, by its place among rows, the row that stands for it
-abbrev pub standing_in : Joins → List ℕ
-standing_in m = m.standing.items
-
 -- there is room to note the row that stands for each action
 abbrev pub HasRoom : Program → Joins → Type 0
 HasRoom p m = length m.standing.items ≡ total_awaits p + length p

@@ -133,6 +133,7 @@ pub(crate) fn text<'a>(matches: &ArgMatches<'a>, id: &str) -> &'a str
 }
 
 /// The number of up to 16 bits of an option, if it was used.
+#[tactic(auto, using(crate::proofs::RequestLemmas::number_used))]
 pub(crate) fn used_number(matches: &ArgMatches<'_>, id: &str) -> Option<u16>
     ensures { IsNumberIfUsed 16 (rows_in matches.now) id.now result }
 {
@@ -140,6 +141,7 @@ pub(crate) fn used_number(matches: &ArgMatches<'_>, id: &str) -> Option<u16>
 }
 
 /// The same of a number of up to 32 bits.
+#[tactic(auto, using(crate::proofs::RequestLemmas::number_used))]
 pub(crate) fn used_count(matches: &ArgMatches<'_>, id: &str) -> Option<u32>
     ensures { IsNumberIfUsed 32 (rows_in matches.now) id.now result }
 {

@@ -1,8 +1,8 @@
 -- Awaits for which a few steps back show whether others imply them.
-use Rattle.std.specs.Prelude.{◌≡◌, ◌≢◌, ℕ, ◌<◌, ◌≤◌, ◌⊎◌, Bool, true, false, List, length, get_or, Vec}
+use Rattle.std.specs.Prelude.{◌≡◌, ◌≢◌, ℕ, ◌<◌, ◌≤◌, ◌⊎◌, Bool, true, false, List, length, get_or, slice_get, Some, Vec}
 use Rattle.std.specs.declared.alloc.Global.{Global}
-use Rattle.fleet_needs.specs.Words.{Await, ActionId, Program, IsAction}
-use Rattle.fleet_needs.specs.Rows.{ByBeforeOr}
+use Rattle.fleet_needs.specs.Words.{Await, ActionId, Program, awaits_of, awaited, IsAction}
+use Rattle.fleet_needs.specs.Rows.{action_before, ByBeforeOr}
 use Rattle.fleet_needs.specs.Implied.{IsImplied, IsImpliedFlag, EachFlag, AreNoted}
 
 -- the flag says whether the await is implied; or its agent is asked for, and the flag is set only if it is
@@ -37,3 +37,13 @@ ReachesNeed p x a but = ByBeforeOr (λ k w. k ≢ but) p x a
 -- the actions of the agents before this one, and its first ones, so many
 abbrev pub IsUpTo : ℕ → ℕ → ActionId → Type 0
 IsUpTo i n a = (a.agent < i) ⊎ ((a.agent ≡ i) × (a.number ≤ n))
+
+-- a step back from the action may show that the first one reaches it: it is of another agent, and its level is greater
+abbrev pub IsOpenTo : (ActionId → ℕ) → ActionId → ActionId → Type 0
+IsOpenTo level x a = (x.agent ≢ a.agent) × (level x < level a)
+
+-- so it is of the action before a, or of what one of its awaits names, but not this one
+abbrev pub HasOpenNeed : Program → (ActionId → ℕ) → ActionId → ActionId → ℕ → Type 0
+HasOpenNeed p level x a but =
+    IsOpenTo level x (action_before a)
+    ⊎ ((k : ℕ) × (w : Await) × (k ≢ but) × (slice_get (awaits_of p a.agent a.number) k ≡ Some w) × IsOpenTo level x (awaited w))

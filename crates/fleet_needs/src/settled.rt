@@ -1,11 +1,11 @@
 //! Awaits for which a few steps back from their action show whether others imply them.
 
-ghost use Rattle.std.specs.Prelude.{◌≡◌, ◌↔◌, ◌<◌, ◌≤◌, ℕ, true, false, length, get_or, slice_get, Some, IfOk, OnOk};
+ghost use Rattle.std.specs.Prelude.{◌≡◌, ◌↔◌, ◌<◌, ◌≤◌, ℕ, true, false, length, get_or, slice_get, Some, IfOk, OnOk, ◌⊎◌, None};
 ghost use Rattle.fleet_model.specs.Program.{AreInRange, awaits_of, moves};
 ghost use Rattle.fleet_model.specs.Chain.{IsAction, Reaches};
 ghost use Rattle.fleet_needs.specs.Flags.{AreFlags, flags_of};
-ghost use Rattle.fleet_needs.specs.Critical.{AreLevels};
-ghost use Rattle.fleet_needs.specs.Settled.{AreSettledBy, AreSettledOf, AreSettledTo, AreMoreAsked, IsUpTo, ReachesNeed};
+ghost use Rattle.fleet_needs.specs.Critical.{AreLevels, critical_cost};
+ghost use Rattle.fleet_needs.specs.Settled.{AreSettledBy, AreSettledOf, AreSettledTo, AreMoreAsked, IsUpTo, ReachesNeed, IsOpenTo, HasOpenNeed};
 ghost use Rattle.fleet_needs.specs.Rows.{action_before};
 
 use crate::critical::CriticalCosts;
@@ -132,6 +132,7 @@ fn ask_if(is_open: bool, agent: u16, asked: &mut [bool])
     requires { agent < length asked.old }
     ensures more { AreMoreAsked asked.old asked.new }
     ensures open { is_open ≡ true → get_or asked.new agent false ≡ true }
+    ensures closed { is_open ≡ false → asked.new ≡ asked.old }
 {
     if is_open {
         asked[usize::from(agent)] = true;
@@ -169,6 +170,7 @@ fn reaches<P: ProgramView>(
     requires last { IsAction (P.program program.now) last }
     ensures yes { result ≡ Some true → Reaches (P.program program.now) first last }
     ensures no { result ≡ Some false → Reaches (P.program program.now) first last → ⊥ }
+    ensures open { result ≡ None → IsOpenTo (critical_cost levels.now) first last }
     ensures fewer { steps.new ≤ steps.old }
 {
     let is_own = last.agent == first.agent;
@@ -203,6 +205,9 @@ fn reaches_need<P: ProgramView>(
     requires action { IsAction (P.program program.now) action }
     ensures yes { result ≡ Some true → ReachesNeed (P.program program.now) first action but }
     ensures no { result ≡ Some false → ReachesNeed (P.program program.now) first action but → ⊥ }
+    ensures open { result ≡ None
+        → (AWAITS < length (awaits_of (P.program program.now) action.agent action.number))
+        ⊎ HasOpenNeed (P.program program.now) (critical_cost levels.now) first action but }
     ensures fewer { steps.new ≤ steps.old }
 {
     let awaits = program.await_count(action.agent, action.number);
@@ -244,6 +249,7 @@ fn before(action: ActionId) -> ActionId
 fn join_answers(known: bool, one: Option<bool>) -> Option<bool>
     ensures yes { result ≡ Some true → one ≡ Some true }
     ensures no { result ≡ Some false → (known ≡ true) × (one ≡ Some false) }
+    ensures open { result ≡ None → (known ≡ false) ⊎ (one ≡ None) }
 {
     match one {
         Some(false) if !known => None,

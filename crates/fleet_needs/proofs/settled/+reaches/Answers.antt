@@ -53,6 +53,12 @@ reaches_need-loop-k-preserved g t c =
         | reaches_need-then-is_other+in-None w ↦ absurd (let e : true ≡ false = sym known ∙ w.known-is in cc)
         | reaches_need-else-is_other w ↦ λ m v l other. c.loop-k.invariant.apart (sym w.known-is ∙ known) m v (omega (arith, l, other, w.if-is_other.false)) other
       ];
+      unsure = λ known. elim c.if-is_other.branch [
+        | reaches_need-then-is_other+in-Some-false w ↦ c.loop-k.invariant.unsure (sym w.known-is ∙ known)
+        | reaches_need-then-is_other+in-None w ↦
+            inr (c.loop-k.k, await_of w.awaited_at-needed.result, (λ s. omega (arith, s, w.if-is_other.true)), w.awaited_at-needed.ensures.awaited, w.reaches.ensures.open w.in-None.is)
+        | reaches_need-else-is_other w ↦ c.loop-k.invariant.unsure (sym w.known-is ∙ known)
+      ];
     }
 
 pub reaches_need-returns-then-is_first-clause-yes : goal.reaches_need-returns-then-is_first-clause-yes

@@ -9,8 +9,8 @@ use Rattle.fleet_dispatch.specs.{Session.course_in, Session.left_in, Replay.IsLe
 use Rattle.fleet_dispatch.proofs.Said.{dispatches_more, led_stops}
 use Rattle.fleet_args.specs.declared.commands.DispatchRequest.{DispatchRequest}
 use Rattle.fleet_cli.specs.{declared.fault.Fault.Fault, Files.Store, Files.AreUnchanged, Files.IsOwnLog, Files.bytes_of}
-use Rattle.fleet_cli.specs.Journal.{ChangesOnlyLog, IsKeptAfter, log_in, log_state, lines_in}
-use Rattle.fleet_cli.specs.JournalLaws.{log_self, log_longer}
+use Rattle.fleet_cli.specs.DispatchCommand.{ChangesOnlyLog, IsKeptAfter, log_in, log_state, lines_in}
+use Rattle.fleet_cli.specs.DispatchCommand.{log_self, log_longer}
 use Rattle.fleet_cli.specs.DispatchCommand.{Leads, answer_of, pace_of}
 use Rattle.fleet_cli.specs.declared.fault.Fault.TheVariants as f
 

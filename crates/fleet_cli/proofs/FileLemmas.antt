@@ -1,7 +1,7 @@
 -- Files that a command names, read one after another.
 use Rattle.std.proofs.Common.{ℕ, List, Option, Some, None, [], ◌∷◌, ◌++◌, inl, inr}
 use Rattle.std.specs.Borrow.{Bor}
-use Rattle.fleet_cli.specs.{Files.Store, Named.IsUnread, Named.IsGiven, Named.given_name, declared.fault.Fault.Fault}
+use Rattle.fleet_cli.specs.{Files.Store, Files.IsUnread, Files.IsGiven, Files.given_name, declared.fault.Fault.Fault}
 
 -- a file was not read, whatever comes after it
 pub unread_first : (files : Option Store) (names rest : List (List ℕ)) (fault : Fault) → IsUnread files names fault → IsUnread files (names ++ rest) fault

@@ -1,25 +1,22 @@
 -- What the program does for its words.
-use Rattle.std.specs.Prelude.{◌≡◌, ℕ, List, [], ◌∷◌, ◌⊎◌, Option, Some, None, option_map, Result, Ok, Err, codes, string_bytes}
+use Rattle.std.specs.Prelude.{◌≡◌, ◌≢◌, ℕ, List, [], ◌∷◌, ◌⊎◌, Option, Some, None, option_map, Result, Ok, Err, codes, string_bytes}
 use Rattle.std.specs.Borrow.{Bor}
 use Rattle.clap.specs.Words.{Text}
 use Rattle.fleet_args.specs.Request.{ReadsFleet}
 use Rattle.fleet_args.specs.declared.{commands.ProgramFor.ProgramFor, commands.Request.Request, commands.Tasks.Tasks, request.WordStop.WordStop}
 use Rattle.fleet_args.specs.declared.commands.Request.TheVariants as r
 use Rattle.fleet_args.specs.declared.request.WordStop.TheVariants as w
-use Rattle.fleet_cli.specs.Files.{Store, AreUnchanged}
+use Rattle.fleet_cli.specs.Files.{Store, AreUnchanged, given_names, IsUnread, AreTexts}
 use Rattle.fleet_text.specs.Sink.{Receives, FailsAfter, SinkState, IsUnwritten, IsDelivered}
 use Rattle.fleet_text.specs.Words.{line_text}
 pub use Rattle.fleet_cli.specs.Output.{Around, around}
 use Rattle.fleet_cli.specs.Output.{IsRefusalWritten, Finishes, Prints, Declines}
 use Rattle.fleet_cli.specs.Steps.{IsProblemOf, IsProblemRefusal}
-use Rattle.fleet_cli.specs.Named.{given_names, IsUnread, AreTexts}
 use Rattle.fleet_cli.specs.declared.{files.FileNames.FileNames, files.FileTexts.FileTexts, steps.Problem.Problem, fault.Fault.Fault}
-use Rattle.fleet_cli.specs.RunCommands.{RunsHex, AnswersRehearse, AnswersRun, AnswersAuto}
-use Rattle.fleet_cli.specs.PrintCommands.{instance_text, AnswersCheck, AnswersPlan, AnswersVerify, AnswersList}
-use Rattle.fleet_cli.specs.WriteCommands.{AnswersCompile, AnswersThin, AnswersMigrate}
+use Rattle.fleet_cli.specs.RunCommands.{RunsHex, RehearsesBytes, AnswersRun, AnswersAuto}
+use Rattle.fleet_cli.specs.PrintCommands.{instance_text, AnswersCheck, AnswersPlan, AnswersVerify, AnswersList, AnswersTimes}
+use Rattle.fleet_cli.specs.WriteCommands.{AnswersCompile, AnswersThin, AnswersMigrate, AnswersRest}
 use Rattle.fleet_cli.specs.DispatchCommand.{AnswersDispatch}
-use Rattle.fleet_cli.specs.TimesCommand.{AnswersTimes}
-use Rattle.fleet_cli.specs.RestCommand.{AnswersRest}
 use Rattle.fleet_cli.specs.declared.fault.Fault.TheVariants as f
 
 -- the files of a request: those of its tasks, if it has some, what it is about, the holds and the log
@@ -88,7 +85,7 @@ AnswersProblem w _ problem out out' result = ⊥
 
 -- what each command about no tasks answers for the texts of its files
 abbrev pub AnswersTexts : (files after : Option Store) → Request → FileTexts → (out out' : SinkState) → Result ℕ Fault → Type 0
-AnswersTexts files after (r.Rehearse q) texts out out' result = AnswersRehearse texts out out' result × AreUnchanged files after
+AnswersTexts files after (r.Rehearse q) texts out out' result = RehearsesBytes texts.subject.items texts.holds.items out out' result × AreUnchanged files after
 AnswersTexts files after (r.Migrate q) texts out out' result = AnswersMigrate files after q texts out out' result
 AnswersTexts files after (r.List q) texts out out' result = AnswersList texts out out' result × AreUnchanged files after
 AnswersTexts files after _ texts out out' result = ⊥
@@ -131,7 +128,7 @@ StopsAtWords (w.Help text) out out' err err' status =
 -- does not take. Every file is as before, but for the files OUT of `compile`, `thin`, `migrate` and `rest`, and the log
 -- of `dispatch`. The input is read whole without words, and else by `dispatch` alone, whose robots report by it
 abbrev pub RunsCommand : List Text → Option (List ℕ) → Around → (out out' err err' : SinkState) → ℕ → Type 0
-RunsCommand [] input w out out' err err' status = RunsHex input out out' err err' status × AreUnchanged w.files w.after
-RunsCommand (word ∷ words) input w out out' err err' status =
-    ((request : Request) × ReadsFleet (word ∷ words) (Ok request) × RunsRequest w request out out' err err' status)
-    ⊎ ((stop : WordStop) × ReadsFleet (word ∷ words) (Err stop) × StopsAtWords stop out out' err err' status × AreUnchanged w.files w.after × w.unread)
+RunsCommand words input w out out' err err' status =
+    ((words ≡ []) × RunsHex input out out' err err' status × AreUnchanged w.files w.after)
+    ⊎ ((words ≢ []) × (request : Request) × ReadsFleet words (Ok request) × RunsRequest w request out out' err err' status)
+    ⊎ ((words ≢ []) × (stop : WordStop) × ReadsFleet words (Err stop) × StopsAtWords stop out out' err err' status × AreUnchanged w.files w.after × w.unread)

@@ -1,9 +1,4 @@
 -- Refusals of the program: those of the steps within, and the line and the status of each.
-use Rattle.fleet_grid.specs.declared.fault.MapFault.TheVariants as m
-use Rattle.fleet_scen.specs.declared.fault.ScenFault.TheVariants as s
-use Rattle.fleet_search.specs.declared.fault.PlanStop.TheVariants as p
-use Rattle.fleet_adg.specs.declared.fault.CompileFault.TheVariants as c
-use Rattle.fleet_run.specs.declared.run.RunFault.TheVariants as r
 use Rattle.fleet_cli.specs.declared.{fault.AutoFault.AutoFault, fault.Fault.Fault}
 use Rattle.fleet_cli.specs.declared.fault.AutoFault.TheVariants as a
 use Rattle.std.specs.Prelude.{ℕ, Bool, true, List, [], ◌∷◌, if◌then◌else◌, codes}
@@ -19,15 +14,6 @@ use Rattle.fleet_verify.specs.RefusalWords.{verify_words, is_verify_failure}
 use Rattle.fleet_run.specs.RefusalWords.{run_words, is_run_failure}
 use Rattle.fleet_dispatch.specs.RefusalWords.{dispatch_words, is_dispatch_failure, times_words, is_times_failure}
 use Rattle.fleet_cli.specs.declared.fault.Fault.TheVariants as f
-
--- the fault of a step as it is answered: want of memory in any step is the same
-abbrev pub in_step : AutoFault → AutoFault
-in_step (a.Map m.OutOfMemory) = a.OutOfMemory
-in_step (a.Scen s.OutOfMemory) = a.OutOfMemory
-in_step (a.Plan p.OutOfMemory) = a.OutOfMemory
-in_step (a.Compile c.OutOfMemory) = a.OutOfMemory
-in_step (a.Run r.OutOfMemory) = a.OutOfMemory
-in_step fault = fault
 
 -- the words of the line of a refusal
 abbrev pub words_of : Fault → List (List ℕ)

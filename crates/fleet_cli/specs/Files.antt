@@ -1,8 +1,10 @@
--- What a store of files holds, if it says so.
-use Rattle.std.specs.Prelude.{◌≡◌, ◌≢◌, ◌<◌, ◌≤◌, ◌⊎◌, ℕ, Bool, true, false, IfSome, List, [], ◌∷◌, length, take, Option, Some, None, unwrap_or, option_map, Result, Ok, Err, ⊤, if◌then◌else◌}
-use Rattle.std.specs.{List.list_any, Io.KnownBytes.Appends}
+-- What a store of files holds, if it says so, and the files of it that a command names.
+use Rattle.std.specs.Prelude.{◌≡◌, ◌≢◌, ◌<◌, ◌≤◌, ◌⊎◌, ◌-◌, ℕ, Bool, true, false, not, IfSome, List, [], ◌∷◌, ◌++◌, length, take, Option, Some, None, unwrap_or, option_map, Result, Ok, Err, ⊤}
+use Rattle.std.specs.{List.suffix_len, Io.KnownBytes.Appends}
 use Rattle.fleet_text.specs.Text.{is_lf}
-use Rattle.fleet_cli.specs.declared.input.TheConstants.{MAX_BYTES}
+use Rattle.std.specs.Borrow.{Bor}
+use Rattle.fleet_cli.specs.declared.{files.TheConstants.MAX_BYTES, files.FileFault.FileFault, files.FileFault.TheVariants.OutOfMemory, files.FileFault.TheVariants.Failed, files.FileNames.FileNames, files.FileTexts.FileTexts, fault.Fault.Fault}
+use Rattle.fleet_cli.specs.declared.fault.Fault.TheVariants as f
 
 -- the bytes of each file, by its name
 abbrev pub Store : Type 0
@@ -46,8 +48,7 @@ bytes_of files name = option_map (λ (store : Store). unwrap_or (store name) [])
 
 -- the bytes up to the last LF, and with it
 unfoldable pub whole_lines : List ℕ → List ℕ
-whole_lines [] = []
-whole_lines (b ∷ bytes) = if list_any is_lf (b ∷ bytes) then b ∷ whole_lines bytes else []
+whole_lines bytes = take (length bytes - suffix_len (λ b. not (is_lf b)) bytes) bytes
 
 -- of the named file its whole lines are left
 abbrev pub HoldsLines : Option Store → Option Store → List ℕ → Type 0
@@ -67,3 +68,51 @@ BeginsLog old new name past false = IfSome (bytes_of old name) (λ held. IsOwnLo
 abbrev pub PutsBehind : {T E : Type 0} → Option Store → Option Store → List ℕ → Result T E → List ℕ → Type 0
 PutsBehind old new name (Ok _) bytes = Appends (bytes_of old name) (bytes_of new name) bytes
 PutsBehind old new name (Err _) bytes = (k : ℕ) × (k ≤ length bytes) × Appends (bytes_of old name) (bytes_of new name) (take k bytes)
+
+-- ---- files that a command names, read one after another
+
+-- the store's refusal of the file that was named is reported as it is: want of memory as such, and a failed access by the
+-- file's name
+abbrev pub IsGivenAs : (refuses : List ℕ → FileFault → Type 0) → Option (Bor (List ℕ)) → Fault → Type 0
+IsGivenAs refuses (Some name) f.Memory = refuses name.now OutOfMemory
+IsGivenAs refuses (Some name) (f.File n) = (name.now ≡ n.now) × refuses name.now Failed
+IsGivenAs refuses name _ = ⊥
+
+-- the named file was not read: memory ran out, or it cannot be read
+abbrev pub IsReadFault : Option Store → List ℕ → Fault → Type 0
+IsReadFault files name f.Memory = Unit {0}
+IsReadFault files name (f.File n) = (name ≡ n.now) × IsUnreadable files name
+IsReadFault files name _ = ⊥
+
+-- the named file was not written
+abbrev pub IsWriteFault : List ℕ → Fault → Type 0
+IsWriteFault name f.Memory = Unit {0}
+IsWriteFault name (f.File n) = name ≡ n.now
+IsWriteFault name _ = ⊥
+
+-- of the files of these names one was not read, and those before it were
+abbrev pub IsUnread : Option Store → List (List ℕ) → Fault → Type 0
+IsUnread files [] fault = ⊥
+IsUnread files (name ∷ names) fault = IsReadFault files name fault ⊎ ((bytes : List ℕ) × IsRead files name bytes × IsUnread files names fault)
+
+-- the name that was given, if one was
+abbrev pub given_name : Option (Bor (List ℕ)) → List (List ℕ)
+given_name None = []
+given_name (Some name) = name.now ∷ []
+
+-- the names that were given, in the order in which their files are read
+abbrev pub given_names : FileNames → List (List ℕ)
+given_names names = given_name names.map ++ (given_name names.scen ++ (given_name names.subject ++ (given_name names.holds ++ given_name names.log)))
+
+-- the bytes of the named file, or none if none is named
+abbrev pub IsGiven : Option Store → Option (Bor (List ℕ)) → List ℕ → Type 0
+IsGiven files None bytes = bytes ≡ []
+IsGiven files (Some name) bytes = IsRead files name.now bytes
+
+-- the named files were read, and hold these texts
+pub record AreTexts (files : Option Store) (names : FileNames) (texts : FileTexts) : Type 0 where
+  pub map : IsGiven files names.map texts.map.items
+  pub scen : IsGiven files names.scen texts.scen.items
+  pub subject : IsGiven files names.subject texts.subject.items
+  pub holds : IsGiven files names.holds texts.holds.items
+  pub log : IsGiven files names.log texts.log.items

@@ -3,13 +3,8 @@ pub mod Faults
 pub mod MemFiles
 pub mod Steps
 pub mod RunCommands
-pub mod Named
 pub mod Output
 pub mod PrintCommands
 pub mod WriteCommands
-pub mod Journal
-pub mod JournalLaws
 pub mod DispatchCommand
 pub mod Command
-pub mod TimesCommand
-pub mod RestCommand

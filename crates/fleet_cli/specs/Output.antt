@@ -6,8 +6,7 @@ use Rattle.fleet_run.specs.declared.{run.End.End, run.End.TheVariants.Finished, 
 use Rattle.fleet_cli.specs.declared.fault.Fault.{Fault}
 use Rattle.fleet_cli.specs.declared.fault.Fault.TheVariants as f
 use Rattle.std.specs.Borrow.{Bor}
-use Rattle.fleet_cli.specs.Files.{Store, AreUnchanged, ChangesOnly, Replaces}
-use Rattle.fleet_cli.specs.Named.{IsWriteFault}
+use Rattle.fleet_cli.specs.Files.{Store, AreUnchanged, ChangesOnly, Replaces, IsWriteFault}
 use Rattle.fleet_text.specs.Words.{line_text, count_line}
 use Rattle.fleet_dispatch.specs.Talk.{Talk}
 use Rattle.fleet_dispatch.specs.declared.form.ReportForm.{ReportForm}

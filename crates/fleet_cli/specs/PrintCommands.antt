@@ -1,12 +1,12 @@
--- What the commands `instance`, `check`, `plan`, `verify` and `list` print.
+-- What the commands `instance`, `check`, `plan`, `verify`, `list` and `times` print.
 use Rattle.std.specs.Prelude.{◌≡◌, ℕ, List, [], ◌∷◌, ◌++◌, length, slice_get, option_map, unwrap_or, Option, codes, decimal, Result, Err, ◌≢◌, Bool, true, false, Some, None, ◌⊎◌, ⊤}
-use Rattle.fleet_model.specs.declared.{geometry.Cell.Cell, task.Task.Task, program.Visit.Visit}
+use Rattle.fleet_model.specs.declared.{geometry.Cell.Cell, task.Task.Task, program.Visit.Visit, program.ActionId.ActionId}
 use Rattle.fleet_model.specs.Program.{origin, Program, total_moves, total_awaits}
 use Rattle.fleet_grid.specs.Ground.{Ground, passable_cells, is_passable}
-use Rattle.fleet_cli.specs.Steps.{IsPlannedFor, AcceptsProgram, IsLoadRefusal}
+use Rattle.fleet_cli.specs.Steps.{IsPlannedFor, AcceptsProgram, IsAcceptRefusal, IsLoadRefusal}
 use Rattle.fleet_text.specs.Sink.{FailsAfter, SinkState, IsUnwritten, IsDelivered}
-use Rattle.fleet_args.specs.declared.{commands.CheckRequest.CheckRequest, commands.PlanRequest.PlanRequest}
-use Rattle.fleet_text.specs.Words.{pair_text, line_text, count_line}
+use Rattle.fleet_args.specs.declared.{commands.CheckRequest.CheckRequest, commands.PlanRequest.PlanRequest, commands.TimesRequest.TimesRequest}
+use Rattle.fleet_text.specs.Words.{pair_text, line_text}
 use Rattle.fleet_cli.specs.declared.{files.FileTexts.FileTexts, fault.Fault.Fault, steps.Problem.Problem}
 use Rattle.fleet_cli.specs.declared.fault.Fault.TheVariants as f
 use Rattle.fleet_plan.specs.Plan.{Plan, steps, IsConflictFree}
@@ -16,7 +16,7 @@ use Rattle.fleet_plan.specs.PlanText.{IsPlanText, IsFirstTextFault, plan_text}
 use Rattle.fleet_plan.specs.FirstFault.{IsFirstPlanFault}
 use Rattle.fleet_plan.specs.declared.text_fault.TextFault.TheVariants as t
 use Rattle.fleet_plan.specs.declared.plan_fault.PlanFault.TheVariants as p
-use Rattle.fleet_cli.specs.Output.{report, Prints, Refuses}
+use Rattle.fleet_cli.specs.Output.{count_lines, report, Prints, Refuses}
 use Rattle.fleet_search.specs.Orders.{IsStuckInTries}
 use Rattle.fleet_search.specs.declared.fault.PlanStop.TheVariants as s
 use Rattle.fleet_model.specs.Machine.{Holds}
@@ -28,6 +28,11 @@ use Rattle.fleet_verify.specs.declared.fault.VerifyFault.{VerifyFault}
 use Rattle.fleet_verify.specs.declared.fault.VerifyFault.TheVariants as v
 use Rattle.fleet_run.specs.HoldText.{holds_text}
 use Rattle.fleet_run.specs.Listing.{program_text, texts_below}
+use Rattle.std.specs.Borrow.{Bor}
+use Rattle.fleet_verify.specs.Times.{EachArrivesAt, HaveArrivedAt, IsCriticalPath, AreReached, StopsOthers, stopped_agents}
+use Rattle.fleet_run.specs.TimesText.{times_text, reached_text}
+use Rattle.fleet_dispatch.specs.Breaks.{AreBreaksOf, IsBreaksFault}
+use Rattle.fleet_dispatch.specs.Costs.{AreCostsOf, IsCostsFault}
 
 -- the line of an agent: `i: x,y x,y`, its start and its goal
 unfoldable pub task_line : ℕ → Cell → Cell → List ℕ
@@ -41,14 +46,11 @@ task_at tasks i = task_line i (unwrap_or (option_map (λ t. t.start) (slice_get 
 abbrev pub task_lines : List Task → List ℕ
 task_lines tasks = texts_below (task_at tasks) (length tasks)
 
--- `map W H`
-unfoldable pub map_line : Ground → List ℕ
-map_line g = line_text (codes "map" ∷ decimal g.width ∷ decimal g.height ∷ [])
-
--- the sizes, `ground N`, `agents K`, and the lines of the agents
+-- `map W H`, `ground N`, `agents K`, and the lines of the agents
 unfoldable pub instance_text : Ground → List Task → List ℕ
 instance_text g tasks =
-    map_line g ++ (count_line (codes "ground") (passable_cells g) ++ (count_line (codes "agents") (length tasks) ++ task_lines tasks))
+    line_text (codes "map" ∷ decimal g.width ∷ decimal g.height ∷ [])
+    ++ (count_lines ((codes "ground", passable_cells g) ∷ (codes "agents", length tasks) ∷ []) ++ task_lines tasks)
 
 -- `conflict-free`, then the agents and the steps, each with its number; if the bound is given, then also the sum of
 -- costs, the bound, the moves and the waits
@@ -135,3 +137,62 @@ AnswersVerify problem out out' result =
 -- what `list` answers for the texts of its files
 abbrev pub AnswersList : FileTexts → (out out' : SinkState) → Result ℕ Fault → Type 0
 AnswersList texts out out' result = ((p : Program) × Spells texts.subject.items p × Prints (program_text p) out out' result) ⊎ Refuses (IsLoadRefusal texts.subject.items) out out' result
+
+-- ---- `times`
+
+-- when each agent arrives at the soonest, when all have arrived, and a chain that takes so long
+pub record IsTimetable (p : Program) (cost : ActionId → ℕ) (arrivals : List ℕ) (last : ℕ) (path : List ActionId) : Type 0 where
+  pub each : EachArrivesAt p cost arrivals
+  pub all : HaveArrivedAt p cost last
+  pub critical : IsCriticalPath p cost path
+
+-- what actions cost: one each, or as the text says if one is given
+abbrev pub AreCosts : Program → Option (Bor (List ℕ)) → List ℕ → (ActionId → ℕ) → Type 0
+AreCosts p None text cost = (a : ActionId) → cost a ≡ 1
+AreCosts p (Some name) text cost = AreCostsOf p text cost
+
+-- memory ran out; or a text is given that says no costs of the program
+abbrev pub IsCostsRefusal : Program → Option (Bor (List ℕ)) → List ℕ → Fault → Type 0
+IsCostsRefusal p costs text f.Memory = ⊤
+IsCostsRefusal p (Some name) text (f.Times fault) = IsCostsFault p text fault
+IsCostsRefusal p costs text _ = ⊥
+
+-- how far each agent comes, and no further, if the actions that the line names are never ended, which every schedule
+-- bears out
+pub record HasReached (p : Program) (line : List ℕ) (counts : List ℕ) : Type 0 where
+  pub breaks : List ℕ
+  pub named : AreBreaksOf p line breaks
+  pub reached : AreReached p breaks counts
+  pub stops : StopsOthers p breaks counts
+
+-- memory ran out, or the line names no actions of the program
+abbrev pub IsBreaksRefusal : Program → List ℕ → Fault → Type 0
+IsBreaksRefusal p line f.Memory = ⊤
+IsBreaksRefusal p line (f.Times fault) = IsBreaksFault p line fault
+IsBreaksRefusal p line _ = ⊥
+
+-- such a timetable is printed; or memory ran out
+abbrev pub TellsTimetable : Program → (ActionId → ℕ) → (moves : ℕ) → (out out' : SinkState) → Result ℕ Fault → Type 0
+TellsTimetable p cost moves out out' result =
+    ((arrivals : List ℕ) × (last : ℕ) × (path : List ActionId) × IsTimetable p cost arrivals last path × Prints (times_text arrivals moves last path) out out' result)
+    ⊎ Refuses (λ fault. fault ≡ f.Memory) out out' result
+
+-- .. of the program, by such costs
+abbrev pub TellsTimes : Program → Option (Bor (List ℕ)) → (text : List ℕ) → (out out' : SinkState) → Result ℕ Fault → Type 0
+TellsTimes p costs text out out' result =
+    ((cost : ActionId → ℕ) × AreCosts p costs text cost × TellsTimetable p cost (total_moves p) out out' result) ⊎ Refuses (IsCostsRefusal p costs text) out out' result
+
+-- how far each agent comes is printed
+abbrev pub TellsReached : Program → (line : List ℕ) → (out out' : SinkState) → Result ℕ Fault → Type 0
+TellsReached p line out out' result =
+    ((counts : List ℕ) × HasReached p line counts × Prints (reached_text counts (total_moves p) (stopped_agents p counts)) out out' result) ⊎ Refuses (IsBreaksRefusal p line) out out' result
+
+-- the one or the other
+abbrev pub Tells : TimesRequest → Program → (text : List ℕ) → Option (Bor (List ℕ)) → (out out' : SinkState) → Result ℕ Fault → Type 0
+Tells r p text None = TellsTimes p r.costs text
+Tells r p text (Some line) = TellsReached p line.now
+
+-- what `times` answers
+abbrev pub AnswersTimes : TimesRequest → Problem → (out out' : SinkState) → Result ℕ Fault → Type 0
+AnswersTimes r problem out out' result =
+    AcceptsProgram problem (λ p chain. Tells r p problem.texts.holds.items r.broken out out' result) ⊎ Refuses (IsAcceptRefusal problem) out out' result

@@ -8,7 +8,7 @@ use Rattle.fleet_run.specs.Rehearsal.{Rehearses}
 use Rattle.fleet_run.specs.declared.{run.RunFault.RunFault, run.RunFault.TheVariants.Write, trace.Report.Report}
 use Rattle.fleet_run.specs.Trace.{WritesTrace, Traces, StopsTrace, hold_source}
 use Rattle.fleet_args.specs.declared.{commands.Tries.Tries, commands.AutoRequest.AutoRequest}
-use Rattle.fleet_cli.specs.declared.{files.FileTexts.FileTexts, fault.Fault.Fault, steps.PlanNumbers.PlanNumbers, steps.Problem.Problem, fault.AutoFault.AutoFault, input.TheConstants.MAX_BYTES}
+use Rattle.fleet_cli.specs.declared.{fault.Fault.Fault, steps.PlanNumbers.PlanNumbers, steps.Problem.Problem, fault.AutoFault.AutoFault, files.TheConstants.MAX_BYTES}
 use Rattle.fleet_cli.specs.Steps.{AcceptsProgram, AreTextsOf, IsAcceptRefusal, IsMadeFor, IsMakingFault, IsLoadRefusal}
 use Rattle.fleet_cli.specs.declared.fault.Fault.TheVariants as f
 use Rattle.fleet_model.specs.declared.{task.Task.Task, deps.Deps.Deps}
@@ -97,14 +97,12 @@ AnswersAuto r problem out out' result =
     (λ numbers p chain. Follow (Runs p chain problem.texts.holds.items) (TellsNumbers r.numbers numbers) out out' result)
     ⊎ Refuses (IsMakingRefusal problem r) out out' result
 
--- the program was rehearsed under the holds for which the bytes stand; the status says how it ended
-abbrev pub RehearsesProgram : Program → (held : List ℕ) → (out out' : SinkState) → Result ℕ Fault → Type 0
-RehearsesProgram p held out out' result = (source : SourceState) × Ends (Rehearses p (hold_source p held) source out) (λ r. end_status r.end) out' result
-
--- what `rehearse` answers for the texts of its files
-abbrev pub AnswersRehearse : FileTexts → (out out' : SinkState) → Result ℕ Fault → Type 0
-AnswersRehearse texts out out' result =
-    ((p : Program) × Spells texts.subject.items p × RehearsesProgram p texts.holds.items out out' result) ⊎ Refuses (IsLoadRefusal texts.subject.items) out out' result
+-- What `rehearse` answers. The bytes spell a program, which was rehearsed under the holds for which the other bytes
+-- stand, and the status says how it ended; or they spell none
+abbrev pub RehearsesBytes : (bytes held : List ℕ) → (out out' : SinkState) → Result ℕ Fault → Type 0
+RehearsesBytes bytes held out out' result =
+    ((p : Program) × (source : SourceState) × Spells bytes p × Ends (Rehearses p (hold_source p held) source out) (λ r. end_status r.end) out' result)
+    ⊎ Refuses (IsLoadRefusal bytes) out out' result
 
 -- the text is all that the input had, if the input says it, and is no longer than a text that is read
 pub record IsTextOf (input : Option (List ℕ)) (text : List ℕ) : Type 0 where
@@ -127,8 +125,7 @@ IsInputRefusal input _ = ⊥
 -- what the run without words answers: the program of the input is rehearsed, with nobody held
 abbrev pub AnswersHex : Option (List ℕ) → (out out' : SinkState) → Result ℕ Fault → Type 0
 AnswersHex input out out' result =
-    ((bytes : List ℕ) × (p : Program) × ReadsInput input bytes × Spells bytes p × RehearsesProgram p [] out out' result)
-    ⊎ Refuses (λ fault. IsInputRefusal input fault ⊎ ((bytes : List ℕ) × ReadsInput input bytes × IsLoadRefusal bytes fault)) out out' result
+    ((bytes : List ℕ) × ReadsInput input bytes × RehearsesBytes bytes [] out out' result) ⊎ Refuses (IsInputRefusal input) out out' result
 
 -- 0 if the rehearsal was written and ends finished, 1 if it was written and ends stuck, and else the status of a
 -- refusal that was reported: the other output took that one line, or failed within it

@@ -16,7 +16,6 @@ use Rattle.fleet_plan.specs.Plan.{Plan, steps, IsConflictFree}
 use Rattle.fleet_plan.specs.Numbers.{sum_of_costs}
 use Rattle.fleet_search.specs.Orders.{IsMadeInTry, IsStuckInTries}
 use Rattle.fleet_search.specs.Best.{IsBestInTries}
-use Rattle.fleet_search.specs.declared.fault.PlanStop.{PlanStop}
 use Rattle.fleet_search.specs.declared.fault.PlanStop.TheVariants as p
 use Rattle.fleet_adg.specs.Compiled.{compiled_if_few}
 use Rattle.fleet_adg.specs.declared.fault.CompileFault.{CompileFault}
@@ -58,16 +57,12 @@ pub record IsPlannedFor (g : Ground) (tasks : List Task) (horizon : ℕ) (tries 
   pub made : IsMadeBy (is_passable g) tasks horizon tries.count tries.best tried plan
   pub free : IsConflictFree (is_passable g) tasks plan
 
--- these are the numbers of the plan
-pub record AreNumbersOf (plan : Plan) (numbers : PlanNumbers) : Type 0 where
-  pub steps : numbers.steps ≡ steps plan
-  pub cost : numbers.cost ≡ sum_of_costs plan
-
 -- the program is that of such a plan, which has these numbers, and it is accepted
 pub record IsMadeFor (g : Ground) (tasks : List Task) (horizon : ℕ) (tries : Tries) (deps : Deps) (numbers : PlanNumbers) (program : Program) : Type 0 where
   pub plan : Plan
   pub planned : IsPlannedFor g tasks horizon tries numbers.tried plan
-  pub numbered : AreNumbersOf plan numbers
+  pub steps : numbers.steps ≡ steps plan
+  pub cost : numbers.cost ≡ sum_of_costs plan
   pub compiled : compiled_if_few plan deps ≡ Ok program
   pub accepted : IsAccepted (is_passable g) tasks program
 
@@ -77,14 +72,11 @@ pub record SpellsMade (g : Ground) (tasks : List Task) (horizon : ℕ) (tries : 
   pub made : IsMadeFor g tasks horizon tries deps numbers program
   pub spelled : SpellsIn One bytes program
 
--- in the last of so many orders an agent is left without a path by those before it
-abbrev pub IsPlanStop : Ground → List Task → ℕ → Tries → PlanStop → Type 0
-IsPlanStop g tasks horizon tries stop = (agent : ℕ) × (stop ≡ p.NoPath agent) × IsStuckInTries (is_passable g) tasks horizon tries.count agent
-
--- memory ran out; or an agent is left without a path by those before it; or the agents of the plan make too many moves
+-- memory ran out; or in the last of so many orders an agent is left without a path by those before it; or the agents of the
+-- plan make too many moves
 abbrev pub IsMakingFault : Ground → List Task → ℕ → Tries → Deps → AutoFault → Type 0
 IsMakingFault g tasks horizon tries deps a.OutOfMemory = Unit {0}
-IsMakingFault g tasks horizon tries deps (a.Plan stop) = IsPlanStop g tasks horizon tries stop
+IsMakingFault g tasks horizon tries deps (a.Plan stop) = (agent : ℕ) × (stop ≡ p.NoPath agent) × IsStuckInTries (is_passable g) tasks horizon tries.count agent
 IsMakingFault g tasks horizon tries deps (a.Compile fault) = (plan : Plan) × (tried : ℕ) × IsPlannedFor g tasks horizon tries tried plan × (compiled_if_few plan deps ≡ Err fault)
 IsMakingFault g tasks horizon tries deps _ = ⊥
 

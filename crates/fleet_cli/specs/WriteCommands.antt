@@ -1,7 +1,9 @@
--- What the commands `compile`, `thin` and `migrate` write and print.
-use Rattle.std.specs.Prelude.{◌≡◌, ◌≢◌, ℕ, List, [], ◌∷◌, length, Option, Some, Ok, Err, codes, Result}
-use Rattle.fleet_model.specs.declared.task.Task.{Task}
+-- What the commands `compile`, `thin`, `migrate` and `rest` write and print.
+use Rattle.std.specs.Prelude.{◌≡◌, ◌≢◌, ℕ, List, [], ◌∷◌, ◌⊎◌, length, Option, None, Some, IfSome, Ok, Err, codes, Result, ⊤}
+use Rattle.std.specs.{Borrow.Bor, List.remove}
+use Rattle.fleet_model.specs.declared.{geometry.Cell.Cell, task.Task.Task}
 use Rattle.fleet_model.specs.Program.{Program, total_moves, total_awaits}
+use Rattle.fleet_model.specs.Machine.{Configuration}
 use Rattle.fleet_model.specs.Accepted.{IsAccepted}
 use Rattle.fleet_grid.specs.Ground.{Ground, is_passable}
 use Rattle.fleet_plan.specs.Plan.{Plan}
@@ -12,62 +14,57 @@ use Rattle.fleet_adg.specs.declared.fault.CompileFault.TheVariants as c
 use Rattle.fleet_code.specs.Spelling.{SpellsShortest, SpellsIn, Spells}
 use Rattle.fleet_text.specs.Sink.{SinkState}
 use Rattle.fleet_cli.specs.Files.{Store}
-use Rattle.fleet_args.specs.declared.{commands.CompileRequest.CompileRequest, commands.ThinRequest.ThinRequest, commands.MigrateRequest.MigrateRequest}
-use Rattle.fleet_cli.specs.declared.{files.FileTexts.FileTexts, fault.Fault.Fault, steps.Problem.Problem}
+use Rattle.fleet_args.specs.declared.{commands.CompileRequest.CompileRequest, commands.ThinRequest.ThinRequest, commands.MigrateRequest.MigrateRequest, commands.RestRequest.RestRequest}
+use Rattle.fleet_cli.specs.declared.{files.FileTexts.FileTexts, fault.Fault.Fault, steps.Problem.Problem, write_commands.Rest.Rest}
 use Rattle.fleet_cli.specs.Output.{count_lines, AnswersOut}
 use Rattle.fleet_cli.specs.Steps.{AcceptsProgram, IsAcceptRefusal, IsLoadRefusal}
 use Rattle.fleet_cli.specs.PrintCommands.{IsFreePlan, IsPlanRefusal}
 use Rattle.fleet_cli.specs.declared.fault.Fault.TheVariants as f
-use Rattle.fleet_model.specs.Chain.{IsLongestChain}
-use Rattle.fleet_verify.specs.Reduced.{IsThinned, RunEqually}
+use Rattle.fleet_adg.specs.Thinned.{IsThinnedFor}
+use Rattle.fleet_grid.specs.MapWriting.{map_text, ground_without}
+use Rattle.fleet_scen.specs.ScenText.{IsScenText}
+use Rattle.fleet_scen.specs.ScenWriting.{scen_text}
+use Rattle.fleet_verify.specs.Rest.{StandOn, RunsOn, cell_at, rest, rest_tasks}
+use Rattle.fleet_adg.specs.Remaining.{tasks_of}
+use Rattle.fleet_dispatch.specs.Standing.{StandsAfter, IsLogRefusal}
+use Rattle.fleet_dispatch.specs.DeadRobot.{dead_robot_of}
+use Rattle.fleet_dispatch.specs.declared.{dead_robot.DeadRobot.DeadRobot, times_fault.TimesFault.TheVariants.Dead}
 use Rattle.fleet_code.specs.declared.format.Version.TheVariants.{Two}
 
 -- the problem's plan is free of conflict; the program is that of the plan with so many stays after the moves of each
--- agent, and is accepted; and the bytes spell it, in version 1 if that has bytes for it
-pub record CompilesPlan (problem : Problem) (r : CompileRequest) (program : Program) (bytes : List ℕ) : Type 0 where
+-- agent, and is accepted; and these are its bytes and its numbers
+pub record CompilesPlan (problem : Problem) (r : CompileRequest) (made : ProgramBytes) : Type 0 where
   pub paths : Plan
   pub free : IsFreePlan problem paths
+  pub program : Program
   pub compiled : compiled_staying_if_few paths r.deps r.dwell ≡ Ok program
   pub accepted : IsAccepted (is_passable problem.grid) problem.instance program
-  pub spelled : SpellsShortest bytes program
-
--- .. as these bytes, whose numbers are those of that program
-pub record CompilesBytes (problem : Problem) (r : CompileRequest) (c : ProgramBytes) : Type 0 where
-  pub program : Program
-  pub made : CompilesPlan problem r program c.bytes.items
-  pub numbers : AreBytesOf program c
+  pub bytes : AreBytesOf program made
 
 -- the first fault, judged in this order: plan text, plan, program; or memory ran out
 abbrev pub IsCompileFault : Problem → CompileRequest → Fault → Type 0
 IsCompileFault problem r (f.Compile fault) = (paths : Plan) × IsFreePlan problem paths × (fault ≢ c.OutOfMemory → compiled_staying_if_few paths r.deps r.dwell ≡ Err fault)
 IsCompileFault problem r fault = IsPlanRefusal problem fault
 
--- the agents, the moves and the awaits of the program, and its bytes, each with its number
-abbrev pub numbers_text : Program → List ℕ → List ℕ
-numbers_text p bytes =
-    count_lines ((codes "agents", length p) ∷ (codes "moves", total_moves p) ∷ (codes "awaits", total_awaits p) ∷ (codes "bytes", length bytes) ∷ [])
+-- the agents, the moves and the awaits of a program, and its bytes, each with its number
+abbrev pub numbers_text : (agents moves awaits : ℕ) → List ℕ → List ℕ
+numbers_text agents moves awaits bytes =
+    count_lines ((codes "agents", agents) ∷ (codes "moves", moves) ∷ (codes "awaits", awaits) ∷ (codes "bytes", length bytes) ∷ [])
 
 -- What `compile` answers. The file OUT holds the program's bytes, every other file is as before, and the program's
 -- numbers were printed; or a refusal before anything is written; or OUT could not be written, or the output failed
 abbrev pub AnswersCompile : (files after : Option Store) → CompileRequest → Problem → (out out' : SinkState) → Result ℕ Fault → Type 0
 AnswersCompile files after r problem =
-    AnswersOut {A = Program × List ℕ} files after (λ made. CompilesPlan problem r made.0 made.1) (IsCompileFault problem r) (λ made. (Some r.out, made.1) ∷ []) (λ made. numbers_text made.0 made.1)
+    AnswersOut files after (CompilesPlan problem r) (IsCompileFault problem r) (λ made. (Some r.out, made.bytes.items) ∷ [])
+    (λ made. numbers_text made.agents made.moves made.awaits made.bytes.items)
 
--- the bytes spell the program without its implied awaits, in version 1 if that has bytes for it; it is accepted for the
--- same map and tasks, has the same longest chain and runs equally; and the two have so many awaits
-pub record ThinsProgram (g : Ground) (tasks : List Task) (p : Program) (chain : ℕ) (before after : ℕ) (bytes : List ℕ) : Type 0 where
+-- these are the bytes of the program without its implied awaits, which is accepted for the same map and tasks, has the
+-- same longest chain and runs equally; and the program had so many awaits before
+pub record ThinsProgram (g : Ground) (tasks : List Task) (p : Program) (chain before : ℕ) (made : ProgramBytes) : Type 0 where
   pub thinned : Program
-  pub is : IsThinned p thinned
-  pub accepted : IsAccepted (is_passable g) tasks thinned
-  pub longest : IsLongestChain thinned chain
-  pub equally : RunEqually p thinned
-  pub spelled : SpellsShortest bytes thinned
+  pub is : IsThinnedFor (is_passable g) tasks p chain thinned
+  pub bytes : AreBytesOf thinned made
   pub had : before ≡ total_awaits p
-  pub has : after ≡ total_awaits thinned
-
--- so of the program that is accepted for the problem
-abbrev pub ThinsAccepted : Problem → (before after : ℕ) → List ℕ → Type 0
-ThinsAccepted problem before after bytes = AcceptsProgram problem (λ p chain. ThinsProgram problem.grid problem.instance p chain before after bytes)
 
 -- the awaits before and after
 abbrev pub thinned_text : ℕ → ℕ → List ℕ
@@ -77,7 +74,8 @@ thinned_text before after = count_lines ((codes "awaits", before) ∷ (codes "aw
 -- printed; or a refusal before anything is written; or OUT could not be written, or the output failed
 abbrev pub AnswersThin : (files after : Option Store) → ThinRequest → Problem → (out out' : SinkState) → Result ℕ Fault → Type 0
 AnswersThin files after r problem =
-    AnswersOut {A = ℕ × ℕ × List ℕ} files after (λ made. ThinsAccepted problem made.0 made.1 made.2) (IsAcceptRefusal problem) (λ made. (Some r.out, made.2) ∷ []) (λ made. thinned_text made.0 made.1)
+    AnswersOut {A = ℕ × ProgramBytes} files after (λ made. AcceptsProgram problem (λ p chain. ThinsProgram problem.grid problem.instance p chain made.0 made.1)) (IsAcceptRefusal problem)
+    (λ made. (Some r.out, made.1.bytes.items) ∷ []) (λ made. thinned_text made.0 made.1.awaits)
 
 -- the bytes spell a program, in either version, and the others spell it in version 2
 pub record MigratesBytes (bytes migrated : List ℕ) : Type 0 where
@@ -95,3 +93,87 @@ migrated_text migrated = count_lines ((codes "bytes", length migrated) ∷ [])
 abbrev pub AnswersMigrate : (files after : Option Store) → MigrateRequest → FileTexts → (out out' : SinkState) → Result ℕ Fault → Type 0
 AnswersMigrate files after r texts =
     AnswersOut files after (MigratesBytes texts.subject.items) (IsLoadRefusal texts.subject.items) (λ migrated. (Some r.out, migrated) ∷ []) migrated_text
+
+-- ---- `rest`
+
+-- q is the rest of the program where the reports of the log have led its agents, and its runs are the rests of the
+-- program's runs
+pub record IsRestOf (p : Program) (log : List ℕ) (q : Program) : Type 0 where
+  pub standings : Configuration
+  pub after : StandsAfter p log standings
+  pub cells : StandOn p standings (cell_at standings)
+  pub is : q ≡ rest (cell_at standings) p standings
+  pub runs_on : RunsOn p standings q
+
+-- the log could not be taken, or memory ran out
+abbrev pub IsRestFault : Program → List ℕ → Fault → Type 0
+IsRestFault p log (f.Dispatch fault) = IsLogRefusal p log fault
+IsRestFault p log f.Memory = ⊤
+IsRestFault p log _ = ⊥
+
+-- the dead robot that is named is this one, or none is named
+abbrev pub IsDead : Ground → (agents : ℕ) → Option (Bor (List ℕ)) → Option DeadRobot → Type 0
+IsDead g agents None dead = dead ≡ None
+IsDead g agents (Some text) dead = (d : DeadRobot) × (dead ≡ Some d) × (dead_robot_of agents g.width g.height text.now ≡ Some d)
+
+-- what is named is none
+abbrev pub IsDeadRefusal : Ground → (agents : ℕ) → Option (Bor (List ℕ)) → Fault → Type 0
+IsDeadRefusal g agents (Some text) (f.Times Dead) = dead_robot_of agents g.width g.height text.now ≡ None
+IsDeadRefusal g agents without fault = ⊥
+
+-- the cells of the dead robot
+abbrev pub dead_cells : Option DeadRobot → List Cell
+dead_cells None = []
+dead_cells (Some d) = d.first ∷ d.second ∷ []
+
+-- the tasks of the others
+abbrev pub tasks_without : Option DeadRobot → List Task → List Task
+tasks_without None tasks = tasks
+tasks_without (Some d) tasks = remove tasks d.agent
+
+-- the text of the map in which the cells of the dead robot are blocked, if it is asked for
+abbrev pub IsMapAround : Ground → Option DeadRobot → Option (Bor (List ℕ)) → List ℕ → Type 0
+IsMapAround g dead name text = IfSome name (λ _. text ≡ map_text (ground_without g (dead_cells dead)))
+
+-- the text of the tasks of the others, if it is asked for
+abbrev pub AreOthers : Ground → List Task → Option DeadRobot → Option (Bor (List ℕ)) → List ℕ → Type 0
+AreOthers g tasks dead name text = IfSome name (λ _. text ≡ scen_text g.width g.height (tasks_without dead tasks))
+
+-- What is left of the program is its rest after the log, from where the agents stand to the same goals, which is
+-- accepted for that; the one text stands for its tasks, and the bytes spell it, in version 1 if that has bytes for it.
+-- Around a dead robot there are the map in which its cells are blocked and the tasks of the others
+pub record LeavesRest (g : Ground) (p : Program) (log : List ℕ) (r : RestRequest) (made : Rest) : Type 0 where
+  pub left : IsRestOf p log made.program
+  pub tasks : tasks_of made.program ≡ rest_tasks (cell_at left.standings) p
+  pub accepted : IsAccepted (is_passable g) (tasks_of made.program) made.program
+  pub written : made.scen.items ≡ scen_text g.width g.height (tasks_of made.program)
+  pub stands : IsScenText made.scen.items g None (tasks_of made.program)
+  pub spelled : SpellsShortest made.bytes.items made.program
+  pub robot : Option DeadRobot
+  pub dead : IsDead g (length made.program) r.without robot
+  pub around : IsMapAround g robot r.map_out made.map.items
+  pub rest_of_them : AreOthers g (tasks_of made.program) robot r.others_out made.others.items
+
+-- so of the program that is accepted for the problem
+abbrev pub RestsAccepted : Problem → RestRequest → Rest → Type 0
+RestsAccepted problem r made = AcceptsProgram problem (λ p chain. LeavesRest problem.grid p problem.texts.log.items r made)
+
+-- the bytes of the problem are refused; or the log is, for the program that is accepted, or what is named as dead, for
+-- its rest; or memory ran out
+abbrev pub IsRestRefusal : Problem → RestRequest → Fault → Type 0
+IsRestRefusal problem r fault =
+    IsAcceptRefusal problem fault
+    ⊎ AcceptsProgram problem
+    (λ p chain. IsRestFault p problem.texts.log.items fault ⊎ ((q : Program) × IsRestOf p problem.texts.log.items q × IsDeadRefusal problem.grid (length q) r.without fault))
+
+-- the files that are written, in turn
+abbrev pub rest_files : RestRequest → Rest → List (Option (Bor (List ℕ)) × List ℕ)
+rest_files r made =
+    (Some r.scen_out, made.scen.items) ∷ (r.map_out, made.map.items) ∷ (r.others_out, made.others.items) ∷ (Some r.program_out, made.bytes.items) ∷ []
+
+-- What `rest` answers. The rest was made, and the files were written so; or there was a refusal before anything is
+-- written, and every file is as before
+abbrev pub AnswersRest : (files after : Option Store) → RestRequest → Problem → (out out' : SinkState) → Result ℕ Fault → Type 0
+AnswersRest files after r problem =
+    AnswersOut files after (RestsAccepted problem r) (IsRestRefusal problem r) (rest_files r)
+    (λ made. numbers_text (length made.program) (total_moves made.program) (total_awaits made.program) made.bytes.items)

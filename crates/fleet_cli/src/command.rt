@@ -9,12 +9,10 @@ ghost use Rattle.fleet_cli.specs.Command.{names_for, names_of, names_of_program,
 use crate::dispatch_command::do_dispatch;
 use crate::fault::{Fault, finish, refuse};
 use crate::files::{FileNames, FileTexts, Files, read_files};
-use crate::print_commands::{do_check, do_instance, do_list, do_plan, do_verify};
-use crate::rest_command::do_rest;
-use crate::run_commands::{do_auto, do_rehearse, do_run, run_hex};
+use crate::print_commands::{do_check, do_instance, do_list, do_plan, do_times, do_verify};
+use crate::run_commands::{do_auto, do_run, rehearse_bytes, run_hex};
 use crate::steps::{Problem, problem_of};
-use crate::times_command::do_times;
-use crate::write_commands::{do_compile, do_migrate, do_thin};
+use crate::write_commands::{do_compile, do_migrate, do_rest, do_thin};
 use fleet_args::{ProgramFor, Request, Tasks, WordStop, read_words};
 use fleet_dispatch::ReportsTo;
 use fleet_text::{Flush, OutFault, TraceOut, deliver, put_all};
@@ -143,7 +141,7 @@ fn answer_texts<'a, F: Files, O: Flush>(
         (O.state out.old) (O.state out.new) result }
 {
     match request {
-        Request::Rehearse(_) => do_rehearse(alloc, texts, out),
+        Request::Rehearse(_) => rehearse_bytes(alloc, &texts.subject, &texts.holds, out),
         Request::Migrate(q) => do_migrate(alloc, q, texts, files, out),
         Request::List(_) => do_list(alloc, texts, out),
         // The request is about no tasks.

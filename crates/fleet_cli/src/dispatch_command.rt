@@ -1,27 +1,94 @@
-//! The command `dispatch`.
+//! The command `dispatch`, and its log: a file of a store, behind whose bytes the lines of its reports are put.
 
-ghost use Rattle.std.specs.Prelude.{◌≡◌};
+ghost use Rattle.std.specs.Prelude.{◌≡◌, OnOk, IfErr, IfSome};
 ghost use Rattle.fleet_text.specs.Sink.{IsWorking};
 ghost use Rattle.fleet_model.specs.Program.{IsWellFormed};
 ghost use Rattle.fleet_dispatch.specs.Talk.{IsLogged};
 ghost use Rattle.fleet_dispatch.specs.Dispatch.{Dispatches};
 ghost use Rattle.fleet_dispatch.specs.Session.{IsReady, course_in, left_in};
 ghost use Rattle.fleet_cli.specs.Output.{around};
-ghost use Rattle.fleet_cli.specs.Journal.{log_in, ChangesOnlyLog, IsKeptAfter};
-ghost use Rattle.fleet_cli.specs.DispatchCommand.{answer_of, pace_of, AnswersDispatch};
+ghost use Rattle.fleet_cli.specs.Files.{IsOwnLog};
+ghost use Rattle.fleet_cli.specs.DispatchCommand.{log_in, lines_in, ChangesOnlyLog, IsKeptAfter, IsLogFault, answer_of, pace_of, AnswersDispatch};
 
 use crate::fault::{Fault, or_refuse};
-use crate::files::Files;
-use crate::journal::{Journal, begin_log};
+use crate::files::{FileFault, Files};
 use crate::steps::{Problem, accept};
 use fleet_args::DispatchRequest;
 use fleet_dispatch::{
-    DispatchFault, DispatchReport, NoLog, Pace, ReportForm, ReportsTo, Session, dispatch_led,
-    lead_on,
+    DispatchFault, DispatchReport, NoLog, Pace, ReportForm, ReportLog, ReportsTo, Session,
+    dispatch_led, lead_on,
 };
 use fleet_model::ProgramView;
-use fleet_text::Flush;
+use fleet_text::{Flush, OutFault};
 use std::alloc::Global;
+
+/// Begins the log, if one is named, of a dispatch that goes on after the bytes `past`: of one that holds nothing or just
+/// these it cuts off what stands behind the last LF. One that holds something else is refused, and every file is as it
+/// was.
+fn begin_log<'a, F: Files>(
+    alloc: Global,
+    files: &mut F,
+    name: Option<&'a str>,
+    past: &[u8],
+) -> Result<(), Fault<'a>>
+    ensures own { OnOk result
+        (IfSome (log_in (F.contents files.old) name.entry) (IsOwnLog past.now)) }
+    ensures lines { OnOk result
+        (log_in (F.contents files.new) name.entry ≡ lines_in (F.contents files.old) name.entry) }
+    ensures fault { IfErr result (IsLogFault
+        (F.contents files.old) (F.contents files.new) name.entry past.now) }
+    ensures others { ChangesOnlyLog (F.contents files.old) (F.contents files.new) name.entry }
+{
+    let Some(name) = name else {
+        return Ok(());
+    };
+    match files.begin_log(alloc, name, past) {
+        Ok(true) => Ok(()),
+        Ok(false) => Err(Fault::Dispatch(DispatchFault::OtherLog)),
+        Err(FileFault::OutOfMemory) => Err(Fault::Memory),
+        Err(FileFault::Failed) => Err(Fault::File(name)),
+    }
+}
+
+/// A log in the named file of a store.
+#[derive(Drop)]
+struct Journal<'a, F: Files> {
+    files: &'a mut F,
+    name: &'a str,
+    /// Whether it could not be grown.
+    failed: bool,
+}
+
+impl<F: Files> ReportLog for Journal<'_, F> {
+    ghost use Rattle.std.specs.Prelude.{◌≡◌};
+    ghost use Rattle.std.proofs.Common.{refl, ◌∙◌};
+    ghost use Rattle.fleet_cli.specs.Files.{bytes_of, ChangesOnly};
+    ghost use Rattle.fleet_cli.specs.DispatchCommand.{log_state, log_self, log_longer};
+
+    ghost state = { λ j. log_state (bytes_of (F.contents j.files.now) j.name.now) j.failed };
+
+    ghost stays = { λ a b. (b.files.ghost_name ≡ a.files.ghost_name) × (b.name.now ≡ a.name.now)
+        × ChangesOnly (F.contents a.files.now) (F.contents b.files.now) a.name.now };
+
+    fn keep(&mut self, bytes: &[u8]) -> Result<(), OutFault> {
+        match self.files.append(self.name, bytes) {
+            Ok(()) => Ok(()),
+            Err(_) => {
+                self.failed = true;
+                Err(OutFault)
+            }
+        }
+    }
+
+    ghost same = { λ j. (refl, refl, log_self (F.contents j.files.now) j.name.now) };
+
+    ghost longer = { λ a b c first then. (
+      then.0 ∙ first.0,
+      then.1 ∙ first.1,
+      log_longer (F.contents a.files.now) (F.contents b.files.now) (F.contents c.files.now)
+          a.name.now b.name.now first.1 first.2 then.2,
+    ) };
+}
 
 /// How the orders of a request are given.
 fn pace_of(request: &DispatchRequest<'_>) -> Pace

@@ -3,7 +3,7 @@
 ghost use Rattle.std.specs.Prelude.{◌≡◌};
 ghost use Rattle.fleet_text.specs.Sink.{IsWorking, Receives};
 ghost use Rattle.fleet_cli.specs.Output.{Finishes};
-ghost use Rattle.fleet_cli.specs.Faults.{in_step, refusal_line, status_of, step_fault};
+ghost use Rattle.fleet_cli.specs.Faults.{refusal_line, status_of, step_fault};
 
 use fleet_adg::CompileFault;
 use fleet_code::{HexFault, LoadFault};
@@ -166,20 +166,6 @@ pub enum AutoFault {
     /// The run stopped before its end.
     #[error("the run: {0}")]
     Run(RunFault),
-}
-
-/// The fault of a step as it is answered: want of memory in any step is `OutOfMemory`.
-pub(crate) fn in_step(fault: AutoFault) -> AutoFault
-    ensures { result ≡ in_step fault }
-{
-    match fault {
-        AutoFault::Map(MapFault::OutOfMemory)
-        | AutoFault::Scen(ScenFault::OutOfMemory)
-        | AutoFault::Plan(PlanStop::OutOfMemory)
-        | AutoFault::Compile(CompileFault::OutOfMemory)
-        | AutoFault::Run(RunFault::OutOfMemory) => AutoFault::OutOfMemory,
-        fault => fault,
-    }
 }
 
 /// The fault of a step as a refusal of the program, with its own line and status.

@@ -1,22 +1,75 @@
-//! Stores of files, the disk, and the files that a command names.
+//! Inputs and files, read whole; stores of files, the disk, and the files that a command names.
 
-ghost use Rattle.std.specs.Prelude.{◌≡◌, ◌≤◌, ◌↔◌, Err, IfOk, IfErr, IsTrue, OnOk, length};
-ghost use Rattle.fleet_cli.specs.Files.{Store, HoldsBytes, IsUnreadable, AreUnchanged, ChangesOnly, Replaces, IsOwnLog, BeginsLog, PutsBehind, whole_lines};
-ghost use Rattle.fleet_cli.specs.Named.{IsGivenAs, IsUnread, IsGiven, given_name, given_names, AreTexts};
+ghost use Rattle.std.specs.Prelude.{◌≡◌, ◌≤◌, ◌+◌, ◌↔◌, Err, IfOk, IfErr, IfSome, IsTrue, OnOk, length};
+ghost use Rattle.fleet_cli.specs.Files.{Store, HoldsBytes, IsUnreadable, AreUnchanged, ChangesOnly, Replaces, IsOwnLog, BeginsLog, PutsBehind, whole_lines, IsGivenAs, IsUnread, IsGiven, given_name, given_names, AreTexts};
 ghost use Rattle.fleet_cli.specs.Output.{WritesGiven};
 
 use crate::fault::Fault;
-use crate::input::{CHUNK, FileFault, MAX_BYTES, read_whole};
 use fleet_text::{WriteOut, put_all};
 use std::alloc::Global;
 use std::fs::{OpenFile, OpenOptions};
+use std::io::Read;
 use std::path::Path;
 use std::{fs, rt};
+use thiserror::Error;
+
+/// Why a file or an input was not read, or a file not written.
+#[derive(Clone, Copy, Debug, Error)]
+pub enum FileFault {
+    #[error("out of memory")]
+    OutOfMemory,
+    /// It cannot be read or written, or has more than `MAX_BYTES` bytes.
+    #[error("the file cannot be read or written")]
+    Failed,
+}
+
+/// The greatest number of bytes of a file or an input that is read.
+pub const MAX_BYTES: usize = 268_435_456;
+
+/// How many bytes are asked for at a time.
+pub const CHUNK: usize = 4_096;
+
+/// Whether so many bytes more make no more than `MAX_BYTES`.
+fn has_room(held: usize, count: usize) -> bool
+    requires { held ≤ MAX_BYTES }
+    ensures { IsTrue result ↔ held + count ≤ MAX_BYTES }
+{
+    count <= MAX_BYTES - held
+}
+
+/// All bytes of the reader, by way of the chunk. Errors: `Failed` if a read fails or is interrupted, or if there are
+/// more than `MAX_BYTES` bytes, and `OutOfMemory`.
+pub fn read_whole<R: Read>(
+    alloc: Global,
+    reader: &mut R,
+    chunk: &mut [u8; CHUNK],
+) -> Result<Vec<u8>, FileFault>
+    ensures whole { IfOk result (λ bytes. IfSome (R.remaining reader.old)
+        (λ rest. bytes.items ≡ rest)) }
+    ensures within { IfOk result (λ bytes. length bytes.items ≤ MAX_BYTES) }
+{
+    let mut bytes = Vec::new(alloc);
+    'chunks: loop {
+        let count = match reader.read(&mut chunk[..]) {
+            Ok(count) => count,
+            Err(_) => return Err(FileFault::Failed),
+        };
+        if count == 0 {
+            return Ok(bytes);
+        }
+        if !has_room(bytes.len(), count) {
+            return Err(FileFault::Failed);
+        }
+        if bytes.extend_from_slice(&chunk[..count]).is_err() {
+            return Err(FileFault::OutOfMemory);
+        }
+    }
+}
 
 /// A store of files, each with its bytes under its name.
 pub trait Files {
     ghost use Rattle.std.specs.Prelude.{ℕ, List, Option, ⊤};
-    ghost use Rattle.fleet_cli.specs.declared.input.FileFault.{FileFault};
+    ghost use Rattle.fleet_cli.specs.declared.files.FileFault.{FileFault};
 
     /// The bytes of each file by its name, if the store says what it holds.
     ghost contents: { Self → Option Store };
@@ -62,19 +115,18 @@ pub trait Files {
 }
 
 /// The whole lines: the bytes up to the last LF, and with it.
-#[tactic(auto, using(crate::proofs::LineLemmas::ended, crate::proofs::LineLemmas::goes_on, crate::proofs::LineLemmas::no_lines))]
 pub fn whole_lines(bytes: &[u8]) -> &[u8]
     ensures { result.now ≡ whole_lines bytes.now }
 {
-    let mut lines = bytes;
-    while let Some((last, front)) = lines.split_last() {
-        let ends_line = *last == b'\n';
+    let mut end = bytes.len();
+    while end > 0 {
+        let ends_line = bytes[end - 1] == b'\n';
         if ends_line {
-            return lines;
+            return &bytes[..end];
         }
-        lines = front;
+        end -= 1;
     }
-    lines
+    &[]
 }
 
 /// Whether a log that holds so much is one of a dispatch that goes on after the bytes `past`.

@@ -3,8 +3,7 @@
 ghost use Rattle.std.specs.Prelude.{◌≡◌, ◌≢◌, ◌++◌, ℕ, List, [], Some, None, OnOk, OnErr, IfOk, IfErr, IfSome, IfNone, unwrap_or};
 ghost use Rattle.fleet_cli.specs.Files.{Replaces};
 
-use crate::files::{Files, is_own_log, whole_lines};
-use crate::input::{FileFault, MAX_BYTES};
+use crate::files::{FileFault, Files, MAX_BYTES, is_own_log, whole_lines};
 use fleet_model::OutOfMemory;
 use indexmap::IndexMap;
 use std::alloc::Global;
@@ -78,7 +77,7 @@ impl MemFiles {
 impl Files for MemFiles {
     ghost use Rattle.std.specs.Prelude.{Some};
     ghost use Rattle.fleet_cli.specs.MemFiles.{file_in};
-    ghost use Rattle.fleet_cli.specs.declared.input.FileFault.TheVariants.{OutOfMemory};
+    ghost use Rattle.fleet_cli.specs.declared.files.FileFault.TheVariants.{OutOfMemory};
 
     ghost contents = { λ s. Some (file_in s) };
 

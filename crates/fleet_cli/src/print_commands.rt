@@ -1,58 +1,43 @@
-//! The commands that print what they find: `instance`, `check`, `plan`, `verify` and `list`.
+//! The commands that print what they find: `instance`, `check`, `plan`, `verify`, `list` and `times`.
 
-ghost use Rattle.std.specs.Prelude.{IfOk};
+ghost use Rattle.std.specs.Prelude.{IfOk, ◌≤◌};
 ghost use Rattle.fleet_text.specs.Sink.{IsWorking, TakesAll};
 ghost use Rattle.fleet_cli.specs.Output.{Prints};
-ghost use Rattle.fleet_cli.specs.PrintCommands.{task_line, task_lines, map_line, instance_text, check_text, IsAskedBound, AnswersCheck, AnswersPlan, accepted_text, SpellsBreakingHolds, ReportsRefused, AnswersVerify, AnswersList};
-ghost use Rattle.fleet_model.specs.declared.geometry.Place.{Place};
+ghost use Rattle.fleet_cli.specs.PrintCommands.{task_lines, instance_text, check_text, IsAskedBound, AnswersCheck, AnswersPlan, SpellsBreakingHolds, ReportsRefused, AnswersVerify, AnswersList, TellsTimetable, TellsTimes, TellsReached, AnswersTimes};
+ghost use Rattle.fleet_model.specs.declared.{geometry.Place.Place, program.ActionId.ActionId};
 ghost use Rattle.fleet_verify.specs.Broken.{MeetUnordered, IsBrokenBy};
 
 use crate::fault::{Fault, or_refuse};
 use crate::files::FileTexts;
-use crate::output::{hand_on, put_report};
-use crate::steps::{Problem, plan_by, view_subject};
-use fleet_args::{CheckRequest, PlanRequest};
+use crate::output::{hand_on, put_counts, put_report};
+use crate::steps::{Problem, accept, plan_by, view_program};
+use fleet_args::{CheckRequest, PlanRequest, TimesRequest};
+use fleet_dispatch::{breaks_of, costs_of};
 use fleet_grid::Grid;
-use fleet_model::{Cell, OutOfMemory, ProgramView, Visit, total_awaits, total_moves};
+use fleet_model::{OutOfMemory, ProgramView, Visit, total_awaits, total_moves};
 use fleet_plan::{Checked, Plan, check, read_plan, write_plan};
-use fleet_run::{put_program, write_holds};
+use fleet_run::{put_program, put_reached, put_times, write_holds};
 use fleet_scen::Instance;
 use fleet_search::bound;
-use fleet_text::{Flush, OutFault, TraceOut, Word, deliver, put_all, put_count, put_line};
-use fleet_verify::{Accepted, Refused, VerifyFault, breaking_holds, verify};
+use fleet_text::{Flush, OutFault, TraceOut, Word, deliver, put_all, put_line};
+use fleet_verify::{
+    Accepted, ActionCosts, OneEach, Refused, Times, VerifyFault, breaking_holds, reached_counts,
+    stopped_agents, verify,
+};
 use std::alloc::Global;
 
-/// Writes the line of an agent, with its start and its goal.
-#[tactic(auto, unfolding(crate::specs::PrintCommands::task_line))]
-fn put_task<O: TraceOut>(out: &mut O, i: u16, start: Cell, goal: Cell) -> Result<(), OutFault>
-    requires { IsWorking (O.state out.old) }
-    ensures { TakesAll (O.state out.old) (O.state out.new) result (task_line i start goal) }
-{
-    let start = Word::Pair(start.x, start.y);
-    let goal = Word::Pair(goal.x, goal.y);
-    put_line(out, &[Word::Label(i as u64), start, goal])
-}
-
-/// Writes the line of each agent.
+/// Writes the line of each agent, with its start and its goal.
 fn put_tasks<O: TraceOut>(out: &mut O, instance: &Instance) -> Result<(), OutFault>
     requires { IsWorking (O.state out.old) }
     ensures { TakesAll (O.state out.old) (O.state out.new) result (task_lines instance.now) }
 {
     for i in 0..instance.agents() {
-        put_task(out, i, instance.start(i), instance.goal(i))?;
+        let (start, goal) = (instance.start(i), instance.goal(i));
+        let start = Word::Pair(start.x, start.y);
+        let goal = Word::Pair(goal.x, goal.y);
+        put_line(out, &[Word::Label(i as u64), start, goal])?;
     }
     Ok(())
-}
-
-/// Writes the line of the map's columns and rows.
-#[tactic(auto, unfolding(crate::specs::PrintCommands::map_line))]
-fn put_sizes<O: TraceOut>(out: &mut O, grid: &Grid) -> Result<(), OutFault>
-    requires { IsWorking (O.state out.old) }
-    ensures { TakesAll (O.state out.old) (O.state out.new) result (map_line grid.now) }
-{
-    let width = Word::Number(grid.width() as u64);
-    let height = Word::Number(grid.height() as u64);
-    put_line(out, &[Word::Text("map"), width, height])
 }
 
 /// Writes the sizes of the map, its passable cells, and the tasks of the agents.
@@ -62,9 +47,14 @@ fn put_instance<O: TraceOut>(out: &mut O, grid: &Grid, instance: &Instance) -> R
     ensures { TakesAll (O.state out.old) (O.state out.new) result
         (instance_text grid.now instance.now) }
 {
-    put_sizes(out, grid)?;
-    put_count(out, "ground", grid.ground() as u64)?;
-    put_count(out, "agents", instance.agents() as u64)?;
+    let width = Word::Number(grid.width() as u64);
+    let height = Word::Number(grid.height() as u64);
+    put_line(out, &[Word::Text("map"), width, height])?;
+    let counts = [
+        ("ground", grid.ground() as u64),
+        ("agents", instance.agents() as u64),
+    ];
+    put_counts(out, &counts)?;
     put_tasks(out, instance)
 }
 
@@ -175,28 +165,6 @@ pub(crate) fn do_plan<'a, O: Flush>(
     hand_on(out, printed)
 }
 
-/// Writes that the program is accepted, with its numbers.
-fn put_accepted<P: ProgramView, O: TraceOut>(
-    out: &mut O,
-    accepted: &Accepted<'_, P>,
-) -> Result<(), OutFault>
-    requires { IsWorking (O.state out.old) }
-    ensures { TakesAll (O.state out.old) (O.state out.new) result
-        (accepted_text (P.program accepted.now.program) accepted.now.chain) }
-{
-    let program = accepted.program();
-    put_report(
-        out,
-        "accepted",
-        &[
-            ("agents", program.agents() as u64),
-            ("moves", total_moves(program) as u64),
-            ("awaits", total_awaits(program) as u64),
-            ("chain", accepted.chain() as u64),
-        ],
-    )
-}
-
 /// The breaking holds of two visits of a cell that no chain orders, as text.
 fn breaking_text<P: ProgramView>(
     alloc: Global,
@@ -247,12 +215,19 @@ pub(crate) fn do_verify<'a, O: Flush>(
     requires { IsWorking (O.state out.old) }
     ensures { AnswersVerify problem.now (O.state out.old) (O.state out.new) result }
 {
-    let program = view_subject(alloc, &problem.texts)?;
+    let program = view_program(alloc, &problem.texts.subject)?;
     let accepted = match verify(alloc, program, &problem.grid, &problem.instance) {
         Ok(accepted) => accepted,
         Err(refused) => return Err(report_refused(alloc, refused, out)),
     };
-    let printed = put_accepted(out, &accepted);
+    let program = accepted.program();
+    let counts = [
+        ("agents", program.agents() as u64),
+        ("moves", total_moves(program) as u64),
+        ("awaits", total_awaits(program) as u64),
+        ("chain", accepted.chain() as u64),
+    ];
+    let printed = put_report(out, "accepted", &counts);
     hand_on(out, printed)
 }
 
@@ -266,7 +241,86 @@ pub(crate) fn do_list<'a, O: Flush>(
     requires { IsWorking (O.state out.old) }
     ensures { AnswersList texts.now (O.state out.old) (O.state out.new) result }
 {
-    let program = view_subject(alloc, texts)?;
+    let program = view_program(alloc, &texts.subject)?;
     let printed = put_program(out, &program);
     hand_on(out, printed)
+}
+
+/// Prints when the agents of a program arrive, whose actions end then. Answers 0.
+fn tell_timetable<'a, P: ProgramView, C: ActionCosts, O: Flush>(
+    alloc: Global,
+    times: &Times<'_, P, C>,
+    moves: u32,
+    out: &mut O,
+) -> Result<u8, Fault<'a>>
+    requires costs { (a : ActionId) → 1 ≤ C.cost times.now.costs a }
+    requires working { IsWorking (O.state out.old) }
+    ensures { TellsTimetable (P.program times.now.program) (C.cost times.now.costs) moves
+        (O.state out.old) (O.state out.new) result }
+{
+    let arrivals = times.arrivals(alloc)?;
+    let path = times.critical_path(alloc)?;
+    let printed = put_times(out, &arrivals, moves, times.last_arrival(), &path);
+    hand_on(out, printed)
+}
+
+/// Prints when the agents arrive by the costs of a text, if one is given, and else with one for each action. Answers 0.
+fn tell_times<'a, P: ProgramView, O: Flush>(
+    alloc: Global,
+    accepted: &Accepted<'_, P>,
+    costs: Option<&str>,
+    text: &[u8],
+    out: &mut O,
+) -> Result<u8, Fault<'a>>
+    requires { IsWorking (O.state out.old) }
+    ensures { TellsTimes (P.program accepted.now.program) costs.entry text.now
+        (O.state out.old) (O.state out.new) result }
+{
+    let program = accepted.program();
+    let moves = total_moves(program);
+    let Some(_) = costs else {
+        let times = Times::by_levels(alloc, accepted, &OneEach)?;
+        return tell_timetable(alloc, &times, moves, out);
+    };
+    let table = or_refuse!(costs_of(alloc, program, text), Fault::Times);
+    let times = Times::of(alloc, accepted, &table)?;
+    tell_timetable(alloc, &times, moves, out)
+}
+
+/// Prints how far each agent comes if the actions that the line names are never ended. Answers 0.
+fn tell_reached<'a, P: ProgramView, O: Flush>(
+    alloc: Global,
+    accepted: &Accepted<'_, P>,
+    line: &[u8],
+    out: &mut O,
+) -> Result<u8, Fault<'a>>
+    requires { IsWorking (O.state out.old) }
+    ensures { TellsReached (P.program accepted.now.program) line.now
+        (O.state out.old) (O.state out.new) result }
+{
+    let program = accepted.program();
+    let breaks = or_refuse!(breaks_of(alloc, program, line), Fault::Times);
+    let counts = reached_counts(alloc, accepted, &breaks)?;
+    let stopped = stopped_agents(program, &counts);
+    let printed = put_reached(out, &counts, total_moves(program), stopped);
+    hand_on(out, printed)
+}
+
+/// The command `times`: prints to `out` when each agent of an accepted program arrives, or, if some robots break down,
+/// how far each still comes. Answers 0.
+#[inline(never)]
+pub(crate) fn do_times<'a, O: Flush>(
+    alloc: Global,
+    request: &TimesRequest<'a>,
+    problem: &Problem,
+    out: &mut O,
+) -> Result<u8, Fault<'a>>
+    requires { IsWorking (O.state out.old) }
+    ensures { AnswersTimes request.now problem.now (O.state out.old) (O.state out.new) result }
+{
+    let accepted = accept(alloc, problem)?;
+    match request.broken {
+        None => tell_times(alloc, &accepted, request.costs, &problem.texts.holds, out),
+        Some(line) => tell_reached(alloc, &accepted, line.as_bytes(), out),
+    }
 }

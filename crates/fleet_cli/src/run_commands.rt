@@ -2,26 +2,23 @@
 //! words; and what becomes of their output at the end: a run's sink hands on all that was written before anything is
 //! reported.
 
-ghost use Rattle.std.specs.Prelude.{◌≡◌, IfOk, IfErr};
+ghost use Rattle.std.specs.Prelude.{◌≡◌};
 ghost use Rattle.fleet_text.specs.Sink.{IsWorking};
 ghost use Rattle.fleet_cli.specs.Output.{end_status};
-ghost use Rattle.fleet_cli.specs.RunCommands.{FlushesRun, Runs, AutoRuns, AnswersRun, TellsNumbers, AnswersAuto, RehearsesProgram, AnswersRehearse, ReadsInput, IsInputRefusal, AnswersHex, RunsHex};
+ghost use Rattle.fleet_cli.specs.RunCommands.{FlushesRun, Runs, AutoRuns, AnswersRun, TellsNumbers, AnswersAuto, RehearsesBytes, AnswersHex, RunsHex};
 
-use crate::fault::{AutoFault, Fault, finish, in_step, or_refuse, step_fault};
-use crate::files::FileTexts;
-use crate::input::{CHUNK, FileFault, read_whole};
+use crate::fault::{AutoFault, Fault, finish, or_refuse, step_fault};
+use crate::files::{CHUNK, FileFault, read_whole};
 use crate::output::{hand_on, put_counts};
-use crate::steps::{
-    ONE_TRY, PlanNumbers, Problem, accept, accept_made, made_bytes, view_program, view_subject,
-};
+use crate::steps::{ONE_TRY, PlanNumbers, Problem, accept, accept_made, made_bytes, view_program};
 use fleet_adg::Deps;
 use fleet_args::AutoRequest;
 use fleet_code::read_hex;
-use fleet_grid::read_map;
+use fleet_grid::{MapFault, read_map};
 use fleet_model::ProgramView;
 use fleet_run::{End, HoldText, Report, RunFault, rehearse, run_accepted};
-use fleet_scen::read_scen;
-use fleet_text::{Flush, OutFault, TraceOut};
+use fleet_scen::{ScenFault, read_scen};
+use fleet_text::{Flush, TraceOut};
 use fleet_verify::Accepted;
 use std::alloc::Global;
 use std::io::Read;
@@ -30,13 +27,10 @@ use std::io::Read;
 fn flush_run<T: Drop, O: Flush>(out: &mut O, ran: Result<T, RunFault>) -> Result<T, RunFault>
     ensures { FlushesRun (O.state out.old) (O.state out.new) ran result }
 {
-    if out.failed() {
-        return ran;
+    if !out.failed() && out.flush().is_err() {
+        return Err(RunFault::Write);
     }
-    match out.flush() {
-        Ok(()) => ran,
-        Err(OutFault) => Err(RunFault::Write),
-    }
+    ran
 }
 
 /// Runs an accepted program under the holds for which the bytes `held` stand, writes its trace, and has the sink hand it
@@ -94,11 +88,13 @@ pub fn auto_run<O: TraceOut>(
 {
     let grid = match read_map(alloc, map) {
         Ok(grid) => grid,
-        Err(fault) => return Err(in_step(AutoFault::Map(fault))),
+        Err(MapFault::OutOfMemory) => return Err(AutoFault::OutOfMemory),
+        Err(fault) => return Err(AutoFault::Map(fault)),
     };
     let instance = match read_scen(alloc, scen, &grid, asked) {
         Ok(instance) => instance,
-        Err(fault) => return Err(in_step(AutoFault::Scen(fault))),
+        Err(ScenFault::OutOfMemory) => return Err(AutoFault::OutOfMemory),
+        Err(fault) => return Err(AutoFault::Scen(fault)),
     };
     let made = made_bytes(alloc, &grid, &instance, horizon, ONE_TRY, deps)?;
     let Ok(accepted) = accept_made(alloc, &made.bytes, &grid, &instance) else {
@@ -106,7 +102,10 @@ pub fn auto_run<O: TraceOut>(
     };
     match run_accepted(alloc, accepted, holds, out) {
         Ok(report) => Ok(report),
-        Err(fault) => Err(in_step(AutoFault::Run(fault))),
+        Err(fault) => match fault {
+            RunFault::OutOfMemory => Err(AutoFault::OutOfMemory),
+            _ => Err(AutoFault::Run(fault)),
+        },
     }
 }
 
@@ -174,52 +173,26 @@ fn end_status(end: End) -> u8
     }
 }
 
-/// Rehearses the program under the holds for which the bytes `held` stand, and has the sink hand on the text of that.
-/// Answers 0 if it ends finished and 1 if it ends stuck.
-fn rehearse_program<'a, P: ProgramView, O: Flush>(
+/// The command `rehearse`: writes the rehearsal of the program that the bytes spell, under the holds for which the bytes
+/// `held` stand, to `out`, and has the sink hand it on. Answers 0 if it ends finished and 1 if it ends stuck.
+#[inline(never)]
+pub(crate) fn rehearse_bytes<'a, O: Flush>(
     alloc: Global,
-    program: &P,
+    bytes: &Vec<u8>,
     held: &[u8],
     out: &mut O,
 ) -> Result<u8, Fault<'a>>
     requires { IsWorking (O.state out.old) }
-    ensures { RehearsesProgram (P.program program.now) held.now
+    ensures { RehearsesBytes bytes.now.items held.now
         (O.state out.old) (O.state out.new) result }
 {
+    let program = view_program(alloc, bytes)?;
     let mut source = HoldText::new(held, program.agents());
-    let ran = rehearse(alloc, program, &mut source, out);
+    let ran = rehearse(alloc, &program, &mut source, out);
     match flush_run(out, ran) {
         Ok(rehearsal) => Ok(end_status(rehearsal.end)),
         Err(fault) => Err(Fault::Run(fault)),
     }
-}
-
-/// The command `rehearse`: writes the rehearsal of the program, under the holds, to `out`. Answers 0 if it ends
-/// finished and 1 if it ends stuck.
-#[inline(never)]
-pub(crate) fn do_rehearse<'a, O: Flush>(
-    alloc: Global,
-    texts: &FileTexts,
-    out: &mut O,
-) -> Result<u8, Fault<'a>>
-    requires { IsWorking (O.state out.old) }
-    ensures { AnswersRehearse texts.now (O.state out.old) (O.state out.new) result }
-{
-    let program = view_subject(alloc, texts)?;
-    rehearse_program(alloc, &program, &texts.holds, out)
-}
-
-/// The bytes for which the input stands in hexadecimal.
-fn read_hex_input<R: Read>(alloc: Global, input: &mut R) -> Result<Vec<u8>, Fault<'static>>
-    ensures bytes { IfOk result (λ bytes. ReadsInput (R.remaining input.old) bytes.items) }
-    ensures fault { IfErr result (IsInputRefusal (R.remaining input.old)) }
-{
-    let text = match read_whole(alloc, input, &mut [0; CHUNK]) {
-        Ok(text) => text,
-        Err(FileFault::OutOfMemory) => return Err(Fault::Memory),
-        Err(FileFault::Failed) => return Err(Fault::File("-")),
-    };
-    Ok(or_refuse!(read_hex(alloc, &text), Fault::Hex))
 }
 
 /// Rehearses, with nobody held, the program that the input stands for in hexadecimal.
@@ -231,9 +204,13 @@ fn rehearse_hex<R: Read, O: Flush>(
     requires { IsWorking (O.state out.old) }
     ensures { AnswersHex (R.remaining input.old) (O.state out.old) (O.state out.new) result }
 {
-    let bytes = read_hex_input(alloc, input)?;
-    let program = view_program(alloc, &bytes)?;
-    rehearse_program(alloc, &program, b"", out)
+    let text = match read_whole(alloc, input, &mut [0; CHUNK]) {
+        Ok(text) => text,
+        Err(FileFault::OutOfMemory) => return Err(Fault::Memory),
+        Err(FileFault::Failed) => return Err(Fault::File("-")),
+    };
+    let bytes = or_refuse!(read_hex(alloc, &text), Fault::Hex);
+    rehearse_bytes(alloc, &bytes, b"", out)
 }
 
 /// Reads program bytes in hexadecimal from `input`, at most `MAX_BYTES` bytes of text, and writes the rehearsal of the

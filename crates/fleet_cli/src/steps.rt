@@ -1,18 +1,18 @@
 //! What commands are made of: from the texts of a map and a scenario to an instance, from bytes to a program and to an
 //! accepted one, and from an instance to a plan, the program of that plan and its bytes.
 
-ghost use Rattle.std.specs.Prelude.{IfOk, IfErr, ◌≡◌, ℕ};
+ghost use Rattle.std.specs.Prelude.{IfOk, IfErr, MatchResult, ◌≡◌, ℕ};
 ghost use Rattle.fleet_code.specs.Spelling.{Spells};
-ghost use Rattle.fleet_cli.specs.Steps.{IsProblemOf, Accepts, IsProblemRefusal, IsLoadRefusal, IsAcceptRefusal, AreNumbersOf, SpellsMade, IsMakingFault, IsMeasure, IsPlannedFor};
+ghost use Rattle.fleet_cli.specs.Steps.{IsProblemOf, Accepts, IsProblemRefusal, IsLoadRefusal, IsAcceptRefusal, SpellsMade, IsMakingFault, IsMeasure, IsPlannedFor};
 ghost use Rattle.fleet_model.specs.Program.{Program};
 ghost use Rattle.fleet_model.specs.Accepted.{IsAccepted};
 ghost use Rattle.fleet_grid.specs.Ground.{is_passable};
-ghost use Rattle.fleet_model.specs.Chain.{IsLongestChain};
-ghost use Rattle.fleet_plan.specs.Plan.{IsConflictFree};
+ghost use Rattle.fleet_plan.specs.Plan.{steps, IsConflictFree};
+ghost use Rattle.fleet_plan.specs.Numbers.{sum_of_costs};
 ghost use Rattle.fleet_search.specs.Best.{IsBestInTries};
 ghost use Rattle.fleet_search.specs.Orders.{IsStuckInTries};
 
-use crate::fault::{AutoFault, Fault, in_step, or_refuse};
+use crate::fault::{AutoFault, Fault, or_refuse};
 use crate::files::FileTexts;
 use fleet_adg::{CompileFault, Deps, compile_bytes};
 use fleet_args::{Best, Tasks, Tries};
@@ -41,8 +41,8 @@ pub(crate) fn problem_of<'a>(
     texts: FileTexts,
     tasks: Tasks<'_>,
 ) -> Result<Problem, Fault<'a>>
-    ensures read { IfOk result (IsProblemOf texts tasks.entry.agents) }
-    ensures fault { IfErr result (IsProblemRefusal texts tasks.entry.agents) }
+    ensures { MatchResult result (IsProblemOf texts tasks.entry.agents)
+        (IsProblemRefusal texts tasks.entry.agents) }
 {
     let grid = or_refuse!(read_map(alloc, &texts.map), Fault::Map);
     let instance = or_refuse!(
@@ -56,26 +56,15 @@ pub(crate) fn problem_of<'a>(
     })
 }
 
-/// The program that the bytes spell, read in place, or the refusal of the program.
+/// The program that the bytes of a file spell, read in place, or the refusal of the program.
 pub(crate) fn view_program<'g, 'a>(
     alloc: Global,
-    bytes: &'g [u8],
+    bytes: &'g Vec<u8>,
 ) -> Result<CodeView<'g>, Fault<'a>>
-    ensures spelled { IfOk result (λ v. Spells bytes.now v.program) }
-    ensures fault { IfErr result (IsLoadRefusal bytes.now) }
+    ensures spelled { IfOk result (λ v. Spells bytes.now.items v.program) }
+    ensures fault { IfErr result (IsLoadRefusal bytes.now.items) }
 {
     Ok(or_refuse!(view(alloc, bytes), Fault::Load))
-}
-
-/// The same, of the file that the command is about.
-pub(crate) fn view_subject<'g, 'a>(
-    alloc: Global,
-    texts: &'g FileTexts,
-) -> Result<CodeView<'g>, Fault<'a>>
-    ensures spelled { IfOk result (λ v. Spells texts.now.subject.items v.program) }
-    ensures fault { IfErr result (IsLoadRefusal texts.now.subject.items) }
-{
-    view_program(alloc, &texts.subject)
 }
 
 /// The program of the problem, read in place and accepted for its map and its instance, or the refusal of the program.
@@ -85,9 +74,11 @@ pub(crate) fn accept<'g, 'a>(
 ) -> Result<Accepted<'g, CodeView<'g>>, Fault<'a>>
     ensures accepted { IfOk result (λ a. Accepts problem.now.texts.subject.items
         problem.now.grid problem.now.instance a.program.program a.chain) }
+    ensures kept { IfOk result (λ a. (a.grid ≡ problem.now.grid)
+        × (a.instance ≡ problem.now.instance)) }
     ensures fault { IfErr result (IsAcceptRefusal problem.now) }
 {
-    let program = view_subject(alloc, &problem.texts)?;
+    let program = view_program(alloc, &problem.texts.subject)?;
     match verify(alloc, program, &problem.grid, &problem.instance) {
         Ok(accepted) => Ok(accepted),
         Err(refused) => Err(Fault::Verify(refused.fault)),
@@ -119,7 +110,8 @@ pub struct MadeBytes {
 /// The numbers of the plan.
 fn numbers_of(plan: &Plan, tried: u32) -> PlanNumbers
     ensures tried { result.tried ≡ tried }
-    ensures numbers { AreNumbersOf plan.now result }
+    ensures steps { result.steps ≡ steps plan.now }
+    ensures cost { result.cost ≡ sum_of_costs plan.now }
 {
     PlanNumbers {
         tried,
@@ -144,11 +136,13 @@ pub fn made_bytes(
 {
     let Found { checked, tried } = match plan_by(alloc, grid, instance, horizon, tries) {
         Ok(found) => found,
-        Err(stop) => return Err(in_step(AutoFault::Plan(stop))),
+        Err(PlanStop::OutOfMemory) => return Err(AutoFault::OutOfMemory),
+        Err(stop) => return Err(AutoFault::Plan(stop)),
     };
     let compiled = match compile_bytes(alloc, &checked, deps, 0) {
         Ok(compiled) => compiled,
-        Err(fault) => return Err(in_step(AutoFault::Compile(fault))),
+        Err(CompileFault::OutOfMemory) => return Err(AutoFault::OutOfMemory),
+        Err(fault) => return Err(AutoFault::Compile(fault)),
     };
     let numbers = numbers_of(checked.plan(), tried);
     Ok(MadeBytes {
@@ -199,21 +193,6 @@ struct LongestChain {
     alloc: Global,
 }
 
-/// The number of actions in the longest chain of the program that the bytes spell, which is accepted.
-fn chain_of(
-    alloc: Global,
-    bytes: &[u8],
-    grid: &Grid,
-    instance: &Instance,
-) -> Result<u32, OutOfMemory>
-    requires { (p : Program) × Spells bytes.now p
-        × IsAccepted (is_passable grid.now) instance.now p }
-    ensures { IfOk result (λ n. (p : Program) → Spells bytes.now p → IsLongestChain p n) }
-{
-    let accepted = accept_made(alloc, bytes, grid, instance)?;
-    Ok(accepted.chain())
-}
-
 impl Measure for LongestChain {
     ghost use Rattle.fleet_cli.specs.Steps.{IsMeasure};
     ghost use Rattle.fleet_args.specs.declared.commands.Best.TheVariants as best;
@@ -222,7 +201,11 @@ impl Measure for LongestChain {
 
     fn measure(&self, checked: &Checked<'_>) -> Result<u32, OutOfMemory> {
         match compile_bytes(self.alloc, checked, Deps::Last, 0) {
-            Ok(made) => chain_of(self.alloc, &made.bytes, checked.grid(), checked.instance()),
+            Ok(made) => {
+                let (grid, instance) = (checked.grid(), checked.instance());
+                let accepted = accept_made(self.alloc, &made.bytes, grid, instance)?;
+                Ok(accepted.chain())
+            }
             Err(CompileFault::OutOfMemory) => Err(OutOfMemory),
             Err(CompileFault::TooLong) => Ok(NO_CHAIN),
         }

@@ -1,51 +1,27 @@
-//! The commands that write a program to a file OUT, and then print its numbers: `compile`, `thin` and `migrate`.
+//! The commands that write a program to a file, and then print its numbers: `compile`, `thin`, `migrate`, and `rest`,
+//! which writes what is left of a program after the reports of a log.
 
-ghost use Rattle.std.specs.Prelude.{IfOk, IfErr};
+ghost use Rattle.std.specs.Prelude.{◌≡◌, ◌<◌, IfOk, IfErr, IfSome, length};
 ghost use Rattle.fleet_text.specs.Sink.{IsWorking};
-ghost use Rattle.fleet_cli.specs.WriteCommands.{CompilesBytes, IsCompileFault, AnswersCompile, ThinsAccepted, AnswersThin, MigratesBytes, AnswersMigrate};
-ghost use Rattle.fleet_cli.specs.Steps.{IsAcceptRefusal, IsLoadRefusal};
+ghost use Rattle.fleet_cli.specs.WriteCommands.{AnswersCompile, AnswersThin, AnswersMigrate, IsDead, IsDeadRefusal, IsMapAround, AreOthers, RestsAccepted, IsRestRefusal, AnswersRest};
 
 use crate::fault::{Fault, or_refuse};
 use crate::files::{FileTexts, Files};
 use crate::output::write_out;
 use crate::steps::{Problem, accept};
-use fleet_adg::{ProgramBytes, ThinFault, compile_bytes, thin_bytes};
-use fleet_args::{CompileRequest, MigrateRequest, ThinRequest};
-use fleet_code::{encode2, load};
-use fleet_model::{OutOfMemory, total_awaits};
+use fleet_adg::{accepted_tasks_are_an_instance, compile_bytes, rest, tasks_of, thin_bytes};
+use fleet_args::{CompileRequest, MigrateRequest, RestRequest, ThinRequest};
+use fleet_code::{encode_shortest, encode2, load};
+use fleet_dispatch::{DeadRobot, TimesFault, dead_robot_of, standings_after};
+use fleet_grid::{Grid, write_map};
+use fleet_model::{Program, ProgramView, Task, total_awaits, total_moves};
 use fleet_plan::{check, read_plan};
+use fleet_scen::{a_written_scenario_is_read, write_scen};
 use fleet_text::Flush;
 use std::alloc::Global;
 
-/// The bytes of the program, as it is asked for, of the problem's plan, and its numbers. The texts are let go once they
-/// are read.
-fn compile_plan<'a>(
-    alloc: Global,
-    request: &CompileRequest<'_>,
-    problem: Problem,
-) -> Result<ProgramBytes, Fault<'a>>
-    ensures compiled { IfOk result (CompilesBytes problem request.now) }
-    ensures fault { IfErr result (IsCompileFault problem request.now) }
-{
-    let Problem {
-        texts,
-        grid,
-        instance,
-    } = problem;
-    let read = or_refuse!(read_plan(alloc, &texts.subject), Fault::Text);
-    drop(texts);
-    let checked = match check(alloc, read, &grid, &instance) {
-        Ok(checked) => checked,
-        Err(refusal) => return Err(Fault::Check(refusal.fault)),
-    };
-    match compile_bytes(alloc, &checked, request.deps, request.dwell) {
-        Ok(compiled) => Ok(compiled),
-        Err(fault) => Err(Fault::Compile(fault)),
-    }
-}
-
 /// The command `compile`: writes the bytes of the plan's program to the file OUT once all before it succeeded, and
-/// prints the program's numbers to `out`. Answers 0.
+/// prints the program's numbers to `out`. Answers 0. The texts are let go once they are read.
 #[inline(never)]
 pub(crate) fn do_compile<'a, F: Files, O: Flush>(
     alloc: Global,
@@ -58,39 +34,28 @@ pub(crate) fn do_compile<'a, F: Files, O: Flush>(
     ensures { AnswersCompile (F.contents files.old) (F.contents files.new) request.now problem
         (O.state out.old) (O.state out.new) result }
 {
-    let compiled = compile_plan(alloc, request, problem)?;
-    write_out(
-        files,
-        &[(Some(request.out), &compiled.bytes)],
-        out,
-        &[
-            ("agents", compiled.agents as u64),
-            ("moves", compiled.moves as u64),
-            ("awaits", compiled.awaits),
-            ("bytes", compiled.bytes.len() as u64),
-        ],
-    )
-}
-
-/// The bytes of a thinned program, and how many awaits the program had before.
-#[derive(Drop)]
-struct Thinned {
-    before: u32,
-    made: ProgramBytes,
-}
-
-/// The bytes of the problem's program, accepted for it and thinned; and how many awaits it had before.
-fn thin_program<'a>(alloc: Global, problem: &Problem) -> Result<Thinned, Fault<'a>>
-    ensures thinned { IfOk result (λ t. ThinsAccepted problem.now
-        t.before t.made.awaits t.made.bytes.items) }
-    ensures fault { IfErr result (IsAcceptRefusal problem.now) }
-{
-    let accepted = accept(alloc, problem)?;
-    let before = total_awaits(accepted.program());
-    match thin_bytes(alloc, &accepted) {
-        Ok(made) => Ok(Thinned { before, made }),
-        Err(ThinFault::OutOfMemory) => Err(Fault::Memory),
-    }
+    let Problem {
+        texts,
+        grid,
+        instance,
+    } = problem;
+    let read = or_refuse!(read_plan(alloc, &texts.subject), Fault::Text);
+    drop(texts);
+    let checked = match check(alloc, read, &grid, &instance) {
+        Ok(checked) => checked,
+        Err(refusal) => return Err(Fault::Check(refusal.fault)),
+    };
+    let made = or_refuse!(
+        compile_bytes(alloc, &checked, request.deps, request.dwell),
+        Fault::Compile
+    );
+    let counts = [
+        ("agents", made.agents as u64),
+        ("moves", made.moves as u64),
+        ("awaits", made.awaits),
+        ("bytes", made.bytes.len() as u64),
+    ];
+    write_out(files, &[(Some(request.out), &made.bytes)], out, &counts)
 }
 
 /// The command `thin`: writes the bytes of the program without its implied awaits to the file OUT once all before it
@@ -107,25 +72,13 @@ pub(crate) fn do_thin<'a, F: Files, O: Flush>(
     ensures { AnswersThin (F.contents files.old) (F.contents files.new) request.now problem.now
         (O.state out.old) (O.state out.new) result }
 {
-    let thinned = thin_program(alloc, problem)?;
-    write_out(
-        files,
-        &[(Some(request.out), &thinned.made.bytes)],
-        out,
-        &[
-            ("awaits", thinned.before as u64),
-            ("awaits", thinned.made.awaits),
-        ],
-    )
-}
-
-/// The bytes, in version 2, of the program that these spell in either version.
-fn migrate_bytes<'a>(alloc: Global, bytes: &[u8]) -> Result<Vec<u8>, Fault<'a>>
-    ensures migrated { IfOk result (λ v. MigratesBytes bytes.now v.items) }
-    ensures fault { IfErr result (IsLoadRefusal bytes.now) }
-{
-    let program = or_refuse!(load(alloc, bytes), Fault::Load);
-    Ok(encode2(alloc, &program)?)
+    let accepted = accept(alloc, problem)?;
+    let before = total_awaits(accepted.program());
+    let Ok(made) = thin_bytes(alloc, &accepted) else {
+        return Err(Fault::Memory);
+    };
+    let counts = [("awaits", before as u64), ("awaits", made.awaits)];
+    write_out(files, &[(Some(request.out), &made.bytes)], out, &counts)
 }
 
 /// The command `migrate`: writes the program, of either version, to the file OUT in version 2 once all before it
@@ -142,7 +95,151 @@ pub(crate) fn do_migrate<'a, F: Files, O: Flush>(
     ensures { AnswersMigrate (F.contents files.old) (F.contents files.new) request.now texts.now
         (O.state out.old) (O.state out.new) result }
 {
-    let migrated = migrate_bytes(alloc, &texts.subject)?;
-    let written = [(Some(request.out), &migrated)];
-    write_out(files, &written, out, &[("bytes", migrated.len() as u64)])
+    let program = or_refuse!(load(alloc, &texts.subject), Fault::Load);
+    let migrated = encode2(alloc, &program)?;
+    let counts = [("bytes", migrated.len() as u64)];
+    write_out(files, &[(Some(request.out), &migrated)], out, &counts)
+}
+
+/// What is left of a program, the text of its tasks and the bytes that spell it; and around a dead robot, as far as
+/// they are asked for, the text of the map and that of the tasks of the others.
+#[derive(Drop)]
+struct Rest {
+    program: Program,
+    scen: Vec<u8>,
+    map: Vec<u8>,
+    others: Vec<u8>,
+    bytes: Vec<u8>,
+}
+
+/// The dead robot that is named, if one is.
+fn dead_in<'a>(
+    without: Option<&str>,
+    grid: &Grid,
+    program: &Program,
+) -> Result<Option<DeadRobot>, Fault<'a>>
+    ensures dead { IfOk result (IsDead grid.now (length program.now) without.entry) }
+    ensures agent { IfOk result (λ dead. IfSome dead (λ d. d.agent < length program.now)) }
+    ensures fault { IfErr result (IsDeadRefusal grid.now (length program.now) without.entry) }
+{
+    let Some(text) = without else {
+        return Ok(None);
+    };
+    let (width, height) = (grid.width(), grid.height());
+    match dead_robot_of(program.agents(), width, height, text.as_bytes()) {
+        Some(dead) => Ok(Some(dead)),
+        None => Err(Fault::Times(TimesFault::Dead)),
+    }
+}
+
+/// The text of the map, in which the cells of the dead robot are blocked, if it is asked for.
+fn map_around<'a>(
+    alloc: Global,
+    grid: &Grid,
+    dead: Option<DeadRobot>,
+    name: Option<&str>,
+) -> Result<Vec<u8>, Fault<'a>>
+    ensures map { IfOk result (λ text. IsMapAround grid.now dead name.entry text.items) }
+    ensures fault { IfErr result (λ e. e ≡ Fault.Memory) }
+{
+    if name.is_none() {
+        return Ok(Vec::new(alloc));
+    }
+    let text = match dead {
+        Some(DeadRobot { first, second, .. }) => write_map(alloc, grid, &[first, second]),
+        None => write_map(alloc, grid, &[]),
+    };
+    Ok(text?)
+}
+
+/// The text of the tasks of all but the dead robot's agent, if it is asked for.
+fn others_around<'a>(
+    alloc: Global,
+    grid: &Grid,
+    tasks: Vec<Task>,
+    dead: Option<DeadRobot>,
+    name: Option<&str>,
+) -> Result<Vec<u8>, Fault<'a>>
+    requires { IfSome dead (λ d. d.agent < length tasks.items) }
+    ensures scen { IfOk result (λ text. AreOthers grid.now tasks.items dead name.entry text.items) }
+    ensures fault { IfErr result (λ e. e ≡ Fault.Memory) }
+{
+    if name.is_none() {
+        return Ok(Vec::new(alloc));
+    }
+    let mut others = tasks;
+    if let Some(dead) = dead {
+        others.remove(usize::from(dead.agent));
+    }
+    Ok(write_scen(alloc, grid.width(), grid.height(), &others)?)
+}
+
+/// What is left of the problem's program, and what is asked for around a dead robot.
+fn rest_program<'a>(
+    alloc: Global,
+    request: &RestRequest<'_>,
+    problem: &Problem,
+) -> Result<Rest, Fault<'a>>
+    ensures made { IfOk result (RestsAccepted problem.now request.now) }
+    ensures fault { IfErr result (IsRestRefusal problem.now request.now) }
+{
+    accepted_tasks_are_an_instance();
+    a_written_scenario_is_read();
+    let accepted = accept(alloc, problem)?;
+    let standings = or_refuse!(
+        standings_after(alloc, accepted.program(), &problem.texts.log),
+        Fault::Dispatch
+    );
+    let program = rest(alloc, &accepted, &standings)?;
+    let grid = &problem.grid;
+    // What is left has few agents, and a map that is read is no larger than one that can be written.
+    let _agents = program.agents();
+    let _width = grid.width();
+    let dead = dead_in(request.without, grid, &program)?;
+    let map = map_around(alloc, grid, dead, request.map_out)?;
+    let tasks = tasks_of(alloc, &program)?;
+    let scen = write_scen(alloc, grid.width(), grid.height(), &tasks)?;
+    let others = others_around(alloc, grid, tasks, dead, request.others_out)?;
+    let bytes = encode_shortest(alloc, &program)?;
+    Ok(Rest {
+        program,
+        scen,
+        map,
+        others,
+        bytes,
+    })
+}
+
+/// The command `rest`: writes what is left of an accepted program after the reports of a log, its tasks to the file
+/// SCEN_OUT, then what is asked for around a dead robot, and then the program to PROGRAM_OUT, once all before it
+/// succeeded; and prints the program's numbers to `out`. Answers 0.
+#[inline(never)]
+pub(crate) fn do_rest<'a, F: Files, O: Flush>(
+    alloc: Global,
+    request: &RestRequest<'a>,
+    problem: &Problem,
+    files: &mut F,
+    out: &mut O,
+) -> Result<u8, Fault<'a>>
+    requires { IsWorking (O.state out.old) }
+    ensures { AnswersRest (F.contents files.old) (F.contents files.new) request.now problem.now
+        (O.state out.old) (O.state out.new) result }
+{
+    let rest = rest_program(alloc, request, problem)?;
+    write_out(
+        files,
+        &[
+            (Some(request.scen_out), &rest.scen),
+            (request.map_out, &rest.map),
+            (request.others_out, &rest.others),
+            (Some(request.program_out), &rest.bytes),
+        ],
+        out,
+        &[
+            ("agents", rest.program.agents() as u64),
+            ("moves", total_moves(&rest.program) as u64),
+            ("awaits", total_awaits(&rest.program) as u64),
+            ("bytes", rest.bytes.len() as u64),
+        ],
+    )
 }

@@ -1,5 +1,5 @@
 use Rattle.std.proofs.Common.{Err, inl, inr, refl, subst}
-use Rattle.fleet_cli.specs.{Named.given_names, Named.IsUnread, Named.AreTexts, declared.files.FileNames.FileNames}
+use Rattle.fleet_cli.specs.{Files.given_names, Files.IsUnread, Files.AreTexts, declared.files.FileNames.FileNames}
 use Rattle.fleet_cli.proofs.RunLemmas.{nothing_written}
 use Rattle.fleet_cli.proofs.command.run_request.Goals as goal
 

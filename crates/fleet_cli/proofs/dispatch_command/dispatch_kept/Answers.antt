@@ -1,6 +1,6 @@
 use Rattle.std.proofs.Common.{◌≡◌, ◌∙◌, false, List, ℕ, ap, rules, refl}
 use Rattle.fleet_dispatch.specs.Talk.{IsLogged}
-use Rattle.fleet_cli.specs.{Files.bytes_of, Journal.log_state}
+use Rattle.fleet_cli.specs.{Files.bytes_of, DispatchCommand.log_state}
 use Rattle.fleet_cli.proofs.DispatchLemmas.{kept, unkept}
 use Rattle.fleet_cli.proofs.dispatch_command.dispatch_kept.Goals as goal
 

@@ -1,9 +1,12 @@
-use Rattle.std.proofs.Common.{◌≡◌, length}
-use Rattle.fleet_cli.specs.Files.{whole_lines}
+use Rattle.std.proofs.Common.{◌≡◌, ◌≤◌, ◌<◌, ℕ, true, not, length, get_or}
+use Rattle.fleet_text.specs.Text.{is_lf}
 use Rattle.fleet_cli.proofs.files.whole_lines.Given as goal
 
-abbrev pub invariant-loop-last : goal.invariant-loop-last
-invariant-loop-last l = whole_lines l.lines ≡ whole_lines l.bytes
+abbrev pub invariant-loop-end : goal.invariant-loop-end
+invariant-loop-end l = record {
+  within : l.end ≤ length l.bytes;
+  others : (k : ℕ) → l.end ≤ k → k < length l.bytes → not (is_lf (get_or l.bytes k 0)) ≡ true;
+}
 
-abbrev pub decreases-loop-last : goal.decreases-loop-last
-decreases-loop-last l = length l.lines
+abbrev pub decreases-loop-end : goal.decreases-loop-end
+decreases-loop-end l = l.end

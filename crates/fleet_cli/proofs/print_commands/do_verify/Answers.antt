@@ -9,5 +9,5 @@ returns g c =
       c.in-Ok.accepted.program.program,
       _,
       record { spelled = rw same c.in_ok-program.ensures.spelled; accepted_for = rw same c.in-Ok.ensures.accepted },
-      c.hand_on.ensures _ _ c.put_accepted-printed.ensures,
+      rw (c.agents.ensures.count, c.total_moves.ensures, c.total_awaits.ensures, c.chain.ensures.chain, c.program-program.ensures.program) at (c.hand_on.ensures _ _ c.put_report-printed.ensures),
     )

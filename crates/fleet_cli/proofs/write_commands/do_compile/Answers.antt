@@ -1,8 +1,7 @@
-use Rattle.std.proofs.Common.{◌∙◌, inl}
+use Rattle.std.proofs.Common.{◌∙◌, inl, rules}
 use Rattle.fleet_cli.proofs.write_commands.do_compile.Goals as goal
 
 pub returns : goal.returns
 returns g c =
-    let compiled = c.in_ok-compiled.compiled in
-    let made = c.in_ok-compiled.ensures.compiled in
-    inl ((made.program, compiled.bytes.items), made.made, rw (c.len.ensures ∙ compiled.bytes.ok.0, made.numbers.agents, made.numbers.moves, made.numbers.awaits) at c.write_out.ensures)
+    let made = c.in-Ok-compile_bytes.made in
+    inl (made, search rules, rw (c.len.ensures ∙ made.bytes.ok.0) at c.write_out.ensures)

@@ -1,5 +1,7 @@
-use Rattle.std.proofs.Common.{inl}
+use Rattle.std.proofs.Common.{inl, sym}
 use Rattle.fleet_cli.proofs.write_commands.do_thin.Goals as goal
 
 pub returns : goal.returns
-returns g c = inl ((c.in_ok-thinned.thinned.before, c.in_ok-thinned.thinned.made.awaits, c.in_ok-thinned.thinned.made.bytes.items), c.in_ok-thinned.ensures.thinned, c.write_out.ensures)
+returns g c =
+    let made = rw (c.in_ok-accepted.ensures.kept.0, c.in_ok-accepted.ensures.kept.1) at c.in-Ok.ensures in
+    inl ((c.total_awaits-before.result, c.in-Ok.made), (_, _, c.in_ok-accepted.ensures.accepted, record { thinned = made.0; is = made.2; bytes = made.1; had = rw (sym c.program.ensures.program) c.total_awaits-before.ensures }), c.write_out.ensures)

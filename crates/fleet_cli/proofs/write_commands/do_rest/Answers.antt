@@ -1,5 +1,5 @@
 use Rattle.std.proofs.Common.{inl, ◌∙◌}
-use Rattle.fleet_cli.proofs.rest_command.do_rest.Goals as goal
+use Rattle.fleet_cli.proofs.write_commands.do_rest.Goals as goal
 
 pub returns : goal.returns
 returns g c =

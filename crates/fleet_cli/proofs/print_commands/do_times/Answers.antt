@@ -1,5 +1,5 @@
 use Rattle.std.proofs.Common.{inl}
-use Rattle.fleet_cli.proofs.times_command.do_times.Goals as goal
+use Rattle.fleet_cli.proofs.print_commands.do_times.Goals as goal
 
 pub returns-in-None : goal.returns-in-None
 returns-in-None g c = inl (_, _, c.in_ok-accepted.ensures.accepted, rw c.in-None.is (rw c.deref.ensures.value at c.tell_times.ensures))

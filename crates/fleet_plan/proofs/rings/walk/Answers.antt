@@ -18,8 +18,9 @@ returns-then-is_own-clause-walked c =
 
 pub returns-then-is_own-clause-some : goal.returns-then-is_own-clause-some
 returns-then-is_own-clause-some c =
+    let own : c.in-Some.walk ≡ c.args.number = omega (arith, c.if-is_own.true) in
     let here : walk_of c.loop-next.walks c.loop-next.agent ≡ Some c.in-Some.walk = ap (walk_of c.loop-next.walks) (sym c.from-in-loop-next.ensures) ∙ c.in-Some.is in (
-      stop-ring c.args.ahead.now c.args.walks.now c.loop-next.walks c.args.number c.args.first c.loop-next.agent c.loop-next.invariant c.requires.closed (c.in-Some.walk, here) (here ∙ ap (λ n. Some n) c.if-is_own.true),
+      stop-ring c.args.ahead.now c.args.walks.now c.loop-next.walks c.args.number c.args.first c.loop-next.agent c.loop-next.invariant c.requires.closed (c.in-Some.walk, here) (here ∙ ap (λ n. Some n) own),
       stop-some c.args.ahead.now c.args.walks.now c.loop-next.walks c.args.number c.args.first c.loop-next.agent c.loop-next.invariant c.requires.closed (c.in-Some.walk, here),
     )
 
@@ -36,7 +37,7 @@ returns-else-is_own-clause-walked c =
 pub returns-else-is_own-clause-none : goal.returns-else-is_own-clause-none
 returns-else-is_own-clause-none c =
     let here : walk_of c.loop-next.walks c.loop-next.agent ≡ Some c.in-Some.walk = ap (walk_of c.loop-next.walks) (sym c.from-in-loop-next.ensures) ∙ c.in-Some.is in
-    stop-none c.args.ahead.now c.args.walks.now c.loop-next.walks c.args.number c.args.first c.loop-next.agent c.loop-next.invariant c.requires.closed (c.in-Some.walk, here) (λ e. c.if-is_own.false (some_is c.in-Some.walk c.args.number (walk_of c.loop-next.walks c.loop-next.agent) here e))
+    stop-none c.args.ahead.now c.args.walks.now c.loop-next.walks c.args.number c.args.first c.loop-next.agent c.loop-next.invariant c.requires.closed (c.in-Some.walk, here) (λ e. let own = some_is c.in-Some.walk c.args.number (walk_of c.loop-next.walks c.loop-next.agent) here e in omega (arith, own, c.if-is_own.false))
 
 pub returns-in_err-next-clause-closed : goal.returns-in_err-next-clause-closed
 returns-in_err-next-clause-closed c =

@@ -1,5 +1,5 @@
 -- The words and options of the commands, as what a parse reads of them.
-use Rattle.std.specs.Prelude.{◌≡◌, true, false, List, [], ◌∷◌, Some, codes, fold, map, pos}
+use Rattle.std.specs.Prelude.{◌≡◌, true, false, List, Some, fold, map, pos}
 use Rattle.std.specs.Borrow.{Bor}
 use Rattle.clap.specs.{Simple.on_top, Words.App, Words.Rule, Words.Text, Words.app_of, Words.new_app, Words.new_rule, Words.with_rule}
 use Rattle.clap.specs.declared.{builder.Command.TheViews.out-Command as fields_of, builder.Command.Command, builder.action.ArgAction.TheVariants.Set, builder.action.ArgAction.TheVariants.SetTrue, builder.ValueParser.ValueParser}

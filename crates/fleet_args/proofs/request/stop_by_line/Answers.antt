@@ -1,7 +1,7 @@
 use Rattle.std.proofs.Common.{map, refl, inl, string_bytes, sym, ap, subst, ◌∙◌}
-use Rattle.clap.specs.Words.{App, app_of, fault_of, is_simple_and_free}
+use Rattle.clap.specs.Words.{App, fault_of, is_simple_and_free}
 use Rattle.clap.specs.declared.error.ErrorKind.TheVariants as kind
-use Rattle.fleet_args.specs.{Commands.fleet, Request.StopsFor}
+use Rattle.fleet_args.specs.Request.{StopsFor}
 use Rattle.fleet_args.proofs.NoCommand.{unnamed}
 use Rattle.fleet_args.proofs.request.stop_by_line.Goals as goal
 

@@ -51,8 +51,7 @@ abbrev pub numbers_text : (agents moves awaits : ℕ) → List ℕ → List ℕ
 numbers_text agents moves awaits bytes =
     count_lines ((codes "agents", agents) ∷ (codes "moves", moves) ∷ (codes "awaits", awaits) ∷ (codes "bytes", length bytes) ∷ [])
 
--- What `compile` answers. The file OUT holds the program's bytes, every other file is as before, and the program's
--- numbers were printed; or a refusal before anything is written; or OUT could not be written, or the output failed
+-- what `compile` answers: the file OUT holds the program's bytes, and the program's numbers are printed
 abbrev pub AnswersCompile : (files after : Option Store) → CompileRequest → Problem → (out out' : SinkState) → Result ℕ Fault → Type 0
 AnswersCompile files after r problem =
     AnswersOut files after (CompilesPlan problem r) (IsCompileFault problem r) (λ made. (Some r.out, made.bytes.items) ∷ [])
@@ -70,8 +69,7 @@ pub record ThinsProgram (g : Ground) (tasks : List Task) (p : Program) (chain be
 abbrev pub thinned_text : ℕ → ℕ → List ℕ
 thinned_text before after = count_lines ((codes "awaits", before) ∷ (codes "awaits", after) ∷ [])
 
--- What `thin` answers. The file OUT holds the bytes, every other file is as before, and the numbers of awaits were
--- printed; or a refusal before anything is written; or OUT could not be written, or the output failed
+-- what `thin` answers: the file OUT holds the bytes, and the numbers of awaits before and after are printed
 abbrev pub AnswersThin : (files after : Option Store) → ThinRequest → Problem → (out out' : SinkState) → Result ℕ Fault → Type 0
 AnswersThin files after r problem =
     AnswersOut {A = ℕ × ProgramBytes} files after (λ made. AcceptsProgram problem (λ p chain. ThinsProgram problem.grid problem.instance p chain made.0 made.1)) (IsAcceptRefusal problem)
@@ -87,9 +85,7 @@ pub record MigratesBytes (bytes migrated : List ℕ) : Type 0 where
 abbrev pub migrated_text : List ℕ → List ℕ
 migrated_text migrated = count_lines ((codes "bytes", length migrated) ∷ [])
 
--- What `migrate` answers for the bytes of its file. The file OUT holds the program's bytes in version 2, every other
--- file is as before, and how many they are was printed; or a refusal before anything is written; or OUT could not be
--- written, or the output failed
+-- what `migrate` answers for the bytes of its file: OUT holds the program's in version 2, and how many they are is printed
 abbrev pub AnswersMigrate : (files after : Option Store) → MigrateRequest → FileTexts → (out out' : SinkState) → Result ℕ Fault → Type 0
 AnswersMigrate files after r texts =
     AnswersOut files after (MigratesBytes texts.subject.items) (IsLoadRefusal texts.subject.items) (λ migrated. (Some r.out, migrated) ∷ []) migrated_text

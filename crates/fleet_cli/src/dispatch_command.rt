@@ -103,42 +103,38 @@ fn pace_of(request: &DispatchRequest<'_>) -> Pace
     Pace { form, ahead }
 }
 
-/// How the orders of a dispatch are given, and the file in which it is logged, if one is named.
-#[derive(Clone, Copy)]
-struct Kept<'a> {
-    pace: Pace,
-    log: Option<&'a str>,
-}
-
-/// Dispatches the agents of a program from where the session is, and puts each report that is taken behind the bytes of
-/// the log.
+/// Dispatches the agents of a program from where the session is, as the request asks, and puts each report that is
+/// taken behind the bytes of the log.
 fn dispatch_kept<P: ProgramView, R: ReportsTo<O>, F: Files, O: Flush>(
     session: &mut Session,
     program: &P,
-    kept: Kept<'_>,
+    request: &DispatchRequest<'_>,
     input: &mut R,
     files: &mut F,
     out: &mut O,
 ) -> Result<DispatchReport, DispatchFault>
     requires well_formed { IsWellFormed (P.program program.now) }
-    requires ready { IsReady (P.program program.now) kept.pace session.old }
+    requires ready { IsReady (P.program program.now) (pace_of request.now) session.old }
     requires fresh { session.old.progress.told ≡ session.old.progress.done }
     requires out { IsWorking (O.state out.old) }
-    ensures outcome { Dispatches (course_in (P.program program.now) kept.entry.pace session.old)
-        (IsKeptAfter (log_in (F.contents files.old) kept.entry.log) (F.contents files.new)
-        kept.entry.log (IsLogged R.talks input.old out.old input.new out.new)
-        kept.entry.pace.form) (left_in session.new) result }
-    ensures others { ChangesOnlyLog (F.contents files.old) (F.contents files.new) kept.entry.log }
+    ensures outcome { Dispatches
+        (course_in (P.program program.now) (pace_of request.now) session.old)
+        (IsKeptAfter (log_in (F.contents files.old) request.now.log) (F.contents files.new)
+        request.now.log (IsLogged R.talks input.old out.old input.new out.new)
+        (pace_of request.now).form) (left_in session.new) result }
+    ensures others { ChangesOnlyLog (F.contents files.old) (F.contents files.new)
+        request.now.log }
 {
-    match kept.log {
-        None => dispatch_led(session, program, kept.pace, input, out, &mut NoLog),
+    let pace = pace_of(request);
+    match request.log {
+        None => dispatch_led(session, program, pace, input, out, &mut NoLog),
         Some(name) => {
             let mut journal = Journal {
                 files,
                 name,
                 failed: false,
             };
-            dispatch_led(session, program, kept.pace, input, out, &mut journal)
+            dispatch_led(session, program, pace, input, out, &mut journal)
         }
     }
 }
@@ -175,15 +171,10 @@ pub(crate) fn do_dispatch<'a, R: ReportsTo<O>, F: Files, O: Flush>(
 {
     let accepted = accept(alloc, problem)?;
     let program = accepted.program();
-    let pace = pace_of(request);
     let mut session = or_refuse!(
-        lead_on(alloc, program, pace, &problem.texts.log),
+        lead_on(alloc, program, pace_of(request), &problem.texts.log),
         Fault::Dispatch
     );
     begin_log(alloc, files, request.log, &problem.texts.log)?;
-    let kept = Kept {
-        pace,
-        log: request.log,
-    };
-    answer_of(dispatch_kept(&mut session, program, kept, input, files, out))
+    answer_of(dispatch_kept(&mut session, program, request, input, files, out))
 }

@@ -13,8 +13,8 @@ returns-in-Err g c =
     let talks = IsLogged g.R.ReportsTo.talks c.args.input.now c.args.out.now c.args.input.now c.args.out.now in
     let r = c.args.request.now in
     let p = c.program-program.result.now.program in
-    let past = subst (λ (bytes : List ℕ). LeadsOn p c.pace_of-pace.result bytes (Err c.in-Err.fault)) c.deref.ensures.value c.in-Err.ensures in
-    let paced = subst (λ (pace : Pace). LeadsOn p pace c.args.problem.now.texts.log.items (Err c.in-Err.fault)) c.pace_of-pace.ensures past in
+    let past = subst (λ (bytes : List ℕ). LeadsOn p c.pace_of.result bytes (Err c.in-Err.fault)) c.deref.ensures.value c.in-Err.ensures in
+    let paced = subst (λ (pace : Pace). LeadsOn p pace c.args.problem.now.texts.log.items (Err c.in-Err.fault)) c.pace_of.ensures past in
     let stopped = subst (λ (q : Program). LeadsOn q (pace_of r) c.args.problem.now.texts.log.items (Err c.in-Err.fault)) (ap (λ (v : CodeView). v.program) c.program-program.ensures.program) paced in
     let leads = unled files files files r _ c.args.problem.now.texts.log.items _ talks c.in-Err.fault stopped refl (refl, refl) in
     inl (_, _, c.in_ok-accepted.ensures.accepted, (leads, others_self files r.log))
@@ -32,8 +32,8 @@ returns g c =
     let after = g.F.Files.contents c.dispatch_kept.new.files in
     let r = c.args.request.now in
     let own = rw c.deref-2.ensures.value at c.in_ok-begin_log.ensures.own in
-    let on = rw (ap (λ (v : CodeView). v.program) c.program-program.ensures.program, c.deref.ensures.value, c.pace_of-pace.ensures) at c.in-Ok.ensures in
-    let outcome = rw (ap (λ (v : CodeView). v.program) c.program-program.ensures.program, c.pace_of-pace.ensures) at c.dispatch_kept.ensures.outcome in
+    let on = rw (ap (λ (v : CodeView). v.program) c.program-program.ensures.program, c.deref.ensures.value, c.pace_of.ensures) at c.in-Ok.ensures in
+    let outcome = rw (ap (λ (v : CodeView). v.program) c.program-program.ensures.program) at c.dispatch_kept.ensures.outcome in
     let talks = IsLogged g.R.ReportsTo.talks c.args.input.now c.args.out.now c.dispatch_kept.new.input c.dispatch_kept.new.out in
     let leads = led files mid after r _ c.args.problem.now.texts.log.items _ talks c.dispatch_kept.result _ c.in-Ok.made c.dispatch_kept.new.session own c.in_ok-begin_log.ensures.lines on outcome c.answer_of.ensures in
     inl (_, _, c.in_ok-accepted.ensures.accepted, (leads, others_on files mid after r.log c.in_ok-begin_log.ensures.others c.dispatch_kept.ensures.others))

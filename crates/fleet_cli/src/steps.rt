@@ -7,8 +7,7 @@ ghost use Rattle.fleet_cli.specs.Steps.{IsProblemOf, Accepts, IsProblemRefusal, 
 ghost use Rattle.fleet_model.specs.Program.{Program};
 ghost use Rattle.fleet_model.specs.Accepted.{IsAccepted};
 ghost use Rattle.fleet_grid.specs.Ground.{is_passable};
-ghost use Rattle.fleet_plan.specs.Plan.{steps, IsConflictFree};
-ghost use Rattle.fleet_plan.specs.Numbers.{sum_of_costs};
+ghost use Rattle.fleet_plan.specs.Plan.{IsConflictFree};
 ghost use Rattle.fleet_search.specs.Best.{IsBestInTries};
 ghost use Rattle.fleet_search.specs.Orders.{IsStuckInTries};
 
@@ -19,7 +18,7 @@ use fleet_args::{Best, Tasks, Tries};
 use fleet_code::{CodeView, LoadFault, view};
 use fleet_grid::{Grid, read_map};
 use fleet_model::OutOfMemory;
-use fleet_plan::{Checked, Plan};
+use fleet_plan::Checked;
 use fleet_scen::{Instance, read_scen};
 use fleet_search::{
     Found, Measure, Measured, PlanStop, SumOfCosts, best_in_orders, first_in_orders,
@@ -107,19 +106,6 @@ pub struct MadeBytes {
     pub numbers: PlanNumbers,
 }
 
-/// The numbers of the plan.
-fn numbers_of(plan: &Plan, tried: u32) -> PlanNumbers
-    ensures tried { result.tried ≡ tried }
-    ensures steps { result.steps ≡ steps plan.now }
-    ensures cost { result.cost ≡ sum_of_costs plan.now }
-{
-    PlanNumbers {
-        tried,
-        steps: plan.steps(),
-        cost: plan.sum_of_costs(),
-    }
-}
-
 /// The bytes that spell the program of the plan that is made for the map and the instance, in version 1, and the numbers
 /// of the plan.
 pub fn made_bytes(
@@ -144,7 +130,12 @@ pub fn made_bytes(
         Err(CompileFault::OutOfMemory) => return Err(AutoFault::OutOfMemory),
         Err(fault) => return Err(AutoFault::Compile(fault)),
     };
-    let numbers = numbers_of(checked.plan(), tried);
+    let plan = checked.plan();
+    let numbers = PlanNumbers {
+        tried,
+        steps: plan.steps(),
+        cost: plan.sum_of_costs(),
+    };
     Ok(MadeBytes {
         bytes: compiled.bytes,
         numbers,

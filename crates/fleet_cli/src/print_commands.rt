@@ -3,9 +3,9 @@
 ghost use Rattle.std.specs.Prelude.{IfOk, ◌≤◌};
 ghost use Rattle.fleet_text.specs.Sink.{IsWorking, TakesAll};
 ghost use Rattle.fleet_cli.specs.Output.{Prints};
-ghost use Rattle.fleet_cli.specs.PrintCommands.{task_lines, instance_text, check_text, IsAskedBound, AnswersCheck, AnswersPlan, SpellsBreakingHolds, ReportsRefused, AnswersVerify, AnswersList, TellsTimetable, TellsTimes, TellsReached, AnswersTimes};
-ghost use Rattle.fleet_model.specs.declared.{geometry.Place.Place, program.ActionId.ActionId};
-ghost use Rattle.fleet_verify.specs.Broken.{MeetUnordered, IsBrokenBy};
+ghost use Rattle.fleet_cli.specs.PrintCommands.{task_lines, instance_text, check_text, IsAskedBound, AnswersCheck, AnswersPlan, ReportsRefused, AnswersVerify, AnswersList, TellsTimetable, TellsTimes, TellsReached, AnswersTimes};
+ghost use Rattle.fleet_model.specs.declared.program.ActionId.{ActionId};
+ghost use Rattle.fleet_verify.specs.Broken.{IsBrokenBy};
 
 use crate::fault::{Fault, or_refuse};
 use crate::files::FileTexts;
@@ -14,7 +14,7 @@ use crate::steps::{Problem, accept, plan_by, view_program};
 use fleet_args::{CheckRequest, PlanRequest, TimesRequest};
 use fleet_dispatch::{breaks_of, costs_of};
 use fleet_grid::Grid;
-use fleet_model::{OutOfMemory, ProgramView, Visit, total_awaits, total_moves};
+use fleet_model::{OutOfMemory, ProgramView, total_awaits, total_moves};
 use fleet_plan::{Checked, Plan, check, read_plan, write_plan};
 use fleet_run::{put_program, put_reached, put_times, write_holds};
 use fleet_scen::Instance;
@@ -165,21 +165,6 @@ pub(crate) fn do_plan<'a, O: Flush>(
     hand_on(out, printed)
 }
 
-/// The breaking holds of two visits of a cell that no chain orders, as text.
-fn breaking_text<P: ProgramView>(
-    alloc: Global,
-    program: &P,
-    first: Visit,
-    second: Visit,
-) -> Result<Vec<u8>, OutOfMemory>
-    requires { (q : Place) × MeetUnordered (P.program program.now) q first second }
-    ensures { IfOk result
-        (λ text. SpellsBreakingHolds (P.program program.now) first second text.items) }
-{
-    let holds = breaking_holds(alloc, program, first, second)?;
-    Ok(write_holds(alloc, &holds)?)
-}
-
 /// The refusal of a program. If it is of two visits of a cell that no chain orders, their breaking holds are printed.
 fn report_refused<'a, P: ProgramView + Drop, O: Flush>(
     alloc: Global,
@@ -195,7 +180,10 @@ fn report_refused<'a, P: ProgramView + Drop, O: Flush>(
     let VerifyFault::Unordered { first, second, .. } = &fault else {
         return Fault::Verify(fault);
     };
-    let Ok(text) = breaking_text(alloc, &program, *first, *second) else {
+    let Ok(holds) = breaking_holds(alloc, &program, *first, *second) else {
+        return Fault::Memory;
+    };
+    let Ok(text) = write_holds(alloc, &holds) else {
         return Fault::Memory;
     };
     match deliver(out, &text) {

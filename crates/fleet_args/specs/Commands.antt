@@ -1,11 +1,12 @@
 -- The commands, each with its arguments and with what it is asked for, and the command line that has them.
-use Rattle.std.specs.Prelude.{◌≡◌, true, List, [], ◌∷◌, IsSome, codes, find, fold, map, unwrap_or}
+use Rattle.std.specs.Prelude.{◌≡◌, ℕ, true, List, [], ◌∷◌, IsSome, codes, find, fold, unwrap_or}
 use Rattle.std.specs.Str.{bytes_eq}
 use Rattle.clap.specs.Words.{App, Row, Text, new_app, with_subcommand}
 use Rattle.fleet_args.specs.Arguments.{app_for}
 use Rattle.fleet_args.specs.Values.{IsText, IsTextIfUsed, IsNumberIfUsed, IsNumberOr, IsFlag, best_names, deps_names, named_by}
 use Rattle.fleet_args.specs.declared.{arguments.Form.Form, arguments.OptionNames.OptionNames, commands.ProgramFor.ProgramFor, commands.Tasks.Tasks, commands.Tries.Tries, commands.Request.Request}
-use Rattle.fleet_args.specs.declared.commands.TheConstants.{COMMANDS}
+use Rattle.fleet_args.specs.declared.arguments.Form.TheVariants as form
+use Rattle.fleet_model.specs.declared.limits.TheConstants.{MAX_MOVES, MAX_TRIES}
 use Rattle.fleet_model.specs.declared.deps.Deps.TheVariants.{Last}
 use Rattle.fleet_args.specs.declared.commands.Request.TheVariants as r
 
@@ -20,9 +21,55 @@ fleet_top = record (new_app (codes "fleet")) {
 abbrev pub with_commands : OptionNames → App → List (Text × List (Text × Form)) → App
 with_commands names = fold (λ app c. with_subcommand app (app_for names c).top)
 
--- the commands in the order of help, each by its name and its arguments, as the table of the code has them
+-- ---- the arguments, each by its name and its form: a word, an option with a text or a number, or a flag
+
+abbrev pub word : Text → Text × Form
+word name = (name, form.Word)
+
+abbrev pub texts : Text → Text × Form
+texts name = (name, form.Text)
+
+abbrev pub numbers : Text → ℕ → ℕ → Text × Form
+numbers name least most = (name, form.Numbers least most)
+
+abbrev pub flag : Text → Text × Form
+flag name = (name, form.Flag)
+
+-- a map, a scenario, and what is asked for them
+abbrev pub for_tasks : List (Text × Form) → List (Text × Form)
+for_tasks asked = word (codes "map") ∷ word (codes "scen") ∷ asked
+
+-- how many agents are taken
+abbrev pub agents : Text × Form
+agents = numbers (codes "agents") 0 65535
+
+-- .. with a program
+abbrev pub for_program : List (Text × Form) → List (Text × Form)
+for_program asked = for_tasks (word (codes "program") ∷ asked)
+
+-- how a plan is made
+abbrev pub planned : List (Text × Form) → List (Text × Form)
+planned asked =
+    agents ∷ numbers (codes "horizon") 1 65535 ∷ numbers (codes "tries") 1 MAX_TRIES ∷ (codes "best", form.Best) ∷ asked
+
+-- the commands in the order of help, each by its name and its arguments
 abbrev pub commands : List (Text × List (Text × Form))
-commands = map (λ c. (c.0.now, map (λ argument. (argument.0.now, argument.1)) c.1.now)) COMMANDS
+commands =
+    (codes "instance", for_tasks (agents ∷ [])) ∷
+    (codes "check", for_tasks (word (codes "plan") ∷ agents ∷ flag (codes "numbers") ∷ [])) ∷
+    (codes "plan", for_tasks (planned [])) ∷
+    (codes "compile", for_tasks (word (codes "plan") ∷ word (codes "out") ∷ agents ∷ (codes "deps", form.Deps) ∷ numbers (codes "dwell") 0 MAX_MOVES ∷ [])) ∷
+    (codes "verify", for_program (agents ∷ [])) ∷
+    (codes "run", for_program (agents ∷ texts (codes "holds") ∷ [])) ∷
+    (codes "rehearse", word (codes "program") ∷ texts (codes "holds") ∷ []) ∷
+    (codes "auto", for_tasks (planned ((codes "deps", form.Deps) ∷ texts (codes "holds") ∷ flag (codes "numbers") ∷ []))) ∷
+    (codes "thin", for_program (word (codes "out") ∷ agents ∷ [])) ∷
+    (codes "migrate", word (codes "program") ∷ word (codes "out") ∷ []) ∷
+    (codes "list", word (codes "program") ∷ []) ∷
+    (codes "dispatch", for_program (agents ∷ numbers (codes "ahead") 1 255 ∷ flag (codes "unnumbered") ∷ texts (codes "resume") ∷ texts (codes "log") ∷ [])) ∷
+    (codes "times", for_program (agents ∷ texts (codes "costs") ∷ texts (codes "broken") ∷ [])) ∷
+    (codes "rest", for_program (word (codes "reports") ∷ word (codes "scen_out") ∷ word (codes "program_out") ∷ agents ∷ texts (codes "without") ∷ texts (codes "map-out") ∷ texts (codes "others-out") ∷ [])) ∷
+    []
 
 -- the whole command line
 abbrev pub fleet : OptionNames → App

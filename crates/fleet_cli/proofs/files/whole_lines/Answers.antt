@@ -12,7 +12,7 @@ whole bytes end le others ends =
     ap (λ n. take n bytes) (omega (arith, tail, le))
 
 pub returns-then-ends_line : goal.returns-then-ends_line
-returns-then-ends_line c = whole c.args.bytes.now c.loop-end.end c.loop-end.invariant.within c.loop-end.invariant.others (λ some. c.if-ends_line.true)
+returns-then-ends_line c = whole c.args.bytes.now c.loop-end.end c.loop-end.invariant.within c.loop-end.invariant.others (λ some. omega (arith, c.if-ends_line.true))
 
 pub returns : goal.returns
 returns c =

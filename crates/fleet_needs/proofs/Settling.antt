@@ -2,7 +2,7 @@
 use Rattle.fleet_needs.proofs.Words.{◌≡◌, ◌≢◌, ℕ, ◌+◌, ◌-◌, ◌<◌, ◌≤◌, Bool, true, false, List, length, get_or, set, refl, sym, ap, subst, ◌∙◌, arith, inl, inr, ◌⊎◌, Contains, slice_get, Some, None, Option, unwrap_or, cases_lt, cases_eq, false≢true, true≢false, slice_get_within, get_or_from_slice_get, same_Some, ActionId, Await, Program, moves, awaits_of, AreInRange, IsWellFormed, IsAction, Reaches, IsNumbering, awaited, chain_ends_by_step, Reaches-rises, Reaches-last, IsImplied, IsSettled, AreSettledOf, AreMoreAsked, ReachesNeed, IsUpTo, action_before, ByBeforeOr, OfFirst, OfOthers}
 use Rattle.fleet_needs.proofs.AwaitOrder.{other_agent}
 use Rattle.fleet_needs.proofs.RowFlags.{implied_by, implied_back}
-use Rattle.fleet_needs.proofs.Joining.{one_of, own_first, step_back, step_on}
+use Rattle.fleet_needs.proofs.Joining.{one_of, own_first, awaited_action, step_back, step_on}
 
 -- the answer of a search that says yes is not the one that says no
 pub no_is_not_yes : Some false ≡ Some true → ⊥
@@ -131,3 +131,15 @@ upto_next p i a is (inl low) = elim (cases_eq a.agent i) [ inr ne ↦ inl (omega
 -- one agent more
 pub agent_up : (p : Program) (i : ℕ) (asked flags : List Bool) → AreSettledOf p asked (IsUpTo i (moves p i)) flags → AreSettledOf p asked (IsUpTo (i + 1) 0) flags
 agent_up p i asked flags h a k up = h a k (upto_next p i a k up)
+
+-- an action that awaits the first one, or a later one of its agent
+pub needed_by : (p : Program) (range : AreInRange p) (first a : ActionId) (k : ℕ) (w : Await) → IsAction p first → IsAction p a → slice_get (awaits_of p a.agent a.number) k ≡ Some w
+    → w.agent ≡ first.agent → first.number ≤ w.count → Reaches p first a
+needed_by p range first a k w is last at same more =
+    need_on p first a (k + 1) last (inr (record {
+      place = k;
+      await = w;
+      this = λ e. omega (arith, e);
+      at = at;
+      reaches = own_first p first (awaited w) is.first (awaited_action p range a.agent a.number k w at) same more;
+    }))

@@ -1,6 +1,6 @@
 //! Awaits for which a few steps back from their action show whether others imply them.
 
-ghost use Rattle.std.specs.Prelude.{◌≡◌, ◌↔◌, ◌<◌, ◌≤◌, ℕ, true, false, length, get_or, slice_get, Some, IfOk, OnOk, ◌⊎◌, None};
+ghost use Rattle.std.specs.Prelude.{◌≡◌, ◌↔◌, ◌<◌, ◌≤◌, ℕ, true, false, length, get_or, slice_get, Some, IfOk, OnOk, ◌⊎◌, None, IsTrue};
 ghost use Rattle.fleet_model.specs.Program.{AreInRange, awaits_of, moves};
 ghost use Rattle.fleet_model.specs.Chain.{IsAction, Reaches};
 ghost use Rattle.fleet_needs.specs.Flags.{AreFlags, flags_of};
@@ -118,13 +118,60 @@ fn settle_action<P: ProgramView>(
         return;
     }
     let first = implied.places.first(program, action);
+    let latest = latest_await(program, levels, action);
+    let other = awaited_at(program, action, latest);
+    let mut from = 0;
     for k in 0..awaits {
         let awaited = awaited_at(program, action, k);
-        let mut steps = looks;
-        let known = reaches_need(program, levels, awaited, action, k, &mut steps);
+        let is_needed = is_needed(program, awaited, other, &mut from);
+        let is_passed = is_needed && k != latest;
+        let known = if is_passed {
+            Some(true)
+        } else {
+            let mut steps = looks;
+            reaches_need(program, levels, awaited, action, k, &mut steps)
+        };
         implied.flags[first + usize::from(k)] = known.unwrap_or(false);
         ask_if(known.is_none(), awaited.agent, asked);
     }
+}
+
+/// The place of an await of the action of which the awaited action has the greatest level.
+fn latest_await<P: ProgramView>(program: &P, levels: &CriticalCosts, action: ActionId) -> u16
+    requires levels { AreLevels (P.program program.now) levels.now }
+    requires action { IsAction (P.program program.now) action }
+    requires some { 1 ≤ length (awaits_of (P.program program.now) action.agent action.number) }
+    ensures { result < length (awaits_of (P.program program.now) action.agent action.number) }
+{
+    let mut latest = 0;
+    let mut greatest = 0;
+    for k in 0..program.await_count(action.agent, action.number) {
+        let level = levels.cost(program, awaited_at(program, action, k));
+        if level > greatest {
+            latest = k;
+            greatest = level;
+        }
+    }
+    latest
+}
+
+/// Whether an action awaits the first one, or a later one of its agent. Its awaits are listed by agents, and those
+/// before the place `from`, which rises, are of agents before that one.
+fn is_needed<P: ProgramView>(program: &P, first: ActionId, action: ActionId, from: &mut u16) -> bool
+    requires range { AreInRange (P.program program.now) }
+    requires first { IsAction (P.program program.now) first }
+    requires action { IsAction (P.program program.now) action }
+    ensures { IsTrue result → Reaches (P.program program.now) first action }
+{
+    let count = program.await_count(action.agent, action.number);
+    while *from < count {
+        let needed = program.await_at(action.agent, action.number, *from);
+        if needed.agent >= first.agent {
+            return needed.agent == first.agent && first.number <= needed.count;
+        }
+        *from += 1;
+    }
+    false
 }
 
 /// Flags an agent, if that is so.
@@ -180,11 +227,11 @@ fn reaches<P: ProgramView>(
     if levels.cost(program, last) <= levels.cost(program, first) {
         return Some(false);
     }
-    if *steps == 0 {
+    let no_await = program.await_count(last.agent, last.number);
+    if *steps == 0 || no_await > AWAITS {
         return None;
     }
     *steps -= 1;
-    let no_await = program.await_count(last.agent, last.number);
     reaches_need(program, levels, first, last, no_await, steps)
 }
 
@@ -206,16 +253,11 @@ fn reaches_need<P: ProgramView>(
     ensures yes { result ≡ Some true → ReachesNeed (P.program program.now) first action but }
     ensures no { result ≡ Some false → ReachesNeed (P.program program.now) first action but → ⊥ }
     ensures open { result ≡ None
-        → (AWAITS < length (awaits_of (P.program program.now) action.agent action.number))
-        ⊎ HasOpenNeed (P.program program.now) (critical_cost levels.now) first action but }
+        → HasOpenNeed (P.program program.now) (critical_cost levels.now) first action but }
     ensures fewer { steps.new ≤ steps.old }
 {
-    let awaits = program.await_count(action.agent, action.number);
-    if awaits > AWAITS {
-        return None;
-    }
     let mut known = true;
-    for k in 0..awaits {
+    for k in 0..program.await_count(action.agent, action.number) {
         let is_other = k != but;
         if is_other {
             let needed = awaited_at(program, action, k);

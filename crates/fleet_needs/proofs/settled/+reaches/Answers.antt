@@ -66,7 +66,7 @@ reaches_need-returns-then-is_first-clause-yes g t c = λ e. absurd (no_is_not_ye
 
 pub reaches_need-returns-then-is_first-clause-no : goal.reaches_need-returns-then-is_first-clause-no
 reaches_need-returns-then-is_first-clause-no g t c = λ e.
-    none_need (g.P.ProgramView.program c.args.program.now) c.args.first c.args.action c.args.but c.loop-k.k (omega (arith, c.loop-k-test.false, c.await_count-awaits.ensures, c.loop-k.auto.k-end))
+    none_need (g.P.ProgramView.program c.args.program.now) c.args.first c.args.action c.args.but c.loop-k.k (omega (arith, c.loop-k-test.false, c.await_count-k-end.ensures, c.loop-k.auto.k-end))
     (c.loop-k.invariant.apart (c.join_answers.ensures.no e).0) (none_before (g.P.ProgramView.program c.args.program.now) c.args.first c.args.action (omega (arith, c.if-is_first.true)))
 
 pub reaches_need-returns-clause-yes : goal.reaches_need-returns-clause-yes
@@ -74,6 +74,6 @@ reaches_need-returns-clause-yes g t c = λ e. inl (subst (Reaches (g.P.ProgramVi
 
 pub reaches_need-returns-clause-no : goal.reaches_need-returns-clause-no
 reaches_need-returns-clause-no g t c = λ e.
-    none_need (g.P.ProgramView.program c.args.program.now) c.args.first c.args.action c.args.but c.loop-k.k (omega (arith, c.loop-k-test.false, c.await_count-awaits.ensures, c.loop-k.auto.k-end))
+    none_need (g.P.ProgramView.program c.args.program.now) c.args.first c.args.action c.args.but c.loop-k.k (omega (arith, c.loop-k-test.false, c.await_count-k-end.ensures, c.loop-k.auto.k-end))
     (c.loop-k.invariant.apart (c.join_answers-2.ensures.no e).0)
     (λ r. c.reaches-own.ensures.no (c.join_answers-2.ensures.no e).1 (subst (Reaches (g.P.ProgramView.program c.args.program.now) c.args.first) (sym c.before-2.ensures) r))

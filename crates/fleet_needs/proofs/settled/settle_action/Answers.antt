@@ -1,7 +1,8 @@
-use Rattle.fleet_needs.proofs.Words.{◌≡◌, ◌+◌, ℕ, length, set, subst, sym, ap, ◌∙◌, arith, is_some, length-set, awaits_of, flags_of, first_await, IsSettled, AreSettledTo}
+use Rattle.fleet_needs.proofs.Words.{◌≡◌, ◌+◌, ℕ, length, set, subst, sym, ap, ◌∙◌, arith, is_some, Some, true, false, inr, length-set, awaits_of, flags_of, first_await, IsSettled, AreSettledTo, ReachesNeed}
 use Rattle.fleet_needs.proofs.AwaitOrder.{noted_none, noted_next}
 use Rattle.fleet_needs.proofs.Flagged.{is_set}
-use Rattle.fleet_needs.proofs.Settling.{settled_by, still_settled}
+use Rattle.fleet_needs.proofs.Settling.{settled_by, await_of, still_settled, yes_is_not_no}
+use Rattle.fleet_needs.proofs.settled.settle_action.Goals.{then-is_passed, else-is_passed, then-is_needed, else-is_needed}
 use Rattle.fleet_needs.proofs.settled.settle_action.Goals as goal
 
 pub loop-k-init : goal.loop-k-init
@@ -21,14 +22,30 @@ loop-k-preserved g c =
     let was = c.loop-k.asked in
     let asked = c.ask_if.new.asked in
     let more = c.ask_if.ensures.more in
+    let so : c.if-is_passed.known ≡ Some true → ReachesNeed p c.awaited_at-awaited.result a k =
+    elim c.if-is_passed.branch [
+      | then-is_passed w ↦ λ e. elim c.if-is_needed.branch [
+        | then-is_needed v ↦ inr (record {
+          place = c.latest_await-latest.result;
+          await = await_of c.awaited_at-other.result;
+          this = λ same. omega (arith, sym v.is_passed-is ∙ w.if-is_passed.true, same);
+          at = c.awaited_at-other.ensures.awaited;
+          reaches = c.is_needed-is_needed.ensures v.if-is_needed.true;
+        })
+        | else-is_needed v ↦ absurd (let e : false ≡ true = sym v.if-is_needed.false ∙ sym v.is_passed-is ∙ w.if-is_passed.true in cc)
+      ]
+      | else-is_passed w ↦ λ e. w.reaches_need-known.ensures.yes (sym w.known-is ∙ e)
+    ] in
+    let not_so : c.if-is_passed.known ≡ Some false → ReachesNeed p c.awaited_at-awaited.result a k → ⊥ =
+    elim c.if-is_passed.branch [ then-is_passed w ↦ λ e. absurd (yes_is_not_no (sym w.known-is ∙ e)) | else-is_passed w ↦ λ e. w.reaches_need-known.ensures.no (sym w.known-is ∙ e) ] in
     let place : c.first-first.result + c.from.result ≡ first_await p a + k = omega (arith, c.from.ensures, c.first-first.ensures.place) in
     record {
       flags = record { places = c.loop-k.invariant.flags.places; all = length-set flags (c.first-first.result + c.from.result) flag ∙ c.loop-k.invariant.flags.all };
       settled = noted_next p a (λ m w x. IsSettled p was a w x) (λ m w x. IsSettled p asked a w x) k flag (flags_of c.args.implied.now) flags (set flags (c.first-first.result + c.from.result) flag)
           (omega (arith, c.first-first.ensures.within, c.first-first.ensures.place, c.loop-k-test.true, c.await_count-awaits.ensures, c.loop-k.invariant.flags.all)) (ap (λ (n : ℕ). set flags n flag) place)
           (λ m w x. still_settled p a w was asked x more)
-          (settled_by p c.agents.ensures.well_formed c.requires.levels.range a c.requires.action.first k c.awaited_at-awaited.result c.awaited_at-awaited.ensures.awaited asked c.reaches_need-known.result
-          (λ e. c.ask_if.ensures.open (is_set c.is_none.result (sym c.is_none.ensures ∙ ap is_some e))) c.reaches_need-known.ensures.yes c.reaches_need-known.ensures.no flag c.unwrap_or.ensures)
+          (settled_by p c.agents.ensures.well_formed c.requires.levels.range a c.requires.action.first k c.awaited_at-awaited.result c.awaited_at-awaited.ensures.awaited asked c.if-is_passed.known
+          (λ e. c.ask_if.ensures.open (is_set c.is_none.result (sym c.is_none.ensures ∙ ap is_some e))) so not_so flag c.unwrap_or.ensures)
           c.loop-k.invariant.settled;
       more = λ j set. more j (c.loop-k.invariant.more j set);
     }

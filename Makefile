@@ -3,8 +3,8 @@
 PREFIX ?= /usr/local
 BUILT = crates/fleet/out/fleet
 LOG = crates/fleet/out/build.log
-# How many processes check a crate: one for each processor, if each has 3 GB. Up to three crates are checked side by side
-# (tools/checks.awk).
+# How many processes check a crate, and how many crates are checked side by side (tools/checks.awk): one for each
+# processor, if each has 3 GB.
 JOBS ?= $(shell awk -v n="$$(getconf _NPROCESSORS_ONLN)" '/^MemAvailable/ { m = int($$2 / 3e6) } END { if (m > n) m = n; print m < 1 ? 1 : m }' /proc/meminfo)
 CHECKED = $(call SIDE_BY_SIDE,tools/apart.sh,fleet_cli) && (cd crates/fleet && rt run -- --help)
 PROVED = $(call SIDE_BY_SIDE,tools/prove.sh,fleet)
@@ -15,7 +15,7 @@ FLEET = $(BUILT)
 # The library for callers in C. LIBRARY= leaves it out, and so it is where there is no C compiler.
 LIBRARY = $(shell command -v cc > /dev/null && command -v objcopy > /dev/null && echo crates/fleet_c/out/library)
 ARCHIVE = $(LIBRARY:%=%/libfleet.a)
-SIDE_BY_SIDE = awk -v script=$(1) -v jobs=$(JOBS) -v crate=$(2) -f tools/checks.awk crates.txt | $(MAKE) -j $(if $(filter 1 2,$(JOBS)),2,3) -f -
+SIDE_BY_SIDE = awk -v script=$(1) -v jobs=$(JOBS) -v crate=$(2) -f tools/checks.awk crates.txt | $(MAKE) -j $(if $(filter 1,$(JOBS)),2,$(JOBS)) -f -
 SOURCES = crates.txt $(shell find crates -path '*/out' -prune -o \( -name '*.rt' -o -name '*.antt' \) -print)
 
 WAREHOUSE = examples/warehouse.map examples/warehouse.scen

@@ -53,8 +53,8 @@ finished_in w i = (stage_in w i).finished
 abbrev pub IsFinished : Walked → ActionId → Type 0
 IsFinished w a = a.number ≤ finished_in w a.agent
 
--- agent i has an action left, all that it directly needs is finished, the greatest cost is that of all of it, and the action
--- after it stands there
+-- agent i has an action left, all that it directly needs is finished, the greatest cost is that of all of it, and the
+-- action after it stands there
 pub record IsReadyStage (p : Program) (cost : ActionId → ℕ) (offset : (i finished k : ℕ) → ℕ) (w : Walked) (i : ℕ) (s : Stage) : Type 0 where
   pub left : finished_in w i < moves p i
   pub finished : s.finished ≡ finished_in w i + 1

@@ -38,11 +38,11 @@ ReachesNeed p x a but = ByBeforeOr (λ k w. k ≢ but) p x a
 abbrev pub IsUpTo : ℕ → ℕ → ActionId → Type 0
 IsUpTo i n a = (a.agent < i) ⊎ ((a.agent ≡ i) × (a.number ≤ n))
 
--- a step back from the action may show that the first one reaches it: it is of another agent, and its level is greater
+-- steps back from a may show that x reaches it: a is of another agent than x, and its level is greater
 abbrev pub IsOpenTo : (ActionId → ℕ) → ActionId → ActionId → Type 0
 IsOpenTo level x a = (x.agent ≢ a.agent) × (level x < level a)
 
--- so it is of the action before a, or of what one of its awaits names, but not this one
+-- it is so of the action before a, or of what one of its awaits names, but not this one
 abbrev pub HasOpenNeed : Program → (ActionId → ℕ) → ActionId → ActionId → ℕ → Type 0
 HasOpenNeed p level x a but =
     IsOpenTo level x (action_before a)

@@ -1,4 +1,4 @@
--- Slots for rows, given from the last row back to the first: each row is kept until it has been taken for the last time.
+-- Slots for rows, given from the last row back to the first: each row is kept until it was taken for the last time.
 use Rattle.std.specs.Prelude.{◌≡◌, ◌≢◌, ℕ, ◌<◌, ◌≤◌, List, length, get_or, slice_index, Option, Some, None}
 use Rattle.fleet_model.specs.Program.{Program}
 use Rattle.fleet_needs.specs.Joins.{Takes, join_at}

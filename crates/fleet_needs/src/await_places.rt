@@ -1,4 +1,5 @@
-//! Where the actions of a program, and their awaits, stand in rows of all.
+//! Where actions, awaits and the rows that stand for actions are found in lists of all of a program, which go agent by
+//! agent, action by action. Places count from 0.
 
 ghost use Rattle.std.specs.Prelude.{◌≡◌, ◌+◌, ◌<◌, ◌≤◌, length, slice_index, IfOk};
 ghost use Rattle.fleet_model.specs.Program.{awaits_of, moves, total_awaits, total_moves};

@@ -227,8 +227,8 @@ fn finish<P: ProgramView, C: ActionCosts>(
     );
 }
 
-/// Lets agents go on until the action that the goal names is finished: its agent, and while that waits, the agents for
-/// which it does.
+/// Lets agents go on until the action that the goal names is finished: its agent, and while that waits, the agent for
+/// which it waits, which may wait in turn.
 pub(crate) fn reach<P: ProgramView, C: ActionCosts>(
     alloc: Global,
     program: &P,

@@ -1,5 +1,5 @@
-//! The counts of rows, kept in two bytes each where all of them fit, and rows of four bytes each that are joined eight
-//! counts at a time.
+//! The counts of rows, kept in two bytes each if all of a schedule fit in these, and else in four, which are joined
+//! eight at a time.
 
 ghost use Rattle.std.specs.Prelude.{◌≡◌, ◌≢◌, ◌+◌, ◌<◌, ◌≤◌, ℕ, length, max, slice_index, IfOk, get_or};
 ghost use Rattle.fleet_needs.specs.Counts.{counts_of, are_narrow, CanHold, AreAlike};

@@ -44,7 +44,7 @@ impl ActionCosts for OneEach {
     }
 }
 
-/// For each action, by its place, the cost of its critical path.
+/// For each action, by its place, the cost of its critical path, in eight bytes.
 #[derive(Drop)]
 pub struct CriticalCosts {
     places: ActionPlaces,
@@ -105,7 +105,7 @@ impl CriticalCosts {
     }
 }
 
-/// The order of a program by the levels of its actions, of which none is greater than this.
+/// Gives the order of a program by the levels of its actions, of which none is greater than `most`.
 #[derive(Clone, Copy)]
 pub struct LevelsTo {
     pub most: u32,

@@ -1,4 +1,4 @@
-//! Awaits that others imply, and the use of rows that flags them.
+//! Awaits that others imply: what is left open of them after a few steps back is flagged by rows.
 
 ghost use Rattle.std.specs.Prelude.{◌≡◌, ◌<◌, ◌+◌, Some, false, get_or, length, slice_get, IfOk, OnOk};
 ghost use Rattle.fleet_model.specs.declared.program.Await.{Await};

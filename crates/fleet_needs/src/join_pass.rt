@@ -158,7 +158,7 @@ impl<'a> SlotRows<'a> {
         }
     }
 
-    /// Makes the row that this leaves the row of the action, and keeps it.
+    /// Makes the row of the action of what `join_others` has left in `row`, and keeps it in its slot.
     pub(crate) fn finish_row<P: ProgramView>(&mut self, program: &P, n: usize, row: &mut Counts)
         requires range { AreInRange (P.program program.now) }
         requires rows { AreRowsTo (P.program program.now) self.old n }

@@ -13,14 +13,16 @@ use crate::level_order::{Item, LevelOrder};
 use fleet_model::{ActionId, Await, OutOfMemory, ProgramView, total_awaits, total_moves};
 use std::alloc::Global;
 
-/// A row that is made: that of an action, joined of the row that stands for the agent's action before and of those that
-/// its awaits take. Rows count from 1, in the order in which they are made; 0 stands for no row.
+/// A row that is made: that of an action, joined of the row that stands for the agent's action before (`base`) and of
+/// those that stand for the actions that it awaits. Rows count from 1, in the order in which they are made; row 0 is
+/// that of no action.
 #[derive(Clone, Copy)]
 pub(crate) struct Join {
     pub(crate) action: ActionId,
     pub(crate) base: u32,
     /// Where its needs begin in the list of those of all joins, one for each await.
     pub(crate) first: u32,
+    /// How many awaits the action has, at least one.
     pub(crate) count: u16,
 }
 
@@ -41,8 +43,8 @@ pub(crate) struct Joins {
     standing: Vec<u32>,
 }
 
-/// The joins of a program, by an order of the actions that await something. `implied` has flags of awaits, some of those
-/// that others imply, by their places, or none.
+/// The joins of a program, by an order of the actions that await something. `implied` has flags of awaits, some of
+/// those that others imply, by their places; or it is empty.
 pub(crate) fn joins_of<P: ProgramView>(
     alloc: Global,
     program: &P,
@@ -165,7 +167,7 @@ impl Joins {
         self.standing[places.row_place(program, action)]
     }
 
-    /// Lists what the awaits of the action need.
+    /// Lists for each await of the action the row that stands for the awaited action.
     fn take_awaited<P: ProgramView>(
         &mut self,
         program: &P,

@@ -13,9 +13,11 @@
 //! It is made once, and serves all blocks of columns: each agent that is asked for has a column in one block. `joins`
 //! goes through the actions that await something, level by level: each has a row of its own, and the row of any other
 //! action is that of its agent's action before. So is that of an action with one await, if that is known to be implied:
-//! it adds no chain. What is noted is the row that stands for the action before, and those that the awaits take. Then
-//! slots are given from the last row back to the first: a row that is taken, and has no slot yet, is taken there for
-//! the last time, so it gets one, which is free again before its own row is made.
+//! it adds no chain. Rows count from 1: row 0 is of no action, and stands for those before their agent's first row, to
+//! which no chain leads from another agent; it has a slot of zeros. Of each row it is noted which row stands for the
+//! action before, and which ones stand for the awaited actions. Then slots are given from the last row back to the
+//! first: a row that is taken, and has no slot yet, is taken there for the last time, so it gets one, which is free
+//! again before its own row is made.
 //!
 //! `join_pass` makes the rows in that order, in the columns of one block, and keeps their counts slot by slot. A row is
 //! made in two steps: first of the rows of all that its action needs, and then, for each await, with the awaited
@@ -23,15 +25,17 @@
 //! each awaited agent is that of all needs but this await. Who uses the rows of a block goes over them in a loop of its
 //! own: `questions`, `gather` and, between the two steps, `implied`.
 //!
-//! `questions` answers questions for chains, agent by agent, in blocks of columns. Each question is listed by the row
-//! that stands for its last action, and answered when that row is made.
+//! `questions` answers questions for chains by rows alone, agent by agent, in blocks of columns. Each question is
+//! listed by the row that stands for its last action, and answered when that row is made; those of row 0 come first.
 //!
 //! `gather` gathers the counts of all rows: by each row it goes on with the last *piece* of the two agents, or begins a
 //! new one, block by block of columns. It sorts the pieces (`Pieces`) and looks counts up in them.
 //!
-//! Flags, and the rows that stand for actions, stand agent by agent, action by action (`await_places`). `settled` looks
-//! a few steps back from each action, as far as the levels let it: most awaits are settled so, and the agents of the
-//! others are asked for. Once most agents are asked for it looks back less, the less the shorter rows are.
+//! Where the actions of a program, the flags of its awaits, and the rows that stand for its actions are found in their
+//! lists says `await_places`: they stand agent by agent, action by action. `settled` looks at the awaits of an action:
+//! first at those of the latest awaited action, that of the greatest level, which imply what they have in common, and
+//! then a few steps back, as far as the levels let it. Most awaits are settled so, and the agents of the others are
+//! asked for. Once most agents are asked for it looks back less, the less the shorter rows are.
 //!
 //! `implied` has a flag for each await. Those that a few steps back settle come first (`settled`), and for the agents
 //! that are left it goes block by block over the rows, in which these agents alone have a column: between the two steps
@@ -39,8 +43,9 @@
 //! nothing or has flags that are set already.
 //!
 //! `cost_walk` lets each agent go on as far as its awaits allow, without ticks: while it waits, the agent that it waits
-//! for goes on. For each action that is finished so it notes the greatest cost among what the action needs, and its
-//! own; `critical` hands these out (`CriticalCosts`). What an action costs is a trait, `ActionCosts`.
+//! for goes on. For each action that is finished so it notes, in eight bytes, the sum of its own cost and of the
+//! greatest that is noted of what it needs; `critical` hands these out (`CriticalCosts`). What an action costs is a
+//! trait, `ActionCosts`.
 //!
 //! `let _ = program.agents();` stands where what that call ensures is needed: the program is well-formed.
 #![tactic(auto)]

@@ -20,15 +20,17 @@ use crate::schedule::{Blocks, Columns, Schedule};
 use fleet_model::{ActionId, OutOfMemory, ProgramView};
 use std::alloc::Global;
 
-/// The question whether a chain of needs begins with the first action and ends with the last.
+/// The question whether a chain of needs begins with the first action and ends with the last. The first may be beyond
+/// the last action of its agent: then none does.
 #[derive(Clone, Copy)]
 pub struct Question {
     pub first: ActionId,
     pub last: ActionId,
 }
 
-/// For each question whether no chain of needs begins with its first action and ends with its last. The order of the
-/// actions is made if there is a question. Rows of counts are kept as long as some action is still to take them.
+/// For each question, in their order, whether no chain of needs begins with its first action and ends with its last.
+/// The order of the actions is made only if there is a question. Rows of counts are kept as long as some action is
+/// still to take them.
 pub fn answer_questions<P: ProgramView, S: OrderSource + Drop>(
     alloc: Global,
     program: &P,

@@ -21,13 +21,14 @@ use fleet_model::{MAX_AGENTS, OutOfMemory, ProgramView};
 use std::alloc::Global;
 use std::marker::Model;
 
-/// There is room for so many counts of rows at once, of four bytes each: 3 MB.
+/// There is room for so many counts of rows at once, of four bytes each, or twice as many of two: 3 MiB.
 const COUNTS: u32 = 786_432;
 
 /// The least number of columns of a block.
 const LEAST_COLUMNS: u32 = 8;
 
-/// So many counts of two bytes are joined at once, so a block has no more columns than a multiple of them, if it can.
+/// So many counts of two bytes the compiled loop joins at once. Where a block may have as many columns, the most that
+/// it may have is a multiple of this.
 const WHOLE_COLUMNS: u32 = 16;
 
 /// The rows of a program: those of the actions that add a chain, each after all rows that it is joined of.
@@ -46,7 +47,7 @@ pub struct Schedule {
 
 impl Schedule {
     /// The schedule of a program, in which an action of one await alone has no row if that is known to be implied:
-    /// `implied` has flags of awaits, some of those that others imply, by their places, or none.
+    /// `implied` has flags of awaits, some of those that others imply, by their places; or it is empty.
     pub(crate) fn of<P: ProgramView>(
         alloc: Global,
         program: &P,
@@ -166,8 +167,9 @@ fn is_narrow<P: ProgramView>(program: &P) -> bool
     true
 }
 
-/// Slots for rows, which are given from the last row back to the first: what takes a row is made after it, so a row that
-/// has no slot yet when another takes it is taken there for the last time.
+/// Slots for rows, which are given from the last row back to the first: what takes a row is made after it, so a row
+/// that has no slot yet when another takes it is taken there for the last time. Row 0 is never made: it has one from
+/// the beginning on.
 #[derive(Drop)]
 pub(crate) struct Slots {
     /// For each row, from row 0 on, its slot, once it has one.
@@ -202,8 +204,8 @@ fn slots_of<P: ProgramView>(alloc: Global, program: &P, joins: &Joins) -> Result
 }
 
 impl Slots {
-    /// Gives a slot to the row of the join after n others, if no later one took it, and frees it before the row is made.
-    /// Then gives slots to the rows that the join takes.
+    /// Gives a slot to the row of the join after n others, if no later one took it, and frees the slot: before the row
+    /// is made another one may have it. Then gives slots to the rows that the join takes.
     fn settle<P: ProgramView>(
         &mut self,
         program: &P,
@@ -286,7 +288,7 @@ pub struct Columns {
     pub(crate) width: u16,
     /// All asked agents from this one on have a column ..
     pub(crate) first: u16,
-    /// .. up to this one.
+    /// .. that are below this one.
     pub end: u16,
 }
 

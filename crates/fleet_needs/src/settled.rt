@@ -1,4 +1,5 @@
-//! Awaits for which a few steps back from their action show whether others imply them.
+//! Awaits for which a few steps back from their action show whether others imply them. How far is looked back decides
+//! what is settled, and so how much is left to rows, but not what is answered.
 
 ghost use Rattle.std.specs.Prelude.{◌≡◌, ◌↔◌, ◌<◌, ◌≤◌, ℕ, true, false, length, get_or, slice_get, Some, IfOk, OnOk, ◌⊎◌, None, IsTrue};
 ghost use Rattle.fleet_model.specs.Program.{AreInRange, awaits_of, moves};
@@ -93,7 +94,7 @@ fn settle_agent<P: ProgramView>(
 }
 
 /// Flags the awaits of an action that others imply, as far as a few steps back show it, and flags the agents of those
-/// that are left open.
+/// that are left open. What the latest awaited action awaits too is implied by that one: this is looked at first.
 fn settle_action<P: ProgramView>(
     program: &P,
     levels: &CriticalCosts,
@@ -136,7 +137,7 @@ fn settle_action<P: ProgramView>(
     }
 }
 
-/// The place of an await of the action of which the awaited action has the greatest level.
+/// The place, among those of the action, of the await whose awaited action has the greatest level.
 fn latest_await<P: ProgramView>(program: &P, levels: &CriticalCosts, action: ActionId) -> u16
     requires levels { AreLevels (P.program program.now) levels.now }
     requires action { IsAction (P.program program.now) action }
@@ -155,8 +156,9 @@ fn latest_await<P: ProgramView>(program: &P, levels: &CriticalCosts, action: Act
     latest
 }
 
-/// Whether an action awaits the first one, or a later one of its agent. Its awaits are listed by agents, and those
-/// before the place `from`, which rises, are of agents before that one.
+/// Whether an action awaits the first one, or a later one of that one's agent. Its awaits are listed by agents, and
+/// those before the place `from`, which rises, are taken to be of agents before that agent: so it has to be asked for
+/// agents in their order. Otherwise it may say no where it is so.
 fn is_needed<P: ProgramView>(program: &P, first: ActionId, action: ActionId, from: &mut u16) -> bool
     requires range { AreInRange (P.program program.now) }
     requires first { IsAction (P.program program.now) first }

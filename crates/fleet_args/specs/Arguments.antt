@@ -27,8 +27,8 @@ parser_for names form.Best = parser.Names names.best
 parser_for names form.Flag = parser.Bool
 parser_for names _ = parser.String
 
--- the rule of an argument of this name and form, whose values are read so: a word, a flag `--NAME`, or an option `--NAME`
--- with a value
+-- the rule of an argument of this name and form, whose values are read so: a word, a flag `--NAME`, or an option
+-- `--NAME` with a value
 abbrev pub rule_by : Text → ValueParser → Form → Rule
 rule_by name reads form.Word = record (new_rule name) { parser = Some reads; required = true; action = Some Set; value_names = 1 }
 rule_by name reads form.Flag = record (new_rule name) { parser = Some reads; long = Some name; action = Some SetTrue }

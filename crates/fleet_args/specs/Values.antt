@@ -34,9 +34,9 @@ abbrev pub IsSpelled : {A : Type 0} → (Text → A → Type 0) → Option Text 
 IsSpelled spells text (Some a) = (t : Text) × (text ≡ Some t) × spells t a
 IsSpelled {A} spells text None = (t : Text) (a : A) → text ≡ Some t → spells t a → ⊥
 
--- ---- The value of an argument, by the rows that `clap` defines for the words. By its definition words that lack a text
--- which a command needs have a fault, as have those in which an option has a text that it does not take; so a text that
--- is lacking may be empty here, and such an option be as unused
+-- ---- The value of an argument, by the rows that `clap` defines for the words. By its definition words that lack a
+-- text which a command needs have a fault, as have those in which an option has a text that it does not take; so a text
+-- that is lacking may be empty here, and such an option be as unused
 
 -- the rows of the matches of a command
 abbrev pub rows_in : ArgMatches → List Row

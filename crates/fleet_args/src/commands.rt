@@ -21,14 +21,15 @@ pub enum Best {
 }
 
 /// How many orders of the agents are tried at most, of which the first that makes a plan is the last; or, if the best
-/// plan is asked for, how many are tried in any case.
+/// plan is asked for, how many are tried in any case. One is always tried.
 #[derive(Clone, Copy, Debug)]
 pub struct Tries {
     pub count: u32,
     pub best: Option<Best>,
 }
 
-/// The tasks of a scenario on a map, the first so many or all: `MAP SCEN [--agents K]`
+/// The tasks of a scenario on a map, the first so many or all: `MAP SCEN [--agents K]`. Here and in the requests below
+/// a text is the name of a file, if nothing else is said.
 #[derive(Clone, Copy)]
 pub struct Tasks<'a> {
     pub map: &'a str,
@@ -48,6 +49,7 @@ pub struct ProgramFor<'a> {
 pub struct CheckRequest<'a> {
     pub tasks: Tasks<'a>,
     pub plan: &'a str,
+    /// Whether more numbers of the plan are printed.
     pub numbers: bool,
 }
 
@@ -55,6 +57,7 @@ pub struct CheckRequest<'a> {
 #[derive(Clone, Copy)]
 pub struct PlanRequest<'a> {
     pub tasks: Tasks<'a>,
+    /// The latest time at which an agent may arrive, in steps.
     pub horizon: u16,
     pub tries: Tries,
 }
@@ -66,6 +69,7 @@ pub struct CompileRequest<'a> {
     pub plan: &'a str,
     pub out: &'a str,
     pub deps: Deps,
+    /// How many actions each agent stays on its last cell, after its moves.
     pub dwell: u32,
 }
 
@@ -87,10 +91,12 @@ pub struct RehearseRequest<'a> {
 #[derive(Clone, Copy)]
 pub struct AutoRequest<'a> {
     pub tasks: Tasks<'a>,
+    /// The latest time at which an agent may arrive, in steps.
     pub horizon: u16,
     pub tries: Tries,
     pub deps: Deps,
     pub holds: Option<&'a str>,
+    /// Whether more numbers of the plan are printed.
     pub numbers: bool,
 }
 
@@ -118,9 +124,13 @@ pub struct ListRequest<'a> {
 #[derive(Clone, Copy)]
 pub struct DispatchRequest<'a> {
     pub subject: ProgramFor<'a>,
+    /// How many orders an agent may have at most that it has not reported. More than 255 are taken as 255.
     pub ahead: u16,
+    /// Whether orders and reports name agents alone, without the numbers of actions.
     pub unnumbered: bool,
+    /// The log after whose reports the dispatch goes on. It is read.
     pub resume: Option<&'a str>,
+    /// The log behind which each report is put. It is written.
     pub log: Option<&'a str>,
 }
 
@@ -129,6 +139,7 @@ pub struct DispatchRequest<'a> {
 pub struct TimesRequest<'a> {
     pub subject: ProgramFor<'a>,
     pub costs: Option<&'a str>,
+    /// The actions in which robots break down, as words `A:N`: no name of a file.
     pub broken: Option<&'a str>,
 }
 
@@ -140,6 +151,7 @@ pub struct RestRequest<'a> {
     pub reports: &'a str,
     pub scen_out: &'a str,
     pub program_out: &'a str,
+    /// The agent of a dead robot and its cells, `A:X,Y` or `A:X,Y:X,Y`: no name of a file.
     pub without: Option<&'a str>,
     pub map_out: Option<&'a str>,
     pub others_out: Option<&'a str>,
@@ -324,7 +336,7 @@ pub(crate) fn commands() -> &'static [CommandText]
     COMMANDS.as_slice()
 }
 
-/// The horizon of a command that names none.
+/// The horizon of a command that names none, in steps.
 const DEFAULT_HORIZON: u16 = 1_024;
 
 /// The tries that the matches of a command ask for.

@@ -1,11 +1,12 @@
 //! The command line: the words after the program's name, read as a request.
 //!
-//! `commands` has what each command is asked for, the tables of the arguments and of the commands, and how the matches
-//! of one are read; `arguments` has which forms arguments have, makes a command of a list of them, and has what the
-//! matches have for them; `request` reads words by the command with whose name they begin, and joins the commands to
-//! say what is wrong with others. An argument stands for what its text spells. That a text which passes spells
-//! something is a law (`proofs/ValueLaws.antt`); that words with another text, or without a word that the command
-//! needs, have a fault is `clap`'s definition.
+//! `commands` has what each command is asked for, the tables of the arguments and of the commands, and how a request is
+//! made of what `clap` found in the words (its *matches*); `arguments` has which forms arguments have, makes a command
+//! of `clap` of a list of them, and reads their values in the matches; `request` reads words by the command with whose
+//! name they begin, and joins the commands to say what is wrong with others. An argument stands for what its text
+//! spells. That a text which passes spells something is a law (`proofs/ValueLaws.antt`), and so is that words which
+//! begin with the name of no command have a fault (`proofs/NoCommand.antt`); that words with another text, or without a
+//! word that the command needs, have a fault is `clap`'s definition.
 #![tactic(auto)]
 
 mod arguments;

@@ -19,7 +19,8 @@ use Rattle.fleet_cli.specs.WriteCommands.{AnswersCompile, AnswersThin, AnswersMi
 use Rattle.fleet_cli.specs.DispatchCommand.{AnswersDispatch}
 use Rattle.fleet_cli.specs.declared.fault.Fault.TheVariants as f
 
--- the files of a request: those of its tasks, if it has some, what it is about, the holds and the log
+-- the files that a request's command reads: those of its tasks, if it has some, what it is about, the holds (of `times`
+-- the costs) and the log
 abbrev pub names_for : Option Tasks → (subject holds log : Option (Bor (List ℕ))) → FileNames
 names_for tasks subject holds log = record { map = option_map (λ t. t.map) tasks; scen = option_map (λ t. t.scen) tasks; subject = subject; holds = holds; log = log }
 
@@ -90,8 +91,8 @@ AnswersTexts files after (r.Migrate q) texts out out' result = AnswersMigrate fi
 AnswersTexts files after (r.List q) texts out out' result = AnswersList texts out out' result × AreUnchanged files after
 AnswersTexts files after _ texts out out' result = ⊥
 
--- the texts of the tasks stand for a problem, and this is the answer for it, or they are refused; or the command is about
--- no tasks, and leaves the input unread
+-- the texts of the tasks stand for a problem, and this is the answer for it, or they are refused; or the command is
+-- about no tasks, and leaves the input unread
 abbrev pub AnswersBy : Around → Request → FileTexts → Option Tasks → (out out' : SinkState) → Result ℕ Fault → Type 0
 AnswersBy w request texts None out out' result = AnswersTexts w.files w.after request texts out out' result × w.unread
 AnswersBy w request texts (Some tasks) out out' result =

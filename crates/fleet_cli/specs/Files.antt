@@ -71,8 +71,8 @@ PutsBehind old new name (Err _) bytes = (k : ℕ) × (k ≤ length bytes) × App
 
 -- ---- files that a command names, read one after another
 
--- the store's refusal of the file that was named is reported as it is: want of memory as such, and a failed access by the
--- file's name
+-- the store's refusal of the file that was named is reported as it is: want of memory as such, and a failed access by
+-- the file's name
 abbrev pub IsGivenAs : (refuses : List ℕ → FileFault → Type 0) → Option (Bor (List ℕ)) → Fault → Type 0
 IsGivenAs refuses (Some name) f.Memory = refuses name.now OutOfMemory
 IsGivenAs refuses (Some name) (f.File n) = (name.now ≡ n.now) × refuses name.now Failed

@@ -53,8 +53,8 @@ Prints text out out' (Err fault) = IsOutFault fault × FailsAfter out out' text
 abbrev pub Refuses : (Fault → Type 0) → (out out' : SinkState) → Result ℕ Fault → Type 0
 Refuses IsRefusal out out' result = (fault : Fault) × (result ≡ Err fault) × IsRefusal fault × IsUnwritten out out'
 
--- what a request finds and leaves: the files before it and after it; that nothing was read of the input, and that nothing
--- was written; and what robots were told, what they reported, and what was logged of that
+-- what a request finds and leaves: the files before it and after it; that nothing was read of the input, and that
+-- nothing was written; and what robots were told, what they reported, and what was logged of that
 pub record Around : Type 1 where
   pub files : Option Store
   pub after : Option Store

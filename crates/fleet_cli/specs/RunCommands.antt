@@ -46,8 +46,8 @@ abbrev pub AnswersRun : Problem → (out out' : SinkState) → Result ℕ Fault 
 AnswersRun problem out out' result =
     AcceptsProgram problem (λ p chain. Runs p chain problem.texts.holds.items out out' result) ⊎ Refuses (IsAcceptRefusal problem) out out' result
 
--- The program of the plan that is made for the ground and the tasks, which has these numbers, is accepted for them, with
--- a longest chain of so many actions; and this holds of it
+-- The program of the plan that is made for the ground and the tasks, which has these numbers, is accepted for them,
+-- with a longest chain of so many actions; and this holds of it
 abbrev pub MakesProgram : Ground → List Task → ℕ → Tries → Deps → (PlanNumbers → Program → ℕ → Type 0) → Type 0
 MakesProgram g tasks horizon tries deps Holds =
     (numbers : PlanNumbers) × (program : Program) × (chain : ℕ) × IsMadeFor g tasks horizon tries deps numbers program × IsAcceptedFor g tasks program chain
@@ -62,10 +62,10 @@ abbrev pub one_try : Tries
 one_try = record { count = 1; best = None }
 
 -- The trace of the program that is made of the texts was written under the holds, with the plan of that order, and the
--- report has its numbers. Or the refusal is that of the first step that refuses: the first fault of the map's text, or of
--- the scenario's on that map; or an agent is left without a path by those before it; or the agents of the plan make too
--- many moves; or the run of the program stops. Memory may run out in each step before the run, and until the run nothing
--- is written
+-- report has its numbers. Or the refusal is that of the first step that refuses: the first fault of the map's text, or
+-- of the scenario's on that map; or an agent is left without a path by those before it; or the agents of the plan make
+-- too many moves; or the run of the program stops. Memory may run out in each step before the run, and until the run
+-- nothing is written
 abbrev pub AutoRuns : (map scen : List ℕ) → Option ℕ → ℕ → Deps → List ℕ → (out out' : SinkState) → Result Report AutoFault → Type 0
 AutoRuns map scen asked horizon deps held out out' (Ok r) =
     ReadsTexts map scen asked (λ g tasks. MakesProgram g tasks horizon one_try deps (λ numbers p chain. WritesTrace p chain held out out' r))

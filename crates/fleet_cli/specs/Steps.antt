@@ -72,8 +72,8 @@ pub record SpellsMade (g : Ground) (tasks : List Task) (horizon : ℕ) (tries : 
   pub made : IsMadeFor g tasks horizon tries deps numbers program
   pub spelled : SpellsIn One bytes program
 
--- memory ran out; or in the last of so many orders an agent is left without a path by those before it; or the agents of the
--- plan make too many moves
+-- memory ran out; or in the last of so many orders an agent is left without a path by those before it; or the agents of
+-- the plan make too many moves
 abbrev pub IsMakingFault : Ground → List Task → ℕ → Tries → Deps → AutoFault → Type 0
 IsMakingFault g tasks horizon tries deps a.OutOfMemory = Unit {0}
 IsMakingFault g tasks horizon tries deps (a.Plan stop) = (agent : ℕ) × (stop ≡ p.NoPath agent) × IsStuckInTries (is_passable g) tasks horizon tries.count agent

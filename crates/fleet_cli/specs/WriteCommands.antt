@@ -85,7 +85,8 @@ pub record MigratesBytes (bytes migrated : List ℕ) : Type 0 where
 abbrev pub migrated_text : List ℕ → List ℕ
 migrated_text migrated = count_lines ((codes "bytes", length migrated) ∷ [])
 
--- what `migrate` answers for the bytes of its file: OUT holds the program's in version 2, and how many they are is printed
+-- what `migrate` answers for the bytes of its file: OUT holds those of the program in version 2, and how many they are
+-- is printed
 abbrev pub AnswersMigrate : (files after : Option Store) → MigrateRequest → FileTexts → (out out' : SinkState) → Result ℕ Fault → Type 0
 AnswersMigrate files after r texts =
     AnswersOut files after (MigratesBytes texts.subject.items) (IsLoadRefusal texts.subject.items) (λ migrated. (Some r.out, migrated) ∷ []) migrated_text

@@ -18,7 +18,8 @@ use fleet_dispatch::ReportsTo;
 use fleet_text::{Flush, OutFault, TraceOut, deliver, put_all};
 use std::alloc::Global;
 
-/// The files of a request: those of its tasks, if it has some, what it is about, the holds and the log.
+/// The files that a request's command reads: those of its tasks, if it has some, what it is about, the holds (of
+/// `times` the costs) and the log.
 fn names_for<'a>(
     tasks: Option<Tasks<'a>>,
     subject: Option<&'a str>,
@@ -201,8 +202,8 @@ pub fn run_request<R: ReportsTo<O>, F: Files, O: Flush, E: TraceOut>(
     }
 }
 
-/// Reports why the words are no request: help on `out` with status 0, usage on `err` with status 2, want of memory with
-/// status 3.
+/// Reports why the words are no request: help on `out` with status 0, or 3 if `out` fails; usage on `err` with status
+/// 2; want of memory with status 3.
 fn stop_at<O: Flush, E: TraceOut>(stop: &WordStop, out: &mut O, err: &mut E) -> u8
     requires out_working { IsWorking (O.state out.old) }
     requires err_working { IsWorking (E.state err.old) }

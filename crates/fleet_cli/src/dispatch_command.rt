@@ -22,9 +22,9 @@ use fleet_model::ProgramView;
 use fleet_text::{Flush, OutFault};
 use std::alloc::Global;
 
-/// Begins the log, if one is named, of a dispatch that goes on after the bytes `past`: of one that holds nothing or just
-/// these it cuts off what stands behind the last LF. One that holds something else is refused, and every file is as it
-/// was.
+/// Begins the log, if one is named, of a dispatch that goes on after the bytes `past`: of one that holds nothing or
+/// just these it cuts off what stands behind the last LF. One that holds something else is refused, and every file is
+/// as it was.
 fn begin_log<'a, F: Files>(
     alloc: Global,
     files: &mut F,
@@ -90,7 +90,7 @@ impl<F: Files> ReportLog for Journal<'_, F> {
     ) };
 }
 
-/// How the orders of a request are given.
+/// How the orders of a request are given. More than 255 ahead are 255.
 fn pace_of(request: &DispatchRequest<'_>) -> Pace
     ensures { result ≡ pace_of request.now }
 {

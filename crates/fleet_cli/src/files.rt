@@ -98,8 +98,8 @@ pub trait Files {
         ensures others { ChangesOnly (contents self.old) (contents self.new) name.now };
 
     /// Begins the log of a dispatch that goes on after the bytes `past`: of a file that holds nothing or just these it
-    /// cuts off what stands behind the last LF, and one that is not there is begun. If it holds something else it answers
-    /// `false`, and every file is as it was. After a refusal it may hold any bytes.
+    /// cuts off what stands behind the last LF, and one that is not there is begun. If it holds something else it
+    /// answers `false`, and every file is as it was. After a refusal it may hold any bytes.
     fn begin_log(&mut self, alloc: Global, name: &str, past: &[u8]) -> Result<bool, FileFault>
         ensures begun { IfOk result
             (BeginsLog (contents self.old) (contents self.new) name.now past.now) }
@@ -107,6 +107,7 @@ pub trait Files {
         ensures others { ChangesOnly (contents self.old) (contents self.new) name.now };
 
     /// Puts the bytes behind those of the file, and stores them before it answers; a file that is not there is begun.
+    /// After a refusal a front of them stands there, or all, or none.
     fn append(&mut self, name: &str, bytes: &[u8]) -> Result<(), FileFault>
         ensures grown { PutsBehind (contents self.old) (contents self.new) name.now result
             bytes.now }
@@ -172,8 +173,8 @@ impl<'r, R: rt::Files> Files for Disk<'r, R> {
         }
     }
 
-    /// What is no file, as a pipe or a terminal, holds nothing. The folder of a file is on the disk when it is answered,
-    /// so that a log that was begun is found there after a power cut.
+    /// What is no file, as a pipe or a terminal, holds nothing. The folder of a file is on the disk when it is
+    /// answered, so that a log that was begun is found there after a power cut.
     fn begin_log(&mut self, alloc: Global, name: &str, past: &[u8]) -> Result<bool, FileFault> {
         let mut file = open_to_append(self.runtime, name)?;
         if !is_file(&file)? {
@@ -235,7 +236,8 @@ fn is_file<F: OpenFile>(file: &F) -> Result<bool, FileFault> {
 }
 
 /// The files that a command reads, by their names, in this order: the map, the scenario, the plan or the program that
-/// it is about, the holds (of `times` the costs), and the log of reports.
+/// it is about, the holds (of `times` the costs), and the log of reports (of `dispatch` that after which it goes on,
+/// and not the one that it writes).
 #[derive(Clone, Copy)]
 pub(crate) struct FileNames<'a> {
     pub(crate) map: Option<&'a str>,
@@ -255,8 +257,8 @@ pub(crate) struct FileTexts {
     pub(crate) log: Vec<u8>,
 }
 
-/// The bytes of the file, none if no file is named. Want of memory is `Memory`, and a file that cannot be read is `File`
-/// with its name.
+/// The bytes of the file, none if no file is named. Want of memory is `Memory`, and a file that cannot be read is
+/// `File` with its name.
 fn read_given<'a, F: Files>(
     alloc: Global,
     files: &mut F,
@@ -302,8 +304,8 @@ pub(crate) fn read_files<'a, F: Files>(
     })
 }
 
-/// Writes the bytes to the file, if one is named. Want of memory is `Memory`, and a write that failed is `File` with the
-/// file's name.
+/// Writes the bytes to the file, if one is named. Want of memory is `Memory`, and a write that failed is `File` with
+/// the file's name.
 pub(crate) fn write_given<'a, F: Files>(
     files: &mut F,
     name: Option<&'a str>,

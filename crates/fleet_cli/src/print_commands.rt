@@ -234,7 +234,8 @@ pub(crate) fn do_list<'a, O: Flush>(
     hand_on(out, printed)
 }
 
-/// Prints when the agents of a program arrive, whose actions end then. Answers 0.
+/// Prints when the agents of a program arrive, whose actions end at these times, when all have arrived, and a chain
+/// that takes so long. Answers 0.
 fn tell_timetable<'a, P: ProgramView, C: ActionCosts, O: Flush>(
     alloc: Global,
     times: &Times<'_, P, C>,
@@ -252,7 +253,8 @@ fn tell_timetable<'a, P: ProgramView, C: ActionCosts, O: Flush>(
     hand_on(out, printed)
 }
 
-/// Prints when the agents arrive by the costs of a text, if one is given, and else with one for each action. Answers 0.
+/// Prints when the agents arrive: by the costs that the text says, if a file of costs is named, and else with a cost of
+/// 1 for each action. Answers 0.
 fn tell_times<'a, P: ProgramView, O: Flush>(
     alloc: Global,
     accepted: &Accepted<'_, P>,

@@ -33,8 +33,8 @@ fn flush_run<T: Drop, O: Flush>(out: &mut O, ran: Result<T, RunFault>) -> Result
     ran
 }
 
-/// Runs an accepted program under the holds for which the bytes `held` stand, writes its trace, and has the sink hand it
-/// on. Answers 0.
+/// Runs an accepted program under the holds for which the bytes `held` stand, writes its trace, and has the sink hand
+/// it on. Answers 0.
 fn run_flushed<'a, P: ProgramView + Drop, O: Flush>(
     alloc: Global,
     accepted: Accepted<'_, P>,
@@ -66,12 +66,14 @@ pub(crate) fn do_run<'a, O: Flush>(
     run_flushed(alloc, accepted, &problem.texts.holds, out)
 }
 
-/// Plans for the map and the scenario (of whose agents the first `asked`, or all), with paths that arrive by the
-/// horizon, compiles the plan, writes the program as bytes, loads and verifies these, and runs the program under the
-/// holds. The trace is written to `out`, which is not flushed. The report has the trace's numbers.
+/// Plans for the map and the scenario (of whose agents the first `asked`, or all), in the order of the agents' numbers,
+/// with paths that arrive by the horizon, a time in steps; compiles the plan, writes the program as bytes, loads and
+/// verifies these, and runs the program under the holds. The trace is written to `out`, which is not flushed. The
+/// report has the trace's numbers.
 ///
 /// Errors: the fault of the first step that refuses. Before the run nothing is written; of a run that stops `out` has
-/// the lines that `drive` names. Encoding, loading and verifying refuse for want of memory alone.
+/// the lines of the times so far, and if `out` fails a front of the trace. Encoding, loading and verifying refuse for
+/// want of memory alone.
 pub fn auto_run<O: TraceOut>(
     alloc: Global,
     map: &[u8],
@@ -173,8 +175,8 @@ fn end_status(end: End) -> u8
     }
 }
 
-/// The command `rehearse`: writes the rehearsal of the program that the bytes spell, under the holds for which the bytes
-/// `held` stand, to `out`, and has the sink hand it on. Answers 0 if it ends finished and 1 if it ends stuck.
+/// The command `rehearse`: writes the rehearsal of the program that the bytes spell, under the holds for which the
+/// bytes `held` stand, to `out`, and has the sink hand it on. Answers 0 if it ends finished and 1 if it ends stuck.
 #[inline(never)]
 pub(crate) fn rehearse_bytes<'a, O: Flush>(
     alloc: Global,

@@ -1,5 +1,5 @@
 //! What commands are made of: from the texts of a map and a scenario to an instance, from bytes to a program and to an
-//! accepted one, and from an instance to a plan, the program of that plan and its bytes.
+//! accepted one, and from an instance to a plan, the first or the best of several, and to the bytes of its program.
 
 ghost use Rattle.std.specs.Prelude.{IfOk, IfErr, MatchResult, ◌≡◌, ℕ};
 ghost use Rattle.fleet_code.specs.Spelling.{Spells};

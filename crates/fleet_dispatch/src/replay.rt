@@ -111,8 +111,8 @@ fn none_done(alloc: Global, agents: u16) -> Result<Vec<u32>, AllocError>
 /// The session of a dispatch that goes on where the reports of a log have led another, and is to say first which orders
 /// are open. What stands behind the log's last LF is no report.
 ///
-/// Errors: `Log` if a line is no report that the dispatch could take; `ReportLimit` if the log has more lines or reports
-/// than a dispatch takes; `OutOfMemory`.
+/// Errors: `Log` if a line is no report that the dispatch could take; `ReportLimit` if the log has more lines or
+/// reports than a dispatch takes; `OutOfMemory`.
 pub fn lead_on<P: ProgramView>(
     alloc: Global,
     program: &P,

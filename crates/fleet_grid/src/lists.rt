@@ -170,8 +170,8 @@ fn own<V: Copy>(
     add(alloc, numbers, lists, key)
 }
 
-/// Adds a list for the key, which has none of its own, and answers its place. It fails if memory is refused, or if there
-/// are 4,294,967,295 lists.
+/// Adds a list for the key, which has none of its own, and answers its place. It fails if memory is refused, or if
+/// there are 4,294,967,295 lists.
 fn add<V: Copy>(
     alloc: Global,
     numbers: &mut Vec<Vec<u32>>,

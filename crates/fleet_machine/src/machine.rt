@@ -92,8 +92,8 @@ impl Machine {
         Ok(machine)
     }
 
-    /// So many agents, which stand there and in these lists, and have read so far. Each is due, and flagged as ready and
-    /// as one with an action left; none moves.
+    /// So many agents, which stand there and in these lists, and have read so far. Each is due, and flagged as ready
+    /// and as one with an action left; none moves.
     fn with_agents(
         agents: Vec<Standing>,
         marks: Vec<Mark>,

@@ -121,8 +121,8 @@ fn lacks(asked: Option<u16>, count: usize) -> bool
     }
 }
 
-/// How many bytes most lines of an agent have at least. At first there is room for as many agents as the text would have
-/// such lines.
+/// How many bytes most lines of an agent have at least. At first there is room for as many agents as the text would
+/// have such lines.
 const LINE_BYTES: usize = 32;
 
 /// The tasks of the lines that are left, before which `before` lines stand.

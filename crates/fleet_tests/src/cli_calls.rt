@@ -249,8 +249,8 @@ fn due_request(rt: &impl Abort, alloc: Global, row: &Asked, files: &mut impl Fil
     );
 }
 
-/// The requests, by a function that does nothing else: a constant is spelled out in each step of the function that names
-/// it, which makes a loop over a table dear to prove.
+/// The requests, by a function that does nothing else: a constant is spelled out in each step of the function that
+/// names it, which makes a loop over a table dear to prove.
 fn requests() -> &'static [Asked] {
     REQUESTS
 }

@@ -358,8 +358,8 @@ fn sinks_take_bytes(rt: HostRuntime) -> Result<(), Fail> {
     Ok(())
 }
 
-/// How many agents a rehearsal has, how many ticks it took and how many of them were held, and whether it is stuck; none
-/// of that, if the first line of its holds is no tick's.
+/// How many agents a rehearsal has, how many ticks it took and how many of them were held, and whether it is stuck;
+/// none of that, if the first line of its holds is no tick's.
 type Numbers = Option<(u16, u32, u32, bool)>;
 
 fn rehearse_answer(alloc: Global, bytes: &[u8], holds: &[u8]) -> Result<(VecOut, Numbers), Fail> {

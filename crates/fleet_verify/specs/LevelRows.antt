@@ -1,4 +1,4 @@
--- Rows of numbers, one for each action of a program, that are the costs of critical paths.
+-- For each agent of a program a row of numbers, one for each of its actions: the costs of their critical paths.
 use Rattle.std.specs.Prelude.{◌≡◌, ℕ, ◌<◌, List, length}
 use Rattle.fleet_model.specs.declared.program.ActionId.{ActionId}
 use Rattle.fleet_model.specs.Program.{Program, moves}

@@ -23,8 +23,8 @@ abbrev pub IsFound : Outlook → Type 0
 IsFound (Accepted chain levels) = Unit {0}
 IsFound (Unknown known) = ⊥
 
--- some agents have run ahead until nobody could go on, and then not all had finished and stood where they are to end, or
--- some open pair has no chain
+-- some agents have run ahead until nobody could go on, and then not all had finished and stood where they are to end,
+-- or some open pair has no chain
 pub record IsUnfinished (passable : Place → Bool) (tasks : List Task) (p : Program) : Type 0 where
   pub agents : Ahead
   pub ahead : IsAhead passable p agents

@@ -26,7 +26,7 @@ place_of_hint number hints =
     let row = number / (MAX_COORDINATE + 1) / SIDE in
     bit_and (bit_xor (row * HINTS_ACROSS + number / SIDE % HINTS_ACROSS) (row / 8 * 16)) (hints - 1)
 
--- its hint says where it stands, if four bytes can
+-- the hint for the square with this number says where it stands among the squares, if four bytes can
 abbrev pub IsNoted : (hints : List ℕ) → (number slot : ℕ) → Type 0
 IsNoted hints number slot = slot < 2 ^ 32 → slice_get hints (place_of_hint number (length hints)) ≡ Some slot
 

@@ -148,8 +148,8 @@ fn judge_run<P: ProgramView>(
     }
 }
 
-/// The fault of a program whose run with nobody held was stopped: if a path leaves passable ground, the first one of the
-/// paths.
+/// The fault of a program whose run with nobody held was stopped: if a path leaves passable ground, the first one of
+/// the paths.
 fn stop_fault<P: ProgramView>(
     program: &P,
     grid: &Grid,

@@ -177,7 +177,7 @@ fn answer_request<'a, R: ReportsTo<O>, F: Files, O: Flush>(
 
 /// Reads the files that the request names, all before any is judged, and does what it asks: its output goes to `out`, a
 /// refusal's line to `err`, and of the commands `dispatch` alone reads `input`, by which robots report. Answers the
-/// status.
+/// status: 0 if it is done, 1 if it is refused or a rehearsal ends stuck, 3 if memory, a file, `input` or `out` failed.
 pub fn run_request<R: ReportsTo<O>, F: Files, O: Flush, E: TraceOut>(
     alloc: Global,
     request: &Request<'_>,
@@ -227,7 +227,8 @@ fn stop_at<O: Flush, E: TraceOut>(stop: &WordStop, out: &mut O, err: &mut E) -> 
 
 /// What the program does for the words after its name: without words it rehearses the program that `input` gives in
 /// hexadecimal, and else it does what the words ask for. Of the commands `dispatch` alone reads `input`, by which
-/// robots report; every reader will do. Answers the status: 2 only if the words ask for no command.
+/// robots report; every reader will do. Answers the status: that of `run_request`, 2 if the words ask for no command,
+/// and 0 if they ask for help or for the version.
 pub fn run_command<R: ReportsTo<O>, F: Files, O: Flush, E: TraceOut>(
     alloc: Global,
     words: &[String],

@@ -111,7 +111,7 @@ answers_begun p s asked from columns qs m h = record {
   answered = λ k c q at l. absurd (omega arith);
 }
 
--- once all rows are used, all questions whose agents have a column are answered
+-- once all rows are made, all questions whose agents have a column are answered
 pub answered_after : (p : Program) (s : Schedule) (now after : BlocksLeft) (columns : Columns) → IsNextBlock now after columns → (qs : List Question) (old new : Answering) → AreAnsweredTo p s now.asked now.from qs old
     → AreOthersLeft p columns old new → IsAnswering p s columns (length s.joins.items + 1) new → AreAnsweredTo p s after.asked after.from qs new
 answered_after p s now after columns next qs old new was left is =

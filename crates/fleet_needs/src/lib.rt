@@ -1,9 +1,10 @@
-//! Needs: which actions of a program begin a chain of needs that ends with another action, by rows of counts that are
-//! joined by lanes, and which awaits others imply.
+//! Needs: which actions of a program begin a chain of needs that ends with another action, by rows of counts; which
+//! awaits others imply; and what the dearest of these chains cost.
 //!
-//! `counts` keeps the counts of rows in two bytes each or in four, and joins rows: two rows of four bytes a count lane
-//! by lane, eight counts at once, and then the counts that are left, one by one. A lane is a vector of `std::simd`, in
-//! a small function of its own, whose proof alone speaks of lanes: the loop over them knows places and counts.
+//! `counts` keeps the counts of rows in two bytes each or in four, and joins rows: those of two bytes a count in a
+//! plain loop, and those of four lane by lane, eight counts at once, and then the counts that are left, one by one. A
+//! lane is a vector of `std::simd`, in a small function of its own, whose proof alone speaks of lanes: the loop over
+//! them knows places and counts.
 //!
 //! `level_order` lists the actions that await something by levels, which rise along chains: for each level the last
 //! one, and for each action the one before it of its level. Any levels will do: `critical` counts them anew, and

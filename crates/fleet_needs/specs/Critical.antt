@@ -16,7 +16,7 @@ pub record IsNotedCost (p : Program) (cost number : ActionId → ℕ) (a : Actio
   pub critical : IsCriticalCost p cost a m
   pub few : m ≤ number a * MAX_COST
 
--- the entry of an action
+-- the entry of an action in such a list, by its place
 abbrev pub value_at : List ℕ → List ℕ → ActionId → ℕ
 value_at places entries a = slice_index entries (action_place places a)
 
@@ -34,7 +34,7 @@ pub record HasEntries (p : Program) (m : CostsByPlace) : Type 0 where
   pub places : ArePlaces p m.places
   pub all : length m.costs ≡ total_moves p
 
--- the entry of an action
+-- the cost that is noted of an action
 abbrev pub critical_cost : CostsByPlace → ActionId → ℕ
 critical_cost m a = value_at m.places m.costs a
 

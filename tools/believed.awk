@@ -22,6 +22,20 @@ FNR == 1 {
     next
 }
 
+# Of several files at once: {FILE.NAME, ..}
+/^use Rattle\.[a-z_]*\.specs\.\{/ {
+    split($0, path, ".")
+    list = $0
+    sub(/^[^{]*\{/, "", list)
+    sub(/\}.*/, "", list)
+    n = split(list, one, ", ")
+    for (i = 1; i <= n; i++) {
+        parts = split(one[i], part, ".")
+        from[module, part[parts]] = path[2] "." part[parts - 1]
+    }
+    next
+}
+
 /^-- / {
     open = ""
     said = said $0 "\n"

@@ -60,6 +60,20 @@ is_root && (/^pub use / || used != "") {
     next
 }
 
+# Those of several files at once: {FILE.NAME, ..}
+/^ *(ghost )?use Rattle\.[a-z_]*\.specs\.\{/ {
+    split($0, at, ".")
+    list = $0
+    sub(/^[^{]*\{/, "", list)
+    sub(/\}.*/, "", list)
+    n = split(list, one, ", ")
+    for (i = 1; i <= n; i++) {
+        parts = split(one[i], part, ".")
+        from[module, part[parts]] = at[2] "." part[parts - 1]
+    }
+    next
+}
+
 # A source: an item of the crate begins.
 FILENAME ~ /\.rt$/ && /^[a-z#\/]/ {
     shown = 0

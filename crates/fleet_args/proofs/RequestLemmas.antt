@@ -7,7 +7,8 @@ use Rattle.clap.specs.Words.{App, Row, Text, rows_of, first_of, one_of, first_va
 use Rattle.clap.specs.{Matches.ReadsOne, declared.parser.matches.Found.Found}
 use Rattle.clap.proofs.WalkLemmas.{both, find-map, first_value-rows, one_text-rows}
 use Rattle.fleet_args.specs.Values.{IsNumberIfUsed, SpellsNumber}
-use Rattle.fleet_args.specs.{Arguments.CommandText, Arguments.own, Arguments.said, Commands.AsksCommand, Commands.IsCommandName, Commands.commands, Values.AreNames}
+use Rattle.fleet_args.specs.declared.arguments.CommandText.{CommandText}
+use Rattle.fleet_args.specs.{Arguments.own, Arguments.said, Commands.AsksCommand, Commands.IsCommandName, Commands.commands, Values.AreNames}
 use Rattle.fleet_args.specs.Request.{ReadsBy, ReadsFleet, StopsFor, command_and_rest}
 use Rattle.fleet_args.specs.declared.{arguments.Form.Form, arguments.OptionNames.OptionNames, commands.Request.Request, request.WordStop.WordStop}
 
@@ -31,7 +32,7 @@ number_used bits f id (Some v) none some = go (one_text f id) refl
 
 -- the command whose text is found in the table by the first word, with the words after it
 pub named : (table : List CommandText) → map said table ≡ commands → (words rest : List Text) (word name : Text) → words ≡ word ∷ rest → name ≡ word → (r : Option (Bor CommandText))
-    → option_map (λ text. text.now) r ≡ find (λ text. bytes_eq text.0.now name) table → option_map {U = (Text × List (Text × Form)) × List Text} (λ text. (said text.now, rest)) r ≡ command_and_rest words
+    → option_map (λ text. text.now) r ≡ find (λ text. bytes_eq text.name.now name) table → option_map {U = (Text × List (Text × Form)) × List Text} (λ text. (said text.now, rest)) r ≡ command_and_rest words
 named table same words rest word name is spelled r found =
     twice r ∙ ap (λ o. with_rest (option_map said o)) found ∙ ap with_rest (find-map (λ c. bytes_eq c.0 name) said table)
     ∙ ap₂ (λ cs n. with_rest (find (λ c. bytes_eq c.0 n) cs)) same spelled ∙ ap command_and_rest (sym is)

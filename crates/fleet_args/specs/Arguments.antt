@@ -1,23 +1,18 @@
 -- The words and options of the commands, as what a parse reads of them.
 use Rattle.std.specs.Prelude.{◌≡◌, true, false, List, Some, fold, map, pos}
-use Rattle.std.specs.Borrow.{Bor}
 use Rattle.clap.specs.{Simple.on_top, Words.App, Words.Rule, Words.Text, Words.app_of, Words.new_app, Words.new_rule, Words.with_rule}
 use Rattle.clap.specs.declared.{builder.Command.TheViews.out-Command as fields_of, builder.Command.Command, builder.action.ArgAction.TheVariants.Set, builder.action.ArgAction.TheVariants.SetTrue, builder.ValueParser.ValueParser}
 use Rattle.clap.specs.declared.builder.ValueParser.TheVariants as parser
-use Rattle.fleet_args.specs.declared.{arguments.OptionNames.OptionNames, arguments.Form.Form}
+use Rattle.fleet_args.specs.declared.{arguments.Argument.Argument, arguments.CommandText.CommandText, arguments.OptionNames.OptionNames, arguments.Form.Form}
 use Rattle.fleet_args.specs.declared.arguments.Form.TheVariants as form
 
 -- what is said of an argument: its name and its form
-abbrev pub told : Bor Text × Form → Text × Form
-told argument = (argument.0.now, argument.1)
-
--- a command as the code has it: its name and its arguments, and two texts for help
-abbrev pub CommandText : Type 0
-CommandText = Bor Text × Bor (List (Bor Text × Form)) × Bor Text × Bor Text
+abbrev pub told : Argument → Text × Form
+told argument = (argument.name.now, argument.form)
 
 -- what is said of a command: its name and its arguments
 abbrev pub said : CommandText → Text × List (Text × Form)
-said c = (c.0.now, map told c.1.now)
+said c = (c.name.now, map told c.arguments.now)
 
 -- how the values of an argument of this form are read
 abbrev pub parser_for : OptionNames → Form → ValueParser

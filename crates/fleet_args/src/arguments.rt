@@ -37,17 +37,24 @@ pub(crate) enum Form {
     Flag,
 }
 
-/// An argument: its name, which is `--NAME` for an option, and its form.
-pub(crate) type Argument = (&'static str, Form);
+/// An argument.
+#[derive(Clone, Copy)]
+pub(crate) struct Argument {
+    /// The name, which is `--NAME` for an option.
+    pub(crate) name: &'static str,
+    pub(crate) form: Form,
+}
 
-/// A command: its name; its arguments; its text for help; and its name after that of the program, as help and errors
-/// have it.
-pub(crate) type CommandText = (
-    &'static str,
-    &'static [Argument],
-    &'static str,
-    &'static str,
-);
+/// A command.
+#[derive(Clone, Copy)]
+pub(crate) struct CommandText {
+    pub(crate) name: &'static str,
+    pub(crate) arguments: &'static [Argument],
+    /// The text for help.
+    pub(crate) about: &'static str,
+    /// The name after that of the program, as help and errors have it.
+    pub(crate) line: &'static str,
+}
 
 /// How `clap` reads the values of an argument of this form, with these names.
 fn parser_for<'a>(names: OptionNames<'a>, form: Form) -> ValueParser<'a>
@@ -67,7 +74,7 @@ fn arg_of<'a>(alloc: Global, names: OptionNames<'a>, argument: &Argument) -> Arg
     ensures rule { rule_of result ≡ rule_for names.entry (told argument.now) }
     ensures local { result.global ≡ false }
 {
-    let (name, form) = *argument;
+    let Argument { name, form } = *argument;
     let (value, help) = help_of(name);
     let arg = Arg::new(alloc, name)
         .help(help)
@@ -108,13 +115,8 @@ pub(crate) fn command_of<'a>(
 ) -> Result<Command<'a>, AllocError>
     ensures { IfOk result (IsApp (app_for names.entry (said text.now))) }
 {
-    let (name, arguments, about, _) = *text;
-    with_arguments(
-        alloc,
-        Command::new(alloc, name).about(about),
-        names,
-        arguments,
-    )
+    let command = Command::new(alloc, text.name).about(text.about);
+    with_arguments(alloc, command, names, text.arguments)
 }
 
 /// The text of an option, if it was used.

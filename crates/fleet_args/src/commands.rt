@@ -176,55 +176,65 @@ pub enum Request<'a> {
     Rest(RestRequest<'a>),
 }
 
-const MAP: Argument = ("map", Form::Word);
+/// An argument of this name and form.
+macro_rules! argument {
+    ($name:literal, $form:expr) => {
+        Argument {
+            name: $name,
+            form: $form,
+        }
+    };
+}
 
-const SCEN: Argument = ("scen", Form::Word);
+const MAP: Argument = argument!("map", Form::Word);
 
-const PLAN: Argument = ("plan", Form::Word);
+const SCEN: Argument = argument!("scen", Form::Word);
 
-const OUT: Argument = ("out", Form::Word);
+const PLAN: Argument = argument!("plan", Form::Word);
 
-const PROGRAM: Argument = ("program", Form::Word);
+const OUT: Argument = argument!("out", Form::Word);
 
-const AGENTS: Argument = ("agents", Form::Numbers(0, u16::MAX as u32));
+const PROGRAM: Argument = argument!("program", Form::Word);
 
-const HORIZON: Argument = ("horizon", Form::Numbers(1, u16::MAX as u32));
+const AGENTS: Argument = argument!("agents", Form::Numbers(0, u16::MAX as u32));
 
-const TRIES: Argument = ("tries", Form::Numbers(1, MAX_TRIES));
+const HORIZON: Argument = argument!("horizon", Form::Numbers(1, u16::MAX as u32));
 
-const BEST: Argument = ("best", Form::Best);
+const TRIES: Argument = argument!("tries", Form::Numbers(1, MAX_TRIES));
 
-const DEPS: Argument = ("deps", Form::Deps);
+const BEST: Argument = argument!("best", Form::Best);
 
-const DWELL: Argument = ("dwell", Form::Numbers(0, MAX_MOVES));
+const DEPS: Argument = argument!("deps", Form::Deps);
 
-const HOLDS: Argument = ("holds", Form::Text);
+const DWELL: Argument = argument!("dwell", Form::Numbers(0, MAX_MOVES));
 
-const NUMBERS: Argument = ("numbers", Form::Flag);
+const HOLDS: Argument = argument!("holds", Form::Text);
 
-const AHEAD: Argument = ("ahead", Form::Numbers(1, u8::MAX as u32));
+const NUMBERS: Argument = argument!("numbers", Form::Flag);
 
-const UNNUMBERED: Argument = ("unnumbered", Form::Flag);
+const AHEAD: Argument = argument!("ahead", Form::Numbers(1, u8::MAX as u32));
 
-const RESUME: Argument = ("resume", Form::Text);
+const UNNUMBERED: Argument = argument!("unnumbered", Form::Flag);
 
-const COSTS: Argument = ("costs", Form::Text);
+const RESUME: Argument = argument!("resume", Form::Text);
 
-const BROKEN: Argument = ("broken", Form::Text);
+const COSTS: Argument = argument!("costs", Form::Text);
 
-const REPORTS: Argument = ("reports", Form::Word);
+const BROKEN: Argument = argument!("broken", Form::Text);
 
-const SCEN_OUT: Argument = ("scen_out", Form::Word);
+const REPORTS: Argument = argument!("reports", Form::Word);
 
-const PROGRAM_OUT: Argument = ("program_out", Form::Word);
+const SCEN_OUT: Argument = argument!("scen_out", Form::Word);
 
-const WITHOUT: Argument = ("without", Form::Text);
+const PROGRAM_OUT: Argument = argument!("program_out", Form::Word);
 
-const MAP_OUT: Argument = ("map-out", Form::Text);
+const WITHOUT: Argument = argument!("without", Form::Text);
 
-const OTHERS_OUT: Argument = ("others-out", Form::Text);
+const MAP_OUT: Argument = argument!("map-out", Form::Text);
 
-const LOG: Argument = ("log", Form::Text);
+const OTHERS_OUT: Argument = argument!("others-out", Form::Text);
+
+const LOG: Argument = argument!("log", Form::Text);
 
 /// The rows of a table of arguments, each with the name that help gives its value, and a text.
 macro_rules! argument_rows {
@@ -280,7 +290,12 @@ static ARGUMENTS: [(Argument, (&str, &str)); 25] = argument_rows![
 /// The rows of a table of commands, each by its name, its arguments and its text for help.
 macro_rules! command_rows {
     ($($name:literal, [$($argument:ident),*], $about:literal;)*) => {
-        [$(($name, &[$($argument),*], $about, concat!("fleet ", $name))),*]
+        [$(CommandText {
+            name: $name,
+            arguments: &[$($argument),*],
+            about: $about,
+            line: concat!("fleet ", $name),
+        }),*]
     };
 }
 
@@ -323,7 +338,7 @@ static COMMANDS: [CommandText; 14] = command_rows![
 
 /// The name that help gives the value of the argument of this name, and its text.
 pub(crate) fn help_of(name: &str) -> (&'static str, &'static str) {
-    match ARGUMENTS.iter().find(|argument| argument.0.0 == name) {
+    match ARGUMENTS.iter().find(|argument| argument.0.name == name) {
         Some(argument) => argument.1,
         None => ("", ""),
     }

@@ -74,9 +74,9 @@ fn stop_by_line<'a>(alloc: Global, names: OptionNames<'a>, words: &'a [String]) 
 /// The first command of this name among these.
 fn command_among<'t>(texts: &'t [CommandText], name: &str) -> Option<&'t CommandText>
     ensures { option_map (λ text. text.now) result
-        ≡ find (λ text. bytes_eq text.0.now name.now) texts.now }
+        ≡ find (λ text. bytes_eq text.name.now name.now) texts.now }
 {
-    texts.iter().find(|text| text.0 == name)
+    texts.iter().find(|text| text.name == name)
 }
 
 /// The command with whose name the words begin, and the words after it.
@@ -101,7 +101,7 @@ fn own_command<'a>(
 {
     command_of(alloc, names, text)?
         .no_binary_name(true)
-        .bin_name(text.3)
+        .bin_name(text.line)
 }
 
 /// The names that options take.
@@ -131,7 +131,7 @@ pub fn read_words<'a>(alloc: Global, words: &'a [String]) -> Result<Request<'a>,
         return Err(WordStop::OutOfMemory);
     };
     match matches_by(alloc, command, rest) {
-        Ok(matches) => Ok(request_by(text.0, &matches)),
+        Ok(matches) => Ok(request_by(text.name, &matches)),
         Err(stop) => Err(stop),
     }
 }

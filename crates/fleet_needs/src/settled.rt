@@ -124,8 +124,8 @@ fn settle_action<P: ProgramView>(
     let mut from = 0;
     for k in 0..awaits {
         let awaited = awaited_at(program, action, k);
-        let is_needed = is_needed(program, awaited, other, &mut from);
-        let is_passed = is_needed && k != latest;
+        let is_other = k != latest;
+        let is_passed = is_other && is_needed(program, awaited, other, &mut from);
         let known = if is_passed {
             Some(true)
         } else {
@@ -144,9 +144,14 @@ fn latest_await<P: ProgramView>(program: &P, levels: &CriticalCosts, action: Act
     requires some { 1 ≤ length (awaits_of (P.program program.now) action.agent action.number) }
     ensures { result < length (awaits_of (P.program program.now) action.agent action.number) }
 {
+    let count = program.await_count(action.agent, action.number);
+    let is_one = count < 2;
+    if is_one {
+        return 0;
+    }
     let mut latest = 0;
     let mut greatest = 0;
-    for k in 0..program.await_count(action.agent, action.number) {
+    for k in 0..count {
         let level = levels.cost(program, awaited_at(program, action, k));
         if level > greatest {
             latest = k;

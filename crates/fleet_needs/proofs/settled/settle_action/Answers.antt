@@ -2,7 +2,7 @@ use Rattle.fleet_needs.proofs.Words.{◌≡◌, ◌+◌, ℕ, length, set, subst
 use Rattle.fleet_needs.proofs.AwaitOrder.{noted_none, noted_next}
 use Rattle.fleet_needs.proofs.Flagged.{is_set}
 use Rattle.fleet_needs.proofs.Settling.{settled_by, await_of, still_settled, yes_is_not_no}
-use Rattle.fleet_needs.proofs.settled.settle_action.Goals.{then-is_passed, else-is_passed, then-is_needed, else-is_needed}
+use Rattle.fleet_needs.proofs.settled.settle_action.Goals.{then-is_passed, else-is_passed, then-is_other, else-is_other}
 use Rattle.fleet_needs.proofs.settled.settle_action.Goals as goal
 
 pub loop-k-init : goal.loop-k-init
@@ -24,15 +24,15 @@ loop-k-preserved g c =
     let more = c.ask_if.ensures.more in
     let so : c.if-is_passed.known ≡ Some true → ReachesNeed p c.awaited_at-awaited.result a k =
     elim c.if-is_passed.branch [
-      | then-is_passed w ↦ λ e. elim c.if-is_needed.branch [
-        | then-is_needed v ↦ inr (record {
+      | then-is_passed w ↦ λ e. elim c.if-is_other.branch [
+        | then-is_other v ↦ inr (record {
           place = c.latest_await-latest.result;
           await = await_of c.awaited_at-other.result;
-          this = λ same. omega (arith, sym v.is_passed-is ∙ w.if-is_passed.true, same);
+          this = λ same. omega (arith, v.if-is_other.true, same);
           at = c.awaited_at-other.ensures.awaited;
-          reaches = c.is_needed-is_needed.ensures v.if-is_needed.true;
+          reaches = v.is_needed-is_passed.ensures (sym v.is_passed-is ∙ w.if-is_passed.true);
         })
-        | else-is_needed v ↦ absurd (let e : false ≡ true = sym v.if-is_needed.false ∙ sym v.is_passed-is ∙ w.if-is_passed.true in cc)
+        | else-is_other v ↦ absurd (omega (arith, v.if-is_other.false, sym v.is_passed-is ∙ w.if-is_passed.true))
       ]
       | else-is_passed w ↦ λ e. w.reaches_need-known.ensures.yes (sym w.known-is ∙ e)
     ] in

@@ -1,6 +1,6 @@
 -- One action further along a path, and one agent more.
 use Rattle.fleet_verify.proofs.Words.{◌≡◌, ℕ, ℤ, pos, negsuc, ◌+◌, ◌<◌, ◌<ℤ◌, ◌≤ℤ◌, ◌≤◌, ◌⊎◌, inl, inr, refl, length, Bool, Option, Some, None, false, sym, ◌∙◌, subst, arith, IsTrue, ints, Ground, IsGround, is_passable, passable_at, option_map, option_or, Cell, Place, Step, ActionId, IsInReach, place_of, stepped, Program, moves, path, step_of, IsWellFormed, off_map, StandsRight, IsPosition, AnswersFirst, AnswersFirstAction}
-use Rattle.fleet_verify.specs.declared.path.Position.TheVariants.{OnGround, OffGround}
+use Rattle.fleet_verify.specs.declared.agents.Position.TheVariants.{OnGround, OffGround}
 use Rattle.fleet_verify.proofs.Paths.{step_from, falls_off, in_reach}
 use Rattle.fleet_verify.proofs.Ranges.{up_to_more, agents_more}
 

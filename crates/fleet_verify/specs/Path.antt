@@ -5,9 +5,9 @@ use Rattle.fleet_model.specs.declared.program.ActionId.{ActionId}
 use Rattle.fleet_model.specs.Geometry.{place_of}
 use Rattle.fleet_model.specs.Program.{Program, moves, path}
 use Rattle.fleet_verify.specs.Faults.{StandsRight, AwaitsRight, IsFirstNumber, IsFirstAction}
-use Rattle.fleet_verify.specs.declared.path.PathJudged.{PathJudged}
-use Rattle.fleet_verify.specs.declared.path.Position.{Position}
-use Rattle.fleet_verify.specs.declared.path.Position.TheVariants.{OnGround, OffGround}
+use Rattle.fleet_verify.specs.declared.agents.PathJudged.{PathJudged}
+use Rattle.fleet_verify.specs.declared.agents.Position.{Position}
+use Rattle.fleet_verify.specs.declared.agents.Position.TheVariants.{OnGround, OffGround}
 
 -- the least number up to a last one that is not so, or nothing if all are
 abbrev pub AnswersFirst : ℕ → (ℕ → Type 0) → Option ℕ → Type 0

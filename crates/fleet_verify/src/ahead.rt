@@ -18,14 +18,11 @@ ghost use Rattle.fleet_verify.specs.Walk.{IsStop, IsStopAt};
 ghost use Rattle.fleet_verify.specs.Chained.{IsChained};
 ghost use Rattle.fleet_verify.specs.Outlook.{IsFound, IsFoundUnless, IsOutlook};
 
-use crate::agents::ends_right;
+use crate::agents::{ends_right, next_number, numbered_cell};
 use crate::chained::{Answers, unless_chained};
-use crate::kept_levels::Levels;
 use crate::last_visits::LastVisits;
-use crate::level_order::AllLevels;
-use crate::level_row::{LevelRow, row_of};
+use crate::level_row::{AllLevels, LevelRow, Levels, row_of};
 use crate::order::{OpenPair, PlacedVisit, add_visit, is_left_by, number_of, open_unless_after};
-use crate::path::{next_number, numbered_cell};
 use crate::still::run_ahead;
 use crate::unheld_run::Stop;
 use fleet_grid::Grid;

@@ -9,8 +9,7 @@ ghost use Rattle.fleet_verify.specs.LevelRows.{HasLevels};
 ghost use Rattle.fleet_verify.specs.OpenPairs.{AreVisits};
 ghost use Rattle.fleet_verify.specs.Chained.{key_of, AreKnown, IsChained, IsAskedOf, AreAsked, BeginsLate, BeginsLater, EnterApart};
 
-use crate::level_order::AllLevels;
-use crate::level_row::{LevelRow, row_of};
+use crate::level_row::{AllLevels, LevelRow, row_of};
 use crate::order::{OpenPair, leaving};
 use fleet_model::{ActionId, OutOfMemory, ProgramView, Visit};
 use fleet_needs::{OrderSource, Question, answer_questions};

@@ -7,22 +7,22 @@
 //!
 //! `verifier` passes over a right program once. `agents` judges the fleet and its starts; `ahead` lets each agent run
 //! on as far as its awaits allow, and reads it instruction by instruction. `still` does so with all of them until
-//! nobody can go on: whom it looks at next says `queue`, and at the end it looks at each once more. `ahead` keeps the
-//! levels of the actions (`level_row`), of each cell the last visit (`last_visits`) and the open pairs, which mostly
-//! the last await of an action spares, and says yes if all arrive on passable ground and chains order those pairs,
-//! which `chained` asks for: `level_order` lists the actions that await something by their levels, and chains are found
-//! in that order. If it does not, `unheld_run` runs the program with nobody held, looks whether each place that it
-//! comes to is passable, and adds each visit as it begins to the `VisitOrder` of `order`, which keeps the last one of
-//! each cell and the *open pairs*: a visit and the next of its cell, by another agent, which does not await that the
+//! nobody can go on: whom it looks at next says its `Queue`, and at the end it looks at each once more. `ahead` keeps
+//! the levels of the actions (`level_row`), of each cell the last visit (`last_visits`) and the open pairs, which
+//! mostly the last await of an action spares, and says yes if all arrive on passable ground and chains order those
+//! pairs, which `chained` asks for: `level_row` lists the actions that await something by their levels, and chains are
+//! found in that order. If it does not, `unheld_run` runs the program with nobody held, looks whether each place that
+//! it comes to is passable, and adds each visit as it begins to the `VisitOrder` of `order`, which keeps the last one
+//! of each cell and the *open pairs*: a visit and the next of its cell, by another agent, which does not await that the
 //! first is left. A run that finishes has met each await, and `agents` looks whether all stand on their goals. Only if
-//! that run goes wrong are the paths judged one by one, in the order of the faults (`agents`, `path`); if they are
-//! right the run is stuck, and `ring` finds a ring of needs. If pairs are open `order` asks for chains, unless the run
+//! that run goes wrong are the paths judged one by one, in the order of the faults (`agents`); if they are right the
+//! run is stuck, and `unheld_run` finds a ring of needs. If pairs are open `order` asks for chains, unless the run
 //! ahead has asked for all of them, whose answers `chained` has kept, and if some pair has none `order` finds which is
 //! reported. `runs`, `orders`, `schedules`, `exactness`, `promises`, `counting`, `ahead_laws`, `reduced` and `rest` are
 //! laws: their functions do nothing. What `verify` promises stands in the spec `Promises`. `reach` keeps, of an
 //! accepted program, where chains begin (`Reach`): the pieces of `fleet_needs`. `times` has when its actions end at the
 //! soonest (`Times`), by the critical costs of `fleet_needs`, or by the levels if each costs one and no pair was open
-//! (`kept_levels`), and a chain that takes so long, in stretches of one agent's actions, which `stretch` also writes;
+//! (`Levels`), and a chain that takes so long, in stretches of one agent's actions, which `stretch` also writes;
 //! `stopped` how far each agent comes if some actions are never ended: each of these costs one and all others nothing,
 //! so that what costs nothing needs none of them. `fault` has the refusals. `covers` compares two rows of counts, for
 //! callers alone.
@@ -42,20 +42,15 @@ mod counting;
 mod covers;
 mod exactness;
 mod fault;
-mod kept_levels;
 mod last_visits;
-mod level_order;
 mod level_row;
 mod needed;
 mod order;
 mod orders;
-mod path;
 mod promises;
-mod queue;
 mod reach;
 mod reduced;
 mod rest;
-mod ring;
 mod runs;
 mod schedules;
 mod still;

@@ -20,10 +20,10 @@ ghost use Rattle.fleet_needs.specs.Asked.{IsQuestion};
 ghost use Rattle.fleet_verify.specs.Chained.{AreKnown};
 ghost use Rattle.fleet_verify.specs.OpenPairs.{question_of, violation_of, AreVisits, HasNoChain, IsFlagged, AnswersFirstBad};
 
+use crate::agents::cell_after;
 use crate::chained::Answers;
 use crate::fault::VerifyFault;
 use crate::last_visits::LastVisits;
-use crate::path::cell_after;
 use crate::unheld_run::UnheldRun;
 use fleet_grid::Grid;
 use fleet_model::{ActionId, Cell, MAX_COORDINATE, OutOfMemory, ProgramView, Step, Visit};

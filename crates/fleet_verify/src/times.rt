@@ -9,7 +9,7 @@ ghost use Rattle.fleet_model.specs.Chain.{IsAction, IsCriticalCost};
 ghost use Rattle.fleet_verify.specs.Times.{ArrivesAt, EachArrivesAt, HaveArrivedAt, IsCriticalPath, IsLatest, IsLater, LeadsBack, IsAwaitedUntil, IsOwnUntil, FollowsOwn, IsNeedUntil, IsFreeTo, EachFreeTo, IsWayTo, IsStretchTo, IsWholeTo};
 ghost use Rattle.fleet_verify.specs.Stretch.{first_of, stretch_actions, path_actions};
 
-use crate::kept_levels::Levels;
+use crate::level_row::Levels;
 use crate::stretch::Stretch;
 use crate::verifier::Accepted;
 use fleet_model::{ActionId, Instruction, OutOfMemory, ProgramView};

@@ -1,5 +1,5 @@
 -- Answers of questions, one after another.
-use Rattle.fleet_needs.proofs.Words.{◌≡◌, ◌≢◌, ℕ, ◌+◌, ◌-◌, ◌<◌, ◌≤◌, Bool, true, false, List, [], ◌∷◌, ◌++◌, length, get_or, set, Some, refl, sym, ap, subst, ◌∙◌, arith, inl, inr, ◌⊎◌, Bor, slice_get, slice_index, nat_lt, All, None, get_or-set_same, get_or-set_other, length-set, get_or_append_left, get_or_push, slice_get_within, get_or_from_slice_get, same_Some, cases_lt, cases_eq, cases_order, ltb-true, lt-ltb, Program, Reaches, IsColumn, IsQuestion, AreAnswersIn, HasColumn, IsAnswer, BlocksLeft, IsNextBlock, column_of, AreOwn, StandsFor, row_of, AreCounts, AreRowCounts, IsLastOf, AreAnsweredTo, IsAnswering, IsAnsweringRow, AreOthersLeft, questions_in, Columns, Schedule, Joins, Answering, ListedQuestions, Question}
+use Rattle.fleet_needs.proofs.Words.{◌≡◌, ◌≢◌, ℕ, ◌+◌, ◌-◌, ◌<◌, ◌≤◌, Bool, true, false, List, [], ◌∷◌, ◌++◌, length, get_or, set, Some, refl, sym, ap, subst, ◌∙◌, arith, inl, inr, ◌⊎◌, Bor, slice_get, slice_index, nat_lt, All, None, get_or-set_same, get_or-set_other, length-set, get_or_append_left, get_or_push, slice_get_within, get_or_from_slice_get, same_Some, cases_lt, cases_eq, cases_order, ltb-true, lt-ltb, Program, IsColumn, IsQuestion, AreAnswersIn, HasColumn, IsAnswer, BlocksLeft, IsNextBlock, column_of, AreOwn, StandsFor, row_of, AreCounts, AreRowCounts, IsLastOf, AreAnsweredTo, IsAnswering, IsAnsweringRow, AreOthersLeft, questions_in, Columns, Schedule, Joins, Answering, ListedQuestions, Question}
 use Rattle.fleet_needs.proofs.Joining.{own_column}
 use Rattle.fleet_needs.proofs.NextBlock.{column_cases}
 use Rattle.fleet_needs.proofs.RowsMade.{counts_none}

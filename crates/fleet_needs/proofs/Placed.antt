@@ -1,5 +1,5 @@
 -- The places of actions, and of the counts of their rows.
-use Rattle.fleet_needs.proofs.Words.{◌≡◌, ◌≢◌, ℕ, ◌+◌, ◌*◌, ◌<◌, ◌≤◌, List, length, take, slice_index, ap, subst, arith, inl, inr, ◌⊎◌, cases_order, mul-le, sum_by, take-take, sum_by-take-le, ActionId, AgentProgram, Program, moves, total_moves, IsAction, moves_more, ArePlaces, action_place, ◌∷◌, ◌++◌, [], sym, ◌∙◌, cases_lt, get_or_append_left, get_or_push, length_push}
+use Rattle.fleet_needs.proofs.Words.{◌≡◌, ◌≢◌, ℕ, ◌+◌, ◌*◌, ◌<◌, ◌≤◌, List, length, take, slice_index, ap, subst, arith, inl, inr, ◌⊎◌, cases_order, mul-le, sum_by, take-take, sum_by-take-le, ActionId, AgentProgram, Program, total_moves, IsAction, moves_more, ArePlaces, action_place, ◌∷◌, ◌++◌, [], sym, ◌∙◌, cases_lt, get_or_append_left, get_or_push, length_push}
 
 -- more of a list have as much together, or more
 pub sums_rise : {X : Type 0} (f : X → ℕ) (xs : List X) (i j : ℕ) → i ≤ j → sum_by f (take i xs) ≤ sum_by f (take j xs)

@@ -1,5 +1,5 @@
 -- The counts of rows that are made of rows in their slots.
-use Rattle.fleet_needs.proofs.Words.{◌≡◌, ◌≢◌, ℕ, ◌+◌, ◌-◌, ◌*◌, ◌<◌, ◌≤◌, List, length, max, slice_index, refl, sym, ap, subst, ◌∙◌, arith, inl, inr, ◌⊎◌, slice_get, Some, cases_lt, cases_eq, ActionId, Await, Program, AreInRange, awaits_of, moves, IsAction, awaited, HasColumn, counts_of, are_narrow, CanHold, AreAlike, Reaches, IsColumn, IsJoined, ByBeforeOr, OfOthers, action_before, Columns, JoinRow, SlotRows, Schedule, IsJoinRow, IsMade, Counts, AreQuiet, IsRow, join_at, need_of, row_taken, IsJoin, AreOwn, Need, joins_in, next_action, IsSchedule, AreColumnsOf, AreCounts, AreRowsTo, IsRowFor, IsThere, StandsThere, IsNextJoin, IsNextNeed, AreRowCounts, count_from, count_in_slot, slot_of, Join}
+use Rattle.fleet_needs.proofs.Words.{◌≡◌, ◌≢◌, ℕ, ◌+◌, ◌-◌, ◌*◌, ◌<◌, ◌≤◌, List, length, max, slice_index, refl, sym, ap, subst, ◌∙◌, arith, inl, inr, slice_get, Some, cases_lt, cases_eq, ActionId, Await, Program, AreInRange, awaits_of, moves, IsAction, awaited, HasColumn, counts_of, are_narrow, CanHold, AreAlike, Reaches, IsColumn, IsJoined, ByBeforeOr, OfOthers, action_before, Columns, JoinRow, SlotRows, Schedule, IsJoinRow, Counts, AreQuiet, IsRow, join_at, need_of, row_taken, IsJoin, AreOwn, Need, joins_in, next_action, IsSchedule, AreColumnsOf, AreCounts, AreRowsTo, IsRowFor, IsThere, StandsThere, IsNextJoin, IsNextNeed, AreRowCounts, count_from, count_in_slot, slot_of, Join}
 use Rattle.fleet_needs.proofs.Placed.{outside}
 use Rattle.fleet_needs.proofs.Joining.{quiet_on, column_stays, column_none, IsOwnTo, some_first, some_more, some_same, part_all, own_column, awaited_action}
 
@@ -106,18 +106,6 @@ module _ (p : Program) (row : JoinRow) (is : IsJoinRow p row) where
 
   pub row_here : IsRow row.schedule.now.joins.items (row.n + 1) row.action
   row_here = record { some = omega arith; upto = omega (arith, is.next); of = (let e : row.n + 1 - 1 ≡ row.n = omega arith in ap (next_action row.schedule.now) e ∙ sym is.of) }
-
-  pub made_here : IsMade row.schedule.now (row.n + 1) row.action
-  made_here = (row.n + 1, omega arith, row_here)
-
-  pub made_still : (x : ActionId) → IsMade row.schedule.now row.n x → IsMade row.schedule.now (row.n + 1) x
-  made_still x (r, le, made) = (r, omega arith, made)
-
-  pub made_back : (x : ActionId) → IsMade row.schedule.now (row.n + 1) x → IsMade row.schedule.now row.n x ⊎ (x ≡ row.action)
-  made_back x (r, le, made) = elim (cases_lt row.n r) [
-    | inr l ↦ inl (r, l, made)
-    | inl l ↦ inr (let e : r - 1 ≡ row.n = omega arith in sym made.of ∙ ap (next_action row.schedule.now) e ∙ sym is.of)
-  ]
 
 -- ---- the row of an action, await by await
 

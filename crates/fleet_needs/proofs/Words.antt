@@ -25,11 +25,11 @@ pub use Rattle.fleet_needs.specs.CostWalk.{Walked, after, IsGreatestTo, IsStage,
 pub use Rattle.fleet_needs.specs.Counts.{counts_of, count_from, are_narrow, CanHold, AreAlike}
 pub use Rattle.fleet_needs.specs.Critical.{IsNumberedTo, IsNotedCost, AreNotedCosts, CostsByPlace, AreCriticalCosts, AreLevels, critical_cost, value_at}
 pub use Rattle.fleet_needs.specs.Flags.{AreSure, AreSet, AreFlags, AreKnownBut, IsLeft, IsLeftIn, AreFlaggedIn, AreAllFlagged, AreFlaggedTo, AreImplied, flags_of, IsLeftOut}
-pub use Rattle.fleet_needs.specs.Gather.{raised, IsNoted, IsPairAt, HasSamePieces, link_at, no_link, AreLinked, IsWithin, AreBelow, IsOfBlock, IsNotedTo, AreNotedOf, IsGathering, IsGatheringRow, GoesOn, IsOpenPiece}
+pub use Rattle.fleet_needs.specs.Gather.{raised, IsNoted, IsPairAt, link_at, no_link, IsReached, AreLinked, IsWithin, AreBelow, IsBlockState, IsGathering, IsGatheringRow, IsOpenPiece}
 pub use Rattle.fleet_needs.specs.Implied.{EachFlag, AreNoted, first_await, IsImplied, IsImpliedFlag, AreAwaitPlaces}
-pub use Rattle.fleet_needs.specs.JoinPass.{AreOthers, IsMade, IsJoinRow, HasOthers, HasWhole}
+pub use Rattle.fleet_needs.specs.JoinPass.{AreOthers, IsJoinRow, HasOthers, HasWhole}
 pub use Rattle.fleet_needs.specs.Kernels.{AreJoined}
-pub use Rattle.fleet_needs.specs.Pieces.{IsOf, IsToldBy, IsTold, AreTold, key_of, AreSorted, IsLatest, no_piece, count_by}
+pub use Rattle.fleet_needs.specs.Pieces.{IsOf, IsToldBy, IsTold, AreTold, key_of, AreSorted, IsLatest, no_piece, piece_at, count_by}
 pub use Rattle.fleet_needs.specs.Places.{ArePlaces, action_place, row_place}
 pub use Rattle.fleet_needs.specs.Rows.{IsColumn, IsJoined, OfFirst, OfOthers, action_before, ByBeforeOr, ByOneOf, IsMost, OfOwn, OfThese}
 pub use Rattle.fleet_needs.specs.Settled.{AreSettled, IsSettled, AreSettledOf, AreMoreAsked, IsUpTo, AreSettledTo, ReachesNeed}

@@ -1,13 +1,11 @@
 -- A pass over the rows of a schedule: the row that is next.
-use Rattle.std.specs.Prelude.{◌≡◌, ◌≢◌, ℕ, ◌<◌, ◌≤◌, List, length, slice_index}
+use Rattle.std.specs.Prelude.{◌≡◌, ◌≢◌, ℕ, ◌<◌, List, length, slice_index}
 use Rattle.fleet_needs.specs.Words.{ActionId, Program, awaits_of}
 use Rattle.fleet_needs.specs.Block.{HasColumn}
-use Rattle.fleet_needs.specs.Joins.{IsRow}
 use Rattle.fleet_needs.specs.Rows.{IsJoined, OfOthers}
 use Rattle.fleet_needs.specs.Counts.{counts_of}
 use Rattle.fleet_needs.specs.Schedule.{next_action, joins_in, AreCounts, IsSchedule, AreColumnsOf}
 use Rattle.fleet_needs.specs.declared.schedule.Columns.{Columns}
-use Rattle.fleet_needs.specs.declared.schedule.Schedule.{Schedule}
 use Rattle.fleet_needs.specs.declared.join_pass.JoinRow.{JoinRow}
 
 -- the row of all that the action directly needs, but for the count of each awaited action's own agent; nothing is said
@@ -35,7 +33,3 @@ HasOthers p row = AreOthers p row.columns.now row.action (counts_of row.counts.n
 -- it is that of the action
 abbrev pub HasWhole : Program → JoinRow → Type 0
 HasWhole p row = AreWhole p row.columns.now row.action (counts_of row.counts.now)
-
--- one of the first n rows is that of the action
-abbrev pub IsMade : Schedule → ℕ → ActionId → Type 0
-IsMade s n a = (r : ℕ) × (r ≤ n) × IsRow s.joins.items r a

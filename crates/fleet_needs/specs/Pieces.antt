@@ -1,5 +1,5 @@
 -- Counts of chains, kept as pieces.
-use Rattle.std.specs.Prelude.{◌≡◌, ◌≢◌, ℕ, ◌+◌, ◌-◌, ◌*◌, ◌<◌, ◌≤◌, List, ◌∷◌, length, min, Contains}
+use Rattle.std.specs.Prelude.{◌≡◌, ◌≢◌, ℕ, ◌+◌, ◌-◌, ◌*◌, ◌<◌, ◌≤◌, List, ◌∷◌, length, min, get_or}
 use Rattle.std.specs.List.Sorted.{IsNonDecreasingBy}
 use Rattle.fleet_needs.specs.Words.{ActionId, Program, IsAction}
 use Rattle.fleet_needs.specs.Rows.{IsColumn}
@@ -22,24 +22,27 @@ AreSorted pieces = IsNonDecreasingBy key_of pieces
 abbrev pub IsOf : ℕ → ℕ → Piece → Type 0
 IsOf i j x = (x.last_agent ≡ i) × (x.first_agent ≡ j)
 
--- of these pieces the last one that begins with action n or before
-pub record IsLatest (pieces : List Piece) (i j n : ℕ) (x : Piece) : Type 0 where
-  pub among : Contains pieces x
-  pub here : IsOf i j x
-  pub begun : x.from ≤ n
-  pub latest : (y : Piece) → Contains pieces y → IsOf i j y → y.from ≤ n → y.from ≤ x.from
-
--- the latest of these pieces has the count of agent j at action n of agent i
-abbrev pub IsToldBy : Program → List Piece → ℕ → ℕ → ℕ → Type 0
-IsToldBy p pieces i j n = (x : Piece) → IsLatest pieces i j n x → IsColumn p (record { agent = i; number = n }) j (count_by x n)
-
 -- before the first piece of two agents nothing is counted
 abbrev pub no_piece : ℕ → ℕ → Piece
 no_piece i j = record { last_agent = i; first_agent = j; from = 0; count = 0; most = 0 }
 
--- the pieces have the count of agent j at action n of agent i
+-- the piece at place k, from 1 on; at place 0 that of agents i and j before their first one
+abbrev pub piece_at : List Piece → (i j k : ℕ) → Piece
+piece_at pieces i j k = get_or (no_piece i j ∷ pieces) k (no_piece 0 0)
+
+-- of the pieces of the two agents that at place k is the last one that begins with action n or before
+pub record IsLatest (at : ℕ → Piece) (i j n k : ℕ) : Type 0 where
+  pub here : IsOf i j (at k)
+  pub begun : (at k).from ≤ n
+  pub latest : (m : ℕ) → IsOf i j (at m) → (at m).from ≤ n → (at m).from ≤ (at k).from
+
+-- the latest of the pieces at these places has the count of agent j at action n of agent i
+abbrev pub IsToldBy : Program → (ℕ → Piece) → ℕ → ℕ → ℕ → Type 0
+IsToldBy p at i j n = (k : ℕ) → IsLatest at i j n k → IsColumn p (record { agent = i; number = n }) j (count_by (at k) n)
+
+-- .. of the pieces
 abbrev pub IsTold : Program → List Piece → ℕ → ℕ → ℕ → Type 0
-IsTold p pieces i j n = IsToldBy p (no_piece i j ∷ pieces) i j n
+IsTold p pieces i j n = IsToldBy p (piece_at pieces i j) i j n
 
 -- the pieces have the counts of these agents at all actions of others
 abbrev pub AreTold : Program → List Piece → (ℕ → Type 0) → Type 0

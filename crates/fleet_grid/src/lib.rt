@@ -3,14 +3,13 @@
 //! A map is read from the `.map` format of the MovingAI benchmark (Sturtevant 2012).
 //!
 //! `reading` goes over the lines of a text once, in the order in which faults are judged, and over 64 bytes of a row at
-//! a time, whose glyphs `glyphs` looks up; `laws` says that a text stands for one map or has one first fault. `grid`
-//! keeps a bit for each cell. `table` has a value for each number, as for that of each cell: it takes memory for the
-//! pages alone in which one was set; `lists` has a list for each key. `writing` writes a map, without cells that are to
-//! be blocked.
+//! a time; `laws` says that a text stands for one map or has one first fault. `grid` looks the glyphs up, and keeps a
+//! bit for each cell. `table` has a value for each number, as for that of each cell: it takes memory for the pages
+//! alone in which one was set; `lists` has a list for each key. `writing` writes a map, without cells that are to be
+//! blocked.
 #![tactic(auto)]
 
 mod fault;
-mod glyphs;
 mod grid;
 mod laws;
 mod lists;

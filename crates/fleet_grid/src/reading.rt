@@ -10,8 +10,7 @@ ghost use Rattle.fleet_grid.specs.MapReading.{field, number_field, is_alone, is_
 ghost use Rattle.fleet_grid.specs.Stored.{ground_of, IsStored, stored_cells, with_padding};
 
 use crate::fault::MapFault;
-use crate::glyphs::wrong_column;
-use crate::grid::{Cells, Grid, MAX_SIDE};
+use crate::grid::{Cells, Grid, MAX_SIDE, wrong_column};
 use fleet_text::{Cursor, TOO_LONG, from_front, is_blank, next_word, number_of};
 use std::alloc::Global;
 

@@ -1,5 +1,5 @@
 use Rattle.fleet_grid.proofs.GlyphLaws.{looked_up_is, places_fit}
-use Rattle.fleet_grid.proofs.glyphs.looked_up.Goals as goal
+use Rattle.fleet_grid.proofs.grid.looked_up.Goals as goal
 
 pub swizzle : goal.swizzle
 swizzle c = places_fit c.args.block c.fits-block

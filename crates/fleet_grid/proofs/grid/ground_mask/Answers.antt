@@ -2,7 +2,7 @@ use Rattle.std.proofs.Common.{refl}
 use Rattle.fleet_grid.specs.MapText.{is_ground_glyph}
 use Rattle.fleet_text.proofs.BlockLaws.{masked}
 use Rattle.fleet_grid.proofs.GlyphLaws.{compared}
-use Rattle.fleet_grid.proofs.glyphs.ground_mask.Goals as goal
+use Rattle.fleet_grid.proofs.grid.ground_mask.Goals as goal
 
 pub returns : goal.returns
 returns c =

@@ -3,7 +3,7 @@ use Rattle.std.proofs.lemmas.Simd.{zip2_of_maps, map-map}
 use Rattle.fleet_grid.specs.MapText.{is_glyph, is_no_glyph}
 use Rattle.fleet_text.proofs.BlockLaws.{masked}
 use Rattle.fleet_grid.proofs.GlyphLaws.{compared, none_other}
-use Rattle.fleet_grid.proofs.glyphs.are_glyphs.Goals as goal
+use Rattle.fleet_grid.proofs.grid.are_glyphs.Goals as goal
 
 pub returns : goal.returns
 returns c =

@@ -1,32 +1,28 @@
 -- Agents that go on as far as their awaits allow: that each step is right, and that they come to the end.
-use Rattle.fleet_needs.proofs.Words.{◌≡◌, ℕ, zero, suc, ◌+◌, ◌-◌, ◌*◌, ◌<◌, ◌≤◌, List, [], ◌∷◌, ◌++◌, length, max, cond, set, get_or, refl, sym, ap, subst, ◌∙◌, arith, inl, inr, ◌⊎◌, slice_get, Contains, nat_lt, Some, ◌≢◌, cases_lt, cases_eq, lt-ltb, le-ltb, mul-le, get_or-set_same, get_or-set_other, length-set, slice_get_within, get_or_from_slice_get, slice_get-get_or, get_or_append_left, get_or_push, length_push, ActionId, Await, Program, moves, awaits_of, total_moves, IsAction, DirectlyNeeds, IsCriticalCost, awaited, need_action, own_reach, Reaches-rises, action_place, IsNumberedTo, IsNotedCost, AreNotedCosts, value_at, Walked, after, IsGreatestTo, IsStage, IsReadyStage, IsFinished, HasAll, IsCostWalk, HaveGrown, IsUnmet, IsOpen, stage_in, finished_in, no_stage, gone_on, Stage, MAX_COST, MAX_LEVEL}
-use Rattle.fleet_needs.proofs.Costing.{noted_next, noted_more}
+use Rattle.fleet_needs.proofs.Words.{◌≡◌, ℕ, zero, suc, ◌+◌, ◌-◌, ◌*◌, ◌<◌, ◌≤◌, List, [], ◌∷◌, ◌++◌, length, max, cond, set, get_or, refl, sym, ap, subst, ◌∙◌, arith, inl, inr, ◌⊎◌, slice_get, Contains, nat_lt, Some, ◌≢◌, cases_lt, cases_eq, lt-ltb, le-ltb, mul-le, get_or-set_same, get_or-set_other, length-set, slice_get_within, get_or_from_slice_get, slice_get-get_or, get_or_append_left, get_or_push, length_push, ActionId, Await, Program, moves, awaits_of, total_moves, IsAction, DirectlyNeeds, IsCriticalCost, awaited, ends_alone, ends_dearer, need_action, own_reach, Reaches-rises, action_place, IsNumberedTo, IsNotedCost, AreNotedCosts, value_at, Walked, after, IsGreatestTo, IsStage, IsReadyStage, IsFinished, HasAll, IsCostWalk, HaveGrown, IsUnmet, IsOpen, stage_in, finished_in, no_stage, gone_on, Stage, MAX_COST, MAX_LEVEL}
+use Rattle.fleet_model.specs.Chain.{EndsChainOfCost}
+use Rattle.fleet_needs.proofs.Costing.{one_cost, bound_of, bound_on}
+use Rattle.fleet_needs.proofs.Placed.{place_apart, place_within}
 
 -- ---- how far an agent has come
 
--- an agent that has not begun
-pub record IsFirstStage (offset : (i finished k : ℕ) → ℕ) (i : ℕ) (s : Stage) : Type 0 where
-  pub finished : s.finished ≡ 0
-  pub met : s.met ≡ 0
-  pub at : s.at ≡ offset i 0 0
-  pub greatest : s.greatest ≡ 0
+-- that of one that has not begun
+abbrev pub first_stage : (offset : (i finished k : ℕ) → ℕ) → ℕ → Stage
+first_stage offset i = record { finished = 0; met = 0; at = offset i 0 0; greatest = 0 }
 
 module _ (p : Program) (cost : ActionId → ℕ) where
   -- of an agent's first action, before its awaits
-  greatest_none : (These : ActionId → Type 0) (i n k m : ℕ) → n ≡ 0 → k ≡ 0 → m ≡ 0 → IsGreatestTo p cost These (after i n) k m
-  greatest_none These i n k m first bare none = record {
-    some = inl none;
-    needs = λ b need. absurd (elim need [ inl own ↦ omega (arith, own.1, own.2, first) | inr w ↦ omega (arith, w.1, bare) ]);
-  }
+  greatest_none : (These : ActionId → Type 0) (i : ℕ) → IsGreatestTo p cost These (after i 0) 0 0
+  greatest_none These i = record { some = inl refl; needs = λ b need. absurd (elim need [ inl own ↦ omega (arith, own.1, own.2) | inr w ↦ omega (arith, w.1) ]) }
 
   -- of a later one
-  greatest_own : (These : ActionId → Type 0) (i n m : ℕ) → These (after i n) → IsCriticalCost p cost (after i n) m → IsGreatestTo p cost These (after i (n + 1)) 0 m
-  greatest_own These i n m done here = record {
-    some = inr (after i n, inl (refl, refl, omega arith), here);
+  greatest_own : (These : ActionId → Type 0) (a : ActionId) (m : ℕ) → 1 ≤ a.number → These a → IsCriticalCost p cost a m → IsGreatestTo p cost These (after a.agent a.number) 0 m
+  greatest_own These a m first done here = record {
+    some = inr (a, inl (refl, refl, first), here);
     needs = λ b need. elim need [
       | inl own ↦
-          let number : n + 1 ≡ b.number = omega (arith, own.1) in
-          let same : after i n ≡ b = (λ t. record { agent = own.0 t; number = number t }) in
+          let number : a.number ≡ b.number = omega (arith, own.1) in
+          let same : a ≡ b = (λ t. record { agent = own.0 t; number = number t }) in
           subst (λ (x : ActionId). These x × ((k : ℕ) → IsCriticalCost p cost x k → k ≤ m)) same (done, (λ k c. here.most k c.some))
       | inr w ↦ absurd (omega (arith, w.1))
     ];
@@ -87,6 +83,9 @@ module _ (p : Program) (cost : ActionId → ℕ) where
       abbrev n : ℕ
       n = finished_in w i
 
+      abbrev number : ActionId → ℕ
+      number = h.numbered.number
+
       module _ (s : Stage) (costs : List ℕ) where
         abbrev on : Walked
         on = gone_on w i s costs
@@ -107,7 +106,7 @@ module _ (p : Program) (cost : ActionId → ℕ) where
           | inr ne ↦ omega (arith, ap (λ (x : Stage). x.finished) (other j ne))
         ]
 
-        comes : n ≤ s.finished → IsStage p cost offset (IsFinished on) i s → length costs ≡ total_moves p → AreNotedCosts p cost h.numbered.number w.places (IsFinished on) costs → IsCostWalk p cost offset on
+        comes : n ≤ s.finished → IsStage p cost offset (IsFinished on) i s → length costs ≡ total_moves p → AreNotedCosts p cost number w.places (IsFinished on) costs → IsCostWalk p cost offset on
         comes up stage all noted = record {
           numbered = h.numbered;
           all = record { stages = length-set w.stages i s ∙ h.all.stages; places = h.all.places; costs = all };
@@ -132,35 +131,61 @@ module _ (p : Program) (cost : ActionId → ℕ) where
 
       -- it finishes an action more
       module _ (s : Stage) (ready : IsReadyStage p cost offset w i s) where
-        here_action : IsAction p (after i n)
-        here_action = record { agent = agent; first = omega arith; last = omega (arith, ready.left) }
+        abbrev here : ActionId
+        here = record { agent = i; number = s.finished }
+
+        here_action : IsAction p here
+        here_action = record { agent = agent; first = omega (arith, ready.finished); last = ready.left }
 
         -- what the action costs, by the greatest cost of what it needs
-        pub costs_here : (own : ℕ) → own ≡ cost (after i n) → own ≤ MAX_COST → IsNotedCost p cost h.numbered.number (after i n) (s.greatest + own)
-        costs_here own is most = noted_next p cost h.numbered.number h.numbered.rising h.numbered.range (after i n) here_action s.greatest (value_at w.places w.costs) known (λ d need. (ready.greatest.needs d need).1 (value_at w.places w.costs d) (known d need).critical) ready.greatest.some own is most
+        pub costs_here : (own : ℕ) → own ≡ cost here → own ≤ MAX_COST → IsNotedCost p cost number here (s.greatest + own)
+        costs_here own is most = record {
+          critical = subst (λ (k : ℕ). IsCriticalCost p cost here (s.greatest + k)) (sym is) (record {
+            some = elim ready.greatest.some [
+              | inl e ↦ let alone : cost here ≡ s.greatest + cost here = omega (arith, e) in subst (λ (k : ℕ). EndsChainOfCost p cost k here) alone (ends_alone p cost here here_action)
+              | inr d ↦ ends_dearer p cost s.greatest d.0 here d.2.some here_action d.1
+            ];
+            most = λ k c. omega (arith, c.3, bound_on p cost here s.greatest (λ d need a cs chain. omega (arith, (ready.greatest.needs d need).1 (value d) (known d need).critical, bound_of p cost d (value d) (known d need).critical a cs chain)) c.0 c.1 c.2);
+          });
+          few = elim ready.greatest.some [
+            | inl e ↦ omega (arith, e, most, times 0 (h.numbered.rising.positive here here_action))
+            | inr d ↦ omega (arith, (known d.0 d.1).few, one_cost p cost d.0 s.greatest (value d.0) d.2 (known d.0 d.1).critical, most, times (number d.0) (h.numbered.rising.rising here d.0 here_action (need_action p h.numbered.range here d.0 here_action d.1) d.1))
+          ];
+        }
           where
-            known : (d : ActionId) → DirectlyNeeds p (after i n) d → IsNotedCost p cost h.numbered.number d (value_at w.places w.costs d)
-            known d need = h.noted d (need_action p h.numbered.range (after i n) d here_action need) (ready.greatest.needs d need).0
+            value : ActionId → ℕ
+            value = value_at w.places w.costs
+
+            known : (d : ActionId) → DirectlyNeeds p here d → IsNotedCost p cost number d (value d)
+            known d need = h.noted d (need_action p h.numbered.range here d here_action need) (ready.greatest.needs d need).0
+
+            times : (k : ℕ) → k < number here → (k + 1) * MAX_COST ≤ number here * MAX_COST
+            times k l = mul-le (k + 1) MAX_COST (number here) MAX_COST (omega (arith, l)) (omega arith)
 
         -- that fits
-        pub costs_fit : (m : ℕ) → IsNotedCost p cost h.numbered.number (after i n) m → m ≤ MAX_LEVEL * MAX_COST
+        pub costs_fit : (m : ℕ) → IsNotedCost p cost number here m → m ≤ MAX_LEVEL * MAX_COST
         costs_fit m noted =
-            let times = mul-le (h.numbered.number (after i n)) MAX_COST MAX_LEVEL MAX_COST (h.numbered.upto (after i n) here_action) (omega arith) in
+            let times = mul-le (number here) MAX_COST MAX_LEVEL MAX_COST (h.numbered.upto here here_action) (omega arith) in
             omega (arith, noted.few, times)
 
-        pub finished : (m : ℕ) → IsNotedCost p cost h.numbered.number (after i n) m → IsCostWalk p cost offset (gone_on w i (record { finished = s.finished; met = 0; at = s.at; greatest = m }) (set w.costs (action_place w.places (after i n)) m))
-        finished m here = comes there costs (omega (arith, ready.finished)) (record {
-          finished = omega (arith, ready.finished, ready.left);
+        pub finished : (m : ℕ) → IsNotedCost p cost number here m → IsCostWalk p cost offset (gone_on w i (record { finished = s.finished; met = 0; at = s.at; greatest = m }) (set w.costs (action_place w.places here) m))
+        finished m is = comes there costs (omega (arith, ready.finished)) (record {
+          finished = ready.left;
           within = omega arith;
           at = ready.at;
-          greatest = subst (λ (k : ℕ). IsGreatestTo p cost Done (after i k) 0 m) (sym ready.finished) (greatest_own Done i n m (omega (arith, own_count there costs, ready.finished)) here.critical);
-        }) (length-set w.costs x m ∙ h.all.costs) (noted_more p cost h.numbered.number w.places h.all.places (IsFinished w) Done (after i n) here_action split (λ old. omega (arith, old)) x refl w.costs h.all.costs m here h.noted)
+          greatest = greatest_own Done here m here_action.first (omega (arith, own_count there costs)) is.critical;
+        }) (length-set w.costs x m ∙ h.all.costs) (λ a act done. elim (split a act done) [
+          | inl was ↦ subst (IsNotedCost p cost number a)
+              (sym (get_or-set_other w.costs x (action_place w.places a) m 0 (place_apart p w.places h.all.places a here act here_action (λ e. (let late = subst (IsFinished w) e was in omega (arith, late, ready.finished)))))) (h.noted a act was)
+          | inr same ↦ subst (λ (b : ActionId). IsNotedCost p cost number b (value_at w.places costs b)) (sym same)
+              (subst (IsNotedCost p cost number here) (sym (get_or-set_same w.costs x m 0 (omega (arith, place_within p w.places h.all.places here here_action, h.all.costs)))) is)
+        ])
           where
             there : Stage
             there = record { finished = s.finished; met = 0; at = s.at; greatest = m }
 
             x : ℕ
-            x = action_place w.places (after i n)
+            x = action_place w.places here
 
             costs : List ℕ
             costs = set w.costs x m
@@ -168,12 +193,12 @@ module _ (p : Program) (cost : ActionId → ℕ) where
             Done : ActionId → Type 0
             Done = IsFinished (on there costs)
 
-            split : (a : ActionId) → IsAction p a → Done a → IsFinished w a ⊎ (a ≡ after i n)
+            split : (a : ActionId) → IsAction p a → Done a → IsFinished w a ⊎ (a ≡ here)
             split a act done = elim (cases_eq a.agent i) [
               | inr ne ↦ inl (omega (arith, done, ap (λ (y : Stage). y.finished) (other there costs a.agent ne)))
               | inl e ↦ elim (cases_lt n a.number) [
                 | inr le ↦ inl (omega (arith, le, ap (finished_in w) e))
-                | inl more ↦ (let number : a.number ≡ n + 1 = omega (arith, more, done, ap (finished_in (on there costs)) e, own_count there costs, ready.finished) in inr (λ t. record { agent = e t; number = number t }))
+                | inl more ↦ (let number : a.number ≡ s.finished = omega (arith, more, done, ap (finished_in (on there costs)) e, own_count there costs, ready.finished) in inr (λ t. record { agent = e t; number = number t }))
               ]
             ]
 
@@ -189,14 +214,14 @@ AreDeep p number goals = (k : ℕ) (d : Await) → k < length goals → IsDeep p
 
 module _ (p : Program) (f : IsNumberedTo p MAX_LEVEL) where
   -- what the agent of a goal waits for
-  pub deep_next : (w : Walked) (n : ℕ) (goal next : Await) → IsDeep p f.number n goal → IsOpen w goal → (met : ℕ) → IsUnmet p w goal.agent met next → IsDeep p f.number (n + 1) next
-  deep_next w n goal next h still met unmet =
-      let here = after goal.agent (finished_in w goal.agent) in
+  pub deep_next : (w : Walked) (n : ℕ) (goal next : Await) → IsDeep p f.number n goal → IsOpen w goal → (s : Stage) → s.finished ≡ finished_in w goal.agent → IsUnmet p w goal.agent s next → IsDeep p f.number (n + 1) next
+  deep_next w n goal next h still s same unmet =
+      let here = after goal.agent s.finished in
       let awaits = awaits_of p here.agent here.number in
-      let named : Contains awaits next = (met, slice_get_within awaits met next unmet.await, get_or_from_slice_get awaits met next next unmet.await) in
-      let act : IsAction p here = record { agent = h.action.agent; first = omega arith; last = omega (arith, unmet.left) } in
+      let named : Contains awaits next = (s.met, slice_get_within awaits s.met next unmet.await, get_or_from_slice_get awaits s.met next next unmet.await) in
+      let act : IsAction p here = record { agent = h.action.agent; first = omega arith; last = omega (arith, same, still, h.action.last) } in
       let needed = need_action p f.range here (awaited next) act (inr named) in
-      let up = Reaches-rises p f.number f.rising here (awaited goal) (own_reach p goal.agent here.number goal.count h.action.agent (omega arith) (omega (arith, still)) h.action.last) in
+      let up = Reaches-rises p f.number f.rising here (awaited goal) (own_reach p goal.agent here.number goal.count h.action.agent (omega arith) (omega (arith, still, same)) h.action.last) in
       record { action = needed; deep = omega (arith, h.deep, up, f.rising.rising here (awaited next) act needed (inr named)) }
 
   -- one goal more
@@ -272,20 +297,13 @@ module _ (p : Program) (last : Await) (n : ℕ) where
   less_reached w over next m fewer = omega (arith, fewer, turns_over w last n over, turns_most w next m)
 
 -- nothing is finished
-pub walk_begins : (p : Program) (cost : ActionId → ℕ) (offset : (i finished k : ℕ) → ℕ) (w : Walked) → IsNumberedTo p MAX_LEVEL → HasAll p w → ((i : ℕ) (s : Stage) → slice_get w.stages i ≡ Some s → IsFirstStage offset i s) → IsCostWalk p cost offset w
+pub walk_begins : (p : Program) (cost : ActionId → ℕ) (offset : (i finished k : ℕ) → ℕ) (w : Walked) → IsNumberedTo p MAX_LEVEL → HasAll p w → ((i : ℕ) (s : Stage) → slice_get w.stages i ≡ Some s → s ≡ first_stage offset i) → IsCostWalk p cost offset w
 walk_begins p cost offset w numbered all first = record {
   numbered = numbered;
   all = all;
-  each = λ i l.
-      let h = none i l in
-      record {
-        finished = omega (arith, h.finished);
-        within = omega (arith, h.met);
-        at = h.at ∙ sym (λ t. offset i (h.finished t) (h.met t));
-        greatest = greatest_none p cost (IsFinished w) i (finished_in w i) (stage_in w i).met (stage_in w i).greatest h.finished h.met h.greatest;
-      };
-  noted = λ a act done. absurd (omega (arith, done, (none a.agent act.agent).finished, act.first));
+  each = λ i l. subst (IsStage p cost offset (IsFinished w) i) (sym (none i l)) (record { finished = omega arith; within = omega arith; at = refl; greatest = greatest_none p cost (IsFinished w) i });
+  noted = λ a act done. absurd (omega (arith, done, ap (λ (s : Stage). s.finished) (none a.agent act.agent), act.first));
 }
   where
-    none : (i : ℕ) → i < length p → IsFirstStage offset i (stage_in w i)
+    none : (i : ℕ) → i < length p → stage_in w i ≡ first_stage offset i
     none i l = first i (stage_in w i) (slice_get-get_or w.stages i no_stage (omega (arith, l, all.stages)))

@@ -53,13 +53,13 @@ finished_in w i = (stage_in w i).finished
 abbrev pub IsFinished : Walked → ActionId → Type 0
 IsFinished w a = a.number ≤ finished_in w a.agent
 
--- agent i has an action left, all that it directly needs is finished, the greatest cost is that of all of it, and the
+-- agent i has this action next, all that it directly needs is finished, the greatest cost is that of all of it, and the
 -- action after it stands there
 pub record IsReadyStage (p : Program) (cost : ActionId → ℕ) (offset : (i finished k : ℕ) → ℕ) (w : Walked) (i : ℕ) (s : Stage) : Type 0 where
-  pub left : finished_in w i < moves p i
   pub finished : s.finished ≡ finished_in w i + 1
+  pub left : s.finished ≤ moves p i
   pub at : s.at ≡ offset i s.finished 0
-  pub greatest : IsGreatestTo p cost (IsFinished w) (after i (finished_in w i)) (length (awaits_of p i (finished_in w i + 1))) s.greatest
+  pub greatest : IsGreatestTo p cost (IsFinished w) (record { agent = i; number = s.finished }) (length (awaits_of p i s.finished)) s.greatest
 
 -- there is an entry for each agent of the program, and for each action
 pub record HasAll (p : Program) (w : Walked) : Type 0 where
@@ -88,8 +88,7 @@ HaveGrown old new = (i : ℕ) → finished_in old i ≤ finished_in new i
 abbrev pub IsOpen : Walked → Await → Type 0
 IsOpen w goal = finished_in w goal.agent < goal.count
 
--- agent i has an action left, and this is its first await after so many, and not met
-pub record IsUnmet (p : Program) (w : Walked) (i met : ℕ) (goal : Await) : Type 0 where
-  pub left : finished_in w i < moves p i
-  pub await : slice_get (awaits_of p i (finished_in w i + 1)) met ≡ Some goal
+-- agent i stands before this await, which is not met
+pub record IsUnmet (p : Program) (w : Walked) (i : ℕ) (s : Stage) (goal : Await) : Type 0 where
+  pub await : slice_get (awaits_of p i (s.finished + 1)) s.met ≡ Some goal
   pub unfinished : IsOpen w goal

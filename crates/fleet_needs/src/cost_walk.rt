@@ -153,7 +153,7 @@ fn next_stage<P: ProgramView, C: ActionCosts>(
         (P.offset program.now) (IsFinished walk.now) agent b.stage) }
     ensures same { IfErr result (λ b. b.stage.finished ≡ finished_in walk.now agent) }
     ensures unmet { IfErr result (λ b. IsUnmet (P.program program.now) walk.now agent
-        b.stage.met b.awaited) }
+        b.stage b.awaited) }
 {
     let _ = program.agents();
     let stage = walk.stage(agent);

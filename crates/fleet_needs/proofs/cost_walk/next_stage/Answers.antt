@@ -1,4 +1,4 @@
-use Rattle.fleet_needs.proofs.Words.{◌≡◌, ◌+◌, ℕ, sym, ap, subst, arith, slice_get, Some, awaits_of, IsCriticalCost, awaited, few_awaits_of, IsStage, IsGreatestTo, IsFinished, after, length, Stage}
+use Rattle.fleet_needs.proofs.Words.{◌≡◌, ◌+◌, ℕ, sym, ap, subst, arith, slice_get, Some, awaits_of, IsCriticalCost, awaited, few_awaits_of, IsStage, IsGreatestTo, IsFinished, after, Stage}
 use Rattle.fleet_needs.proofs.Joining.{awaited_action}
 use Rattle.fleet_needs.proofs.Walking.{stage_on}
 use Rattle.fleet_needs.proofs.cost_walk.next_stage.Goals as goal
@@ -17,31 +17,18 @@ cost-requires-clause-goal g c =
     awaited_action (g.P.ProgramView.program c.args.program.now) c.requires.walk.numbered.range c.args.agent (c.stage-stage.result.finished + 1) c.loop-k.k c.in-Await.awaited (rw c.in-Await.is at c.read-reading.ensures.instruction)
 
 pub returns-then-is_open-clause-unmet : goal.returns-then-is_open-clause-unmet
-returns-then-is_open-clause-unmet g c =
-    let p = g.P.ProgramView.program c.args.program.now in
-    let i = c.args.agent in
-    let k = c.loop-k.k in
-    let w = c.in-Await.awaited in
-    let at : slice_get (awaits_of p i (c.stage-stage.result.finished + 1)) k ≡ Some w = rw c.in-Await.is at c.read-reading.ensures.instruction in
-    record {
-      left = c.requires.left;
-      await = subst (λ (n : ℕ). slice_get (awaits_of p i (n + 1)) k ≡ Some w) (ap (λ (s : Stage). s.finished) c.stage-stage.ensures) at;
-      unfinished = c.is_open.ensures.open c.if-is_open.true;
-    }
+returns-then-is_open-clause-unmet g c = record { await = rw c.in-Await.is at c.read-reading.ensures.instruction; unfinished = c.is_open.ensures.open c.if-is_open.true }
 
 pub returns-in-Step-clause-ready : goal.returns-in-Step-clause-ready
 returns-in-Step-clause-ready g c =
-    let p = g.P.ProgramView.program c.args.program.now in
-    let Is = IsGreatestTo p (g.C.ActionCosts.cost c.args.costs.now) (IsFinished c.args.walk.now) in
-    let i = c.args.agent in
-    let n = c.stage-stage.result.finished in
     let same = ap (λ (s : Stage). s.finished) c.stage-stage.ensures in
     let said = rw c.in-Step.is at c.read-reading.ensures.instruction in
     record {
-      left = c.requires.left;
       finished = ap (λ (m : ℕ). m + 1) same;
+      left = omega (arith, c.requires.left, same);
       at = rw c.in-Step.is at c.read-reading.ensures.after;
-      greatest = subst (λ (m : ℕ). Is (after i m) (length (awaits_of p i (m + 1))) c.loop-k.greatest) same (subst (λ (k : ℕ). Is (after i n) k c.loop-k.greatest) said.0 c.loop-k.invariant.greatest);
+      greatest =
+          subst (λ (k : ℕ). IsGreatestTo (g.P.ProgramView.program c.args.program.now) (g.C.ActionCosts.cost c.args.costs.now) (IsFinished c.args.walk.now) (after c.args.agent c.stage-stage.result.finished) k c.loop-k.greatest) said.0 c.loop-k.invariant.greatest;
     }
 
 pub loop-k-preserved : goal.loop-k-preserved

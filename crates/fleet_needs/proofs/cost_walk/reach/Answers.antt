@@ -64,7 +64,7 @@ loop-walk-preserved-in-Err g c =
     let items = c.in_ok-push-in-Err.ensures.items in
     let same = kept p cost offset w was.walk i last.action.agent block.stage c.in-Err.ensures.same in
     let count = ap (λ (xs : List Await). length xs) items ∙ length_push goals c.loop-walk.last in
-    let next = deep_next p was.numbered w (length goals) c.loop-walk.last block.awaited last still block.stage.met c.in-Err.ensures.unmet in
+    let next = deep_next p was.numbered w (length goals) c.loop-walk.last block.awaited last still block.stage c.in-Err.ensures.same c.in-Err.ensures.unmet in
     record {
       walk = subst (IsCostWalk p cost offset) (sym c.go_on.ensures) (stopped p cost offset w was.walk i last.action.agent block.stage c.in-Err.ensures.same c.in-Err.ensures.stage);
       grown = subst (HaveGrown c.args.walk.now) (sym c.go_on.ensures) (λ j. omega (arith, was.grown j, same j));

@@ -1,19 +1,19 @@
-//! Programs in place: a view of the bytes that spell one.
+//! Programs in place: a view of the bytes that spell one, which knows whether its actions are all moves.
 
-ghost use Rattle.std.specs.Prelude.{◌≢◌, ◌≡◌, ◌≤◌, ◌<◌, ◌+◌, ◌++◌, ◌^◌, ◌↔◌, ℕ, true, List, length, IfOk, IfErr, IsTrue};
+ghost use Rattle.std.specs.Prelude.{◌≢◌, ◌≡◌, ◌≤◌, ◌<◌, ◌+◌, ◌++◌, ◌^◌, ◌↔◌, ℕ, true, List, length, IfOk, IfErr, IsTrue, Some};
 ghost use Rattle.fleet_model.specs.declared.geometry.Cell.{Cell};
 ghost use Rattle.fleet_model.specs.declared.program.Await.{Await};
 ghost use Rattle.fleet_model.specs.declared.program.AgentProgram.{AgentProgram};
 ghost use Rattle.fleet_model.specs.Answer.{IsDueUnless};
-ghost use Rattle.fleet_model.specs.Program.{IsCell, IsWellFormed, NeverStays, moves, awaits_before};
+ghost use Rattle.fleet_model.specs.Program.{IsCell, IsWellFormed, NeverStays, moves, awaits_before, step_of};
 ghost use Rattle.fleet_code.specs.Spelling.{Spells, SpellsNothing, two_bytes, count, most_count, cell, await};
 ghost use Rattle.fleet_code.specs.LoadFaults.{IsFirstLoadFault};
 ghost use Rattle.fleet_code.specs.Offsets.{Viewed, program_in, StandsAt, await_len, after_opcodes, begin_of, end_of, part_at};
+ghost use Rattle.fleet_model.specs.Geometry.{is_move};
+ghost use Rattle.fleet_code.specs.Stays.{MovesAlways};
 
-use crate::encoder::never_stays;
 use crate::fault::LoadFault;
-use crate::format::{AWAIT, CELL_LEN, NUMBER_LEN, Version, step_of};
-use crate::loader::version_of;
+use crate::format::{AWAIT, CELL_LEN, NUMBER_LEN, Version, step_of, version_of};
 use crate::offsets::{Part, parts_in};
 use fleet_model::{Await, Cell, Instruction, ProgramView, Reading, Step};
 use std::alloc::Global;
@@ -292,5 +292,74 @@ impl<'a> ProgramView for CodeView<'a> {
             },
             None => unreachable!(),
         }
+    }
+}
+
+// Whether the actions of a program are all moves, however it is kept.
+
+/// Whether every action of every agent is a move. It looks at the actions only if the view does not know.
+pub fn never_stays<P: ProgramView>(program: &P) -> bool
+    ensures { IsTrue result ↔ NeverStays (P.program program.now) }
+{
+    program.never_stays() || all_move(program)
+}
+
+/// Whether so it is, by a look at each action.
+#[tactic(auto, using(crate::proofs::Stays::none_stays))]
+fn all_move<P: ProgramView>(program: &P) -> bool
+    ensures { IsTrue result ↔ NeverStays (P.program program.now) }
+{
+    for i in 0..program.agents() {
+        if !are_moves(program, i) {
+            return false;
+        }
+    }
+    true
+}
+
+/// Whether every action of agent `i` is a move. They are read from front to back.
+fn are_moves<P: ProgramView>(program: &P, i: u16) -> bool
+    requires { i < length (P.program program.now) }
+    ensures { IsTrue result ↔ MovesAlways (P.program program.now) i }
+{
+    let mut at = program.offset(i, 0, 0);
+    for finished in 0..program.moves(i) {
+        let (step, after) = next_step(program, i, finished, at);
+        if !is_move(step) {
+            return false;
+        }
+        at = after;
+    }
+    true
+}
+
+/// The step of the next action of agent `i`, which stands there, and where the action after it stands.
+#[inline(always)]
+fn next_step<P: ProgramView>(program: &P, i: u16, finished: u32, at: usize) -> (Step, usize)
+    requires agent { i < length (P.program program.now) }
+    requires left { finished < moves (P.program program.now) i }
+    requires at { at ≡ P.offset program.now i finished 0 }
+    ensures step { step_of (P.program program.now) i (finished + 1) ≡ Some result.0 }
+    ensures after { result.1 ≡ P.offset program.now i (finished + 1) 0 }
+{
+    let _agents = program.agents();
+    let mut at = at;
+    let mut k = 0;
+    'instructions: loop {
+        let reading = program.read(i, finished, k, at);
+        at = reading.after;
+        match reading.instruction {
+            Instruction::Await(_) => k += 1,
+            Instruction::Step(step) => return (step, at),
+        }
+    }
+}
+
+fn is_move(step: Step) -> bool
+    ensures { result ≡ is_move step }
+{
+    match step {
+        Step::Go(_) => true,
+        Step::Dwell => false,
     }
 }

@@ -11,8 +11,10 @@ ghost use Rattle.fleet_code.specs.Offsets.{Finds, last_step, AreBare, head_len, 
 ghost use Rattle.std.specs.List.{range_with_len};
 
 use crate::fault::LoadFault;
-use crate::format::{AWAIT, DWELL, HEAD_LEN, LAST_MOVE, LEAST_AGENT_LEN, Version, step_of};
-use crate::loader::{after_magic, await_of, cell_of, count_of, number_of};
+use crate::format::{
+    AWAIT, DWELL, HEAD_LEN, LAST_MOVE, LEAST_AGENT_LEN, Version, after_magic, await_of, cell_of,
+    count_of, number_of, step_of,
+};
 use fleet_model::{Cell, MAX_AGENTS, MAX_MOVES, MAX_MOVES_IN_ALL, OutOfMemory};
 use fleet_text::{ByteClass, first_of};
 use std::alloc::Global;

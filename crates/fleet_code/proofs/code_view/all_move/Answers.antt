@@ -1,6 +1,6 @@
 use Rattle.fleet_code.proofs.Words.{◌<◌, ◌≡◌, ◌∙◌, length, refl, sym, subst, arith, inl, inr, cases_lt, false≢true, MovesAlways}
 use Rattle.fleet_code.proofs.Stays.{none_stays}
-use Rattle.fleet_code.proofs.encoder.all_move.Goals as goal
+use Rattle.fleet_code.proofs.code_view.all_move.Goals as goal
 
 pub returns-then-not-are_moves : goal.returns-then-not-are_moves
 returns-then-not-are_moves g c =

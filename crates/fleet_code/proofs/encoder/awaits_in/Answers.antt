@@ -1,5 +1,5 @@
 use Rattle.fleet_code.proofs.Written.{awaits_by_len}
-use Rattle.fleet_code.proofs.action_bytes.awaits_in.Goals as goal
+use Rattle.fleet_code.proofs.encoder.awaits_in.Goals as goal
 
 pub returns : goal.returns
 returns c = λ p n m l.

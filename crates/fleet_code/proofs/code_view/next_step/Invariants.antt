@@ -1,5 +1,5 @@
 use Rattle.fleet_code.proofs.Words.{◌≡◌, ◌≤◌, ◌+◌, ◌-◌, length, awaits_of}
-use Rattle.fleet_code.proofs.encoder.next_step.Given as goal
+use Rattle.fleet_code.proofs.code_view.next_step.Given as goal
 
 abbrev pub invariant-instructions : goal.invariant-instructions
 invariant-instructions g l = record {

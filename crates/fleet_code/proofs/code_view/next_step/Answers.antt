@@ -1,5 +1,5 @@
 use Rattle.fleet_code.proofs.Words.{◌+◌, arith, slice_get_within, awaits_of, few_awaits_of}
-use Rattle.fleet_code.proofs.encoder.next_step.Goals as goal
+use Rattle.fleet_code.proofs.code_view.next_step.Goals as goal
 
 pub instructions-preserved : goal.instructions-preserved
 instructions-preserved g c =

@@ -1,5 +1,5 @@
 use Rattle.fleet_code.proofs.Words.{◌++◌, ◌∷◌, [], replicate, sym, ap, ◌∙◌, append_assoc, replicate_next, Dwell, opcode}
-use Rattle.fleet_code.proofs.action_bytes.put_stays.Goals as goal
+use Rattle.fleet_code.proofs.encoder.put_stays.Goals as goal
 
 pub loop-preserved : goal.loop-preserved
 loop-preserved c =

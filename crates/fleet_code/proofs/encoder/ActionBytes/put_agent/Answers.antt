@@ -1,6 +1,6 @@
 use Rattle.fleet_code.proofs.Words.{◌∙◌, ◌++◌, ap, List, ℕ, replicate, on_ok_weaker, Dwell, opcode}
 use Rattle.fleet_code.proofs.Written.{part_written}
-use Rattle.fleet_code.proofs.action_bytes.ActionBytes.put_agent.Goals as goal
+use Rattle.fleet_code.proofs.encoder.ActionBytes.put_agent.Goals as goal
 
 pub returns : goal.returns
 returns c =

@@ -1,5 +1,5 @@
 use Rattle.fleet_code.proofs.Words.{◌≡◌, ◌≤◌, ℕ, Some, IsTrue, Step, is_move, step_of}
-use Rattle.fleet_code.proofs.encoder.are_moves.Given as goal
+use Rattle.fleet_code.proofs.code_view.are_moves.Given as goal
 
 abbrev pub invariant-loop-finished : goal.invariant-loop-finished
 invariant-loop-finished g l = record {

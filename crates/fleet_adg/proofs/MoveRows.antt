@@ -1,6 +1,6 @@
 -- The moves of a step as a row: each of them, and what a fold over those who move makes.
 use Rattle.fleet_adg.proofs.Words.{◌≡◌, ℕ, ◌+◌, ◌<◌, ◌≤◌, ◌==◌, not, filter, All, true, List, length, get_or, sym, ap, subst, ◌∙◌, arith, fold, length-map, get_or-map, get_or_default, filter_passes, All-get_or, All-filter, MAX_HORIZON, Cell, Await, Action, Deps, Version, most_count, Ground, cell_index, Plan, cell_of, Move, changes_in, leavings, entry_awaits, row_of, AreLeavingsAt, under_way, movers, move_by, moves_in, all_actions_by}
-use Rattle.fleet_adg.specs.declared.leavings.Leavings.{Leavings}
+use Rattle.fleet_adg.specs.declared.sweep.Leavings.{Leavings}
 use Rattle.fleet_adg.proofs.Folds.{fold-filter, note_by, note_by-stays, leaves-still, add_by, add_by-stays, all_actions_by-next}
 use Rattle.fleet_adg.proofs.Limits.{counts_fit}
 use Rattle.fleet_adg.proofs.SweepSteps.{IsNotedBelow, noting_ends, under_way_below}

@@ -1,6 +1,6 @@
 -- The steps of the sweep, as its loops take them.
 use Rattle.fleet_adg.proofs.Words.{◌≡◌, ◌≢◌, ℕ, zero, suc, ◌+◌, ◌-◌, ◌<◌, ◌≤◌, Bool, true, false, cond, List, [], ◌∷◌, ◌++◌, map, set, take, replicate, filter, filter_map, not, ◌==◌, length, get_or, slice_get, All, Some, inl, inr, refl, sym, ap, ◌∙◌, arith, add-one, range_with_len, fold, cases_Bool, cases_lt, cases_eq, lt-ltb, le-ltb, both_ways, false_from_ne_true, length-set, get_or_past, length-map, get_or-map, fold_more, length-map-range_with_len, get_or-map-range_with_len, get_or_from_slice_get, Cell, Dir, Go, Task, place_of, Await, Action, indices, Deps, Ground, IsGround, is_passable, cell_index, Plan, cell_of, steps, IsConflictFree, direction, last_below, entry_awaits, changes_in, changes, moves_by, leaves, await_of, last_leaving_by, last_leaving, leavings, action_in, row_of, kind_of, leavings_after, AreLeavingsAt, Version, written, under_way, movers, actions_by, all_actions_by, all_bytes_by, IsOnMap, is_under_way}
-use Rattle.fleet_adg.specs.declared.leavings.Leavings.{Leavings}
+use Rattle.fleet_adg.specs.declared.sweep.Leavings.{Leavings}
 use Rattle.fleet_code.specs.Written.{Written}
 use Rattle.fleet_adg.proofs.Moves.{moves_by-yes, moves_by-no, moves_by-le, steps-ge}
 use Rattle.fleet_adg.proofs.Entry.{leaves-parts, leaves-from}

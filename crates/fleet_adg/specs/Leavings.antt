@@ -5,8 +5,8 @@ use Rattle.fleet_grid.specs.Lists.{list_at, key_of_number}
 use Rattle.fleet_model.specs.declared.geometry.Cell.{Cell}
 use Rattle.fleet_model.specs.declared.program.Await.{Await}
 use Rattle.fleet_model.specs.declared.deps.Deps.{Deps}
-use Rattle.fleet_adg.specs.declared.leavings.Leaving.{Leaving}
-use Rattle.fleet_adg.specs.declared.leavings.Leavings.{Leavings}
+use Rattle.fleet_adg.specs.declared.sweep.Leaving.{Leaving}
+use Rattle.fleet_adg.specs.declared.sweep.Leavings.{Leavings}
 use Rattle.fleet_grid.specs.Ground.{Ground, cell_index}
 use Rattle.fleet_plan.specs.Plan.{Plan}
 use Rattle.fleet_adg.specs.Compiled.{leavings}

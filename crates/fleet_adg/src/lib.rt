@@ -1,7 +1,7 @@
 //! Programs made from plans.
 //!
 //! `sweep` goes once over the steps of a plan. It lists the moves of a step, goes over them first as leavings of cells
-//! and then as enterings, and adds to each agent's actions, which are bytes from the first on. `leavings` has who left
+//! and then as enterings, and adds to each agent's actions, which are bytes from the first on. `Leavings` say who left
 //! each cell so far: the last leaving alone for `Deps::Last`, a row for each cell, in order of agent, for `Deps::All`.
 //! `compiler` joins these bytes, with the stays of `compile_dwell`. `thinner` writes the bytes of an accepted program
 //! without the awaits that `fleet_needs` finds implied. `program_bytes` has what both make, and reads a program from
@@ -12,10 +12,8 @@
 mod compiler;
 mod fault;
 mod laws;
-mod leavings;
 mod program_bytes;
 mod remaining;
-mod row;
 mod sweep;
 mod thin_fault;
 mod thinner;

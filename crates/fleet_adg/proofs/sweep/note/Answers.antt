@@ -1,7 +1,7 @@
 use Rattle.fleet_adg.proofs.Words.{nat_le, ap, ◌∙◌, arith, position, Await}
 use Rattle.fleet_adg.proofs.Rows.{place_le, place_within, put_in_place, put_before_place, put_last}
-use Rattle.fleet_adg.proofs.row.note.Goals as goal
-use Rattle.fleet_adg.proofs.row.note.Goals.{else-is_within-via-then-is_within+else-index-leaving, else-is_within-via-else-is_within}
+use Rattle.fleet_adg.proofs.sweep.note.Goals as goal
+use Rattle.fleet_adg.proofs.sweep.note.Goals.{else-is_within-via-then-is_within+else-index-leaving, else-is_within-via-else-is_within}
 
 pub insert-requires : goal.insert-requires
 insert-requires c =

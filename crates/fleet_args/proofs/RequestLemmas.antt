@@ -1,15 +1,15 @@
 -- From the getters of the matches to what the words ask.
-use Rattle.std.proofs.Common.{◌≡◌, ◌∙◌, ℕ, Bool, cond, true, List, [], ◌∷◌, Option, Some, None, Ok, Err, map, option_map, unwrap_or, refl, sym, ap, ap₂, false, is_some, subst}
-use Rattle.std.specs.{Borrow.Bor, List.find, List.list_all, Str.bytes_eq}
+use Rattle.std.proofs.Common.{◌≡◌, ◌∙◌, ℕ, Bool, true, arith, List, [], ◌∷◌, Option, Some, None, Result, map, option_map, refl, sym, ap, ap₂, is_some}
+use Rattle.std.specs.{Borrow.Bor, List.find, List.list_all, Option.MatchOption, Str.bytes_eq}
 use Rattle.std.specs.Str.Parse.{ParsesUnsigned, ExplainsUnsignedError, HasUnsignedDigitsIfOk}
 use Rattle.std.specs.declared.num.ParseIntError.{ParseIntError}
-use Rattle.clap.specs.Words.{App, Row, Text, rows_of, first_of, one_of, first_value, one_text, fault_of, is_simple_and_free, matches_of}
+use Rattle.clap.specs.Words.{Text, rows_of, first_of, first_value, one_text, is_simple_and_free}
 use Rattle.clap.specs.{Matches.ReadsOne, declared.parser.matches.Found.Found}
 use Rattle.clap.proofs.WalkLemmas.{both, find-map, first_value-rows, one_text-rows}
-use Rattle.fleet_args.specs.Values.{IsNumberIfUsed, SpellsNumber}
+use Rattle.fleet_args.specs.Values.{IsNumberIfUsed}
 use Rattle.fleet_args.specs.declared.arguments.CommandText.{CommandText}
 use Rattle.fleet_args.specs.{Arguments.own, Arguments.said, Commands.AsksCommand, Commands.IsCommandName, Commands.commands, Values.AreNames}
-use Rattle.fleet_args.specs.Request.{ReadsBy, ReadsFleet, StopsFor, command_and_rest}
+use Rattle.fleet_args.specs.Request.{Parses, ReadsFleet, command_and_rest}
 use Rattle.fleet_args.specs.declared.{arguments.Form.Form, arguments.OptionNames.OptionNames, commands.Request.Request, request.WordStop.WordStop}
 
 -- what `get_str` gives stands in the rows
@@ -21,14 +21,14 @@ pub number_used :
     (bits : ℕ) (f : Found) (id : Text) (r : Option ℕ) → (one_text f id ≡ None → r ≡ None)
     → ((t : Text) → one_text f id ≡ Some t → ReadsOne {E = ParseIntError} (λ bs r. ParsesUnsigned bits 10 bs r × ExplainsUnsignedError 10 bs r × HasUnsignedDigitsIfOk bs r) t r)
     → IsNumberIfUsed bits (rows_of f) id r
-number_used bits f id None none some = λ t n is spelled. (some t (one_text-rows f id ∙ is)).1.0 spelled.0
-number_used bits f id (Some v) none some = go (one_text f id) refl
+number_used bits f id r none some = rw (← one_text-rows f id) (go (one_text f id) r none some)
   where
-    go : (o : Option Text) → one_text f id ≡ o → (t : Text) × (one_of id (rows_of f) ≡ Some t) × SpellsNumber bits t v
-    go None e =
-        let bad : Some v ≡ None = none e in
-        cc
-    go (Some t) e = (t, sym (one_text-rows f id) ∙ e, (some t e).0)
+    go : (o : Option Text) (r : Option ℕ) → (o ≡ None → r ≡ None)
+        → ((t : Text) → o ≡ Some t → ReadsOne {E = ParseIntError} (λ bs r. ParsesUnsigned bits 10 bs r × ExplainsUnsignedError 10 bs r × HasUnsignedDigitsIfOk bs r) t r)
+        → MatchOption o (r ≡ None) (λ t. ReadsOne {E = Unit {0}} (ParsesUnsigned bits 10) t r)
+    go None r none some = none refl
+    go (Some t) None none some = (tt, (some t refl).1.0)
+    go (Some t) (Some v) none some = (some t refl).0
 
 -- the command whose text is found in the table by the first word, with the words after it
 pub named : (table : List CommandText) → map said table ≡ commands → (words rest : List Text) (word name : Text) → words ≡ word ∷ rest → name ≡ word → (r : Option (Bor CommandText))
@@ -41,41 +41,26 @@ named table same words rest word name is spelled r found =
     with_rest = option_map (λ c. (c, rest))
 
     twice : (r : Option (Bor CommandText)) → option_map {U = (Text × List (Text × Form)) × List Text} (λ text. (said text.now, rest)) r ≡ with_rest (option_map said (option_map (λ text. text.now) r))
-    twice None = refl
-    twice (Some text) = refl
+    twice r = grind arith
 
 -- what is so of all commands is so of the one with whose name the words begin
 first_passes : (p q : Text × List (Text × Form) → Bool) (cs : List (Text × List (Text × Form))) (rest : List Text) (found : (Text × List (Text × Form)) × List Text)
     → list_all q cs ≡ true → Some found ≡ option_map (λ c. (c, rest)) (find p cs) → q found.0 ≡ true
 first_passes p q [] rest found all e = cc
-first_passes p q (c ∷ cs) rest found all e = go (p c) e (first_passes p q cs rest found (both _ _ all).1)
-  where
-    go : (b : Bool) → Some found ≡ option_map (λ d. (d, rest)) (cond b (Some c) (find p cs)) → (Some found ≡ option_map (λ d. (d, rest)) (find p cs) → q found.0 ≡ true) → q found.0 ≡ true
-    go true e later = ap (λ o. q (unwrap_or o found).0) e ∙ (both _ _ all).0
-    go false e later = later e
+first_passes p q (c ∷ cs) rest found all e = grind (arith, first_passes p q cs rest found, both (q c) (list_all q cs) all)
 
 pub known : (q : Text × List (Text × Form) → Bool) → list_all q commands ≡ true → (words : List Text) (found : (Text × List (Text × Form)) × List Text)
     → Some found ≡ command_and_rest words → q found.0 ≡ true
 known q all [] found e = cc
 known q all (word ∷ words) found e = first_passes (λ d. bytes_eq d.0 word) q commands words found all e
 
--- ---- what is read of words that begin with the name of a command, by an app that is this command by itself
-module _ (names : OptionNames) (are : AreNames names) (words : List Text) (found : (Text × List (Text × Form)) × List Text) (is : Some found ≡ command_and_rest words) (app : App) (same : app ≡ own names found.0) where
-  pub free : is_simple_and_free app ≡ true
-  free = ap is_simple_and_free same ∙ known (λ c. is_simple_and_free (own names c)) refl words found is
+-- ---- what is read of words that begin with the name of a command, by this command by itself
+module _ (names : OptionNames) (words : List Text) (found : (Text × List (Text × Form)) × List Text) (is : Some found ≡ command_and_rest words) where
+  pub free : is_simple_and_free (own names found.0) ≡ true
+  free = known (λ c. is_simple_and_free (own names c)) refl words found is
 
-  pub stops : (s : WordStop) → StopsFor (fault_of app found.1) s → ReadsFleet words (Err s)
-  stops s h = (names, are, subst (λ o. ReadsBy names words o (Err s)) is (subst (λ (a : App). StopsFor (fault_of a found.1) s) same h))
-
-  pub asks : (rows : List Row) (request : Request) → (fault_of app found.1 ≡ []) × (rows ≡ matches_of app found.1) → AsksCommand found.0.0 rows request → ReadsFleet words (Ok request)
-  asks rows request takes h = (
-    names,
-    are,
-    subst (λ o. ReadsBy names words o (Ok request)) is (
-      ap (λ (a : App). fault_of a found.1) (sym same) ∙ takes.0,
-      subst (λ rows. AsksCommand found.0.0 rows request) (takes.1 ∙ ap (λ (a : App). matches_of a found.1) same) h,
-    ),
-  )
+  pub reads : AreNames names → (result : Result Request WordStop) → Parses (own names found.0) found.1 (AsksCommand found.0.0) result → ReadsFleet words result
+  reads are result h = (names, are, rw (← is) h)
 
 pub is_name : (words : List Text) (found : (Text × List (Text × Form)) × List Text) → Some found ≡ command_and_rest words → IsCommandName found.0.0
 is_name = known (λ c. is_some (find (λ d. bytes_eq c.0 d.0) commands)) refl

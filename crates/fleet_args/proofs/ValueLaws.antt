@@ -1,7 +1,7 @@
 -- Each text that an option takes stands for something: it spells a number of its range, or is one of its names.
-use Rattle.std.proofs.Common.{◌≡◌, ◌∙◌, ◌<◌, ◌≤◌, ◌^◌, ◌||◌, ℕ, Bool, cond, true, false, List, [], ◌∷◌, map, Option, Some, None, codes, is_some, option_map, unwrap_or, refl, sym, ap, subst, if◌then◌else◌, true≢false}
+use Rattle.std.proofs.Common.{◌≡◌, ◌∙◌, ◌<◌, ◌≤◌, ◌^◌, ◌||◌, ℕ, Bool, true, false, List, [], ◌∷◌, map, Option, Some, codes, is_some, arith, refl, sym, ap, if◌then◌else◌}
 use Rattle.std.specs.Prelude.{nat_lt, pos}
-use Rattle.std.specs.{Borrow.Bor, List.find, List.list_all, List.list_any, Str.bytes_eq, Str.Parse.ParsesUnsigned}
+use Rattle.std.specs.{Borrow.Bor, List.list_all, List.list_any, Str.bytes_eq, Str.Parse.ParsesUnsigned}
 use Rattle.std.proofs.lemmas.Slice.Eq.{bytes_eq-Decides}
 use Rattle.clap.specs.Words.{Text, ReadsOne, without_minus}
 use Rattle.clap.specs.ValueTests.{accepts}
@@ -9,17 +9,13 @@ use Rattle.clap.specs.declared.builder.ValueParser.TheVariants as parser
 use Rattle.clap.proofs.{CallerReads.signed_reads, ValueTestLemmas.accepts-Accepts, WalkLemmas.list_any-map}
 use Rattle.fleet_args.specs.{Commands.commands, declared.arguments.OptionNames.OptionNames, declared.arguments.Form.Form}
 use Rattle.fleet_args.specs.declared.arguments.Form.TheVariants as form
-use Rattle.fleet_args.specs.Values.{AreNames, IsSpelled, SpellsNumber, best_names, deps_names, named_in}
+use Rattle.fleet_args.specs.Values.{AreNames, best_names, deps_names, named_in}
 
 -- a text that passes as a number of a range spells a number of that range, if it has so few bits
 pub number_spelled : (bits low high : ℕ) (text : Text) (n : Option ℕ) → high < 2 ^ bits → accepts false (parser.Signed (pos low) (pos high)) text ≡ true
-    → IsSpelled (SpellsNumber bits) (Some (without_minus text)) n → (m : ℕ) × (n ≡ Some m) × (low ≤ m) × (m ≤ high)
-number_spelled bits low high text n fits pass is =
-    signed_reads (Unit {0}) (ParsesUnsigned bits 10) bits low high text n (read n is) (λ t r h. h) fits (accepts-Accepts false (parser.Signed (pos low) (pos high)) text pass)
-  where
-    read : (n : Option ℕ) → IsSpelled (SpellsNumber bits) (Some (without_minus text)) n → ReadsOne {T = ℕ} {E = Unit {0}} (ParsesUnsigned bits 10) (without_minus text) n
-    read None is = (tt, λ h. is (without_minus text) _ refl (h, refl))
-    read (Some m) is = subst (λ t. SpellsNumber bits t m) (ap (λ o. unwrap_or o is.0) (sym is.1)) is.2
+    → ReadsOne {E = Unit {0}} (ParsesUnsigned bits 10) (without_minus text) n → (m : ℕ) × (n ≡ Some m) × (low ≤ m) × (m ≤ high)
+number_spelled bits low high text n fits pass read =
+    signed_reads (Unit {0}) (ParsesUnsigned bits 10) bits low high text n read (λ t r h. h) fits (accepts-Accepts false (parser.Signed (pos low) (pos high)) text pass)
 
 -- the bits of the number of an argument of this name, as it is read
 abbrev pub bits_of : Text → ℕ
@@ -36,13 +32,7 @@ numbers_fit = refl
 -- a text that is one of these names names something
 among : {A : Type 0} (text : Text) (names : List (Text × A)) → list_any (λ name. bytes_eq name text) (map (λ n. n.0) names) ≡ true → is_some (named_in names text) ≡ true
 among text [] h = h
-among {A} text (n ∷ names) h = go (bytes_eq text n.0) (bytes_eq n.0 text) (λ e. (bytes_eq-Decides text n.0).1 (sym ((bytes_eq-Decides n.0 text).0 e))) (among text names) h
-  where
-    go : (a b : Bool) → (b ≡ true → a ≡ true) → (list_any (λ name. bytes_eq name text) (map (λ m. m.0) names) ≡ true → is_some (named_in names text) ≡ true) → (b || list_any (λ name. bytes_eq name text) (map (λ m. m.0) names)) ≡ true
-        → is_some (option_map {U = A} (λ m. m.1) (cond a (Some n) (find (λ m. bytes_eq text m.0) names))) ≡ true
-    go true b f later h = refl
-    go false true f later h = absurd (true≢false (sym (f refl)))
-    go false false f later h = later h
+among text (n ∷ names) h = grind (arith, among text names, bytes_eq-Decides)
 
 -- a text that passes as one of the names of an option names something
 module _ (names : OptionNames) (are : AreNames names) (text : Text) where

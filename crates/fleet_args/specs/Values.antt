@@ -1,7 +1,7 @@
 -- The values that the words of a command give to its arguments.
-use Rattle.std.specs.Prelude.{◌≡◌, ℕ, Bool, false, List, [], ◌∷◌, Option, Some, None, Ok, codes, find, map, option_and_then, option_map, unwrap_or}
+use Rattle.std.specs.Prelude.{◌≡◌, ℕ, Bool, false, List, [], ◌∷◌, MatchOption, Option, None, codes, find, map, option_and_then, option_map, unwrap_or}
 use Rattle.std.specs.{Borrow.Bor, Option.option_map_or, Str.bytes_eq, Str.Parse.ParsesUnsigned}
-use Rattle.clap.specs.Words.{Row, Text, first_of, one_of, rows_of, found_of}
+use Rattle.clap.specs.Words.{ReadsOne, Row, Text, first_of, one_of, rows_of, found_of}
 use Rattle.clap.specs.declared.parser.ArgMatches.{ArgMatches}
 use Rattle.fleet_args.specs.declared.{arguments.OptionNames.OptionNames, commands.Best.Best}
 use Rattle.fleet_args.specs.declared.commands.Best.TheVariants as best
@@ -25,15 +25,6 @@ pub record AreNames (names : OptionNames) : Type 0 where
 abbrev pub named_in : {A : Type 0} → List (Text × A) → Text → Option A
 named_in names text = option_map (λ n. n.1) (find (λ n. bytes_eq text n.0) names)
 
--- the text spells the number, which has no more than so many bits
-abbrev pub SpellsNumber : ℕ → Text → ℕ → Type 0
-SpellsNumber bits text n = ParsesUnsigned {E = Unit {0}} bits 10 text (Ok n)
-
--- what the option's text spells, if the option was used and its text spells something
-abbrev pub IsSpelled : {A : Type 0} → (Text → A → Type 0) → Option Text → Option A → Type 0
-IsSpelled spells text (Some a) = (t : Text) × (text ≡ Some t) × spells t a
-IsSpelled {A} spells text None = (t : Text) (a : A) → text ≡ Some t → spells t a → ⊥
-
 -- ---- The value of an argument, by the rows that `clap` defines for the words. By its definition words that lack a
 -- text which a command needs have a fault, as have those in which an option has a text that it does not take; so a text
 -- that is lacking may be empty here, and such an option be as unused
@@ -50,9 +41,9 @@ IsText rows id text = text.now ≡ unwrap_or (first_of id rows) []
 abbrev pub IsTextIfUsed : List Row → Text → Option (Bor Text) → Type 0
 IsTextIfUsed rows id text = option_map (λ t. t.now) text ≡ first_of id rows
 
--- a number of so many bits, if the option was used
+-- the number of so many bits that the option's text spells, if the option was used and its text spells one
 abbrev pub IsNumberIfUsed : ℕ → List Row → Text → Option ℕ → Type 0
-IsNumberIfUsed bits rows id = IsSpelled (SpellsNumber bits) (one_of id rows)
+IsNumberIfUsed bits rows id n = MatchOption (one_of id rows) (n ≡ None) (λ text. ReadsOne {E = Unit {0}} (ParsesUnsigned bits 10) text n)
 
 -- .. or else this one
 abbrev pub IsNumberOr : ℕ → ℕ → List Row → Text → ℕ → Type 0

@@ -87,7 +87,6 @@ fn arg_of<'a>(alloc: Global, names: OptionNames<'a>, argument: &Argument) -> Arg
 }
 
 /// The command with these arguments after those that it has.
-#[tactic(auto, using(std::proofs::lemmas::Grind::common_steps))]
 fn with_arguments<'a>(
     alloc: Global,
     command: Command<'a>,
@@ -98,13 +97,11 @@ fn with_arguments<'a>(
     ensures { IfOk result (IsApp (fold with_rule (app_of command.entry)
         (map (rule_for names.entry) (map told arguments.now)))) }
 {
-    match arguments {
-        [] => Ok(command),
-        [first, rest @ ..] => {
-            let command = command.arg(arg_of(alloc, names, first))?;
-            with_arguments(alloc, command, names, rest)
-        }
-    }
+    let Some((first, rest)) = arguments.split_first() else {
+        return Ok(command);
+    };
+    let command = command.arg(arg_of(alloc, names, first))?;
+    with_arguments(alloc, command, names, rest)
 }
 
 /// The command as `clap` takes it, with these names.

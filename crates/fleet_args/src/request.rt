@@ -1,11 +1,11 @@
 //! The command line, and the request that its words make.
 
-ghost use Rattle.std.specs.Prelude.{◌≡◌, None, true, find, map, option_map, string_bytes, IfOk, MatchResult, []};
+ghost use Rattle.std.specs.Prelude.{◌≡◌, None, true, find, map, option_map, string_bytes, IfOk};
 ghost use Rattle.std.specs.Str.{bytes_eq};
-ghost use Rattle.clap.specs.Words.{app_of, fault_of, is_simple_and_free, kind_of, matches_of, with_subcommand};
-ghost use Rattle.fleet_args.specs.Commands.{commands, fleet, fleet_top, with_commands};
-ghost use Rattle.fleet_args.specs.Request.{IsStopOf, ReadsFleet, StopsFor, command_and_rest};
-ghost use Rattle.fleet_args.specs.{Arguments.app_for, Arguments.own, Arguments.said, Values.AreNames, Values.rows_in};
+ghost use Rattle.clap.specs.Words.{App, app_of, fault_of, is_simple_and_free, kind_of};
+ghost use Rattle.fleet_args.specs.Commands.{commands, fleet, with_commands};
+ghost use Rattle.fleet_args.specs.Request.{IsStopOf, Parses, ReadsFleet, StopsFor, command_and_rest};
+ghost use Rattle.fleet_args.specs.{Arguments.own, Arguments.said, Values.AreNames, Values.rows_in};
 
 use crate::arguments::{CommandText, OptionNames, command_of};
 use crate::commands::{Request, commands, request_by};
@@ -42,15 +42,16 @@ fn stop_of(alloc: Global, error: &clap::Error) -> WordStop
 /// What `clap` finds in the words by this command, or why it does not take them.
 fn matches_by<'a>(
     alloc: Global,
-    command: Command<'a>,
+    command: Result<Command<'a>, AllocError>,
     words: &'a [String],
 ) -> Result<ArgMatches<'a>, WordStop>
-    requires { is_simple_and_free (app_of command) ≡ true }
-    ensures { MatchResult result
-        (λ matches. (fault_of (app_of command.entry) (map string_bytes words.entry.now) ≡ [])
-        × (rows_in matches ≡ matches_of (app_of command.entry) (map string_bytes words.entry.now)))
-        (StopsFor (fault_of (app_of command.entry) (map string_bytes words.entry.now))) }
+    requires { (app : App) × (is_simple_and_free app ≡ true) × IfOk command (λ c. app_of c ≡ app) }
+    ensures { (app : App) → IfOk command.entry (λ c. app_of c ≡ app)
+        → Parses app (map string_bytes words.entry.now) (λ rows m. rows_in m ≡ rows) result }
 {
+    let Ok(command) = command else {
+        return Err(WordStop::OutOfMemory);
+    };
     match command.try_get_matches_from(words) {
         Ok(matches) => Ok(matches),
         Err(error) => Err(stop_of(alloc, &error)),
@@ -62,10 +63,7 @@ fn stop_by_line<'a>(alloc: Global, names: OptionNames<'a>, words: &'a [String]) 
     requires { command_and_rest (map string_bytes words.now) ≡ None }
     ensures { StopsFor (fault_of (fleet names.entry) (map string_bytes words.entry.now)) result }
 {
-    let Ok(line) = fleet_command(alloc, names) else {
-        return WordStop::OutOfMemory;
-    };
-    match matches_by(alloc, line, words) {
+    match matches_by(alloc, fleet_command(alloc, names), words) {
         Ok(_) => unreachable!(),
         Err(stop) => stop,
     }
@@ -127,20 +125,34 @@ pub fn read_words<'a>(alloc: Global, words: &'a [String]) -> Result<Request<'a>,
     let Some((text, rest)) = command_and_rest(words) else {
         return Err(stop_by_line(alloc, names, words));
     };
-    let Ok(command) = own_command(alloc, names, text) else {
-        return Err(WordStop::OutOfMemory);
-    };
-    match matches_by(alloc, command, rest) {
+    match matches_by(alloc, own_command(alloc, names, text), rest) {
         Ok(matches) => Ok(request_by(text.name, &matches)),
         Err(stop) => Err(stop),
     }
 }
 
-/// The command line without its commands. Its words do not begin with the program's name.
-fn without_commands<'a>(alloc: Global) -> Result<Command<'a>, AllocError>
-    ensures { IfOk result (λ command. app_of command ≡ fleet_top) }
+/// The command line with these commands after those that it has.
+fn with_commands<'a>(
+    alloc: Global,
+    line: Command<'a>,
+    names: OptionNames<'a>,
+    texts: &[CommandText],
+) -> Result<Command<'a>, AllocError>
+    ensures { IfOk result (λ command. app_of command
+        ≡ with_commands names.entry (app_of line.entry) (map said texts.now)) }
 {
-    Command::new(alloc, "fleet")
+    let Some((first, rest)) = texts.split_first() else {
+        return Ok(line);
+    };
+    let line = line.subcommand(command_of(alloc, names, first)?)?;
+    with_commands(alloc, line, names, rest)
+}
+
+/// The whole command line, with these names. Its words do not begin with the program's name.
+fn fleet_command<'a>(alloc: Global, names: OptionNames<'a>) -> Result<Command<'a>, AllocError>
+    ensures { IfOk result (λ command. app_of command ≡ fleet names.entry) }
+{
+    let line = Command::new(alloc, "fleet")
         .about(
             "Programs for a fleet of robots on a grid. Without a command: waits for one as hexadecimal text on \
              standard input",
@@ -154,44 +166,6 @@ fn without_commands<'a>(alloc: Global) -> Result<Command<'a>, AllocError>
         .no_binary_name(true)
         .version("1.0")
         .subcommand_required(true)
-        .bin_name("fleet")
-}
-
-/// The command line with this command after those that it has.
-fn with_command<'a>(
-    alloc: Global,
-    line: Command<'a>,
-    names: OptionNames<'a>,
-    text: &CommandText,
-) -> Result<Command<'a>, AllocError>
-    ensures { IfOk result (λ command. app_of command ≡ with_subcommand (app_of line.entry)
-        (app_for names.entry (said text.now)).top) }
-{
-    line.subcommand(command_of(alloc, names, text)?)
-}
-
-/// The command line with these commands after those that it has.
-#[tactic(auto, using(std::proofs::lemmas::Grind::common_steps))]
-fn with_commands<'a>(
-    alloc: Global,
-    line: Command<'a>,
-    names: OptionNames<'a>,
-    texts: &[CommandText],
-) -> Result<Command<'a>, AllocError>
-    ensures { IfOk result (λ command. app_of command
-        ≡ with_commands names.entry (app_of line.entry) (map said texts.now)) }
-{
-    match texts {
-        [] => Ok(line),
-        [first, rest @ ..] => {
-            with_commands(alloc, with_command(alloc, line, names, first)?, names, rest)
-        }
-    }
-}
-
-/// The whole command line, with these names.
-fn fleet_command<'a>(alloc: Global, names: OptionNames<'a>) -> Result<Command<'a>, AllocError>
-    ensures { IfOk result (λ command. app_of command ≡ fleet names.entry) }
-{
-    with_commands(alloc, without_commands(alloc)?, names, commands())
+        .bin_name("fleet")?;
+    with_commands(alloc, line, names, commands())
 }

@@ -1,9 +1,19 @@
-use Rattle.clap.specs.Words.{kind_of}
+use Rattle.std.proofs.Common.{◌∙◌, ap, inl, refl}
+use Rattle.std.proofs.lemmas.Result.{IfOk-at_ok}
+use Rattle.clap.specs.Words.{is_simple_and_free, kind_of}
+use Rattle.clap.specs.declared.error.ErrorKind.TheVariants as kind
 use Rattle.clap.proofs.WalkLemmas.{both}
 use Rattle.fleet_args.proofs.request.matches_by.Goals as goal
 
-pub returns-in-Ok : goal.returns-in-Ok
-returns-in-Ok c = (c.in-Ok.ensures.kinds c.requires, (c.in-Ok.ensures.matches (both _ _ c.requires).0).0)
+pub returns-in_default : goal.returns-in_default
+returns-in_default c = λ app is. (kind.OutOfMemory, inl refl, tt)
+
+pub returns-in-Ok-try_get_matches_from : goal.returns-in-Ok-try_get_matches_from
+returns-in-Ok-try_get_matches_from c = λ app is.
+    let simple = ap is_simple_and_free (IfOk-at_ok _ c.in-Ok.is c.requires.2) ∙ c.requires.1 in
+    rw (← (IfOk-at_ok _ c.in-Ok.is is)) (c.in-Ok-try_get_matches_from.ensures.kinds simple, (c.in-Ok-try_get_matches_from.ensures.matches (both _ _ simple).0).0)
 
 pub returns-in-Err : goal.returns-in-Err
-returns-in-Err c = (kind_of c.in-Err.error, c.in-Err.ensures.kinds c.requires, c.stop_of.ensures)
+returns-in-Err c = λ app is.
+    let simple = ap is_simple_and_free (IfOk-at_ok _ c.in-Ok.is c.requires.2) ∙ c.requires.1 in
+    rw (← (IfOk-at_ok _ c.in-Ok.is is)) (kind_of c.in-Err.error, c.in-Err.ensures.kinds simple, c.stop_of.ensures)

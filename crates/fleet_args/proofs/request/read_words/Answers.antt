@@ -1,30 +1,22 @@
-use Rattle.std.proofs.Common.{inl, map, refl, string_bytes}
-use Rattle.clap.specs.Words.{app_of}
-use Rattle.clap.specs.declared.error.ErrorKind.TheVariants as kind
+use Rattle.std.proofs.Common.{Err, Ok, map, string_bytes}
 use Rattle.fleet_args.specs.Arguments.{own, said}
-use Rattle.fleet_args.specs.Values.{rows_in}
-use Rattle.fleet_args.specs.declared.request.WordStop.TheVariants as stop
-use Rattle.fleet_args.proofs.RequestLemmas.{asks, free, is_name, stops}
+use Rattle.fleet_args.proofs.RequestLemmas.{free, is_name, reads}
 use Rattle.fleet_args.proofs.request.read_words.Goals as goal
-
-pub returns-in_default-own_command : goal.returns-in_default-own_command
-returns-in_default-own_command c =
-    stops c.option_names-names.result c.option_names-names.ensures (map string_bytes c.args.words.now) (said c.in-Some.text.now, map string_bytes c.in-Some.rest.now) c.in-Some.ensures
-    (own c.option_names-names.result (said c.in-Some.text.now)) refl stop.OutOfMemory (kind.OutOfMemory, inl refl, tt)
 
 pub matches_by-requires : goal.matches_by-requires
 matches_by-requires c =
-    free c.option_names-names.result c.option_names-names.ensures (map string_bytes c.args.words.now) (said c.in-Some.text.now, map string_bytes c.in-Some.rest.now) c.in-Some.ensures (app_of c.in-Ok.command) c.in-Ok.ensures
+    (own c.option_names-names.result (said c.in-Some.text.now), free c.option_names-names.result (map string_bytes c.args.words.now) _ c.in-Some.ensures, c.own_command.ensures)
+
+pub request_by-requires : goal.request_by-requires
+request_by-requires c = is_name (map string_bytes c.args.words.now) _ c.in-Some.ensures
 
 pub returns-in-Err : goal.returns-in-Err
 returns-in-Err c =
-    stops c.option_names-names.result c.option_names-names.ensures (map string_bytes c.args.words.now) (said c.in-Some.text.now, map string_bytes c.in-Some.rest.now) c.in-Some.ensures (app_of c.in-Ok.command) c.in-Ok.ensures
-    c.in-Err.stop c.in-Err.ensures
+    reads c.option_names-names.result (map string_bytes c.args.words.now) _ c.in-Some.ensures c.option_names-names.ensures (Err c.in-Err.stop)
+    (c.in-Err.ensures (own c.option_names-names.result (said c.in-Some.text.now)) c.own_command.ensures)
 
-pub request_by-requires : goal.request_by-requires
-request_by-requires c = is_name (map string_bytes c.args.words.now) (said c.in-Some.text.now, map string_bytes c.in-Some.rest.now) c.in-Some.ensures
-
-pub returns-in-Ok-matches_by : goal.returns-in-Ok-matches_by
-returns-in-Ok-matches_by c =
-    asks c.option_names-names.result c.option_names-names.ensures (map string_bytes c.args.words.now) (said c.in-Some.text.now, map string_bytes c.in-Some.rest.now) c.in-Some.ensures (app_of c.in-Ok.command) c.in-Ok.ensures
-    (rows_in c.in-Ok-matches_by.matches) c.request_by.result c.in-Ok-matches_by.ensures c.request_by.ensures
+pub returns-in-Ok : goal.returns-in-Ok
+returns-in-Ok c =
+    let takes = c.in-Ok.ensures (own c.option_names-names.result (said c.in-Some.text.now)) c.own_command.ensures in
+    reads c.option_names-names.result (map string_bytes c.args.words.now) _ c.in-Some.ensures c.option_names-names.ensures (Ok c.request_by.result)
+    (takes.0, rw takes.1 at c.request_by.ensures)

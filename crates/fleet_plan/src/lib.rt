@@ -1,21 +1,20 @@
 //! Plans of a fleet: for each agent a path, without conflict. They are read from texts and written.
 //!
 //! `reading` reads plan text line by line, each line by `cells` in one pass, and `writing` writes it; `plan` has paths,
-//! plans and the test of each step by itself. `checking` judges a plan in the order of its faults: it looks at starts
-//! and goals, and then at the steps, and `sweep` goes over the times, with each agent entered in a table of cells, so
-//! that whom it meets, swaps with or follows is one look-up. Only if cells are entered in the step in which they are
-//! left does `rings` follow the agents round. A `Checked` is a plan that was found free of conflict, which nothing else
-//! makes. `numbers` are the sum of costs, the moves and the waits. `fault_laws` and `text_laws` are laws.
+//! plans, the test of each step by itself, and the numbers of a plan: its sum of costs, its moves and its waits.
+//! `checking` judges a plan in the order of its faults: it looks at starts and goals, and then at the steps, and
+//! `sweep` goes over the times, with each agent entered in a table of cells, so that whom it meets, swaps with or
+//! follows is one look-up. Only if cells are entered in the step in which they are left does it follow the agents round
+//! their rings. A `Checked` is a plan that was found free of conflict, which nothing else makes. `fault_laws` and
+//! `text_laws` are laws.
 #![tactic(auto)]
 
 mod cells;
 mod checking;
 mod fault_laws;
-mod numbers;
 mod plan;
 mod plan_fault;
 mod reading;
-mod rings;
 mod sweep;
 mod text_fault;
 mod text_laws;

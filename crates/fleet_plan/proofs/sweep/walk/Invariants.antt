@@ -1,6 +1,6 @@
 use Rattle.std.proofs.Common.{sum_by}
 use Rattle.fleet_plan.proofs.WalkLaws.{IsWalk, unmet_agents}
-use Rattle.fleet_plan.proofs.rings.walk.Given as goal
+use Rattle.fleet_plan.proofs.sweep.walk.Given as goal
 
 abbrev pub invariant-loop-next : goal.invariant-loop-next
 invariant-loop-next l = IsWalk l.ahead l.fn.walks l.walks l.number l.first l.agent

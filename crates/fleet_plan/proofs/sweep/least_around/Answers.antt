@@ -1,8 +1,8 @@
 use Rattle.fleet_plan.proofs.Words.{◌≡◌, ◌≤◌, ◌⊎◌, Some, sym, ap, ◌∙◌, inl, inr, arith, ahead_of}
 use Rattle.fleet_plan.proofs.RingLaws.{ring-reaches}
 use Rattle.fleet_plan.proofs.AroundLaws.{around-none, around-back, around-more}
-use Rattle.fleet_plan.proofs.rings.least_around.Goals as goal
-use Rattle.fleet_plan.proofs.rings.least_around.Goals.{then-is_less, else-is_less}
+use Rattle.fleet_plan.proofs.sweep.least_around.Goals as goal
+use Rattle.fleet_plan.proofs.sweep.least_around.Goals.{then-is_less, else-is_less}
 
 pub loop-step-init : goal.loop-step-init
 loop-step-init c = around-none c.args.ahead.now c.args.first c.requires.agents c.requires.ring

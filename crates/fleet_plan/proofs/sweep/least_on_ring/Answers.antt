@@ -1,6 +1,6 @@
 use Rattle.fleet_plan.proofs.WalkLaws.{walked_begins, walked_none, walked-more_none, walked-more_some, walked-some, walked-nobody}
-use Rattle.fleet_plan.proofs.rings.least_on_ring.Goals as goal
-use Rattle.fleet_plan.proofs.rings.least_on_ring.Goals.{in-Some, in_default}
+use Rattle.fleet_plan.proofs.sweep.least_on_ring.Goals as goal
+use Rattle.fleet_plan.proofs.sweep.least_on_ring.Goals.{in-Some, in_default}
 
 pub loop-number-init : goal.loop-number-init
 loop-number-init c = walked_begins c.args.row.now c.args.ahead.now c.args.walks.now c.requires.walks c.requires.unwalked c.requires.row.others

@@ -1,7 +1,7 @@
 use Rattle.fleet_plan.proofs.Words.{◌≡◌, Some, None, sym, ap, ◌∙◌, arith, ahead_of, walk_of}
 use Rattle.fleet_plan.proofs.RingLaws.{some_is}
 use Rattle.fleet_plan.proofs.WalkLaws.{fewer, walk_begins, walk-more, end-closed, end-walked, end-none, stop-closed, stop-walked, stop-ring, stop-some, stop-none}
-use Rattle.fleet_plan.proofs.rings.walk.Goals as goal
+use Rattle.fleet_plan.proofs.sweep.walk.Goals as goal
 
 pub loop-next-init : goal.loop-next-init
 loop-next-init c = walk_begins c.args.ahead.now c.args.walks.now c.args.number c.args.first c.requires.closed c.requires.agent

@@ -69,7 +69,7 @@ pub use Rattle.fleet_search.specs.declared.frontier.Query.{Query}
 pub use Rattle.fleet_search.specs.declared.frontier.State.{State}
 pub use Rattle.fleet_search.specs.declared.intervals.Occupancy.{Occupancy}
 pub use Rattle.fleet_search.specs.declared.intervals.TheConstants.{FOREVER}
-pub use Rattle.fleet_search.specs.declared.labels.IntervalLabel.{IntervalLabel}
-pub use Rattle.fleet_search.specs.declared.labels.LabelTable.{LabelTable}
+pub use Rattle.fleet_search.specs.declared.intervals.IntervalLabel.{IntervalLabel}
+pub use Rattle.fleet_search.specs.declared.intervals.LabelTable.{LabelTable}
 pub use Rattle.fleet_search.specs.declared.orders.Problem.{Problem}
-pub use Rattle.fleet_search.specs.declared.reservation_table.ReservationTable.{ReservationTable}
+pub use Rattle.fleet_search.specs.declared.reservations.ReservationTable.{ReservationTable}

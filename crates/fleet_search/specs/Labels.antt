@@ -2,8 +2,8 @@
 use Rattle.std.specs.Prelude.{◌≡◌, ◌≢◌, ℕ, zero, suc, ◌≤◌, ◌==◌, ◌⊎◌, cond, List, get_or, Option, None, Some}
 use Rattle.fleet_grid.specs.Table.{value_in}
 use Rattle.fleet_grid.specs.Lists.{list_at, key_of_number}
-use Rattle.fleet_search.specs.declared.labels.IntervalLabel.{IntervalLabel}
-use Rattle.fleet_search.specs.declared.labels.LabelTable.{LabelTable}
+use Rattle.fleet_search.specs.declared.intervals.IntervalLabel.{IntervalLabel}
+use Rattle.fleet_search.specs.declared.intervals.LabelTable.{LabelTable}
 
 -- the label that stands for those past the end of a row: no search has come there
 abbrev pub no_interval_label : IntervalLabel

@@ -7,7 +7,7 @@ use Rattle.fleet_model.specs.declared.limits.TheConstants.{MAX_HORIZON}
 use Rattle.fleet_plan.specs.Plan.{Plan, cell_of}
 use Rattle.fleet_search.specs.declared.intervals.Occupancy.{Occupancy}
 use Rattle.fleet_search.specs.declared.intervals.TheConstants.{FOREVER}
-use Rattle.fleet_search.specs.declared.reservation_table.ReservationTable.{ReservationTable}
+use Rattle.fleet_search.specs.declared.reservations.ReservationTable.{ReservationTable}
 use Rattle.fleet_grid.specs.Lists.{list_at, key_of_cell}
 use Rattle.fleet_search.specs.Way.{FitTogether}
 use Rattle.fleet_search.specs.Reserved.{StandsOn}

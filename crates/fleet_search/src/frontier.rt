@@ -21,11 +21,10 @@ ghost use Rattle.fleet_search.specs.Links.{place_in};
 
 use crate::distances::Distances;
 use crate::intervals::{
-    FOREVER, Occupancy, SafeInterval, begins_after, count_begun, earliest_after, interval_after,
+    FOREVER, Labels, Occupancy, SafeInterval, begins_after, count_begun, earliest_after,
+    interval_after,
 };
-use crate::labels::Labels;
-use crate::reservation_table::ReservationTable;
-use crate::reservations::Reservations;
+use crate::reservations::{ReservationTable, Reservations};
 use fleet_grid::{Grid, extend_to};
 use fleet_model::{Cell, Dir, OutOfMemory};
 use fleet_plan::Path;

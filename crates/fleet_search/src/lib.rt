@@ -2,19 +2,19 @@
 //!
 //! The planner is prioritised (Silver 2005): each agent searches over cells and times, past the reserved paths.
 //!
-//! `reservation_table` has for each cell the occupancies of the reserved agents in the order of time, in lists by the
-//! cell's key; `reservations` are the paths with their table, without maps and tasks. `intervals` has occupancies, and
-//! finds the safe intervals between them.
+//! `reservations` are the reserved paths, without maps and tasks, with their table: for each cell the occupancies of
+//! the agents in the order of time, in lists by the cell's key. `intervals` has occupancies, finds the safe intervals
+//! between them, and has labels: the earliest time of a search in each safe interval, that of a cell's first one in a
+//! table, those of the later ones in lists.
 //!
 //! `distances` are the heuristic: they label cells backward from a goal, as far as the delay of the last search lets
-//! expect that they are asked for. `labels` has the earliest time of a search in each safe interval: that of a cell's
-//! first one in a table, those of the later ones in lists. `frontier` expands nodes over states (a cell at a time; with
-//! each node the one from which it was reached, in 4 bytes that align it to 2), from an open list in buckets, and
-//! `earliest_path` is one search from its query to its path, which reads the reservation table and changes nothing in
-//! it. `orders` goes from one agent to the next, in one order of the agents or in one after another with the same
-//! tables, keeps the paths that are still the earliest, and puts the paths by the agents' numbers at the end. `best`
-//! tries all orders, and keeps the first of the plans with the least `Measure`: a trait, so that a crate above can
-//! compare plans by what it makes of them. `alone` searches for each agent alone, for the bound of the costs.
+//! expect that they are asked for. `frontier` expands nodes over states (a cell at a time; with each node the one from
+//! which it was reached, in 4 bytes that align it to 2), from an open list in buckets, and `earliest_path` is one
+//! search from its query to its path, which reads the reservation table and changes nothing in it. `orders` goes from
+//! one agent to the next, in one order of the agents or in one after another with the same tables, keeps the paths that
+//! are still the earliest, and puts the paths by the agents' numbers at the end. `best` tries all orders, and keeps the
+//! first of the plans with the least `Measure`: a trait, so that a crate above can compare plans by what it makes of
+//! them. `alone` searches for each agent alone, for the bound of the costs.
 #![tactic(auto)]
 
 mod alone;
@@ -24,10 +24,8 @@ mod earliest_path;
 mod fault;
 mod frontier;
 mod intervals;
-mod labels;
 mod laws;
 mod orders;
-mod reservation_table;
 mod reservations;
 
 pub use alone::bound;

@@ -1,5 +1,5 @@
 use Rattle.fleet_search.proofs.Entering.{AreEntered}
-use Rattle.fleet_search.proofs.reservation_table.ReservationTable.add_all.Given as goal
+use Rattle.fleet_search.proofs.reservations.ReservationTable.add_all.Given as goal
 
 abbrev pub invariant-loop-time : goal.invariant-loop-time
 invariant-loop-time l = AreEntered l.paths l.path l.fn.self l.self l.from l.time

@@ -1,7 +1,7 @@
 use Rattle.fleet_search.proofs.Words.{◌≡◌, ◌≤◌, length, refl, sym, ap, ◌∙◌, arith, not-false, on_ok_weaker, is_same_cell-true, MAX_HORIZON, cell_at, without}
 use Rattle.fleet_search.proofs.Entering.{entered-none, entered-same, entered-more, entered-all, entered-rest, entered-order, from_ok_or_err}
-use Rattle.fleet_search.proofs.reservation_table.ReservationTable.add_all.Goals as goal
-use Rattle.fleet_search.proofs.reservation_table.ReservationTable.add_all.Goals.{then-ne+in_ok-add, else-ne}
+use Rattle.fleet_search.proofs.reservations.ReservationTable.add_all.Goals as goal
+use Rattle.fleet_search.proofs.reservations.ReservationTable.add_all.Goals.{then-ne+in_ok-add, else-ne}
 
 pub loop-time-init : goal.loop-time-init
 loop-time-init c = entered-none c.args.paths.now c.args.path.now c.args.self.now c.requires.occupancies

@@ -1,5 +1,5 @@
 use Rattle.fleet_search.proofs.Words.{◌==◌, rules, not, Occupancy, key_of_cell}
-use Rattle.fleet_search.proofs.reservation_table.ReservationTable.remove_agent.Goals as goal
+use Rattle.fleet_search.proofs.reservations.ReservationTable.remove_agent.Goals as goal
 
 pub returns : goal.returns
 returns c = λ q. c.retain.ensures (λ (s : Occupancy). not (s.agent == c.args.agent)) (λ x b k. search rules) (key_of_cell q)

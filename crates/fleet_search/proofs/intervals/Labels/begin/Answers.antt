@@ -1,7 +1,7 @@
 use Rattle.fleet_search.proofs.Words.{◌+◌, refl, LabelState, AreLabels}
 use Rattle.fleet_search.proofs.LabelLaws.{no_labels, next_search}
-use Rattle.fleet_search.proofs.labels.Labels.begin.Goals as goal
-use Rattle.fleet_search.proofs.labels.Labels.begin.Goals.{then-is_last, else-is_last}
+use Rattle.fleet_search.proofs.intervals.Labels.begin.Goals as goal
+use Rattle.fleet_search.proofs.intervals.Labels.begin.Goals.{then-is_last, else-is_last}
 
 pub invariant_of-self : goal.invariant_of-self
 invariant_of-self c =

@@ -1,7 +1,6 @@
 -- Answers of questions, one after another.
-use Rattle.fleet_needs.proofs.Words.{◌≡◌, ◌≢◌, ℕ, ◌+◌, ◌-◌, ◌<◌, ◌≤◌, Bool, true, false, List, [], ◌∷◌, ◌++◌, length, get_or, set, Some, refl, sym, ap, subst, ◌∙◌, arith, inl, inr, ◌⊎◌, Bor, slice_get, slice_index, nat_lt, All, None, get_or-set_same, get_or-set_other, length-set, get_or_append_left, get_or_push, slice_get_within, get_or_from_slice_get, same_Some, cases_lt, cases_eq, cases_order, ltb-true, lt-ltb, Program, IsColumn, IsQuestion, AreAnswersIn, HasColumn, IsAnswer, BlocksLeft, IsNextBlock, column_of, AreOwn, StandsFor, row_of, AreCounts, AreRowCounts, IsLastOf, AreAnsweredTo, IsAnswering, IsAnsweringRow, AreOthersLeft, questions_in, Columns, Schedule, Joins, Answering, ListedQuestions, Question}
+use Rattle.fleet_needs.proofs.Words.{◌≡◌, ◌≢◌, ℕ, ◌+◌, ◌-◌, ◌<◌, ◌≤◌, Bool, false, List, [], ◌∷◌, ◌++◌, length, get_or, set, refl, sym, ap, subst, ◌∙◌, arith, inl, inr, ◌⊎◌, slice_index, nat_lt, None, Vec, Global, get_or-set_same, get_or-set_other, get_or_append_left, get_or_push, slice_get_within, get_or_from_slice_get, cases_lt, cases_eq, ltb-true, lt-ltb, Program, IsColumn, IsQuestion, AreAnswersIn, HasColumn, IsAnswer, column_of, AreOwn, StandsFor, AreCounts, AreRowCounts, AreAnsweredFrom, IsAnswering, IsByRow, IsLastOf, IsToCome, listed_at, no_question, question_at, question_of, questions_in, unlisted, Columns, Schedule, Answering, Question, RowQuestion}
 use Rattle.fleet_needs.proofs.Joining.{own_column}
-use Rattle.fleet_needs.proofs.NextBlock.{column_cases}
 use Rattle.fleet_needs.proofs.RowsMade.{counts_none}
 
 -- a count of the row that is below the number of the first action says that no chain begins with it
@@ -11,87 +10,48 @@ answer_is p q n some col = (
   (λ none. elim (cases_lt n q.first.number) [ inl less ↦ lt-ltb n q.first.number less | inr below ↦ absurd (none ((col q.first.number).1 (some, below))) ]),
 )
 
--- a question of a list of questions
-pub question_at : (p : Program) (questions : List Question) → All (IsQuestion p) questions → (k : ℕ) (q : Question) → slice_get questions k ≡ Some q → IsQuestion p q
-question_at p questions h k q e = subst (IsQuestion p) (get_or_from_slice_get questions k q q e) (h k q (slice_get_within questions k q e))
-
 -- ---- the questions of a row, one after another
 
-module _ (p : Program) (s : Schedule) (columns : Columns) (r : ℕ) where
-  -- from the last one on
-  pub row_begun : (m : Answering) → r ≤ length s.joins.items → IsAnswering p s columns r m → IsAnsweringRow p s columns r (slice_index m.listed.now.lasts.items r) m
-  row_begun m within h =
-      let last = h.linked.last r within in
-      record {
-        answers = h;
-        upto = last.upto;
-        here = last.here;
-        after = λ k c q at of from has. absurd (last.none k from (slice_get_within m.listed.now.questions.now k q at) of);
-      }
+module _ (p : Program) (s : Schedule) (columns : Columns) (m : Answering) (row : ℕ) (h : IsAnswering p s columns row m) (within : m.next < length m.rows.items) (x : RowQuestion) (at : x ≡ listed_at m m.next) (of : x.row ≡ row) where
+  pub next_is : IsByRow p s.joins.items (questions_in m) x
+  next_is = subst (IsByRow p s.joins.items (questions_in m)) (sym at) (h.answers.listed.each m.next unlisted within)
 
-  -- one more
-  module _ (left k : ℕ) (old : Answering) (h : IsAnsweringRow p s columns r left old) (some : 1 ≤ left) (here : k + 1 ≡ left) (question : Question) (at : slice_get old.listed.now.questions.now k ≡ Some question) where
-    own : h.answers.row k ≡ r
-    own = (let e : left - 1 ≡ k = omega arith in subst (λ (n : ℕ). h.answers.row n ≡ r) e (h.here some))
+  -- its row has the counts of its last action
+  pub row_counts : (count : ℕ → ℕ) → AreRowCounts p s columns row count → AreCounts p columns (question_of (questions_in m) x.place).last.agent (question_of (questions_in m) x.place).last.number count
+  row_counts count counts =
+      let is = (h.answers.questions x.place no_question next_is.place).last in
+      counts _ _ (record { agent = is.agent; last = is.last; stands = subst (λ (r : ℕ). StandsFor p s.joins.items r (question_of (questions_in m) x.place).last.agent (question_of (questions_in m) x.place).last.number) of next_is.stands })
 
-    -- its row has the counts of its last action
-    pub row_counts : (count : ℕ → ℕ) → AreRowCounts p s columns r count → AreCounts p columns question.last.agent question.last.number count
-    row_counts count counts =
-        let is = (question_at p old.listed.now.questions.now h.answers.questions k question at).last in
-        counts question.last.agent question.last.number (record {
-          agent = is.agent;
-          last = is.last;
-          stands = subst (λ (x : ℕ). StandsFor p s.joins.items x question.last.agent question.last.number) own (h.answers.linked.stands k question at);
-        })
-
-    module _ (new : Answering) (flag : Bool) (listed : new.listed ≡ old.listed) (put : new.flags.items ≡ set old.flags.items k flag) (answer : (c : ℕ) → HasColumn columns question.first.agent c → IsAnswer p question flag)
-        (none : column_of columns question.first.agent ≡ None → flag ≡ get_or old.flags.items k false) where
-      within : k < length old.flags.items
-      within = omega (arith, slice_get_within old.listed.now.questions.now k question at, h.answers.flags)
-
-      at_own : get_or new.flags.items k false ≡ flag
-      at_own = ap (λ (xs : List Bool). get_or xs k false) put ∙ get_or-set_same old.flags.items k flag false within
-
-      at_other : (n : ℕ) → n ≢ k → get_or new.flags.items n false ≡ get_or old.flags.items n false
-      at_other n ne = ap (λ (xs : List Bool). get_or xs n false) put ∙ get_or-set_other old.flags.items k n flag false ne
-
-      answers_on : IsAnswering p s columns r (record { listed = old.listed; flags = new.flags })
-      answers_on = record {
-        row = h.answers.row;
-        linked = h.answers.linked;
-        questions = h.answers.questions;
-        flags = ap (λ (xs : List Bool). length xs) put ∙ length-set old.flags.items k flag ∙ h.answers.flags;
-        answered = λ n c q there l has. subst (λ (b : Bool). IsAnswer p q b) (sym (at_other n (λ e. let f : h.answers.row n ≡ r = ap h.answers.row e ∙ own in omega (arith, f, l)))) (h.answers.answered n c q there l has);
-      }
-
-      pub row_more : IsAnsweringRow p s columns r (slice_index old.listed.now.befores.items k) new
-      unfolding answers_on
-      row_more =
-          let before = h.answers.linked.before k (slice_get_within old.listed.now.questions.now k question at) in
-          subst (λ (l : Bor ListedQuestions). IsAnsweringRow p s columns r (slice_index old.listed.now.befores.items k) (record { listed = l; flags = new.flags })) (sym listed) (record {
-            answers = answers_on;
-            upto = omega (arith, before.upto, slice_get_within old.listed.now.questions.now k question at);
-            here = λ l. before.here l ∙ own;
-            after = λ n c q there of from has. elim (cases_order n k) [
-              | inl e ↦
-                  let is : q ≡ question = same_Some q question (sym there ∙ ap (slice_get old.listed.now.questions.now) e ∙ at) in
-                  subst (λ (b : Bool). IsAnswer p q b) (sym (ap (λ (x : ℕ). get_or new.flags.items x false) e ∙ at_own))
-                  (subst (λ (x : Question). IsAnswer p x flag) (sym is) (answer c (subst (λ (x : Question). HasColumn columns x.first.agent c) is has)))
-              | inr (inl less) ↦ absurd (before.none n from less (of ∙ sym own))
-              | inr (inr more) ↦ subst (λ (b : Bool). IsAnswer p q b) (sym (at_other n (λ e. omega (arith, e, more)))) (h.after n c q there of (omega arith) has)
-            ];
-          })
-
-      pub others_more : AreOthersLeft p columns old new
-      others_more = record {
-        listed = listed;
-        flags = λ n q there free. elim (cases_eq n k) [
-          | inr ne ↦ at_other n ne
-          | inl e ↦
-              let is : q ≡ question = same_Some q question (sym there ∙ ap (slice_get old.listed.now.questions.now) e ∙ at) in
-              ap (λ (x : ℕ). get_or new.flags.items x false) e ∙ at_own ∙ none (subst (λ (x : Question). column_of columns x.first.agent ≡ None) is free) ∙ ap (λ (x : ℕ). get_or old.flags.items x false) (sym e)
-        ];
-      }
+  -- it is answered, or its agent has no column
+  pub told_on : (flags : Vec Bool Global) → length flags.items ≡ length m.flags.items → ((k : ℕ) → k ≢ x.place → get_or flags.items k false ≡ get_or m.flags.items k false)
+      → IsAnswer p (question_of (questions_in m) x.place) (get_or flags.items x.place false) ⊎ ((column_of columns (question_of (questions_in m) x.place).first.agent ≡ None) × (get_or flags.items x.place false ≡ get_or m.flags.items x.place false))
+      → IsAnswering p s columns row (record { questions = m.questions; rows = m.rows; flags = flags; next = m.next + 1 })
+  told_on flags all others here = record {
+    block = h.block;
+    answers = record {
+      questions = h.answers.questions;
+      listed = record { each = h.answers.listed.each; all = h.answers.listed.all; sorted = h.answers.listed.sorted; flags = all ∙ h.answers.listed.flags };
+      told = λ n l. elim (cases_eq (listed_at m n).place x.place) [
+        | inr ne ↦ still n l (others (listed_at m n).place ne) (λ e. absurd (ne (ap (λ (k : ℕ). (listed_at m k).place) e ∙ ap (λ (y : RowQuestion). y.place) (sym at))))
+        | inl e ↦ elim here [
+          | inl it ↦ inr (subst (λ (k : ℕ). IsAnswer p (question_of (questions_in m) k) (get_or flags.items k false)) (sym e) it)
+          | inr (none, same) ↦ still n l (subst (λ (k : ℕ). get_or flags.items k false ≡ get_or m.flags.items k false) (sym e) same) (λ f first. elim (cases_lt (question_at m n).first.agent columns.end) [
+            | inr past ↦ past
+            | inl low ↦ absurd (h.block (listed_at m n).place no_question (h.answers.listed.each n unlisted l).place first low (ap (λ (k : ℕ). column_of columns (question_of (questions_in m) k).first.agent) e ∙ none))
+          ])
+        ]
+      ];
+    };
+    due = λ n from l. h.due n (omega (arith, from)) l;
+  }
+    where
+      still : (n : ℕ) → n < length m.rows.items → get_or flags.items (listed_at m n).place false ≡ get_or m.flags.items (listed_at m n).place false → (n ≡ m.next → columns.first ≤ (question_at m n).first.agent → columns.end ≤ (question_at m n).first.agent)
+          → IsToCome columns (m.next + 1) n (question_at m n) ⊎ IsAnswer p (question_at m n) (get_or flags.items (listed_at m n).place false)
+      still n l same past = elim (h.answers.told n l) [
+        | inr it ↦ inr (subst (IsAnswer p (question_at m n)) (sym same) it)
+        | inl (first, inl after) ↦ inl (first, inl after)
+        | inl (first, inr on) ↦ elim (cases_eq n m.next) [ inl e ↦ inl (first, inl (past e first)) | inr ne ↦ inl (first, inr (omega (arith, on, ne))) ]
+      ]
 
 -- ---- rows
 
@@ -101,56 +61,32 @@ none_counts p s columns count zeros i n stands = counts_none p s columns 0 i n s
 
 -- ---- blocks
 
--- before the first row of a block none needs an answer by it
-pub answers_begun : (p : Program) (s : Schedule) (asked : List Bool) (from : ℕ) (columns : Columns) (qs : List Question) (m : Answering) → AreAnsweredTo p s asked from qs m → IsAnswering p s columns 0 m
-answers_begun p s asked from columns qs m h = record {
-  row = h.listed.0;
-  linked = h.listed.1;
-  questions = h.questions;
-  flags = h.flags;
-  answered = λ k c q at l. absurd (omega arith);
+-- once all rows are made
+pub answered_after : (p : Program) (s : Schedule) (columns : Columns) (m : Answering) (n : ℕ) → length s.joins.items ≤ n → IsAnswering p s columns (n + 1) m → AreAnsweredFrom p s columns.end m
+answered_after p s columns m all whole h = record {
+  questions = h.answers.questions;
+  listed = h.answers.listed;
+  told = λ n l. elim (h.answers.told n l) [
+    | inr it ↦ inr it
+    | inl (first, inl past) ↦ inl past
+    | inl (first, inr on) ↦ absurd (omega (arith, h.due n on l, (h.answers.listed.each n unlisted l).row, whole))
+  ];
 }
 
--- once all rows are made, all questions whose agents have a column are answered
-pub answered_after : (p : Program) (s : Schedule) (now after : BlocksLeft) (columns : Columns) → IsNextBlock now after columns → (qs : List Question) (old new : Answering) → AreAnsweredTo p s now.asked now.from qs old
-    → AreOthersLeft p columns old new → IsAnswering p s columns (length s.joins.items + 1) new → AreAnsweredTo p s after.asked after.from qs new
-answered_after p s now after columns next qs old new was left is =
-    rw next.asked (rw next.from (record {
-      agents = was.agents;
-      of = ap (λ l. l.now.questions.now) left.listed ∙ was.of;
-      listed = (is.row, is.linked);
-      questions = is.questions;
-      flags = is.flags;
-      told = λ m q at. elim (column_cases columns q.first.agent) [
-        | inl has ↦ inr (is.answered m has.0 q at (let l = is.linked.within m (slice_get_within (questions_in new) m q at) in omega arith) has.1)
-        | inr none ↦
-            let there : slice_get (questions_in old) m ≡ Some q = ap (λ l. slice_get l.now.questions.now m) (sym left.listed) ∙ at in
-            subst (λ (flag : Bool). ((get_or now.asked q.first.agent false ≡ true) × (columns.end ≤ q.first.agent)) ⊎ IsAnswer p q flag) (sym (left.flags m q there none)) (elim (was.told m q there) [
-              | inr told ↦ inr told
-              | inl asks ↦ elim (cases_lt q.first.agent columns.end) [ inl low ↦ absurd (next.chosen.chosen q.first.agent asks.1 low asks.0 none) | inr high ↦ inl (asks.0, high) ]
-            ])
-      ];
-    }))
-
 -- after the last block
-pub answered_end : (p : Program) (s : Schedule) (asked : List Bool) (from : ℕ) (qs : List Question) (m : Answering) → length asked ≤ from → AreAnsweredTo p s asked from qs m → AreAnswersIn p qs m.flags
-answered_end p s asked from qs m end h = subst (λ (xs : List Question). AreAnswersIn p xs m.flags) h.of (record {
-  all = h.flags;
-  each = λ k q at. elim (h.told k q at) [
-    | inr told ↦ told
-    | inl asks ↦ absurd (let agent = (question_at p (questions_in m) h.questions k q at).agent in omega (arith, agent, end, h.agents, asks.1))
-  ];
-})
+pub answered_end : (p : Program) (s : Schedule) (from : ℕ) (m : Answering) → length p ≤ from → AreAnsweredFrom p s from m → AreAnswersIn p (questions_in m) m.flags
+answered_end p s from m end h = record {
+  all = h.listed.flags;
+  each = λ k q at.
+      let x = h.listed.all k (slice_get_within (questions_in m) k q at) in
+      let is : question_at m x.0 ≡ q = ap (question_of (questions_in m)) x.2 ∙ get_or_from_slice_get (questions_in m) k q no_question at in
+      elim (h.told x.0 x.1) [
+        | inr it ↦ subst (λ (y : Question). IsAnswer p y (get_or m.flags.items k false)) is (subst (λ (j : ℕ). IsAnswer p (question_at m x.0) (get_or m.flags.items j false)) x.2 it)
+        | inl on ↦ absurd (omega (arith, (h.questions (listed_at m x.0).place no_question (h.listed.each x.0 unlisted x.1).place).agent, end, on))
+      ];
+}
 
--- ---- questions listed by their rows
-
--- what is read past the questions
-abbrev pub no_question : Question
-no_question = record { first = record { agent = 0; number = 0 }; last = record { agent = 0; number = 0 } }
-
--- the row that is noted for the last action of question k
-abbrev pub listed_row : Program → Joins → List Question → ℕ → ℕ
-listed_row p m questions k = row_of p m (get_or questions k no_question).last
+-- ---- the last one of each row, one more
 
 module _ (row : ℕ → ℕ) (r n x : ℕ) (h : IsLastOf row r n x) where
   -- a further question of another row

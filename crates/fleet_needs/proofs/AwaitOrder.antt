@@ -1,5 +1,5 @@
 -- The order of awaits, among those of an action and among all.
-use Rattle.fleet_needs.proofs.Words.{◌≡◌, ◌≢◌, ℕ, ◌+◌, ◌-◌, ◌<◌, ◌≤◌, Bool, false, List, length, take, get_or, set, map, refl, sym, ap, subst, ◌∙◌, arith, inl, inr, ◌⊎◌, slice_get, Some, sum_by, cases_eq, cases_order, slice_get_within, get_or_from_slice_get, get_or-map, length-map, get_or-set_same, get_or-set_other, sum_by-take-le, ActionId, Action, Await, AgentProgram, Program, actions_of, awaits_of, agent_awaits, awaits_before, total_awaits, IsAction, awaits_more, EachFlag, AreNoted, first_await}
+use Rattle.fleet_needs.proofs.Words.{◌≡◌, ◌≢◌, ℕ, ◌+◌, ◌-◌, ◌<◌, ◌≤◌, Bool, false, List, length, take, get_or, set, map, sym, ap, ◌∙◌, arith, inl, inr, ◌⊎◌, slice_get, Some, sum_by, cases_eq, cases_order, slice_get_within, get_or_from_slice_get, get_or-map, length-map, get_or-set_same, get_or-set_other, sum_by-take-le, same_Some, length-set, true, ActionId, Action, Await, AgentProgram, Program, actions_of, awaits_of, agent_awaits, awaits_before, total_awaits, IsAction, awaits_more, first_await, AreFlagsBut, IsImplied, IsImpliedFlag, ImpliedAwaits, flags_of}
 use Rattle.std.specs.List.Sorted.{IsStrictlyIncreasing}
 use Rattle.std.proofs.lemmas.List.Kept.{AllPairs-from_increasing}
 use Rattle.fleet_needs.proofs.Placed.{sums_rise}
@@ -79,35 +79,35 @@ module _ (p : Program) where
 
 -- ---- flags, one after another
 
-pub noted_none : (p : Program) (a : ActionId) (Is : ℕ → Await → Bool → Type 0) (flags : List Bool) → AreNoted p a Is 0 flags flags
-noted_none p a Is flags = record { each = λ k w l. absurd (omega arith); others = λ n out. refl }
+module _ (p : Program) (Open Next : ActionId → ℕ → Await → Type 0) where
+  -- fewer are left
+  pub known_on : (m : ImpliedAwaits) → ((a : ActionId) → IsAction p a → (k : ℕ) (w : Await) → slice_get (awaits_of p a.agent a.number) k ≡ Some w → Open a k w → Next a k w) → AreFlagsBut p Open m → AreFlagsBut p Next m
+  known_on m on h = record {
+    places = h.places;
+    all = h.all;
+    known = λ a is k w at. elim (h.known a is k w at) [ inl left ↦ inl (on a is k w at left.0, left.1) | inr known ↦ inr known ];
+  }
 
--- one await more
-pub noted_next : (p : Program) (a : ActionId) (Was Is : ℕ → Await → Bool → Type 0) (k : ℕ) (flag : Bool) (old mid new : List Bool) → first_await p a + k < length mid → new ≡ set mid (first_await p a + k) flag
-    → ((m : ℕ) (w : Await) (x : Bool) → Was m w x → Is m w x) → ((w : Await) → slice_get (awaits_of p a.agent a.number) k ≡ Some w → Is k w flag) → AreNoted p a Was k old mid → AreNoted p a Is (k + 1) old new
-noted_next p a Was Is k flag old mid new within put still here h = record {
-  each = λ m w l at. elim (cases_eq m k) [
-    | inr ne ↦ subst (Is m w) (sym (other (first_await p a + m) (λ e. ne (omega (arith, e))))) (still m w _ (h.each m w (omega arith) at))
-    | inl e ↦ subst (λ (x : ℕ). Is x w (get_or new (first_await p a + x) false)) (sym e) (subst (Is k w) (sym own) (here w (subst (λ (x : ℕ). slice_get (awaits_of p a.agent a.number) x ≡ Some w) e at)))
-  ];
-  others = λ n out. other n (λ e. elim out [ inl l ↦ omega arith | inr l ↦ omega arith ]) ∙ h.others n (elim out [ inl l ↦ inl l | inr l ↦ inr (omega arith) ]);
-}
-  where
-    other : (n : ℕ) → n ≢ first_await p a + k → get_or new n false ≡ get_or mid n false
-    other n ne = ap (λ (xs : List Bool). get_or xs n false) put ∙ get_or-set_other mid (first_await p a + k) n flag false ne
-
-    own : get_or new (first_await p a + k) false ≡ flag
-    own = ap (λ (xs : List Bool). get_or xs (first_await p a + k) false) put ∙ get_or-set_same mid (first_await p a + k) flag false within
-
--- one action more
-pub noted_on : (p : Program) (a : ActionId) (Here : ℕ → Await → Bool → Type 0) (old new : List Bool) → IsAction p a → AreNoted p a Here (length (awaits_of p a.agent a.number)) old new
-    → (These Next : ActionId → Type 0) (Was Is : ActionId → ℕ → Await → Bool → Type 0) → ((b : ActionId) → Next b → These b ⊎ (b ≡ a)) → ((b : ActionId) (k : ℕ) (w : Await) (x : Bool) → Was b k w x → Is b k w x)
-    → ((k : ℕ) (w : Await) (x : Bool) → Here k w x → Is a k w x) → EachFlag p These Was old → EachFlag p Next Is new
-noted_on p a Here old new is h These Next Was Is back still here before b kb next k w at = elim (same_or_not b a) [
-  | inl e ↦
-      let there : slice_get (awaits_of p a.agent a.number) k ≡ Some w = subst (λ (x : ActionId). slice_get (awaits_of p x.agent x.number) k ≡ Some w) e at in
-      subst (λ (x : ActionId). Is x k w (get_or new (first_await p x + k) false)) (sym e) (here k w _ (h.each k w (slice_get_within (awaits_of p a.agent a.number) k w there) there))
-  | inr ne ↦
-      let stays = h.others (first_await p b + k) (flag_apart p b a kb is ne k (slice_get_within (awaits_of p b.agent b.number) k w at)) in
-      elim (back b next) [ inl these ↦ subst (Is b k w) (sym stays) (still b k w _ (before b kb these k w at)) | inr e ↦ absurd (ne e) ]
-]
+  -- a flag is set
+  pub known_put : (a : ActionId) → IsAction p a → (k : ℕ) (w : Await) → slice_get (awaits_of p a.agent a.number) k ≡ Some w → (old new : ImpliedAwaits) (flag : Bool) → new.places ≡ old.places → flags_of new ≡ set (flags_of old) (first_await p a + k) flag
+      → ((b : ActionId) (j : ℕ) (v : Await) → slice_get (awaits_of p b.agent b.number) j ≡ Some v → first_await p b + j ≢ first_await p a + k → Open b j v → Next b j v)
+      → (Next a k w × (flag ≡ true → IsImplied p a w)) ⊎ IsImpliedFlag p a w flag → AreFlagsBut p Open old → AreFlagsBut p Next new
+  known_put a is k w at old new flag places put on here h = record {
+    places = rw places h.places;
+    all = ap (λ (xs : List Bool). length xs) put ∙ length-set (flags_of old) (first_await p a + k) flag ∙ h.all;
+    known = λ b kb j v there. elim (flag_other p b a kb is j k (slice_get_within _ j v there) l) [
+      | inl (e, f) ↦
+          let same : v ≡ w = same_Some v w (sym there ∙ ap (slice_get (awaits_of p b.agent b.number)) f ∙ ap (λ (x : ActionId). slice_get (awaits_of p x.agent x.number) k) e ∙ at) in
+          let read : get_or (flags_of new) (first_await p b + j) false ≡ flag =
+          ap (λ (x : ℕ). get_or (flags_of new) x false) (ap (λ (x : ActionId). first_await p x + j) e ∙ ap (λ (x : ℕ). first_await p a + x) f)
+          ∙ ap (λ (xs : List Bool). get_or xs (first_await p a + k) false) put ∙ get_or-set_same (flags_of old) (first_await p a + k) flag false (omega (arith, l, flag_within p a is, h.all)) in
+          rw read (rw same (rw e (rw f here)))
+      | inr ne ↦
+          let read : get_or (flags_of new) (first_await p b + j) false ≡ get_or (flags_of old) (first_await p b + j) false =
+          ap (λ (xs : List Bool). get_or xs (first_await p b + j) false) put ∙ get_or-set_other (flags_of old) (first_await p a + k) (first_await p b + j) flag false ne in
+          rw read (elim (h.known b kb j v there) [ inl left ↦ inl (on b j v there ne left.0, left.1) | inr known ↦ inr known ])
+    ];
+  }
+    where
+      l : k < length (awaits_of p a.agent a.number)
+      l = slice_get_within (awaits_of p a.agent a.number) k w at

@@ -1,6 +1,6 @@
 -- What is reached, and what is not, by the levels of actions and by what they directly need.
-use Rattle.fleet_needs.proofs.Words.{◌≡◌, ◌≢◌, ℕ, ◌+◌, ◌-◌, ◌<◌, ◌≤◌, Bool, true, false, List, length, get_or, set, refl, sym, ap, subst, ◌∙◌, arith, inl, inr, ◌⊎◌, Contains, slice_get, Some, None, Option, unwrap_or, cases_lt, cases_eq, false≢true, true≢false, slice_get_within, get_or_from_slice_get, same_Some, ActionId, Await, Program, moves, awaits_of, AreInRange, IsWellFormed, IsAction, Reaches, IsNumbering, awaited, chain_ends_by_step, Reaches-rises, Reaches-last, IsImplied, IsSettled, AreSettledOf, AreMoreAsked, ReachesNeed, IsUpTo, action_before, ByBeforeOr, OfFirst, OfOthers}
-use Rattle.fleet_needs.proofs.AwaitOrder.{other_agent}
+use Rattle.fleet_needs.proofs.Words.{◌≡◌, ◌≢◌, ℕ, ◌+◌, ◌-◌, ◌<◌, ◌≤◌, Bool, true, false, List, length, get_or, refl, sym, ap, subst, ◌∙◌, arith, inl, inr, ◌⊎◌, Contains, slice_get, Some, None, Option, unwrap_or, cases_lt, cases_eq, false≢true, true≢false, slice_get_within, get_or_from_slice_get, same_Some, ActionId, Await, Program, awaits_of, moves, AreInRange, IsWellFormed, IsAction, Reaches, IsNumbering, awaited, chain_ends_by_step, Reaches-rises, Reaches-last, IsImplied, IsImpliedFlag, IsUnsettled, AreSettledTo, ImpliedAwaits, AreMoreAsked, ReachesNeed, IsUpTo, action_before, ByBeforeOr, OfFirst, OfOthers}
+use Rattle.fleet_needs.proofs.AwaitOrder.{other_agent, known_on}
 use Rattle.fleet_needs.proofs.RowFlags.{implied_by, implied_back}
 use Rattle.fleet_needs.proofs.Joining.{one_of, own_first, awaited_action, step_back, step_on}
 
@@ -99,38 +99,21 @@ module _ (p : Program) (formed : IsWellFormed p) (range : AreInRange p) (a : Act
 
 -- ---- awaits settled one after another
 
--- more agents are asked for
-pub still_settled : (p : Program) (a : ActionId) (w : Await) (was asked : List Bool) (flag : Bool) → AreMoreAsked was asked → IsSettled p was a w flag → IsSettled p asked a w flag
-still_settled p a w was asked flag more (inl set) = inl (more w.agent set.0, set.1)
-still_settled p a w was asked flag more (inr told) = inr told
+-- more agents are asked for, or fewer awaits are said to be settled
+pub settled_on : (p : Program) (was asked : List Bool) (n many : ℕ) (m : ImpliedAwaits) → many ≤ n → AreMoreAsked was asked → AreSettledTo p was n m → AreSettledTo p asked many m
+settled_on p was asked n many m le more = known_on p _ _ m (λ a is k w at left. elim left [ inl past ↦ inl (omega (arith, past, le)) | inr set ↦ inr (more w.agent set) ])
 
 -- an await, by what is known of it
-pub settled_by : (p : Program) → IsWellFormed p → AreInRange p → (a : ActionId) → 1 ≤ a.number → (k : ℕ) (x : ActionId) → slice_get (awaits_of p a.agent a.number) k ≡ Some (await_of x) → (asked : List Bool) (known : Option Bool) → (known ≡ None → get_or asked x.agent false ≡ true)
-    → (known ≡ Some true → ReachesNeed p x a k) → (known ≡ Some false → ReachesNeed p x a k → ⊥) → (flag : Bool) → flag ≡ unwrap_or known false → (w : Await) → slice_get (awaits_of p a.agent a.number) k ≡ Some w → IsSettled p asked a w flag
-settled_by p formed range a first k x at asked known left so not_so flag is w here =
-    subst (λ (v : Await). IsSettled p asked a v flag) (same_Some (await_of x) w (sym at ∙ here)) (subst (IsSettled p asked a (await_of x)) (sym is) (go known left so not_so))
-  where
-    go : (known : Option Bool) → (known ≡ None → get_or asked x.agent false ≡ true) → (known ≡ Some true → ReachesNeed p x a k) → (known ≡ Some false → ReachesNeed p x a k → ⊥) → IsSettled p asked a (await_of x) (unwrap_or known false)
-    go None left so not_so = inl (left refl, (λ f. absurd (false≢true f)))
-    go (Some true) left so not_so = inr ((λ f. need_implied p formed range a k (await_of x) at first (so refl)), (λ i. refl))
-    go (Some false) left so not_so = inr ((λ f. absurd (false≢true f)), (λ i. absurd (not_so refl (implied_need p formed range a k (await_of x) at i))))
+pub settled_by : (p : Program) → IsWellFormed p → AreInRange p → (a : ActionId) → 1 ≤ a.number → (k : ℕ) (x : ActionId) → slice_get (awaits_of p a.agent a.number) k ≡ Some (await_of x) → (asked : List Bool) (n : ℕ) (known : Option Bool) → (known ≡ None → get_or asked x.agent false ≡ true)
+    → (known ≡ Some true → ReachesNeed p x a k) → (known ≡ Some false → ReachesNeed p x a k → ⊥) → (IsUnsettled p asked n a k (await_of x) × (unwrap_or known false ≡ true → IsImplied p a (await_of x))) ⊎ IsImpliedFlag p a (await_of x) (unwrap_or known false)
+settled_by p formed range a first k x at asked n None left so not_so = inl (inr (left refl), (λ f. absurd (false≢true f)))
+settled_by p formed range a first k x at asked n (Some true) left so not_so = inr ((λ f. need_implied p formed range a k (await_of x) at first (so refl)), (λ i. refl))
+settled_by p formed range a first k x at asked n (Some false) left so not_so = inr ((λ f. absurd (false≢true f)), (λ i. absurd (not_so refl (implied_need p formed range a k (await_of x) at i))))
 
--- the actions of an agent, one after another
-pub one_up : (i n : ℕ) (b : ActionId) → IsUpTo i (n + 1) b → IsUpTo i n b ⊎ (b ≡ record { agent = i; number = n + 1 })
-one_up i n b (inl low) = inl (inl low)
-one_up i n b (inr (same, l)) = elim (cases_lt n b.number) [
-  | inr le ↦ inl (inr (same, le))
-  | inl more ↦ (let e : b.number ≡ n + 1 = omega arith in inr (λ t. record { agent = same t; number = e t }))
-]
-
--- .. and all that come before those of the next agent
+-- all actions that come before those of the next agent
 pub upto_next : (p : Program) (i : ℕ) (a : ActionId) → IsAction p a → IsUpTo (i + 1) 0 a → IsUpTo i (moves p i) a
 upto_next p i a is (inr (same, none)) = absurd (omega (arith, none, is.first))
 upto_next p i a is (inl low) = elim (cases_eq a.agent i) [ inr ne ↦ inl (omega (arith, low, ne)) | inl e ↦ inr (e, subst (λ (j : ℕ). a.number ≤ moves p j) e is.last) ]
-
--- one agent more
-pub agent_up : (p : Program) (i : ℕ) (asked flags : List Bool) → AreSettledOf p asked (IsUpTo i (moves p i)) flags → AreSettledOf p asked (IsUpTo (i + 1) 0) flags
-agent_up p i asked flags h a k up = h a k (upto_next p i a k up)
 
 -- an action that awaits the first one, or a later one of its agent
 pub needed_by : (p : Program) (range : AreInRange p) (first a : ActionId) (k : ℕ) (w : Await) → IsAction p first → IsAction p a → slice_get (awaits_of p a.agent a.number) k ≡ Some w

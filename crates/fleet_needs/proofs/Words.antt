@@ -19,20 +19,20 @@ pub use Rattle.fleet_model.specs.Program.{Program, actions_of, awaits_of, agent_
 pub use Rattle.fleet_model.specs.Chain.{IsAction, DirectlyNeeds, ChainFrom, IsCriticalCost, Reaches, awaited, IsNumbering, unit_cost}
 pub use Rattle.fleet_model.proofs.Totals.{awaits_more, actions_more, moves_more, awaits_fit, few_awaits_of}
 pub use Rattle.fleet_model.proofs.Chains.{but_last, need_action, ends_alone, ends_dearer, ends_within, own_reach, Reaches-first, Reaches-last, chain_ends_by_step, Reaches-rises, Reaches-trans, Reaches-need}
-pub use Rattle.fleet_needs.specs.Block.{HasColumn, IsAnswer}
+pub use Rattle.fleet_needs.specs.Block.{HasColumn, HasItsColumn, IsAnswer}
 pub use Rattle.fleet_needs.specs.Columns.{AreColumns, BlocksLeft, IsNextBlock, column_of}
 pub use Rattle.fleet_needs.specs.CostWalk.{Walked, after, IsGreatestTo, IsStage, IsReadyStage, IsFinished, HasAll, IsCostWalk, HaveGrown, IsUnmet, IsOpen, stage_in, finished_in, no_stage, gone_on}
 pub use Rattle.fleet_needs.specs.Counts.{counts_of, count_from, are_narrow, CanHold, AreAlike}
 pub use Rattle.fleet_needs.specs.Critical.{IsNumberedTo, IsNotedCost, AreNotedCosts, CostsByPlace, AreCriticalCosts, AreLevels, critical_cost, value_at}
-pub use Rattle.fleet_needs.specs.Flags.{AreSure, AreSet, AreFlags, AreKnownBut, IsLeft, IsLeftIn, AreFlaggedIn, AreAllFlagged, AreFlaggedTo, AreImplied, flags_of, IsLeftOut}
+pub use Rattle.fleet_needs.specs.Flags.{AreSure, AreSet, AreFlagsBut, IsLeft, IsLeftIn, AreFlaggedIn, AreFlaggedTo, AreImplied, AreSettled, AreSettledTo, IsUnsettled, flags_of, IsLeftOut}
 pub use Rattle.fleet_needs.specs.Gather.{raised, IsNoted, IsPairAt, link_at, no_link, IsReached, AreLinked, IsWithin, AreBelow, IsBlockState, IsGathering, IsGatheringRow, IsOpenPiece}
-pub use Rattle.fleet_needs.specs.Implied.{EachFlag, AreNoted, first_await, IsImplied, IsImpliedFlag, AreAwaitPlaces}
+pub use Rattle.fleet_needs.specs.Implied.{first_await, IsImplied, IsImpliedFlag, AreAwaitPlaces}
 pub use Rattle.fleet_needs.specs.JoinPass.{AreOthers, IsJoinRow, HasOthers, HasWhole}
 pub use Rattle.fleet_needs.specs.Kernels.{AreJoined}
 pub use Rattle.fleet_needs.specs.Pieces.{IsOf, IsToldBy, IsTold, AreTold, key_of, AreSorted, IsLatest, no_piece, piece_at, count_by}
 pub use Rattle.fleet_needs.specs.Places.{ArePlaces, action_place, row_place}
 pub use Rattle.fleet_needs.specs.Rows.{IsColumn, IsJoined, OfFirst, OfOthers, action_before, ByBeforeOr, ByOneOf, IsMost, OfOwn, OfThese}
-pub use Rattle.fleet_needs.specs.Settled.{AreSettled, IsSettled, AreSettledOf, AreMoreAsked, IsUpTo, AreSettledTo, ReachesNeed}
+pub use Rattle.fleet_needs.specs.Settled.{AreMoreAsked, IsUpTo, ReachesNeed}
 pub use Rattle.fleet_needs.specs.declared.schedule.Columns.{Columns}
 pub use Rattle.fleet_needs.specs.declared.schedule.Schedule.{Schedule}
 pub use Rattle.fleet_needs.specs.declared.gather.Piece.{Piece}
@@ -52,11 +52,11 @@ pub use Rattle.fleet_needs.specs.declared.joins.Need.{Need}
 pub use Rattle.fleet_needs.specs.declared.joins.Joins.{Joins}
 pub use Rattle.fleet_needs.specs.declared.level_order.Item.{Item}
 pub use Rattle.fleet_needs.specs.declared.level_order.LevelOrder.{LevelOrder}
-pub use Rattle.fleet_needs.specs.Asked.{IsQuestion, AreAnswersIn, AreAskedTo}
+pub use Rattle.fleet_needs.specs.Asked.{IsQuestion, AreAnswersIn, IsAskedFor}
 pub use Rattle.fleet_needs.specs.Schedule.{AreCounts, AreRowCounts, next_action, joins_in, IsSchedule, AreColumnsOf, AreRowsTo, IsRowFor, IsThere, StandsThere, IsNextJoin, IsNextNeed, count_in_slot, slot_of}
-pub use Rattle.fleet_needs.specs.Answering.{AreAnsweredTo, IsAnswering, IsAnsweringRow, AreOthersLeft, others_joined, questions_in, others_same}
+pub use Rattle.fleet_needs.specs.Answering.{AreAnsweredFrom, AreListed, IsAnswering, IsByRow, IsToCome, listed_at, no_question, question_at, question_of, questions_in, unlisted}
 pub use Rattle.fleet_needs.specs.declared.questions.Answering.{Answering}
-pub use Rattle.fleet_needs.specs.declared.questions.ListedQuestions.{ListedQuestions}
+pub use Rattle.fleet_needs.specs.declared.questions.RowQuestion.{RowQuestion}
 pub use Rattle.fleet_needs.specs.declared.questions.Question.{Question}
 pub use Rattle.fleet_needs.specs.Slots.{AreSlotted, HasSlotNow, IsFree, IsHeld, IsStill, TakesIn, owner_of, rows_in, slot_in, slots_in}
 pub use Rattle.fleet_needs.specs.declared.schedule.Slots.{Slots}

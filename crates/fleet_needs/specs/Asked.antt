@@ -20,7 +20,6 @@ pub record AreAnswers (p : Program) (questions : List Question) (flags : List Bo
 abbrev pub AreAnswersIn : Program → List Question → Vec Bool Global → Type 0
 AreAnswersIn p questions flags = AreAnswers p questions flags.items
 
--- a flag for each agent, and of each of the first n questions the first agent is flagged
-pub record AreAskedTo (p : Program) (questions : List Question) (n : ℕ) (asked : Vec Bool Global) : Type 0 where
-  pub all : length asked.items ≡ length p
-  pub flagged : (k : ℕ) (q : Question) → k < n → slice_get questions k ≡ Some q → get_or asked.items q.first.agent false ≡ true
+-- the agent of the question's first action is flagged
+abbrev pub IsAskedFor : List Bool → Question → Type 0
+IsAskedFor asked q = get_or asked q.first.agent false ≡ true

@@ -1,6 +1,6 @@
 -- Flags of awaits: which of them say whether others imply their await.
 use Rattle.std.specs.Prelude.{◌≡◌, true, ℕ, ◌+◌, ◌<◌, ◌≤◌, ◌⊎◌, Bool, false, List, length, get_or, slice_get, Some}
-use Rattle.fleet_needs.specs.Words.{Await, ActionId, Program, awaits_of, total_awaits, IsAction}
+use Rattle.fleet_needs.specs.Words.{Await, ActionId, Program, awaits_of, total_awaits}
 use Rattle.fleet_needs.specs.Joins.{IsRow}
 use Rattle.fleet_needs.specs.declared.schedule.Schedule.{Schedule}
 use Rattle.fleet_needs.specs.declared.schedule.Columns.{Columns}
@@ -11,10 +11,16 @@ use Rattle.fleet_needs.specs.declared.implied.ImpliedAwaits.{ImpliedAwaits}
 abbrev pub flags_of : ImpliedAwaits → List Bool
 flags_of m = m.flags.items
 
--- there is a flag for each await of the program, at its place
-pub record AreFlags (p : Program) (m : ImpliedAwaits) : Type 0 where
+-- there is a flag for each await of the program, which says whether the await is implied; or the await is one of these,
+-- and its flag is set only if it is implied
+pub record AreFlagsBut (p : Program) (Open : ActionId → ℕ → Await → Type 0) (m : ImpliedAwaits) : Type 0 where
   pub places : AreAwaitPlaces p m.places
   pub all : length (flags_of m) ≡ total_awaits p
+  pub known : EachFlag p (λ a k w flag. (Open a k w × (flag ≡ true → IsImplied p a w)) ⊎ IsImpliedFlag p a w flag) (flags_of m)
+
+-- of each await of the program it is known whether it is implied
+abbrev pub AreImplied : Program → ImpliedAwaits → Type 0
+AreImplied p m = AreFlagsBut p (λ a k w. ⊥) m
 
 -- the flags of all awaits of the action are set
 abbrev pub AreSet : Program → List Bool → ActionId → Type 0
@@ -22,24 +28,23 @@ AreSet p flags a = (k : ℕ) (w : Await) → slice_get (awaits_of p a.agent a.nu
 
 -- no flag is set but of awaits that others imply
 abbrev pub AreSure : Program → List Bool → Type 0
-AreSure p flags = EachFlag p (IsAction p) (λ a k w flag. flag ≡ true → IsImplied p a w) flags
+AreSure p flags = EachFlag p (λ a k w flag. flag ≡ true → IsImplied p a w) flags
 
 -- the action is to have no row: it has one await alone, whose flag is set
 abbrev pub IsLeftOut : Program → List Bool → ActionId → Type 0
 IsLeftOut p flags a = (length (awaits_of p a.agent a.number) ≡ 1) × (get_or flags (first_await p a) false ≡ true)
 
--- the flags of all awaits of the program say whether they are implied
-abbrev pub AreAllFlagged : Program → List Bool → Type 0
-AreAllFlagged p flags = EachFlag p (IsAction p) (λ a k w flag. IsImpliedFlag p a w flag) flags
+-- the await is none of the first n of the program, in the order of their flags, or its agent is asked for
+abbrev pub IsUnsettled : Program → List Bool → ℕ → ActionId → ℕ → Await → Type 0
+IsUnsettled p asked n a k w = (n ≤ first_await p a + k) ⊎ (get_or asked w.agent false ≡ true)
 
--- of each await of the program it is known whether it is implied
-pub record AreImplied (p : Program) (m : ImpliedAwaits) : Type 0 where
-  pub flags : AreFlags p m
-  pub flagged : AreAllFlagged p (flags_of m)
+-- of the first n awaits it is known whether they are implied, but for those whose agents are asked for
+abbrev pub AreSettledTo : Program → List Bool → ℕ → ImpliedAwaits → Type 0
+AreSettledTo p asked n m = AreFlagsBut p (IsUnsettled p asked n) m
 
--- each flag says whether its await is implied, or the await is one of these, and its flag is set only if it is implied
-abbrev pub AreKnownBut : Program → (ActionId → ℕ → Await → Type 0) → List Bool → Type 0
-AreKnownBut p Open flags = EachFlag p (IsAction p) (λ a k w flag. (Open a k w × (flag ≡ true → IsImplied p a w)) ⊎ IsImpliedFlag p a w flag) flags
+-- .. of all of them
+abbrev pub AreSettled : Program → List Bool → ImpliedAwaits → Type 0
+AreSettled p asked m = AreSettledTo p asked (total_awaits p) m
 
 -- the action has a row, and the await is of an agent who is asked for, and not below this one
 pub record IsLeft (s : Schedule) (asked : List Bool) (from : ℕ) (a : ActionId) (w : Await) : Type 0 where
@@ -49,9 +54,8 @@ pub record IsLeft (s : Schedule) (asked : List Bool) (from : ℕ) (a : ActionId)
   pub upon : from ≤ w.agent
 
 -- all flags but those of awaits that are left say whether they are implied
-pub record AreFlaggedTo (p : Program) (s : Schedule) (asked : List Bool) (from : ℕ) (m : ImpliedAwaits) : Type 0 where
-  pub flags : AreFlags p m
-  pub known : AreKnownBut p (λ a k w. IsLeft s asked from a w) (flags_of m)
+abbrev pub AreFlaggedTo : Program → Schedule → List Bool → ℕ → ImpliedAwaits → Type 0
+AreFlaggedTo p s asked from m = AreFlagsBut p (λ a k w. IsLeft s asked from a w) m
 
 -- place k of row r comes after the first n rows, and after so many places of the next
 abbrev pub IsLater : (n many r k : ℕ) → Type 0
@@ -62,6 +66,5 @@ abbrev pub IsLeftIn : Schedule → List Bool → Columns → (n many : ℕ) → 
 IsLeftIn s asked columns n many a k w = (h : IsLeft s asked columns.first a w) × ((columns.end ≤ w.agent) ⊎ IsLater n many h.row k)
 
 -- .. and all other flags say so
-pub record AreFlaggedIn (p : Program) (s : Schedule) (asked : List Bool) (columns : Columns) (n many : ℕ) (m : ImpliedAwaits) : Type 0 where
-  pub flags : AreFlags p m
-  pub known : AreKnownBut p (IsLeftIn s asked columns n many) (flags_of m)
+abbrev pub AreFlaggedIn : Program → Schedule → List Bool → Columns → (n many : ℕ) → ImpliedAwaits → Type 0
+AreFlaggedIn p s asked columns n many m = AreFlagsBut p (IsLeftIn s asked columns n many) m

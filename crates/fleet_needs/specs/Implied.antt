@@ -1,5 +1,5 @@
 -- Awaits that others imply, and the places of their flags.
-use Rattle.std.specs.Prelude.{◌≡◌, ◌≢◌, ℕ, ◌+◌, ◌-◌, ◌<◌, ◌≤◌, ◌⊎◌, Bool, true, false, List, length, take, slice_get, get_or, Some, ◌↔◌}
+use Rattle.std.specs.Prelude.{◌≡◌, ◌≢◌, ℕ, ◌+◌, ◌-◌, Bool, true, false, List, length, take, slice_get, get_or, Some, ◌↔◌}
 use Rattle.fleet_needs.specs.Words.{Await, ActionId, Program, awaits_before, awaits_of, total_awaits, IsAction, DirectlyNeeds, Reaches, awaited}
 use Rattle.fleet_needs.specs.Places.{AreFirsts}
 
@@ -19,12 +19,7 @@ first_await p a = total_awaits (take a.agent p) + awaits_before p a.agent (a.num
 abbrev pub AreAwaitPlaces : Program → List ℕ → Type 0
 AreAwaitPlaces p firsts = AreFirsts (λ i. total_awaits (take i p)) (length p) firsts
 
--- this is so of each await of these actions, with its place and its flag
-abbrev pub EachFlag : Program → (ActionId → Type 0) → (ActionId → ℕ → Await → Bool → Type 0) → List Bool → Type 0
-EachFlag p These Is flags =
-    (a : ActionId) → IsAction p a → These a → (k : ℕ) (w : Await) → slice_get (awaits_of p a.agent a.number) k ≡ Some w → Is a k w (get_or flags (first_await p a + k) false)
-
--- it is so of the first n awaits of the action, and no other flag has changed
-pub record AreNoted (p : Program) (a : ActionId) (Is : ℕ → Await → Bool → Type 0) (n : ℕ) (old new : List Bool) : Type 0 where
-  pub each : (k : ℕ) (w : Await) → k < n → slice_get (awaits_of p a.agent a.number) k ≡ Some w → Is k w (get_or new (first_await p a + k) false)
-  pub others : (m : ℕ) → (m < first_await p a) ⊎ (first_await p a + n ≤ m) → get_or new m false ≡ get_or old m false
+-- this is so of each await of the program, with its place and its flag
+abbrev pub EachFlag : Program → (ActionId → ℕ → Await → Bool → Type 0) → List Bool → Type 0
+EachFlag p Is flags =
+    (a : ActionId) → IsAction p a → (k : ℕ) (w : Await) → slice_get (awaits_of p a.agent a.number) k ≡ Some w → Is a k w (get_or flags (first_await p a + k) false)

@@ -1,16 +1,15 @@
 //! Awaits that others imply: what is left open of them after a few steps back is flagged by rows.
 
-ghost use Rattle.std.specs.Prelude.{◌≡◌, ◌<◌, ◌+◌, Some, false, get_or, length, slice_get, IfOk, OnOk};
+ghost use Rattle.std.specs.Prelude.{◌≡◌, ◌<◌, ◌+◌, Some, length, slice_get, IfOk, OnOk};
 ghost use Rattle.fleet_model.specs.declared.program.Await.{Await};
-ghost use Rattle.fleet_model.specs.Program.{AreInRange, awaits_of, total_awaits};
+ghost use Rattle.fleet_model.specs.Program.{AreInRange, awaits_of};
 ghost use Rattle.fleet_model.specs.Chain.{IsAction};
 ghost use Rattle.fleet_needs.specs.Critical.{IsNumberedTo};
-ghost use Rattle.fleet_needs.specs.Implied.{IsImpliedFlag, first_await};
+ghost use Rattle.fleet_needs.specs.Implied.{IsImpliedFlag};
 ghost use Rattle.fleet_needs.specs.Joins.{HasRowOr};
-ghost use Rattle.fleet_needs.specs.Settled.{AreSettled};
 ghost use Rattle.fleet_needs.specs.Schedule.{AreColumnsOf, IsSchedule, joins_in, joins_of};
 ghost use Rattle.fleet_needs.specs.Columns.{AreColumns};
-ghost use Rattle.fleet_needs.specs.Flags.{AreImplied, AreSet, flags_of, AreFlags, AreFlaggedIn};
+ghost use Rattle.fleet_needs.specs.Flags.{AreImplied, AreSet, AreSettled, flags_of, AreFlaggedIn};
 ghost use Rattle.fleet_needs.specs.JoinPass.{IsJoinRow, HasOthers};
 
 use crate::await_places::AwaitPlaces;
@@ -32,18 +31,6 @@ pub struct ImpliedAwaits {
 }
 
 impl ImpliedAwaits {
-    /// Whether await `k` of the action is flagged.
-    pub(crate) fn is_set<P: ProgramView>(&self, program: &P, action: ActionId, k: u16) -> bool
-        requires flags { AreFlags (P.program program.now) self.now }
-        requires action { IsAction (P.program program.now) action }
-        requires place { k < length (awaits_of (P.program program.now) action.agent action.number) }
-        ensures { result ≡ get_or (flags_of self.now)
-            (first_await (P.program program.now) action + k) false }
-    {
-        let place = self.places.first(program, action) + usize::from(k);
-        self.flags[place]
-    }
-
     /// Whether others imply await `k` of the action. Takes no memory.
     pub fn is_implied<P: ProgramView>(&self, program: &P, action: ActionId, k: u16) -> bool
         requires implied { AreImplied (P.program program.now) self.now }
@@ -53,7 +40,7 @@ impl ImpliedAwaits {
             → slice_get (awaits_of (P.program program.now) action.agent action.number) k ≡ Some w
             → IsImpliedFlag (P.program program.now) action w result }
     {
-        self.is_set(program, action, k)
+        self.flags[self.places.first(program, action) + usize::from(k)]
     }
 }
 
@@ -97,9 +84,8 @@ fn flag_all<P: ProgramView>(
 ) -> Result<(), OutOfMemory>
     requires range { AreInRange (P.program program.now) }
     requires schedule { IsSchedule (P.program program.now) schedule.now }
-    requires flags { AreFlags (P.program program.now) implied.old }
     requires asked { length asked.now ≡ length (P.program program.now) }
-    requires settled { AreSettled (P.program program.now) asked.now (flags_of implied.old) }
+    requires settled { AreSettled (P.program program.now) asked.now implied.old }
     requires passed { HasRowOr (AreSet (P.program program.now) (flags_of implied.old))
         (P.program program.now) (joins_of schedule.now) (IsAction (P.program program.now)) }
     ensures { OnOk result (AreImplied (P.program program.now) implied.new) }

@@ -26,8 +26,8 @@
 //! each awaited agent is that of all needs but this await. Who uses the rows of a block goes over them in a loop of its
 //! own: `questions`, `gather` and, between the two steps, `implied`.
 //!
-//! `questions` answers questions for chains by rows alone, agent by agent, in blocks of columns. Each question is
-//! listed by the row that stands for its last action, and answered when that row is made; those of row 0 come first.
+//! `questions` answers questions for chains by rows alone, agent by agent, in blocks of columns. They stand in the order
+//! of the rows that stand for their last actions, and each is answered when its row is made; those of row 0 come first.
 //!
 //! `gather` gathers the counts of all rows: by each row it goes on with the last *piece* of the two agents, or begins a
 //! new one, block by block of columns. It sorts the pieces (`Pieces`) and looks counts up in them.

@@ -1,12 +1,11 @@
 //! Questions for chains, answered agent by agent, by the rows of a block.
 
-ghost use Rattle.std.specs.Prelude.{◌≡◌, ◌≢◌, ◌+◌, ◌<◌, ◌≤◌, ℕ, length, slice_index, All, IfOk, OnOk, None};
+ghost use Rattle.std.specs.Prelude.{◌≡◌, ◌≢◌, ◌+◌, ◌<◌, ◌≤◌, ℕ, length, slice_index, All, IfOk, OnOk};
 ghost use Rattle.fleet_model.specs.Program.{AreInRange};
-ghost use Rattle.fleet_needs.specs.Asked.{AreAnswersIn, AreAskedTo, IsQuestion};
-ghost use Rattle.fleet_needs.specs.Block.{IsAnswer, HasColumn};
-ghost use Rattle.fleet_needs.specs.Schedule.{IsSchedule, AreColumnsOf, AreCounts, AreRowCounts, joins_in};
-ghost use Rattle.fleet_needs.specs.Columns.{column_of};
-ghost use Rattle.fleet_needs.specs.Answering.{AreAnsweredTo, AreListed, IsAnswering, AreOthersLeft, questions_in};
+ghost use Rattle.fleet_needs.specs.Asked.{AreAnswersIn, IsAskedFor, IsQuestion};
+ghost use Rattle.fleet_needs.specs.Schedule.{IsSchedule, AreColumnsOf, AreRowCounts, joins_in};
+ghost use Rattle.fleet_needs.specs.Block.{HasItsColumn};
+ghost use Rattle.fleet_needs.specs.Answering.{AreAnsweredFrom, IsAnswering, AreListed, questions_in};
 ghost use Rattle.fleet_needs.specs.Counts.{counts_of};
 ghost use Rattle.fleet_needs.specs.Implied.{AreAwaitPlaces};
 ghost use Rattle.fleet_needs.specs.Joins.{AreOwn, AreStanding, joins_made};
@@ -42,21 +41,17 @@ pub fn answer_questions<P: ProgramView, S: OrderSource + Drop>(
     requires questions { All (IsQuestion (P.program program.now)) questions.now }
     ensures { IfOk result (AreAnswersIn (P.program program.now) questions.now) }
 {
-    let flags = vec![in alloc; false; questions.len()]?;
     if questions.is_empty() {
-        return Ok(flags);
+        return Ok(Vec::new(alloc));
     }
     let asked = asked_agents(alloc, program, questions)?;
     let order = source.order(alloc, program)?;
-    let (schedule, listed) = Schedule::for_questions(alloc, program, order, questions)?;
-    let answering = Answering {
-        listed: &listed,
-        flags,
-    };
+    let (schedule, answering) = Schedule::for_questions(alloc, program, order, questions)?;
     answer_all(alloc, program, &schedule, &asked, answering)
 }
 
 /// The answers to the questions, block by block, each with as many columns as there is room for.
+#[tactic(auto, using(crate::proofs::NextBlock::columns_of, crate::proofs::NextBlock::fewer_left))]
 fn answer_all<P: ProgramView>(
     alloc: Global,
     program: &P,
@@ -66,8 +61,10 @@ fn answer_all<P: ProgramView>(
 ) -> Result<Vec<bool>, OutOfMemory>
     requires range { AreInRange (P.program program.now) }
     requires schedule { IsSchedule (P.program program.now) schedule.now }
-    requires answers { AreAnsweredTo (P.program program.now) schedule.now asked.now 0
-        (questions_in answering) answering }
+    requires agents { length asked.now ≡ length (P.program program.now) }
+    requires asked { All (IsAskedFor asked.now) (questions_in answering) }
+    requires answers { AreAnsweredFrom (P.program program.now)
+        schedule.now 0 answering }
     ensures { IfOk result (AreAnswersIn (P.program program.now) (questions_in answering.entry)) }
 {
     let mut answering = answering;
@@ -89,13 +86,15 @@ fn answer_block<P: ProgramView>(
     requires range { AreInRange (P.program program.now) }
     requires schedule { IsSchedule (P.program program.now) schedule.now }
     requires columns { AreColumnsOf (P.program program.now) columns }
-    requires answers { IsAnswering (P.program program.now) schedule.now columns 0 answering.old }
-    ensures answers { OnOk result (IsAnswering (P.program program.now)
-        schedule.now columns (joins_in schedule.now + 1) answering.new) }
-    ensures keeps { OnOk result (AreOthersLeft
-        (P.program program.now) columns answering.old answering.new) }
+    requires block { All (HasItsColumn columns) (questions_in answering.old) }
+    requires answers { AreAnsweredFrom (P.program program.now)
+        schedule.now columns.first answering.old }
+    ensures answers { OnOk result (AreAnsweredFrom (P.program program.now)
+        schedule.now columns.end answering.new) }
+    ensures same { OnOk result (questions_in answering.new ≡ questions_in answering.old) }
 {
     let mut row = Counts::zeros(alloc, usize::from(columns.width), schedule.is_narrow)?;
+    answering.next = 0;
     answering.answer_row(program, schedule, &columns, &row, 0);
     let mut rows = SlotRows::new(alloc, program, schedule, columns)?;
     for n in 0..schedule.joins.len() {
@@ -113,8 +112,8 @@ fn asked_agents<P: ProgramView>(
     questions: &[Question],
 ) -> Result<Vec<bool>, OutOfMemory>
     requires { All (IsQuestion (P.program program.now)) questions.now }
-    ensures { IfOk result (AreAskedTo
-        (P.program program.now) questions.now (length questions.now)) }
+    ensures agents { IfOk result (λ asked. length asked.items ≡ length (P.program program.now)) }
+    ensures asked { IfOk result (λ asked. All (IsAskedFor asked.items) questions.now) }
 {
     let mut asked = vec![in alloc; false; usize::from(program.agents())]?;
     for question in questions {
@@ -123,54 +122,57 @@ fn asked_agents<P: ProgramView>(
     Ok(asked)
 }
 
-/// Questions by the rows that stand for their last actions: for each row, from 0 on, the last question, and for each
-/// question the one before it that has the same row. Questions count from 1 here; 0 is none.
-#[derive(Drop)]
-pub(crate) struct ListedQuestions<'a> {
-    questions: &'a [Question],
-    lasts: Vec<usize>,
-    befores: Vec<usize>,
+/// A question by its place among all, and the row that stands for its last action.
+#[derive(Clone, Copy)]
+pub(crate) struct RowQuestion {
+    row: u32,
+    place: u32,
 }
 
-impl<'a> ListedQuestions<'a> {
-    /// The questions by their rows.
+/// Questions in the order of their rows, and a flag for each by its place.
+#[derive(Drop)]
+pub(crate) struct Answering<'a> {
+    questions: &'a [Question],
+    rows: Vec<RowQuestion>,
+    flags: Vec<bool>,
+    /// How many of them have come in this block.
+    next: usize,
+}
+
+impl<'a> Answering<'a> {
+    /// The questions by their rows, none of which is answered.
     pub(crate) fn of<P: ProgramView>(
         alloc: Global,
         program: &P,
         places: &AwaitPlaces,
         joins: &Joins,
         questions: &'a [Question],
-    ) -> Result<ListedQuestions<'a>, OutOfMemory>
+    ) -> Result<Answering<'a>, OutOfMemory>
         requires places { AreAwaitPlaces (P.program program.now) places.now }
         requires joins { AreStanding (P.program program.now) joins.now }
         requires questions { All (IsQuestion (P.program program.now)) questions.now }
-        ensures questions { IfOk result (λ l. l.questions.now ≡ questions.now) }
-        ensures listed { IfOk result (λ l. AreListed
-            (P.program program.now) (joins_made joins.now) l) }
+        ensures questions { IfOk result (λ m. questions_in m ≡ questions.now) }
+        ensures listed { IfOk result (AreListed (P.program program.now) (joins_made joins.now)) }
     {
-        let mut lasts = vec![in alloc; 0; joins.joins.len() + 1]?;
-        let mut befores = Vec::with_capacity(alloc, questions.len())?;
-        for question in questions {
-            let row = joins.row_of(program, places, question.last) as usize;
-            befores.push(lasts[row])?;
-            lasts[row] = befores.len();
+        let count = questions.len();
+        if count > u32::MAX as usize {
+            return Err(OutOfMemory);
         }
-        Ok(ListedQuestions {
+        let mut rows = Vec::with_capacity(alloc, count)?;
+        for k in 0..count {
+            let row = joins.row_of(program, places, questions[k].last);
+            let place = k as u32;
+            rows.push(RowQuestion { row, place })?;
+        }
+        rows.sort_unstable_by_key(|question| question.row);
+        Ok(Answering {
             questions,
-            lasts,
-            befores,
+            rows,
+            flags: vec![in alloc; false; count]?,
+            next: 0,
         })
     }
-}
 
-/// Questions by their rows, and a flag for each.
-#[derive(Drop)]
-pub(crate) struct Answering<'a> {
-    listed: &'a ListedQuestions<'a>,
-    flags: Vec<bool>,
-}
-
-impl<'a> Answering<'a> {
     /// Answers the questions of the row with this number, which has these counts.
     fn answer_row<P: ProgramView>(
         &mut self,
@@ -182,48 +184,27 @@ impl<'a> Answering<'a> {
     )
         requires own { AreOwn (P.program program.now) }
         requires columns { AreColumnsOf (P.program program.now) columns.now }
-        requires within { number ≤ joins_in schedule.now }
-        requires answers { IsAnswering (P.program program.now)
-            schedule.now columns.now number self.old }
         requires row { length (counts_of row.now) ≡ columns.now.width }
         requires counts { AreRowCounts (P.program program.now)
             schedule.now columns.now number (slice_index (counts_of row.now)) }
+        requires answers { IsAnswering (P.program program.now)
+            schedule.now columns.now number self.old }
         ensures answers { IsAnswering (P.program program.now)
             schedule.now columns.now (number + 1) self.new }
-        ensures keeps { AreOthersLeft (P.program program.now) columns.now self.old self.new }
+        ensures same { questions_in self.new ≡ questions_in self.old }
     {
-        let mut left = self.listed.lasts[number];
-        while left > 0 {
-            let k = left - 1;
-            let question = self.listed.questions[k];
-            answer_one(program, columns, row, question, &mut self.flags[k]);
-            left = self.listed.befores[k];
+        // Of the program and the schedule the contract alone speaks.
+        let _ = program;
+        let _ = schedule;
+        while self.next < self.rows.len() && self.rows[self.next].row as usize == number {
+            let place = self.rows[self.next].place as usize;
+            let question = self.questions[place];
+            if let Some(k) = columns.of(question.first.agent) {
+                let count = count_for(row, usize::from(k), question);
+                self.flags[place] = count < question.first.number;
+            }
+            self.next += 1;
         }
-    }
-}
-
-/// Flags the answer to a question whose agent has a column, by the row of its last action.
-fn answer_one<P: ProgramView>(
-    program: &P,
-    columns: &Columns,
-    row: &Counts,
-    question: Question,
-    flag: &mut bool,
-)
-    requires own { AreOwn (P.program program.now) }
-    requires columns { AreColumnsOf (P.program program.now) columns.now }
-    requires room { length (counts_of row.now) ≡ columns.now.width }
-    requires row { AreCounts (P.program program.now) columns.now
-        question.last.agent question.last.number (slice_index (counts_of row.now)) }
-    requires question { IsQuestion (P.program program.now) question }
-    ensures answer { (k : ℕ) → HasColumn columns.now question.first.agent k
-        → IsAnswer (P.program program.now) question flag.new }
-    ensures none { column_of columns.now question.first.agent ≡ None
-        → flag.new ≡ flag.old }
-{
-    if let Some(k) = columns.of(question.first.agent) {
-        let count = count_for(row, usize::from(k), question);
-        *flag = count < question.first.number;
     }
 }
 

@@ -9,14 +9,14 @@ ghost use Rattle.fleet_needs.specs.Asked.{IsQuestion};
 ghost use Rattle.fleet_needs.specs.Joins.{AreAllJoins, HasRowOr, join_at, joins_made, rows_made};
 ghost use Rattle.fleet_needs.specs.Flags.{AreSet, AreSure};
 ghost use Rattle.fleet_needs.specs.Order.{IsLevelOrder};
-ghost use Rattle.fleet_needs.specs.Answering.{AreListed};
+ghost use Rattle.fleet_needs.specs.Answering.{AreListed, questions_in};
 ghost use Rattle.fleet_needs.specs.Schedule.{IsSchedule, IsNextJoin, IsNextNeed, joins_of, joins_in, next_action};
 ghost use Rattle.fleet_needs.specs.Slots.{AreSlotted, HasSlotNow, IsFree, IsHeld, TakesIn, rows_in};
 ghost use Rattle.fleet_needs.specs.Columns.{AreColumns, IsNextBlock, agents_in, column_of};
 
 use crate::joins::{Join, Joins, Need, joins_of, need_of};
 use crate::level_order::LevelOrder;
-use crate::questions::{ListedQuestions, Question};
+use crate::questions::{Answering, Question};
 use fleet_model::{MAX_AGENTS, OutOfMemory, ProgramView};
 use std::alloc::Global;
 use std::marker::Model;
@@ -72,21 +72,21 @@ impl Schedule {
         program: &P,
         order: LevelOrder,
         questions: &'a [Question],
-    ) -> Result<(Schedule, ListedQuestions<'a>), OutOfMemory>
+    ) -> Result<(Schedule, Answering<'a>), OutOfMemory>
         requires range { AreInRange (P.program program.now) }
         requires order { IsLevelOrder (P.program program.now) order }
         requires questions { All (IsQuestion (P.program program.now)) questions.now }
         ensures schedule { IfOk result (λ made. IsSchedule (P.program program.now) made.0) }
-        ensures questions { IfOk result (λ made. made.1.questions.now ≡ questions.now) }
+        ensures questions { IfOk result (λ made. questions_in made.1 ≡ questions.now) }
         ensures listed { IfOk result (λ made.
             AreListed (P.program program.now) (joins_of made.0) made.1) }
     {
         let joins = joins_of(alloc, program, &order, &[])?;
-        let listed = ListedQuestions::of(alloc, program, &order.places, &joins, questions)?;
+        let answering = Answering::of(alloc, program, &order.places, &joins, questions)?;
         // The slots need its room.
         drop(order);
         let schedule = Schedule::of_joins(alloc, program, joins)?;
-        Ok((schedule, listed))
+        Ok((schedule, answering))
     }
 
     /// The schedule of these joins.

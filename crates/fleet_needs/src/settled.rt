@@ -1,12 +1,13 @@
 //! Awaits for which a few steps back from their action show whether others imply them. How far is looked back decides
 //! what is settled, and so how much is left to rows, but not what is answered.
 
-ghost use Rattle.std.specs.Prelude.{◌≡◌, ◌↔◌, ◌<◌, ◌≤◌, ℕ, true, false, length, get_or, slice_get, Some, IfOk, OnOk, ◌⊎◌, None, IsTrue};
-ghost use Rattle.fleet_model.specs.Program.{AreInRange, awaits_of, moves};
+ghost use Rattle.std.specs.Prelude.{◌≡◌, ◌↔◌, ◌+◌, ◌<◌, ◌≤◌, ℕ, true, false, [], length, take, get_or, slice_get, Some, IfOk, ◌⊎◌, None, IsTrue};
+ghost use Rattle.fleet_model.specs.Program.{AreInRange, awaits_of, total_awaits};
 ghost use Rattle.fleet_model.specs.Chain.{IsAction, Reaches};
-ghost use Rattle.fleet_needs.specs.Flags.{AreFlags, flags_of};
+ghost use Rattle.fleet_needs.specs.Flags.{AreSettled, AreSettledTo};
+ghost use Rattle.fleet_needs.specs.Implied.{first_await};
 ghost use Rattle.fleet_needs.specs.Critical.{AreLevels, critical_cost};
-ghost use Rattle.fleet_needs.specs.Settled.{AreSettledBy, AreSettledOf, AreSettledTo, AreMoreAsked, IsUpTo, ReachesNeed, IsOpenTo, HasOpenNeed};
+ghost use Rattle.fleet_needs.specs.Settled.{AreMoreAsked, ReachesNeed, IsOpenTo, HasOpenNeed};
 ghost use Rattle.fleet_needs.specs.Rows.{action_before};
 
 use crate::critical::CriticalCosts;
@@ -35,10 +36,10 @@ pub fn settle_all<P: ProgramView>(
     implied: &mut ImpliedAwaits,
 ) -> Result<Vec<bool>, OutOfMemory>
     requires levels { AreLevels (P.program program.now) levels.now }
-    requires flags { AreFlags (P.program program.now) implied.old }
-    ensures flags { OnOk result (AreFlags (P.program program.now) implied.new) }
-    ensures asked { IfOk result (λ asked. AreSettledBy
-        (P.program program.now) asked (flags_of implied.new)) }
+    requires flags { AreSettledTo (P.program program.now) [] 0 implied.old }
+    ensures agents { IfOk result (λ asked. length asked.items ≡ length (P.program program.now)) }
+    ensures settled { IfOk result (λ asked. AreSettled
+        (P.program program.now) asked.items implied.new) }
 {
     let agents = program.agents();
     let mut asked = vec![in alloc; false; usize::from(agents)]?;
@@ -74,17 +75,16 @@ fn settle_agent<P: ProgramView>(
     looks: u8,
     agent: u16,
     implied: &mut ImpliedAwaits,
-    asked: &mut [bool],
+    asked: &mut Vec<bool>,
 )
     requires levels { AreLevels (P.program program.now) levels.now }
     requires agent { agent < length (P.program program.now) }
-    requires flags { AreFlags (P.program program.now) implied.old }
-    requires asked { length asked.old ≡ length (P.program program.now) }
-    requires settled { AreSettledOf (P.program program.now) asked.old (IsUpTo agent 0)
-        (flags_of implied.old) }
-    ensures flags { AreFlags (P.program program.now) implied.new }
-    ensures settled { AreSettledOf (P.program program.now) asked.new
-        (IsUpTo agent (moves (P.program program.now) agent)) (flags_of implied.new) }
+    requires asked { length asked.old.items ≡ length (P.program program.now) }
+    requires settled { AreSettledTo (P.program program.now) asked.old.items
+        (total_awaits (take agent (P.program program.now))) implied.old }
+    ensures asked { length asked.new.items ≡ length asked.old.items }
+    ensures settled { AreSettledTo (P.program program.now) asked.new.items
+        (total_awaits (take (agent + 1) (P.program program.now))) implied.new }
 {
     for finished in 0..program.moves(agent) {
         let number = finished + 1;
@@ -101,17 +101,17 @@ fn settle_action<P: ProgramView>(
     looks: u8,
     action: ActionId,
     implied: &mut ImpliedAwaits,
-    asked: &mut [bool],
+    asked: &mut Vec<bool>,
 )
     requires levels { AreLevels (P.program program.now) levels.now }
     requires action { IsAction (P.program program.now) action }
-    requires flags { AreFlags (P.program program.now) implied.old }
-    requires asked { length asked.old ≡ length (P.program program.now) }
-    ensures flags { AreFlags (P.program program.now) implied.new }
-    ensures settled { AreSettledTo (P.program program.now) asked.new action
-        (length (awaits_of (P.program program.now) action.agent action.number))
-        (flags_of implied.old) (flags_of implied.new) }
-    ensures more { AreMoreAsked asked.old asked.new }
+    requires asked { length asked.old.items ≡ length (P.program program.now) }
+    requires settled { AreSettledTo (P.program program.now) asked.old.items
+        (first_await (P.program program.now) action) implied.old }
+    ensures asked { length asked.new.items ≡ length asked.old.items }
+    ensures settled { AreSettledTo (P.program program.now) asked.new.items
+        (first_await (P.program program.now) action
+        + length (awaits_of (P.program program.now) action.agent action.number)) implied.new }
 {
     let _ = program.agents();
     let awaits = program.await_count(action.agent, action.number);
@@ -182,10 +182,11 @@ fn is_needed<P: ProgramView>(program: &P, first: ActionId, action: ActionId, fro
 }
 
 /// Flags an agent, if that is so.
-fn ask_if(is_open: bool, agent: u16, asked: &mut [bool])
-    requires { agent < length asked.old }
-    ensures more { AreMoreAsked asked.old asked.new }
-    ensures open { is_open ≡ true → get_or asked.new agent false ≡ true }
+fn ask_if(is_open: bool, agent: u16, asked: &mut Vec<bool>)
+    requires { agent < length asked.old.items }
+    ensures all { length asked.new.items ≡ length asked.old.items }
+    ensures more { AreMoreAsked asked.old.items asked.new.items }
+    ensures open { is_open ≡ true → get_or asked.new.items agent false ≡ true }
     ensures closed { is_open ≡ false → asked.new ≡ asked.old }
 {
     if is_open {

@@ -6,7 +6,7 @@ use Rattle.fleet_needs.proofs.implied.flag_all.Goals as goal
 pub loop-columns-init : goal.loop-columns-init
 loop-columns-init g c = record {
   asked = c.of-blocks.ensures.asked;
-  flagged = rw c.of-blocks.ensures.from (flags_first (g.P.ProgramView.program c.args.program.now) c.args.schedule.now c.args.asked.now c.args.implied.now c.requires.flags c.requires.settled c.requires.passed);
+  flagged = rw c.of-blocks.ensures.from (flags_first (g.P.ProgramView.program c.args.program.now) c.args.schedule.now c.args.asked.now c.args.implied.now c.requires.settled c.requires.passed);
 }
 
 pub flag_block-requires-clause-columns : goal.flag_block-requires-clause-columns

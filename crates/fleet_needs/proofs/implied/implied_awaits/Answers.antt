@@ -1,23 +1,24 @@
-use Rattle.fleet_needs.proofs.Words.{◌∙◌, Bool, false, List, get_or, sym, subst, ap, flags_of, AreSettled, AreSet, AreSure, HasRowOr, IsAction}
+use Rattle.fleet_needs.proofs.Words.{◌∙◌, Bool, false, List, get_or, sym, subst, ap, AreSettled, AreSet, AreSure, HasRowOr, IsAction}
 use Rattle.fleet_needs.specs.Schedule.{joins_of}
-use Rattle.fleet_needs.proofs.Flagged.{flagged_if_none, sure_of}
+use Rattle.fleet_needs.proofs.Flagged.{flagged_if_none, none_flagged, sure_of}
 use Rattle.fleet_needs.proofs.implied.implied_awaits.Goals as goal
 
+pub settle_all-requires-clause-flags : goal.settle_all-requires-clause-flags
+settle_all-requires-clause-flags g c =
+    none_flagged (g.P.ProgramView.program c.args.program.now) _ _ c.in_ok-of.ensures (c.in_ok-vec.ensures.items_if_clones_equal (λ y same. same)) c.total_awaits.ensures
+
 pub returns-then-not-is_any : goal.returns-then-not-is_any
-returns-then-not-is_any g c = record {
-  flags = c.in_ok-asked.ensures.flags;
-  flagged = flagged_if_none (g.P.ProgramView.program c.args.program.now) c.in_ok-asked.asked.items (flags_of c.settle_all.new.implied)
-      (λ j. ap (λ (xs : List Bool). get_or xs j false) (sym c.deref.ensures.value) ∙ c.is_any.ensures.0 c.if-not-is_any.true j) c.in_ok-asked.ensures.asked.settled;
-}
+returns-then-not-is_any g c = flagged_if_none (g.P.ProgramView.program c.args.program.now) c.in_ok-asked.asked.items c.settle_all.new.implied
+    (λ j. ap (λ (xs : List Bool). get_or xs j false) (sym c.deref.ensures.value) ∙ c.is_any.ensures.0 c.if-not-is_any.true j) c.in_ok-asked.ensures.settled
 
 pub of-requires-2-clause-sure : goal.of-requires-2-clause-sure
 of-requires-2-clause-sure g c =
     let p = g.P.ProgramView.program c.args.program.now in
-    subst (AreSure p) (sym c.deref-2.ensures.value) (sure_of p c.in_ok-asked.asked.items _ c.in_ok-asked.ensures.asked.settled)
+    subst (AreSure p) (sym c.deref-2.ensures.value) (sure_of p c.in_ok-asked.asked.items c.settle_all.new.implied c.in_ok-asked.ensures.settled)
 
 pub flag_all-requires-clause-settled : goal.flag_all-requires-clause-settled
 flag_all-requires-clause-settled g c =
-    subst (λ (xs : List Bool). AreSettled (g.P.ProgramView.program c.args.program.now) xs (flags_of c.settle_all.new.implied)) (sym c.deref-3.ensures.value) c.in_ok-asked.ensures.asked.settled
+    subst (λ (xs : List Bool). AreSettled (g.P.ProgramView.program c.args.program.now) xs c.settle_all.new.implied) (sym c.deref-3.ensures.value) c.in_ok-asked.ensures.settled
 
 pub flag_all-requires-clause-passed : goal.flag_all-requires-clause-passed
 flag_all-requires-clause-passed g c =

@@ -1,4 +1,4 @@
-use Rattle.fleet_needs.proofs.Words.{◌≡◌, ◌+◌, AreRowsTo, IsRowFor, IsAnswering, AreOthersLeft}
+use Rattle.fleet_needs.proofs.Words.{◌≡◌, ◌+◌, AreRowsTo, IsRowFor, IsAnswering, questions_in}
 use Rattle.fleet_needs.proofs.questions.answer_block.Given as goal
 
 abbrev pub invariant-loop-n : goal.invariant-loop-n
@@ -8,5 +8,5 @@ invariant-loop-n g l = record {
   row : IsRowFor l.rows l.row;
   rows : AreRowsTo (g.P.ProgramView.program l.program) l.rows l.n;
   answers : IsAnswering (g.P.ProgramView.program l.program) l.schedule l.fn.columns (l.n + 1) l.answering;
-  keeps : AreOthersLeft (g.P.ProgramView.program l.program) l.fn.columns l.fn.answering l.answering;
+  same : questions_in l.answering ≡ questions_in l.fn.answering;
 }

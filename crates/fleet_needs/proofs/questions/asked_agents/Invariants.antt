@@ -1,5 +1,8 @@
-use Rattle.fleet_needs.specs.Asked.{AreAskedTo}
+use Rattle.fleet_needs.proofs.Words.{◌≡◌, ◌<◌, ℕ, length, IsAskedFor, question_of}
 use Rattle.fleet_needs.proofs.questions.asked_agents.Given as goal
 
 abbrev pub invariant-loop-question : goal.invariant-loop-question
-invariant-loop-question g l = AreAskedTo (g.P.ProgramView.program l.program) l.questions l.question-index l.asked
+invariant-loop-question g l = record {
+  all : length l.asked.items ≡ length (g.P.ProgramView.program l.program);
+  flagged : (k : ℕ) → k < l.question-index → IsAskedFor l.asked.items (question_of l.questions k);
+}

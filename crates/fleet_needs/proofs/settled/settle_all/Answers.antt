@@ -1,15 +1,18 @@
-use Rattle.fleet_needs.proofs.Words.{◌≡◌, ◌+◌, Bool, List, length, sym, subst, ◌∙◌, ap, arith, drop, take_at, flags_of, AreSettledOf, IsUpTo}
-use Rattle.fleet_needs.proofs.Settling.{agent_up}
+use Rattle.fleet_needs.proofs.Words.{ap, arith, inl, take_all, Program, total_awaits}
+use Rattle.fleet_needs.proofs.AwaitOrder.{known_on}
+use Rattle.fleet_needs.proofs.Settling.{settled_on}
 use Rattle.fleet_needs.proofs.settled.settle_all.Goals as goal
 
-pub loop-agent-preserved : goal.loop-agent-preserved
-loop-agent-preserved g c =
+pub loop-agent-init : goal.loop-agent-init
+loop-agent-init g c = record {
+  all = omega (arith, c.in_ok-asked.ensures.len, c.from.ensures, c.agents-agents.ensures.count);
+  settled = known_on (g.P.ProgramView.program c.args.program.now) _ _ c.args.implied.now (λ a is k w at left. inl (omega arith)) c.requires.flags;
+}
+
+pub returns : goal.returns
+returns g c =
     let p = g.P.ProgramView.program c.args.program.now in
-    let new : List Bool = c.settle_agent.new.asked in
-    let long : length new ≡ c.loop-agent.asked.len = omega (arith, c.settle_agent.auto.asked, c.deref_mut.ensures.len) in
-    let same = take_at new (drop (length new) c.loop-agent.asked.items) c.loop-agent.asked.len long in
     record {
-      all = ap (λ (xs : List Bool). length xs) same ∙ c.settle_agent.auto.asked ∙ ap (λ (xs : List Bool). length xs) c.deref_mut.ensures.value ∙ c.loop-agent.invariant.all;
-      flags = c.settle_agent.ensures.flags;
-      settled = subst (λ (xs : List Bool). AreSettledOf p xs (IsUpTo (c.loop-agent.agent + 1) 0) (flags_of c.settle_agent.new.implied)) (sym same) (agent_up p c.loop-agent.agent new (flags_of c.settle_agent.new.implied) c.settle_agent.ensures.settled);
+      agents = c.loop-agent.invariant.all;
+      settled = settled_on p _ _ _ _ _ (omega (arith, ap (λ (xs : Program). total_awaits xs) (take_all c.loop-agent.agent p (omega (arith, c.loop-agent-test.false, c.agents-agents.ensures.count))))) (λ j set. set) c.loop-agent.invariant.settled;
     }

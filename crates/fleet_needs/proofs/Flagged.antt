@@ -87,15 +87,15 @@ pub flags_begun : (p : Program) (s : Schedule) (asked : List Bool) (columns : Co
 flags_begun p s asked columns m = known_on p _ _ m (λ a is k w at left. (left, inr (elim (cases_eq left.row 1) [ inl e ↦ inr (e, omega arith) | inr ne ↦ inl (omega (arith, ne, left.of.some)) ])))
 
 -- after its last one
-pub flags_after : (p : Program) (s : Schedule) (asked : List Bool) (columns : Columns) (m : ImpliedAwaits) → AreFlaggedIn p s asked columns (length s.joins.items) 0 m → AreFlaggedTo p s asked columns.end m
-flags_after p s asked columns m = known_on p _ _ m
+pub flags_after : (p : Program) (s : Schedule) (asked : List Bool) (columns : Columns) (n : ℕ) (m : ImpliedAwaits) → length s.joins.items ≤ n → AreFlaggedIn p s asked columns n 0 m → AreFlaggedTo p s asked columns.end m
+flags_after p s asked columns n m all = known_on p _ _ m
     (λ a is k w at left. record {
       row = left.0.row;
       of = left.0.of;
       asks = left.0.asks;
       upon = elim left.1 [
         | inl past ↦ past
-        | inr later ↦ absurd (elim later [ inl more ↦ omega (arith, more, left.0.of.upto) | inr last ↦ omega (arith, last.0, left.0.of.upto) ])
+        | inr later ↦ absurd (elim later [ inl more ↦ omega (arith, more, left.0.of.upto, all) | inr last ↦ omega (arith, last.0, left.0.of.upto, all) ])
       ];
     })
 

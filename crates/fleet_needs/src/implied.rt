@@ -7,9 +7,9 @@ ghost use Rattle.fleet_model.specs.Chain.{IsAction};
 ghost use Rattle.fleet_needs.specs.Critical.{IsNumberedTo};
 ghost use Rattle.fleet_needs.specs.Implied.{IsImpliedFlag};
 ghost use Rattle.fleet_needs.specs.Joins.{HasRowOr};
-ghost use Rattle.fleet_needs.specs.Schedule.{AreColumnsOf, IsSchedule, joins_in, joins_of};
+ghost use Rattle.fleet_needs.specs.Schedule.{AreColumnsOf, IsSchedule, joins_of};
 ghost use Rattle.fleet_needs.specs.Columns.{AreColumns};
-ghost use Rattle.fleet_needs.specs.Flags.{AreImplied, AreSet, AreSettled, flags_of, AreFlaggedIn};
+ghost use Rattle.fleet_needs.specs.Flags.{AreImplied, AreSet, AreSettled, flags_of, AreFlaggedIn, AreFlaggedTo};
 ghost use Rattle.fleet_needs.specs.JoinPass.{IsJoinRow, HasOthers};
 
 use crate::await_places::AwaitPlaces;
@@ -110,10 +110,10 @@ fn flag_block<P: ProgramView>(
     requires schedule { IsSchedule (P.program program.now) schedule.now }
     requires columns { AreColumnsOf (P.program program.now) columns }
     requires block { AreColumns asked.now columns.first columns }
-    requires flags { AreFlaggedIn
-        (P.program program.now) schedule.now asked.now columns 0 0 implied.old }
-    ensures { OnOk result (AreFlaggedIn (P.program program.now)
-        schedule.now asked.now columns (joins_in schedule.now) 0 implied.new) }
+    requires flags { AreFlaggedTo (P.program program.now)
+        schedule.now asked.now columns.first implied.old }
+    ensures { OnOk result (AreFlaggedTo (P.program program.now)
+        schedule.now asked.now columns.end implied.new) }
 {
     let mut row = Counts::zeros(alloc, usize::from(columns.width), schedule.is_narrow)?;
     let mut rows = SlotRows::new(alloc, program, schedule, columns)?;

@@ -8,7 +8,6 @@ ghost use Rattle.fleet_needs.specs.Flags.{AreSettled, AreSettledTo};
 ghost use Rattle.fleet_needs.specs.Implied.{first_await};
 ghost use Rattle.fleet_needs.specs.Critical.{AreLevels, critical_cost};
 ghost use Rattle.fleet_needs.specs.Settled.{AreMoreAsked, ReachesNeed, IsOpenTo, HasOpenNeed};
-ghost use Rattle.fleet_needs.specs.Rows.{action_before};
 
 use crate::critical::CriticalCosts;
 use crate::implied::ImpliedAwaits;
@@ -280,19 +279,12 @@ fn reaches_need<P: ProgramView>(
     if is_first {
         return join_answers(known, Some(false));
     }
-    let own = reaches(program, levels, first, before(action), steps);
-    join_answers(known, own)
-}
-
-/// The action of the same agent right before one that is not its first.
-fn before(action: ActionId) -> ActionId
-    requires { 1 < action.number }
-    ensures { result ≡ action_before action }
-{
-    ActionId {
+    let before = ActionId {
         agent: action.agent,
         number: action.number - 1,
-    }
+    };
+    let own = reaches(program, levels, first, before, steps);
+    join_answers(known, own)
 }
 
 /// The answer for all of some actions, by that for one of them: no only if it is `known` that it is no for the others.

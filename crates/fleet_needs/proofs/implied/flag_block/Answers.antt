@@ -1,5 +1,18 @@
-use Rattle.fleet_needs.proofs.Words.{◌≡◌, ℕ, sym, subst, arith, joins_in, next_action, counts_of, AreFlaggedIn, AreOthers, HasOthers, Schedule}
+use Rattle.fleet_needs.proofs.Words.{◌∙◌, sym, ap, subst, arith, Columns, next_action, counts_of, AreOthers, HasOthers, Schedule}
+use Rattle.fleet_needs.proofs.Flagged.{flags_after, flags_begun}
 use Rattle.fleet_needs.proofs.implied.flag_block.Goals as goal
+
+pub loop-n-init : goal.loop-n-init
+loop-n-init g c = record {
+  schedule = c.in_ok-rows.ensures.schedule;
+  columns = c.in_ok-rows.ensures.columns;
+  row = record {
+    width = c.in_ok-row.ensures.all ∙ c.from.ensures ∙ sym (ap (λ (x : Columns). x.width) c.in_ok-rows.ensures.columns);
+    narrow = c.in_ok-row.ensures.narrow ∙ sym (ap (λ (x : Schedule). x.is_narrow) c.in_ok-rows.ensures.schedule);
+  };
+  rows = c.in_ok-rows.ensures.rows;
+  flags = flags_begun (g.P.ProgramView.program c.args.program.now) c.args.schedule.now c.args.asked.now c.args.columns c.args.implied.now c.requires.flags;
+}
 
 pub flag_row-requires-clause-others : goal.flag_row-requires-clause-others
 flag_row-requires-clause-others g c =
@@ -8,5 +21,4 @@ flag_row-requires-clause-others g c =
 
 pub returns : goal.returns
 returns g c =
-    let end : c.loop-n.n ≡ joins_in c.args.schedule.now = omega (arith, c.loop-n-test.false, c.loop-n.auto.n-end, c.len-n-end.ensures) in
-    subst (λ (n : ℕ). AreFlaggedIn (g.P.ProgramView.program c.args.program.now) c.args.schedule.now c.args.asked.now c.args.columns n 0 c.loop-n.implied) end c.loop-n.invariant.flags
+    flags_after (g.P.ProgramView.program c.args.program.now) c.args.schedule.now c.args.asked.now c.args.columns c.loop-n.n c.loop-n.implied (omega (arith, c.loop-n-test.false, c.len-n-end.ensures)) c.loop-n.invariant.flags

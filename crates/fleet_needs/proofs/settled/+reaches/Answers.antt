@@ -1,4 +1,4 @@
-use Rattle.fleet_needs.proofs.Words.{rules, ◌≡◌, true, false, sym, ap, ◌∙◌, subst, arith, inl, inr, leb-true, le-leb, Some, same_Some, Reaches, critical_cost}
+use Rattle.fleet_needs.proofs.Words.{rules, ◌≡◌, true, false, sym, ap, ◌∙◌, arith, inl, inr, leb-true, le-leb, Some, same_Some, critical_cost}
 use Rattle.fleet_needs.proofs.Joining.{own_first}
 use Rattle.fleet_needs.proofs.Settling.{await_of, none_if_low, own_only, none_next, none_before, none_need, need_on, need_back, no_is_not_yes, yes_is_not_no}
 use Rattle.fleet_needs.proofs.settled.+reaches.Goals as goal
@@ -70,10 +70,9 @@ reaches_need-returns-then-is_first-clause-no g t c = λ e.
     (c.loop-k.invariant.apart (c.join_answers.ensures.no e).0) (none_before (g.P.ProgramView.program c.args.program.now) c.args.first c.args.action (omega (arith, c.if-is_first.true)))
 
 pub reaches_need-returns-clause-yes : goal.reaches_need-returns-clause-yes
-reaches_need-returns-clause-yes g t c = λ e. inl (subst (Reaches (g.P.ProgramView.program c.args.program.now) c.args.first) c.before-2.ensures (c.reaches-own.ensures.yes (c.join_answers-2.ensures.yes e)))
+reaches_need-returns-clause-yes g t c = λ e. inl (c.reaches-own.ensures.yes (c.join_answers-2.ensures.yes e))
 
 pub reaches_need-returns-clause-no : goal.reaches_need-returns-clause-no
 reaches_need-returns-clause-no g t c = λ e.
     none_need (g.P.ProgramView.program c.args.program.now) c.args.first c.args.action c.args.but c.loop-k.k (omega (arith, c.loop-k-test.false, c.await_count-k-end.ensures, c.loop-k.auto.k-end))
-    (c.loop-k.invariant.apart (c.join_answers-2.ensures.no e).0)
-    (λ r. c.reaches-own.ensures.no (c.join_answers-2.ensures.no e).1 (subst (Reaches (g.P.ProgramView.program c.args.program.now) c.args.first) (sym c.before-2.ensures) r))
+    (c.loop-k.invariant.apart (c.join_answers-2.ensures.no e).0) (c.reaches-own.ensures.no (c.join_answers-2.ensures.no e).1)

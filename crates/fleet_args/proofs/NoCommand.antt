@@ -6,15 +6,8 @@ use Rattle.clap.specs.{Kinds.Kinds, Kinds.or_else, Simple.built, Simple.help_sha
 use Rattle.clap.specs.Words.{Shape, Text, fault_of, with_subcommand}
 use Rattle.clap.specs.Walk.{answers_to, bundle_met, idle, nothing_held, subcommand_or_other, walk_from, walked}
 use Rattle.clap.specs.Faults.{defaults_fault, flags_fault, other_fault, step_fault, turn_fault, walk_fault}
-use Rattle.clap.specs.declared.error.kind.ErrorKind.{ErrorKind}
 use Rattle.fleet_args.specs.declared.{arguments.Form.Form, arguments.OptionNames.OptionNames}
 use Rattle.fleet_args.specs.{Commands.commands, Commands.fleet, Commands.fleet_top, Request.command_and_rest}
-
-first_fault : (a b : Kinds) → a ≢ [] → or_else a b ≢ []
-first_fault a b some = λ e. grind arith
-
-faulty : (k : ErrorKind) (ks : Kinds) → ◌≢◌ {A = Kinds} (k ∷ ks) []
-faulty k ks = λ e. cc
 
 -- the command line with its flags for help and for the version
 abbrev top : Shape
@@ -31,29 +24,29 @@ unnamed_first : (word : Text) → bytes_eq word (45 ∷ 45 ∷ []) ≡ false →
 unfolding flags_fault bundle_met
 unnamed_first word other = λ e. grind arith
 
-only_help : (word : Text) (cs : List (Text × List (Text × Form))) → find (λ c. bytes_eq c.0 word) cs ≡ None
+only_help : (word : Text) (rest : List Text) (cs : List (Text × List (Text × Form))) → option_map {U = (Text × List (Text × Form)) × List Text} (λ c. (c, rest)) (find (λ c. bytes_eq c.0 word) cs) ≡ None
     → find (answers_to word) (map (λ c. (c.0, [])) cs ++ (codes "help", []) ∷ []) ≡ find (answers_to word) ((codes "help", []) ∷ [])
-only_help word [] none = refl
-only_help word (c ∷ cs) none = grind (arith, only_help word cs)
+only_help word rest [] none = refl
+only_help word rest (c ∷ cs) none = grind (arith, only_help word rest cs)
 
-no_name : (names : OptionNames) (word : Text) → find (λ c. bytes_eq c.0 word) commands ≡ None → bytes_eq word (45 ∷ 45 ∷ []) ≡ false
+no_name : (names : OptionNames) (word : Text) (rest : List Text) → command_and_rest (word ∷ rest) ≡ None → bytes_eq word (45 ∷ 45 ∷ []) ≡ false
     → turn_fault (built (fleet names)).top (names_of (built (fleet names))) (walk_from nothing_held) word ≢ []
-no_name names word none other = rw (only_help word commands none) (λ e. grind (arith, unnamed_first))
+no_name names word rest none other = rw (only_help word rest commands none) (λ e. grind (arith, unnamed_first))
+
+first_fault : (a b c : Kinds) → a ≢ [] → or_else (or_else a b) c ≢ []
+first_fault a b c some = λ e. grind arith
 
 -- `--`, after which no word has a place, and without a word a command is wanted
 dashes : (names : OptionNames) (rest : List Text) → fault_of (fleet names) ((45 ∷ 45 ∷ []) ∷ rest) ≢ []
 unfolding walk_fault defaults_fault walked
-dashes names [] = faulty _ _
-dashes names (word ∷ rest) = faulty _ _
-
-named_none : {X Y : Type 0} (f : X → Y) (o : Option X) → option_map f o ≡ None → o ≡ None
-named_none f o e = grind arith
+dashes names [] = λ e. cc
+dashes names (word ∷ rest) = λ e. cc
 
 pub unnamed : (names : OptionNames) (words : List Text) → command_and_rest words ≡ None → fault_of (fleet names) words ≢ []
 unfolding walk_fault defaults_fault
-unnamed names [] none = faulty _ _
+unnamed names [] none = λ e. cc
 unnamed names (word ∷ rest) none = go (bytes_eq word (45 ∷ 45 ∷ [])) refl
   where
     go : (b : Bool) → bytes_eq word (45 ∷ 45 ∷ []) ≡ b → fault_of (fleet names) (word ∷ rest) ≢ []
     go true e = rw ((bytes_eq-Decides word (45 ∷ 45 ∷ [])).0 e) (dashes names rest)
-    go false e = first_fault _ _ (first_fault _ _ (no_name names word (named_none _ _ none) e))
+    go false e = first_fault _ _ _ (no_name names word rest none e)

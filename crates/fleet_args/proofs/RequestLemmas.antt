@@ -3,7 +3,7 @@ use Rattle.std.proofs.Common.{◌≡◌, ◌∙◌, ℕ, Bool, true, arith, List
 use Rattle.std.specs.{Borrow.Bor, List.find, List.list_all, Option.MatchOption, Str.bytes_eq}
 use Rattle.std.specs.Str.Parse.{ParsesUnsigned, ExplainsUnsignedError, HasUnsignedDigitsIfOk}
 use Rattle.std.specs.declared.num.ParseIntError.{ParseIntError}
-use Rattle.clap.specs.Words.{Text, rows_of, first_of, first_value, one_text, is_simple_and_free}
+use Rattle.clap.specs.Words.{Text, rows_of, one_text, is_simple_and_free}
 use Rattle.clap.specs.{Matches.ReadsOne, declared.parser.matches.Found.Found}
 use Rattle.clap.proofs.WalkLemmas.{both, find-map, first_value-rows, one_text-rows}
 use Rattle.fleet_args.specs.Values.{IsNumberIfUsed}
@@ -13,8 +13,7 @@ use Rattle.fleet_args.specs.Request.{Parses, ReadsFleet, command_and_rest}
 use Rattle.fleet_args.specs.declared.{arguments.Form.Form, arguments.OptionNames.OptionNames, commands.Request.Request, request.WordStop.WordStop}
 
 -- what `get_str` gives stands in the rows
-pub first_rows : (f : Found) (id : Text) → first_value f id ≡ first_of id (rows_of f)
-first_rows = first_value-rows
+pub ruleset first_rows = (first_value-rows)
 
 -- what `get_one` gives is the option's number
 pub number_used :

@@ -399,21 +399,6 @@ fn auto_in<'a>(matches: &ArgMatches<'a>) -> Request<'a>
     })
 }
 
-/// The request of `rest`.
-fn rest_in<'a>(matches: &ArgMatches<'a>) -> Request<'a>
-    ensures { AsksCommand (codes "rest") (rows_in matches.now) result }
-{
-    Request::Rest(RestRequest {
-        subject: program_in(matches),
-        reports: text(matches, "reports"),
-        scen_out: text(matches, "scen_out"),
-        program_out: text(matches, "program_out"),
-        without: used_text(matches, "without"),
-        map_out: used_text(matches, "map-out"),
-        others_out: used_text(matches, "others-out"),
-    })
-}
-
 /// The request of the command of this name, which is about a program for tasks, by its matches.
 fn program_request<'a>(name: &str, matches: &ArgMatches<'a>) -> Request<'a>
     requires { IsProgramCommand name.now }
@@ -442,7 +427,15 @@ fn program_request<'a>(name: &str, matches: &ArgMatches<'a>) -> Request<'a>
             costs: used_text(matches, "costs"),
             broken: used_text(matches, "broken"),
         }),
-        "rest" => rest_in(matches),
+        "rest" => Request::Rest(RestRequest {
+            subject,
+            reports: text(matches, "reports"),
+            scen_out: text(matches, "scen_out"),
+            program_out: text(matches, "program_out"),
+            without: used_text(matches, "without"),
+            map_out: used_text(matches, "map-out"),
+            others_out: used_text(matches, "others-out"),
+        }),
         _ => unreachable!(),
     }
 }

@@ -5,7 +5,7 @@ use Rattle.std.specs.declared.{alloc.Global.Global, io.Error.Error, io.ErrorKind
 use Rattle.fleet_text.specs.Sink.{Receives}
 use Rattle.fleet_cli.specs.Files.{AreUnchanged}
 use Rattle.fleet_text.specs.Sink.{SinkState, IsUnwritten}
-use Rattle.fleet_cli.specs.Output.{IsRefusalWritten}
+use Rattle.fleet_cli.specs.Faults.{refusal_line}
 use Rattle.fleet_cli.specs.Command.{Around, RunsCommand}
 use Rattle.fleet_cli.specs.declared.fault.Fault.TheVariants as f
 
@@ -22,7 +22,7 @@ AreWordsOf (Err error) (Err told) = told ≡ error
 
 -- it was reported why the words cannot be had: memory ran out, or else a word is no text, which is wrong usage
 pub record ReportsNoWords (kind : ErrorKind) (err err' : SinkState) (status : ℕ) : Type 0 where
-  pub memory : kind ≡ OutOfMemory → (status ≡ 3) × IsRefusalWritten f.Memory err err'
+  pub memory : kind ≡ OutOfMemory → (status ≡ 3) × Receives err err' (refusal_line f.Memory)
   pub usage : kind ≢ OutOfMemory → (status ≡ 2) × Receives err err' no_text_line
 
 -- the command that the words after the first ask for was done; or there was no memory for the words, or they cannot be

@@ -1,21 +1,16 @@
 -- A sink to which nothing was written, and the program that was made.
-use Rattle.std.proofs.Common.{◌≡◌, ℕ, List, None, Some, Option, refl, subst}
-use Rattle.std.specs.Io.KnownBytes.{Keeps}
+use Rattle.std.proofs.Common.{◌≡◌, ℕ, List, subst}
+use Rattle.std.proofs.KnownBytes.{Keeps-refl}
 use Rattle.fleet_model.specs.{declared.deps.Deps.Deps, declared.task.Task.Task, Program.Program}
 use Rattle.fleet_text.specs.Sink.{SinkState, IsWorking, IsUnwritten}
 use Rattle.fleet_grid.specs.Ground.{Ground}
 use Rattle.fleet_code.specs.{declared.format.Version.TheVariants.One, Spelling.Spells}
 use Rattle.fleet_args.specs.declared.commands.Tries.{Tries}
-use Rattle.fleet_cli.specs.declared.steps.PlanNumbers.{PlanNumbers}
-use Rattle.fleet_cli.specs.Steps.{IsMadeFor, SpellsMade}
-
-keeps_self : (a : Option (List ℕ)) → Keeps a a
-keeps_self None = tt
-keeps_self (Some xs) = refl
+use Rattle.fleet_cli.specs.{Steps.IsMadeFor, Steps.SpellsMade, declared.steps.PlanNumbers.PlanNumbers}
 
 -- nothing was written to a sink that is as before
 pub nothing_written : (out : SinkState) → IsWorking out → IsUnwritten out out
-nothing_written out working = record { kept = keeps_self out.taken; working = working }
+nothing_written out working = record { kept = Keeps-refl out.taken; working = working }
 
 -- bytes were made that spell one program alone: so it was made
 pub made : {g : Ground} {tasks : List Task} {horizon : ℕ} {tries : Tries} {deps : Deps} {numbers : PlanNumbers} {bytes : List ℕ} {q : Program} → SpellsMade g tasks horizon tries deps numbers bytes

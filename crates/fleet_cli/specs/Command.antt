@@ -1,17 +1,15 @@
 -- What the program does for its words.
-use Rattle.std.specs.Prelude.{◌≡◌, ◌≢◌, ℕ, List, [], ◌∷◌, ◌⊎◌, Option, Some, None, option_map, Result, Ok, Err, codes, string_bytes}
+use Rattle.std.specs.Prelude.{◌≡◌, ◌≢◌, ℕ, List, [], ◌∷◌, ◌⊎◌, Option, Some, None, Result, Ok, Err, codes, string_bytes}
 use Rattle.std.specs.Borrow.{Bor}
 use Rattle.clap.specs.Words.{Text}
 use Rattle.fleet_args.specs.Request.{ReadsFleet}
 use Rattle.fleet_args.specs.declared.{commands.ProgramFor.ProgramFor, commands.Request.Request, commands.Tasks.Tasks, request.WordStop.WordStop}
 use Rattle.fleet_args.specs.declared.commands.Request.TheVariants as r
 use Rattle.fleet_args.specs.declared.request.WordStop.TheVariants as w
-use Rattle.fleet_cli.specs.Files.{Store, AreUnchanged, given_names, IsUnread, AreTexts}
-use Rattle.fleet_text.specs.Sink.{Receives, FailsAfter, SinkState, IsUnwritten, IsDelivered}
-use Rattle.fleet_text.specs.Words.{line_text}
+use Rattle.fleet_cli.specs.{Files.Store, Files.AreUnchanged, Files.given_names, Files.IsUnread, Files.AreTexts, Output.Finishes, Output.Prints, Output.Declines}
+use Rattle.fleet_text.specs.{Sink.Receives, Sink.FailsAfter, Sink.SinkState, Sink.IsUnwritten, Sink.IsDelivered, Words.line_text}
 pub use Rattle.fleet_cli.specs.Output.{Around, around}
-use Rattle.fleet_cli.specs.Output.{IsRefusalWritten, Finishes, Prints, Declines}
-use Rattle.fleet_cli.specs.Steps.{IsProblemOf, IsProblemRefusal}
+use Rattle.fleet_cli.specs.{Faults.refusal_line, Steps.IsProblemOf, Steps.IsProblemRefusal}
 use Rattle.fleet_cli.specs.declared.{files.FileNames.FileNames, files.FileTexts.FileTexts, steps.Problem.Problem, fault.Fault.Fault}
 use Rattle.fleet_cli.specs.RunCommands.{RunsHex, RehearsesBytes, AnswersRun, AnswersAuto}
 use Rattle.fleet_cli.specs.PrintCommands.{instance_text, AnswersCheck, AnswersPlan, AnswersVerify, AnswersList, AnswersTimes}
@@ -22,7 +20,7 @@ use Rattle.fleet_cli.specs.declared.fault.Fault.TheVariants as f
 -- the files that a request's command reads: those of its tasks, if it has some, what it is about, the holds (of `times`
 -- the costs) and the log
 abbrev pub names_for : Option Tasks → (subject holds log : Option (Bor (List ℕ))) → FileNames
-names_for tasks subject holds log = record { map = option_map (λ t. t.map) tasks; scen = option_map (λ t. t.scen) tasks; subject = subject; holds = holds; log = log }
+names_for tasks subject holds log = record { tasks = tasks; subject = subject; holds = holds; log = log }
 
 -- the files of a request about a program for tasks
 abbrev pub names_of_program : ProgramFor → (holds log : Option (Bor (List ℕ))) → FileNames
@@ -44,21 +42,6 @@ names_of (r.List q) = names_for None (Some q.program) None None
 names_of (r.Dispatch q) = names_of_program q.subject None q.resume
 names_of (r.Times q) = names_of_program q.subject q.costs None
 names_of (r.Rest q) = names_of_program q.subject None (Some q.reports)
-
--- the tasks that a command is about, if there are some
-abbrev pub tasks_of : Request → Option Tasks
-tasks_of (r.Instance q) = Some q
-tasks_of (r.Check q) = Some q.tasks
-tasks_of (r.Plan q) = Some q.tasks
-tasks_of (r.Compile q) = Some q.tasks
-tasks_of (r.Verify q) = Some q.tasks
-tasks_of (r.Run q) = Some q.subject.tasks
-tasks_of (r.Auto q) = Some q.tasks
-tasks_of (r.Thin q) = Some q.subject.tasks
-tasks_of (r.Dispatch q) = Some q.subject.tasks
-tasks_of (r.Times q) = Some q.subject.tasks
-tasks_of (r.Rest q) = Some q.subject.tasks
-tasks_of _ = None
 
 -- a command answers so, and leaves every file as before and the input unread
 abbrev pub Looks : Around → ((out out' : SinkState) → Result ℕ Fault → Type 0) → (out out' : SinkState) → Result ℕ Fault → Type 0
@@ -91,24 +74,20 @@ AnswersTexts files after (r.Migrate q) texts out out' result = AnswersMigrate fi
 AnswersTexts files after (r.List q) texts out out' result = AnswersList texts out out' result × AreUnchanged files after
 AnswersTexts files after _ texts out out' result = ⊥
 
--- the texts of the tasks stand for a problem, and this is the answer for it, or they are refused; or the command is
--- about no tasks, and leaves the input unread
-abbrev pub AnswersBy : Around → Request → FileTexts → Option Tasks → (out out' : SinkState) → Result ℕ Fault → Type 0
-AnswersBy w request texts None out out' result = AnswersTexts w.files w.after request texts out out' result × w.unread
-AnswersBy w request texts (Some tasks) out out' result =
+-- What a command answers for the texts of its files. Those of its tasks stand for a problem, and this is the answer for
+-- it, or they are refused; or it is about no tasks, and leaves the input unread
+abbrev pub AnswersRequest : Around → Request → FileTexts → Option Tasks → (out out' : SinkState) → Result ℕ Fault → Type 0
+AnswersRequest w request texts None out out' result = AnswersTexts w.files w.after request texts out out' result × w.unread
+AnswersRequest w request texts (Some tasks) out out' result =
     ((problem : Problem) × IsProblemOf texts tasks.agents problem × AnswersProblem w request problem out out' result)
     ⊎ Declines w (IsProblemRefusal texts tasks.agents) out out' result
-
--- what a command answers for the texts of its files
-abbrev pub AnswersRequest : Around → Request → FileTexts → (out out' : SinkState) → Result ℕ Fault → Type 0
-AnswersRequest w request texts out out' result = AnswersBy w request texts (tasks_of request) out out' result
 
 -- What a request is answered. Its files were read, which leaves every file as before, and this is the answer for their
 -- texts; or one of them was not read, which is the refusal
 abbrev pub DoesRequest : Around → Request → (out out' : SinkState) → Result ℕ Fault → Type 0
 DoesRequest w request out out' result =
     ((texts : FileTexts) × (read : Option Store) × AreTexts w.files (names_of request) texts × AreUnchanged w.files read
-    × AnswersRequest (record w { files = read }) request texts out out' result)
+    × AnswersRequest (record w { files = read }) request texts (names_of request).tasks out out' result)
     ⊎ Declines w (IsUnread w.files (given_names (names_of request))) out out' result
 
 -- the request was done, and its status is answered; or a refusal was reported, and the refusal's status is answered:
@@ -118,7 +97,7 @@ RunsRequest w request out out' err err' status = (done : Result ℕ Fault) × Do
 
 -- it was reported why the words are no request: by help on the output, by usage on the other
 abbrev pub StopsAtWords : WordStop → (out out' err err' : SinkState) → ℕ → Type 0
-StopsAtWords w.OutOfMemory out out' err err' status = (status ≡ 3) × IsRefusalWritten f.Memory err err' × IsUnwritten out out'
+StopsAtWords w.OutOfMemory out out' err err' status = (status ≡ 3) × Receives err err' (refusal_line f.Memory) × IsUnwritten out out'
 StopsAtWords (w.Usage text) out out' err err' status = (status ≡ 2) × Receives err err' (string_bytes text) × IsUnwritten out out'
 StopsAtWords (w.Help text) out out' err err' status =
     ((status ≡ 0) × IsDelivered out out' (string_bytes text) × IsUnwritten err err')

@@ -2,19 +2,15 @@
 -- output; and its log, in a file of a store.
 use Rattle.std.specs.Prelude.{◌≡◌, ℕ, ◌⊎◌, Bool, true, false, List, [], Option, Some, None, option_map, IfSome, min, Err, Result, if◌then◌else◌}
 use Rattle.std.proofs.Common.{refl, ◌∙◌}
-use Rattle.std.specs.Borrow.{Bor}
-use Rattle.std.specs.Result.{result_map_both}
+use Rattle.std.specs.{Borrow.Bor, Result.result_map_both}
 use Rattle.fleet_text.specs.Sink.{SinkState}
 use Rattle.fleet_model.specs.Program.{Program}
-use Rattle.fleet_dispatch.specs.Talk.{Talk}
-use Rattle.fleet_dispatch.specs.Session.{first_course}
+use Rattle.fleet_dispatch.specs.{Talk.Talk, Session.first_course, Replay.GoesOn, Replay.DispatchesAfter}
 use Rattle.fleet_dispatch.specs.declared.{form.ReportForm.ReportForm, form.ReportForm.TheVariants.Numbered, form.ReportForm.TheVariants.Unnumbered, pace.Pace.Pace, run.DispatchReport.DispatchReport, fault.DispatchFault.DispatchFault, fault.DispatchFault.TheVariants.OtherLog}
-use Rattle.fleet_dispatch.specs.Replay.{GoesOn, DispatchesAfter}
 use Rattle.fleet_args.specs.declared.commands.DispatchRequest.{DispatchRequest}
 use Rattle.fleet_cli.specs.declared.{steps.Problem.Problem, fault.Fault.Fault}
 use Rattle.fleet_cli.specs.Files.{Store, AreUnchanged, ChangesOnly, BeginsLog, IsOwnLog, IsWriteFault, bytes_of, whole_lines}
-use Rattle.fleet_cli.specs.Steps.{AcceptsProgram, IsAcceptRefusal}
-use Rattle.fleet_cli.specs.Output.{Around, Declines}
+use Rattle.fleet_cli.specs.{Steps.AcceptsProgram, Steps.IsAcceptRefusal, Output.Around, Output.Declines}
 use Rattle.fleet_cli.specs.declared.fault.Fault.TheVariants as f
 
 -- what a log holds, if one is named and the store says it

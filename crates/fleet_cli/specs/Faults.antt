@@ -1,9 +1,7 @@
--- Refusals of the program: those of the steps within, and the line and the status of each.
-use Rattle.fleet_cli.specs.declared.{fault.AutoFault.AutoFault, fault.Fault.Fault}
-use Rattle.fleet_cli.specs.declared.fault.AutoFault.TheVariants as a
+-- Refusals of the program, with the line and the status of each.
+use Rattle.fleet_cli.specs.declared.fault.Fault.{Fault}
 use Rattle.std.specs.Prelude.{ℕ, Bool, true, List, [], ◌∷◌, if◌then◌else◌, codes}
-use Rattle.fleet_text.specs.Words.{line_text}
-use Rattle.fleet_text.specs.Refusals.{memory_words}
+use Rattle.fleet_text.specs.{Words.line_text, Refusals.memory_words}
 use Rattle.fleet_grid.specs.RefusalWords.{map_words, is_map_failure}
 use Rattle.fleet_scen.specs.RefusalWords.{scen_words, is_scen_failure}
 use Rattle.fleet_plan.specs.RefusalWords.{text_words, is_text_failure, check_words, is_check_failure}
@@ -56,12 +54,3 @@ is_failure_of (f.File _) = true
 -- 3 if memory, a file, the source or the sink failed, and 1 for every other refusal
 abbrev pub status_of : Fault → ℕ
 status_of fault = if is_failure_of fault then 3 else 1
-
--- the fault of a step as a refusal of the program, whose line and status are those of the fault within
-abbrev pub step_fault : AutoFault → Fault
-step_fault a.OutOfMemory = f.Memory
-step_fault (a.Map fault) = f.Map fault
-step_fault (a.Scen fault) = f.Scen fault
-step_fault (a.Plan stop) = f.Search stop
-step_fault (a.Compile fault) = f.Compile fault
-step_fault (a.Run fault) = f.Run fault

@@ -1,8 +1,7 @@
 -- What a store of files holds, if it says so, and the files of it that a command names.
 use Rattle.std.specs.Prelude.{◌≡◌, ◌≢◌, ◌<◌, ◌≤◌, ◌⊎◌, ◌-◌, ℕ, Bool, true, false, not, IfSome, List, [], ◌∷◌, ◌++◌, length, take, Option, Some, None, unwrap_or, option_map, Result, Ok, Err, ⊤}
-use Rattle.std.specs.{List.suffix_len, Io.KnownBytes.Appends}
+use Rattle.std.specs.{List.suffix_len, Io.KnownBytes.Appends, Borrow.Bor}
 use Rattle.fleet_text.specs.Text.{is_lf}
-use Rattle.std.specs.Borrow.{Bor}
 use Rattle.fleet_cli.specs.declared.{files.TheConstants.MAX_BYTES, files.FileFault.FileFault, files.FileFault.TheVariants.OutOfMemory, files.FileFault.TheVariants.Failed, files.FileNames.FileNames, files.FileTexts.FileTexts, fault.Fault.Fault}
 use Rattle.fleet_cli.specs.declared.fault.Fault.TheVariants as f
 
@@ -50,10 +49,6 @@ bytes_of files name = option_map (λ (store : Store). unwrap_or (store name) [])
 unfoldable pub whole_lines : List ℕ → List ℕ
 whole_lines bytes = take (length bytes - suffix_len (λ b. not (is_lf b)) bytes) bytes
 
--- of the named file its whole lines are left
-abbrev pub HoldsLines : Option Store → Option Store → List ℕ → Type 0
-HoldsLines old new name = bytes_of new name ≡ option_map whole_lines (bytes_of old name)
-
 -- a log behind which a dispatch may go on after the bytes `past`: it holds nothing, or these
 abbrev pub IsOwnLog : (past held : List ℕ) → Type 0
 IsOwnLog past held = (held ≡ []) ⊎ (held ≡ past)
@@ -61,7 +56,7 @@ IsOwnLog past held = (held ≡ []) ⊎ (held ≡ past)
 -- the named file held nothing or the bytes `past`, of which the whole lines are left; or something else, and every file
 -- is as before
 abbrev pub BeginsLog : (old new : Option Store) → (name past : List ℕ) → (is_own : Bool) → Type 0
-BeginsLog old new name past true = IfSome (bytes_of old name) (IsOwnLog past) × HoldsLines old new name
+BeginsLog old new name past true = IfSome (bytes_of old name) (IsOwnLog past) × (bytes_of new name ≡ option_map whole_lines (bytes_of old name))
 BeginsLog old new name past false = IfSome (bytes_of old name) (λ held. IsOwnLog past held → ⊥) × AreUnchanged old new
 
 -- all of the bytes were put behind those of the named file, or a front of them was
@@ -102,7 +97,7 @@ given_name (Some name) = name.now ∷ []
 
 -- the names that were given, in the order in which their files are read
 abbrev pub given_names : FileNames → List (List ℕ)
-given_names names = given_name names.map ++ (given_name names.scen ++ (given_name names.subject ++ (given_name names.holds ++ given_name names.log)))
+given_names names = given_name (option_map (λ t. t.map) names.tasks) ++ (given_name (option_map (λ t. t.scen) names.tasks) ++ (given_name names.subject ++ (given_name names.holds ++ given_name names.log)))
 
 -- the bytes of the named file, or none if none is named
 abbrev pub IsGiven : Option Store → Option (Bor (List ℕ)) → List ℕ → Type 0
@@ -111,8 +106,8 @@ IsGiven files (Some name) bytes = IsRead files name.now bytes
 
 -- the named files were read, and hold these texts
 pub record AreTexts (files : Option Store) (names : FileNames) (texts : FileTexts) : Type 0 where
-  pub map : IsGiven files names.map texts.map.items
-  pub scen : IsGiven files names.scen texts.scen.items
+  pub map : IsGiven files (option_map (λ t. t.map) names.tasks) texts.map.items
+  pub scen : IsGiven files (option_map (λ t. t.scen) names.tasks) texts.scen.items
   pub subject : IsGiven files names.subject texts.subject.items
   pub holds : IsGiven files names.holds texts.holds.items
   pub log : IsGiven files names.log texts.log.items

@@ -1,25 +1,18 @@
 -- What commands write, what several of them print or write in the same way, and what a request finds and leaves.
 use Rattle.std.specs.Prelude.{◌≡◌, ℕ, Result, Ok, Err, codes, List, [], ◌∷◌, ◌++◌, ◌⊎◌, Option, None, Some, map}
-use Rattle.fleet_text.specs.Sink.{SinkState, Receives, IsDelivered, IsUnwritten, FailsAfter}
-use Rattle.fleet_cli.specs.Faults.{refusal_line, status_of}
+use Rattle.fleet_text.specs.{Sink.SinkState, Sink.Receives, Sink.IsDelivered, Sink.IsUnwritten, Sink.FailsAfter, Words.line_text, Words.count_line}
+use Rattle.fleet_cli.specs.{Faults.refusal_line, Faults.status_of, Files.Store, Files.AreUnchanged, Files.ChangesOnly, Files.Replaces, Files.IsWriteFault}
 use Rattle.fleet_run.specs.declared.{run.End.End, run.End.TheVariants.Finished, run.End.TheVariants.Stuck}
 use Rattle.fleet_cli.specs.declared.fault.Fault.{Fault}
 use Rattle.fleet_cli.specs.declared.fault.Fault.TheVariants as f
 use Rattle.std.specs.Borrow.{Bor}
-use Rattle.fleet_cli.specs.Files.{Store, AreUnchanged, ChangesOnly, Replaces, IsWriteFault}
-use Rattle.fleet_text.specs.Words.{line_text, count_line}
-use Rattle.fleet_dispatch.specs.Talk.{Talk}
-use Rattle.fleet_dispatch.specs.declared.form.ReportForm.{ReportForm}
+use Rattle.fleet_dispatch.specs.{Talk.Talk, declared.form.ReportForm.ReportForm}
 
--- the refusal was reported: the sink took its line, or failed within it
-abbrev pub IsRefusalWritten : Fault → (err err' : SinkState) → Type 0
-IsRefusalWritten fault err err' = Receives err err' (refusal_line fault)
-
--- the command is done with this status, and nothing was reported; or its refusal was reported, and the refusal's status
--- is answered
+-- the command is done with this status, and nothing was reported; or its refusal was reported, whose line the sink took,
+-- or failed within it, and the refusal's status is answered
 abbrev pub Finishes : Result ℕ Fault → (err err' : SinkState) → ℕ → Type 0
 Finishes (Ok done) err err' status = (status ≡ done) × IsUnwritten err err'
-Finishes (Err fault) err err' status = IsRefusalWritten fault err err' × (status ≡ status_of fault)
+Finishes (Err fault) err err' status = Receives err err' (refusal_line fault) × (status ≡ status_of fault)
 
 -- how a rehearsal ended, as a status
 abbrev pub end_status : End → ℕ

@@ -1,38 +1,27 @@
 -- What the commands `instance`, `check`, `plan`, `verify`, `list` and `times` print.
 use Rattle.std.specs.Prelude.{◌≡◌, ℕ, List, [], ◌∷◌, ◌++◌, length, slice_get, option_map, unwrap_or, Option, codes, decimal, Result, Err, ◌≢◌, Bool, true, false, Some, None, ◌⊎◌, ⊤}
 use Rattle.fleet_model.specs.declared.{geometry.Cell.Cell, task.Task.Task, program.Visit.Visit, program.ActionId.ActionId}
-use Rattle.fleet_model.specs.Program.{origin, Program, total_moves, total_awaits}
+use Rattle.fleet_model.specs.{Program.origin, Program.Program, Program.total_moves, Program.total_awaits, Machine.Holds, Breaking.AreBreakingHolds}
 use Rattle.fleet_grid.specs.Ground.{Ground, passable_cells, is_passable}
-use Rattle.fleet_cli.specs.Steps.{IsPlannedFor, AcceptsProgram, IsAcceptRefusal, IsLoadRefusal}
-use Rattle.fleet_text.specs.Sink.{FailsAfter, SinkState, IsUnwritten, IsDelivered}
+use Rattle.fleet_cli.specs.Steps.{IsPlannedFor, IsPlanningRefusal, AcceptsProgram, IsAcceptRefusal, IsLoadRefusal}
+use Rattle.fleet_text.specs.{Sink.FailsAfter, Sink.SinkState, Sink.IsUnwritten, Sink.IsDelivered, Words.pair_text, Words.line_text}
 use Rattle.fleet_args.specs.declared.{commands.CheckRequest.CheckRequest, commands.PlanRequest.PlanRequest, commands.TimesRequest.TimesRequest}
-use Rattle.fleet_text.specs.Words.{pair_text, line_text}
 use Rattle.fleet_cli.specs.declared.{files.FileTexts.FileTexts, fault.Fault.Fault, steps.Problem.Problem}
 use Rattle.fleet_cli.specs.declared.fault.Fault.TheVariants as f
-use Rattle.fleet_plan.specs.Plan.{Plan, steps, IsConflictFree}
-use Rattle.fleet_plan.specs.Numbers.{sum_of_costs, moves_in_plan, waits_in_plan}
+use Rattle.fleet_plan.specs.{Plan.Plan, Plan.steps, Plan.IsConflictFree, Numbers.sum_of_costs, Numbers.moves_in_plan, Numbers.waits_in_plan}
 use Rattle.fleet_search.specs.Bound.{IsBound}
-use Rattle.fleet_plan.specs.PlanText.{IsPlanText, IsFirstTextFault, plan_text}
-use Rattle.fleet_plan.specs.FirstFault.{IsFirstPlanFault}
+use Rattle.fleet_plan.specs.{PlanText.IsPlanText, PlanText.IsFirstTextFault, PlanText.plan_text, FirstFault.IsFirstPlanFault}
 use Rattle.fleet_plan.specs.declared.text_fault.TextFault.TheVariants as t
 use Rattle.fleet_plan.specs.declared.plan_fault.PlanFault.TheVariants as p
 use Rattle.fleet_cli.specs.Output.{count_lines, report, Prints, Refuses}
-use Rattle.fleet_search.specs.Orders.{IsStuckInTries}
-use Rattle.fleet_search.specs.declared.fault.PlanStop.TheVariants as s
-use Rattle.fleet_model.specs.Machine.{Holds}
-use Rattle.fleet_model.specs.Breaking.{AreBreakingHolds}
 use Rattle.fleet_code.specs.Spelling.{Spells}
-use Rattle.fleet_verify.specs.Faults.{IsFault}
-use Rattle.fleet_verify.specs.Broken.{IsBrokenBy}
+use Rattle.fleet_verify.specs.{Faults.IsFault, Broken.IsBrokenBy}
 use Rattle.fleet_verify.specs.declared.fault.VerifyFault.{VerifyFault}
 use Rattle.fleet_verify.specs.declared.fault.VerifyFault.TheVariants as v
-use Rattle.fleet_run.specs.HoldText.{holds_text}
-use Rattle.fleet_run.specs.Listing.{program_text, texts_below}
+use Rattle.fleet_run.specs.{HoldText.holds_text, Listing.program_text, Listing.texts_below, TimesText.times_text, TimesText.reached_text}
 use Rattle.std.specs.Borrow.{Bor}
 use Rattle.fleet_verify.specs.Times.{EachArrivesAt, HaveArrivedAt, IsCriticalPath, AreReached, StopsOthers, stopped_agents}
-use Rattle.fleet_run.specs.TimesText.{times_text, reached_text}
-use Rattle.fleet_dispatch.specs.Breaks.{AreBreaksOf, IsBreaksFault}
-use Rattle.fleet_dispatch.specs.Costs.{AreCostsOf, IsCostsFault}
+use Rattle.fleet_dispatch.specs.{Breaks.AreBreaksOf, Breaks.IsBreaksFault, Costs.AreCostsOf, Costs.IsCostsFault}
 
 -- the line of an agent: `i: x,y x,y`, its start and its goal
 unfoldable pub task_line : ℕ → Cell → Cell → List ℕ
@@ -84,28 +73,15 @@ AnswersCheck r problem out out' result =
     ((paths : Plan) × (bound : Option ℕ) × IsFreePlan problem paths × IsAskedBound problem.grid problem.instance r.numbers bound × Prints (check_text paths bound) out out' result)
     ⊎ Refuses (IsPlanRefusal problem) out out' result
 
--- an agent is left without a path by those before it; or memory ran out
-abbrev pub IsSearchRefusal : Problem → PlanRequest → Fault → Type 0
-IsSearchRefusal problem r (f.Search stop) = (agent : ℕ) → stop ≡ s.NoPath agent → IsStuckInTries (is_passable problem.grid) problem.instance r.horizon r.tries.count agent
-IsSearchRefusal problem r f.Memory = ⊤
-IsSearchRefusal problem r _ = ⊥
-
 -- what `plan` answers: a plan that is made agent by agent and is free of conflict
 abbrev pub AnswersPlan : PlanRequest → Problem → (out out' : SinkState) → Result ℕ Fault → Type 0
 AnswersPlan r problem out out' result =
     ((plan : Plan) × (tried : ℕ) × IsPlannedFor problem.grid problem.instance r.horizon r.tries tried plan × Prints (plan_text plan) out out' result)
-    ⊎ Refuses (IsSearchRefusal problem r) out out' result
-
--- `accepted`, then the agents, the moves, the awaits and the longest chain, each with its number
-abbrev pub accepted_text : Program → ℕ → List ℕ
-accepted_text p chain =
-    report (codes "accepted") ((codes "agents", length p) ∷ (codes "moves", total_moves p) ∷ (codes "awaits", total_awaits p) ∷ (codes "chain", chain) ∷ [])
+    ⊎ Refuses (IsPlanningRefusal problem.grid problem.instance r.horizon r.tries) out out' result
 
 -- the bytes are the text of the breaking holds of two visits
-pub record SpellsBreakingHolds (p : Program) (first second : Visit) (text : List ℕ) : Type 0 where
-  pub holds : Holds
-  pub breaking : AreBreakingHolds p first second holds
-  pub written : text ≡ holds_text holds
+abbrev pub SpellsBreakingHolds : Program → (first second : Visit) → (text : List ℕ) → Type 0
+SpellsBreakingHolds p first second text = (holds : Holds) × AreBreakingHolds p first second holds × (text ≡ holds_text holds)
 
 -- how a refused program is reported. Of two visits of a cell that no chain orders the breaking holds were printed and
 -- handed on before, or the output failed; of every other refusal nothing was printed
@@ -119,32 +95,21 @@ ReportsRefused p fault out out' (f.File name) =
     × (text : List ℕ) × SpellsBreakingHolds p first second text × FailsAfter out out' text
 ReportsRefused p fault out out' _ = ⊥
 
--- the program that the bytes of the problem spell is refused, which is reported by this refusal
-pub record RefusesProgram (problem : Problem) (out out' : SinkState) (reported : Fault) : Type 0 where
-  pub program : Program
-  pub spelled : Spells problem.texts.subject.items program
-  pub fault : VerifyFault
-  pub refused : IsFault (is_passable problem.grid) problem.instance program fault
-  pub broken : IsBrokenBy program fault
-  pub reports : ReportsRefused program fault out out' reported
-
--- what `verify` answers
+-- what `verify` answers: `accepted`, then the agents, the moves, the awaits and the longest chain, each with its number;
+-- or the bytes are refused, or the program that they spell, which is reported
 abbrev pub AnswersVerify : Problem → (out out' : SinkState) → Result ℕ Fault → Type 0
 AnswersVerify problem out out' result =
-    AcceptsProgram problem (λ p chain. Prints (accepted_text p chain) out out' result) ⊎ Refuses (IsLoadRefusal problem.texts.subject.items) out out' result
-    ⊎ ((fault : Fault) × (result ≡ Err fault) × RefusesProgram problem out out' fault)
+    AcceptsProgram problem
+    (λ p chain. Prints (report (codes "accepted") ((codes "agents", length p) ∷ (codes "moves", total_moves p) ∷ (codes "awaits", total_awaits p) ∷ (codes "chain", chain) ∷ [])) out out' result)
+    ⊎ Refuses (IsLoadRefusal problem.texts.subject.items) out out' result
+    ⊎ ((reported : Fault) × (result ≡ Err reported) × (p : Program) × (fault : VerifyFault) × Spells problem.texts.subject.items p
+    × IsFault (is_passable problem.grid) problem.instance p fault × IsBrokenBy p fault × ReportsRefused p fault out out' reported)
 
 -- what `list` answers for the texts of its files
 abbrev pub AnswersList : FileTexts → (out out' : SinkState) → Result ℕ Fault → Type 0
 AnswersList texts out out' result = ((p : Program) × Spells texts.subject.items p × Prints (program_text p) out out' result) ⊎ Refuses (IsLoadRefusal texts.subject.items) out out' result
 
 -- ---- `times`
-
--- when each agent arrives at the soonest, when all have arrived, and a chain that takes so long
-pub record IsTimetable (p : Program) (cost : ActionId → ℕ) (arrivals : List ℕ) (last : ℕ) (path : List ActionId) : Type 0 where
-  pub each : EachArrivesAt p cost arrivals
-  pub all : HaveArrivedAt p cost last
-  pub critical : IsCriticalPath p cost path
 
 -- what actions cost: one each, or as the text says if one is given
 abbrev pub AreCosts : Program → Option (Bor (List ℕ)) → List ℕ → (ActionId → ℕ) → Type 0
@@ -157,24 +122,18 @@ IsCostsRefusal p costs text f.Memory = ⊤
 IsCostsRefusal p (Some name) text (f.Times fault) = IsCostsFault p text fault
 IsCostsRefusal p costs text _ = ⊥
 
--- how far each agent comes, and no further, if the actions that the line names are never ended, which every schedule
--- bears out
-pub record HasReached (p : Program) (line : List ℕ) (counts : List ℕ) : Type 0 where
-  pub breaks : List ℕ
-  pub named : AreBreaksOf p line breaks
-  pub reached : AreReached p breaks counts
-  pub stops : StopsOthers p breaks counts
-
 -- memory ran out, or the line names no actions of the program
 abbrev pub IsBreaksRefusal : Program → List ℕ → Fault → Type 0
 IsBreaksRefusal p line f.Memory = ⊤
 IsBreaksRefusal p line (f.Times fault) = IsBreaksFault p line fault
 IsBreaksRefusal p line _ = ⊥
 
--- such a timetable is printed; or memory ran out
+-- when each agent arrives at the soonest, when all have arrived, and a chain that takes so long, is printed; or memory
+-- ran out
 abbrev pub TellsTimetable : Program → (ActionId → ℕ) → (moves : ℕ) → (out out' : SinkState) → Result ℕ Fault → Type 0
 TellsTimetable p cost moves out out' result =
-    ((arrivals : List ℕ) × (last : ℕ) × (path : List ActionId) × IsTimetable p cost arrivals last path × Prints (times_text arrivals moves last path) out out' result)
+    ((arrivals : List ℕ) × (last : ℕ) × (path : List ActionId) × EachArrivesAt p cost arrivals × HaveArrivedAt p cost last × IsCriticalPath p cost path
+    × Prints (times_text arrivals moves last path) out out' result)
     ⊎ Refuses (λ fault. fault ≡ f.Memory) out out' result
 
 -- .. of the program, by such costs
@@ -182,10 +141,13 @@ abbrev pub TellsTimes : Program → Option (Bor (List ℕ)) → (text : List ℕ
 TellsTimes p costs text out out' result =
     ((cost : ActionId → ℕ) × AreCosts p costs text cost × TellsTimetable p cost (total_moves p) out out' result) ⊎ Refuses (IsCostsRefusal p costs text) out out' result
 
--- how far each agent comes is printed
+-- how far each agent comes, and no further, if the actions that the line names are never ended, which every schedule
+-- bears out, is printed
 abbrev pub TellsReached : Program → (line : List ℕ) → (out out' : SinkState) → Result ℕ Fault → Type 0
 TellsReached p line out out' result =
-    ((counts : List ℕ) × HasReached p line counts × Prints (reached_text counts (total_moves p) (stopped_agents p counts)) out out' result) ⊎ Refuses (IsBreaksRefusal p line) out out' result
+    ((breaks counts : List ℕ) × AreBreaksOf p line breaks × AreReached p breaks counts × StopsOthers p breaks counts
+    × Prints (reached_text counts (total_moves p) (stopped_agents p counts)) out out' result)
+    ⊎ Refuses (IsBreaksRefusal p line) out out' result
 
 -- the one or the other
 abbrev pub Tells : TimesRequest → Program → (text : List ℕ) → Option (Bor (List ℕ)) → (out out' : SinkState) → Result ℕ Fault → Type 0

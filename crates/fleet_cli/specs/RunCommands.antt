@@ -1,26 +1,20 @@
 -- What the commands `run`, `auto` and `rehearse` do, and the program without words: a run, and the flush of its sink.
 use Rattle.std.specs.Prelude.{◌≡◌, true, false, Result, Ok, Err, ◌⊎◌, ℕ, List, Option, None, Bool, [], ◌∷◌, codes, length, ◌≢◌, ◌≤◌, IfSome}
 use Rattle.std.specs.{Io.KnownBytes.Keeps, Result.result_map_both}
-use Rattle.fleet_model.specs.Program.{Program}
+use Rattle.fleet_model.specs.{Program.Program, declared.task.Task.Task, declared.deps.Deps.Deps}
 use Rattle.fleet_text.specs.Sink.{SinkState, IsWorking, HasFailed, IsUnwritten}
-use Rattle.fleet_run.specs.Source.{SourceState}
-use Rattle.fleet_run.specs.Rehearsal.{Rehearses}
+use Rattle.fleet_run.specs.{Source.SourceState, Rehearsal.Rehearses, Trace.WritesTrace, Trace.Traces, Trace.StopsTrace, Trace.hold_source}
 use Rattle.fleet_run.specs.declared.{run.RunFault.RunFault, run.RunFault.TheVariants.Write, trace.Report.Report}
-use Rattle.fleet_run.specs.Trace.{WritesTrace, Traces, StopsTrace, hold_source}
 use Rattle.fleet_args.specs.declared.{commands.Tries.Tries, commands.AutoRequest.AutoRequest}
 use Rattle.fleet_cli.specs.declared.{fault.Fault.Fault, steps.PlanNumbers.PlanNumbers, steps.Problem.Problem, fault.AutoFault.AutoFault, files.TheConstants.MAX_BYTES}
-use Rattle.fleet_cli.specs.Steps.{AcceptsProgram, AreTextsOf, IsAcceptRefusal, IsMadeFor, IsMakingFault, IsLoadRefusal}
+use Rattle.fleet_cli.specs.Steps.{AcceptsProgram, AreTextsOf, IsAcceptRefusal, IsMadeFor, IsMakingRefusal, IsLoadRefusal}
 use Rattle.fleet_cli.specs.declared.fault.Fault.TheVariants as f
-use Rattle.fleet_model.specs.declared.{task.Task.Task, deps.Deps.Deps}
-use Rattle.fleet_grid.specs.Ground.{Ground}
+use Rattle.fleet_grid.specs.{Ground.Ground, MapText.IsMapText, MapText.IsFirstMapFault}
 use Rattle.fleet_verify.specs.Parts.{IsAcceptedFor}
 use Rattle.fleet_cli.specs.declared.fault.AutoFault.TheVariants as a
 use Rattle.fleet_cli.specs.Output.{count_lines, Refuses, Follow, Prints, end_status, Finishes}
-use Rattle.fleet_grid.specs.MapText.{IsMapText, IsFirstMapFault}
 use Rattle.fleet_scen.specs.ScenText.{IsFirstScenFault}
-use Rattle.fleet_cli.specs.Faults.{step_fault}
-use Rattle.fleet_code.specs.Hex.{bytes_of}
-use Rattle.fleet_code.specs.Spelling.{Spells}
+use Rattle.fleet_code.specs.{Hex.bytes_of, Spelling.Spells}
 use Rattle.fleet_code.specs.declared.fault.HexFault.TheVariants as h
 
 -- The answer of a run after the flush. It is the run's own, and the sink has handed on all, unless it had failed; or
@@ -74,28 +68,23 @@ AutoRuns map scen asked horizon deps held out out' (Err (a.Map fault)) = IsFirst
 AutoRuns map scen asked horizon deps held out out' (Err (a.Scen fault)) = (g : Ground) × IsMapText map g × IsFirstScenFault scen g asked fault × IsUnwritten out out'
 AutoRuns map scen asked horizon deps held out out' (Err (a.Run fault)) =
     ReadsTexts map scen asked (λ g tasks. MakesProgram g tasks horizon one_try deps (λ numbers p chain. StopsTrace p chain held out out' fault))
-AutoRuns map scen asked horizon deps held out out' (Err fault) =
-    ReadsTexts map scen asked (λ g tasks. IsMakingFault g tasks horizon one_try deps fault × IsUnwritten out out')
+AutoRuns map scen asked horizon deps held out out' (Err (a.Plan stop)) =
+    ReadsTexts map scen asked (λ g tasks. IsMakingRefusal g tasks horizon one_try deps (f.Search stop) × IsUnwritten out out')
+AutoRuns map scen asked horizon deps held out out' (Err (a.Compile fault)) =
+    ReadsTexts map scen asked (λ g tasks. IsMakingRefusal g tasks horizon one_try deps (f.Compile fault) × IsUnwritten out out')
 
--- no plan is made, or its agents make too many moves; or memory ran out
-abbrev pub IsMakingRefusal : Problem → AutoRequest → Fault → Type 0
-IsMakingRefusal problem r fault = (e : AutoFault) × (fault ≡ step_fault e) × IsMakingFault problem.grid problem.instance r.horizon r.tries r.deps e
-
--- how many orders were tried for the plan, its steps and its sum of costs, each with its number
-abbrev pub plan_numbers_text : PlanNumbers → List ℕ
-plan_numbers_text n = count_lines ((codes "tries", n.tried) ∷ (codes "steps", n.steps) ∷ (codes "cost", n.cost) ∷ [])
-
--- the numbers of the plan are printed, if they are asked for
+-- how many orders were tried for the plan, its steps and its sum of costs, each with its number, are printed, if they
+-- are asked for
 abbrev pub TellsNumbers : Bool → PlanNumbers → (out out' : SinkState) → Result ℕ Fault → Type 0
-TellsNumbers false numbers out out' result = (out' ≡ out) × (result ≡ Ok 0)
-TellsNumbers true numbers out out' result = Prints (plan_numbers_text numbers) out out' result
+TellsNumbers false n out out' result = (out' ≡ out) × (result ≡ Ok 0)
+TellsNumbers true n out out' result = Prints (count_lines ((codes "tries", n.tried) ∷ (codes "steps", n.steps) ∷ (codes "cost", n.cost) ∷ [])) out out' result
 
 -- what `auto` answers
 abbrev pub AnswersAuto : AutoRequest → Problem → (out out' : SinkState) → Result ℕ Fault → Type 0
 AnswersAuto r problem out out' result =
     MakesProgram problem.grid problem.instance r.horizon r.tries r.deps
     (λ numbers p chain. Follow (Runs p chain problem.texts.holds.items) (TellsNumbers r.numbers numbers) out out' result)
-    ⊎ Refuses (IsMakingRefusal problem r) out out' result
+    ⊎ Refuses (IsMakingRefusal problem.grid problem.instance r.horizon r.tries r.deps) out out' result
 
 -- What `rehearse` answers. The bytes spell a program, which was rehearsed under the holds for which the other bytes
 -- stand, and the status says how it ended; or they spell none
@@ -109,12 +98,6 @@ pub record IsTextOf (input : Option (List ℕ)) (text : List ℕ) : Type 0 where
   pub whole : IfSome input (λ rest. text ≡ rest)
   pub within : length text ≤ MAX_BYTES
 
--- the bytes for which the text of the input stands in hexadecimal
-pub record ReadsInput (input : Option (List ℕ)) (bytes : List ℕ) : Type 0 where
-  pub text : List ℕ
-  pub read : IsTextOf input text
-  pub pairs : bytes_of text ≡ Ok bytes
-
 -- the input cannot be read, or this is the first fault of its text
 abbrev pub IsInputRefusal : Option (List ℕ) → Fault → Type 0
 IsInputRefusal input (f.Hex fault) = (text : List ℕ) × IsTextOf input text × (fault ≢ h.OutOfMemory → bytes_of text ≡ Err fault)
@@ -122,10 +105,11 @@ IsInputRefusal input (f.File name) = name.now ≡ codes "-"
 IsInputRefusal input f.Memory = Unit {0}
 IsInputRefusal input _ = ⊥
 
--- what the run without words answers: the program of the input is rehearsed, with nobody held
+-- what the run without words answers: the program of the bytes for which the text of the input stands in hexadecimal is
+-- rehearsed, with nobody held
 abbrev pub AnswersHex : Option (List ℕ) → (out out' : SinkState) → Result ℕ Fault → Type 0
 AnswersHex input out out' result =
-    ((bytes : List ℕ) × ReadsInput input bytes × RehearsesBytes bytes [] out out' result) ⊎ Refuses (IsInputRefusal input) out out' result
+    ((text bytes : List ℕ) × IsTextOf input text × (bytes_of text ≡ Ok bytes) × RehearsesBytes bytes [] out out' result) ⊎ Refuses (IsInputRefusal input) out out' result
 
 -- 0 if the rehearsal was written and ends finished, 1 if it was written and ends stuck, and else the status of a
 -- refusal that was reported: the other output took that one line, or failed within it

@@ -1,31 +1,21 @@
 -- What commands are made of: what the texts of a map, a scenario and a program stand for, and what is made for them.
 use Rattle.std.specs.Prelude.{ℕ, List, Option, ◌≡◌, ◌≢◌, max, Bool, None, Some, Result, Ok, Err}
 use Rattle.fleet_model.specs.declared.{task.Task.Task, geometry.Place.Place, deps.Deps.Deps, deps.Deps.TheVariants.Last}
-use Rattle.fleet_grid.specs.Ground.{Ground, is_passable}
-use Rattle.fleet_grid.specs.MapText.{IsMapText, IsFirstMapFault}
+use Rattle.fleet_grid.specs.{Ground.Ground, Ground.is_passable, MapText.IsMapText, MapText.IsFirstMapFault}
 use Rattle.fleet_grid.specs.declared.fault.MapFault.TheVariants as m
 use Rattle.fleet_scen.specs.ScenText.{IsScenText, IsFirstScenFault}
 use Rattle.fleet_scen.specs.declared.fault.ScenFault.TheVariants as s
-use Rattle.fleet_cli.specs.declared.{files.FileTexts.FileTexts, fault.AutoFault.AutoFault, steps.TheConstants.NO_CHAIN, steps.PlanNumbers.PlanNumbers, steps.Problem.Problem, fault.Fault.Fault}
-use Rattle.fleet_cli.specs.declared.fault.AutoFault.TheVariants as a
+use Rattle.fleet_cli.specs.declared.{files.FileTexts.FileTexts, steps.TheConstants.NO_CHAIN, steps.PlanNumbers.PlanNumbers, steps.Problem.Problem, fault.Fault.Fault}
 use Rattle.fleet_args.specs.declared.{commands.Tries.Tries, commands.Best.Best}
-use Rattle.fleet_model.specs.Program.{Program}
-use Rattle.fleet_model.specs.Chain.{IsLongestChain}
-use Rattle.fleet_model.specs.Accepted.{IsAccepted}
-use Rattle.fleet_plan.specs.Plan.{Plan, steps, IsConflictFree}
-use Rattle.fleet_plan.specs.Numbers.{sum_of_costs}
-use Rattle.fleet_search.specs.Orders.{IsMadeInTry, IsStuckInTries}
-use Rattle.fleet_search.specs.Best.{IsBestInTries}
+use Rattle.fleet_model.specs.{Program.Program, Chain.IsLongestChain, Accepted.IsAccepted}
+use Rattle.fleet_plan.specs.{Plan.Plan, Plan.steps, Plan.IsConflictFree, Numbers.sum_of_costs}
+use Rattle.fleet_search.specs.{Orders.IsMadeInTry, Orders.IsStuckInTries, Best.IsBestInTries}
 use Rattle.fleet_search.specs.declared.fault.PlanStop.TheVariants as p
-use Rattle.fleet_adg.specs.Compiled.{compiled_if_few}
-use Rattle.fleet_adg.specs.declared.fault.CompileFault.{CompileFault}
-use Rattle.fleet_code.specs.Spelling.{SpellsIn, Spells}
-use Rattle.fleet_code.specs.declared.format.Version.TheVariants.{One}
+use Rattle.fleet_adg.specs.{Compiled.compiled_if_few, declared.fault.CompileFault.CompileFault}
+use Rattle.fleet_code.specs.{Spelling.SpellsIn, Spelling.Spells, LoadFaults.IsFirstLoadFault, declared.format.Version.TheVariants.One}
 use Rattle.fleet_args.specs.declared.commands.Best.TheVariants as best
-use Rattle.fleet_code.specs.LoadFaults.{IsFirstLoadFault}
 use Rattle.fleet_code.specs.declared.fault.LoadFault.TheVariants as l
-use Rattle.fleet_verify.specs.Parts.{IsAcceptedFor}
-use Rattle.fleet_verify.specs.Faults.{IsFault}
+use Rattle.fleet_verify.specs.{Parts.IsAcceptedFor, Faults.IsFault}
 use Rattle.fleet_cli.specs.declared.fault.Fault.TheVariants as f
 
 -- the texts stand for this ground and these tasks
@@ -72,13 +62,16 @@ pub record SpellsMade (g : Ground) (tasks : List Task) (horizon : ℕ) (tries : 
   pub made : IsMadeFor g tasks horizon tries deps numbers program
   pub spelled : SpellsIn One bytes program
 
--- memory ran out; or in the last of so many orders an agent is left without a path by those before it; or the agents of
--- the plan make too many moves
-abbrev pub IsMakingFault : Ground → List Task → ℕ → Tries → Deps → AutoFault → Type 0
-IsMakingFault g tasks horizon tries deps a.OutOfMemory = Unit {0}
-IsMakingFault g tasks horizon tries deps (a.Plan stop) = (agent : ℕ) × (stop ≡ p.NoPath agent) × IsStuckInTries (is_passable g) tasks horizon tries.count agent
-IsMakingFault g tasks horizon tries deps (a.Compile fault) = (plan : Plan) × (tried : ℕ) × IsPlannedFor g tasks horizon tries tried plan × (compiled_if_few plan deps ≡ Err fault)
-IsMakingFault g tasks horizon tries deps _ = ⊥
+-- in the last of so many orders an agent is left without a path by those before it; or memory ran out
+abbrev pub IsPlanningRefusal : Ground → List Task → ℕ → Tries → Fault → Type 0
+IsPlanningRefusal g tasks horizon tries (f.Search stop) = (agent : ℕ) × (stop ≡ p.NoPath agent) × IsStuckInTries (is_passable g) tasks horizon tries.count agent
+IsPlanningRefusal g tasks horizon tries f.Memory = Unit {0}
+IsPlanningRefusal g tasks horizon tries _ = ⊥
+
+-- no plan is made; or the agents of the plan make too many moves
+abbrev pub IsMakingRefusal : Ground → List Task → ℕ → Tries → Deps → Fault → Type 0
+IsMakingRefusal g tasks horizon tries deps (f.Compile fault) = (plan : Plan) × (tried : ℕ) × IsPlannedFor g tasks horizon tries tried plan × (compiled_if_few plan deps ≡ Err fault)
+IsMakingRefusal g tasks horizon tries deps fault = IsPlanningRefusal g tasks horizon tries fault
 
 -- the bytes spell this program, which is accepted for the map and the tasks, with a longest chain of so many actions
 pub record Accepts (bytes : List ℕ) (g : Ground) (tasks : List Task) (p : Program) (chain : ℕ) : Type 0 where

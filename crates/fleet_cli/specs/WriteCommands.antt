@@ -2,44 +2,30 @@
 use Rattle.std.specs.Prelude.{◌≡◌, ◌≢◌, ℕ, List, [], ◌∷◌, ◌⊎◌, length, Option, None, Some, IfSome, Ok, Err, codes, Result, ⊤}
 use Rattle.std.specs.{Borrow.Bor, List.remove}
 use Rattle.fleet_model.specs.declared.{geometry.Cell.Cell, task.Task.Task}
-use Rattle.fleet_model.specs.Program.{Program, total_moves, total_awaits}
-use Rattle.fleet_model.specs.Machine.{Configuration}
-use Rattle.fleet_model.specs.Accepted.{IsAccepted}
-use Rattle.fleet_grid.specs.Ground.{Ground, is_passable}
+use Rattle.fleet_model.specs.{Program.Program, Program.total_moves, Program.total_awaits, Machine.Configuration, Accepted.IsAccepted}
+use Rattle.fleet_grid.specs.{Ground.Ground, Ground.is_passable, MapWriting.map_text, MapWriting.ground_without}
 use Rattle.fleet_plan.specs.Plan.{Plan}
-use Rattle.fleet_adg.specs.Compiled.{compiled_staying_if_few}
-use Rattle.fleet_adg.specs.ProgramBytes.{AreBytesOf}
+use Rattle.fleet_adg.specs.{Compiled.compiled_staying_if_few, ProgramBytes.AreBytesOf, Thinned.IsThinnedFor, Remaining.tasks_of}
 use Rattle.fleet_adg.specs.declared.program_bytes.ProgramBytes.{ProgramBytes}
 use Rattle.fleet_adg.specs.declared.fault.CompileFault.TheVariants as c
-use Rattle.fleet_code.specs.Spelling.{SpellsShortest, SpellsIn, Spells}
+use Rattle.fleet_code.specs.{Spelling.SpellsShortest, Spelling.SpellsIn, Spelling.Spells, declared.format.Version.TheVariants.Two}
 use Rattle.fleet_text.specs.Sink.{SinkState}
-use Rattle.fleet_cli.specs.Files.{Store}
+use Rattle.fleet_cli.specs.{Files.Store, Output.count_lines, Output.AnswersOut, Steps.AcceptsProgram, Steps.IsAcceptRefusal, Steps.IsLoadRefusal}
 use Rattle.fleet_args.specs.declared.{commands.CompileRequest.CompileRequest, commands.ThinRequest.ThinRequest, commands.MigrateRequest.MigrateRequest, commands.RestRequest.RestRequest}
 use Rattle.fleet_cli.specs.declared.{files.FileTexts.FileTexts, fault.Fault.Fault, steps.Problem.Problem, write_commands.Rest.Rest}
-use Rattle.fleet_cli.specs.Output.{count_lines, AnswersOut}
-use Rattle.fleet_cli.specs.Steps.{AcceptsProgram, IsAcceptRefusal, IsLoadRefusal}
 use Rattle.fleet_cli.specs.PrintCommands.{IsFreePlan, IsPlanRefusal}
 use Rattle.fleet_cli.specs.declared.fault.Fault.TheVariants as f
-use Rattle.fleet_adg.specs.Thinned.{IsThinnedFor}
-use Rattle.fleet_grid.specs.MapWriting.{map_text, ground_without}
-use Rattle.fleet_scen.specs.ScenText.{IsScenText}
-use Rattle.fleet_scen.specs.ScenWriting.{scen_text}
+use Rattle.fleet_scen.specs.{ScenText.IsScenText, ScenWriting.scen_text}
 use Rattle.fleet_verify.specs.Rest.{StandOn, RunsOn, cell_at, rest, rest_tasks}
-use Rattle.fleet_adg.specs.Remaining.{tasks_of}
-use Rattle.fleet_dispatch.specs.Standing.{StandsAfter, IsLogRefusal}
-use Rattle.fleet_dispatch.specs.DeadRobot.{dead_robot_of}
+use Rattle.fleet_dispatch.specs.{Standing.StandsAfter, Standing.IsLogRefusal, DeadRobot.dead_robot_of}
 use Rattle.fleet_dispatch.specs.declared.{dead_robot.DeadRobot.DeadRobot, times_fault.TimesFault.TheVariants.Dead}
-use Rattle.fleet_code.specs.declared.format.Version.TheVariants.{Two}
 
 -- the problem's plan is free of conflict; the program is that of the plan with so many stays after the moves of each
 -- agent, and is accepted; and these are its bytes and its numbers
-pub record CompilesPlan (problem : Problem) (r : CompileRequest) (made : ProgramBytes) : Type 0 where
-  pub paths : Plan
-  pub free : IsFreePlan problem paths
-  pub program : Program
-  pub compiled : compiled_staying_if_few paths r.deps r.dwell ≡ Ok program
-  pub accepted : IsAccepted (is_passable problem.grid) problem.instance program
-  pub bytes : AreBytesOf program made
+abbrev pub CompilesPlan : Problem → CompileRequest → ProgramBytes → Type 0
+CompilesPlan problem r made =
+    (paths : Plan) × (program : Program) × IsFreePlan problem paths × (compiled_staying_if_few paths r.deps r.dwell ≡ Ok program)
+    × IsAccepted (is_passable problem.grid) problem.instance program × AreBytesOf program made
 
 -- the first fault, judged in this order: plan text, plan, program; or memory ran out
 abbrev pub IsCompileFault : Problem → CompileRequest → Fault → Type 0
@@ -57,39 +43,24 @@ AnswersCompile files after r problem =
     AnswersOut files after (CompilesPlan problem r) (IsCompileFault problem r) (λ made. (Some r.out, made.bytes.items) ∷ [])
     (λ made. numbers_text made.agents made.moves made.awaits made.bytes.items)
 
--- these are the bytes of the program without its implied awaits, which is accepted for the same map and tasks, has the
--- same longest chain and runs equally; and the program had so many awaits before
-pub record ThinsProgram (g : Ground) (tasks : List Task) (p : Program) (chain before : ℕ) (made : ProgramBytes) : Type 0 where
-  pub thinned : Program
-  pub is : IsThinnedFor (is_passable g) tasks p chain thinned
-  pub bytes : AreBytesOf thinned made
-  pub had : before ≡ total_awaits p
-
--- the awaits before and after
-abbrev pub thinned_text : ℕ → ℕ → List ℕ
-thinned_text before after = count_lines ((codes "awaits", before) ∷ (codes "awaits", after) ∷ [])
+-- the program had so many awaits before, and these are the bytes of the one without its implied awaits, which is
+-- accepted for the same map and tasks, has the same longest chain and runs equally
+abbrev pub ThinsProgram : Problem → Program → (chain before : ℕ) → ProgramBytes → Type 0
+ThinsProgram problem p chain before made =
+    (before ≡ total_awaits p) × (thinned : Program) × IsThinnedFor (is_passable problem.grid) problem.instance p chain thinned × AreBytesOf thinned made
 
 -- what `thin` answers: the file OUT holds the bytes, and the numbers of awaits before and after are printed
 abbrev pub AnswersThin : (files after : Option Store) → ThinRequest → Problem → (out out' : SinkState) → Result ℕ Fault → Type 0
 AnswersThin files after r problem =
-    AnswersOut {A = ℕ × ProgramBytes} files after (λ made. AcceptsProgram problem (λ p chain. ThinsProgram problem.grid problem.instance p chain made.0 made.1)) (IsAcceptRefusal problem)
-    (λ made. (Some r.out, made.1.bytes.items) ∷ []) (λ made. thinned_text made.0 made.1.awaits)
+    AnswersOut {A = ℕ × ProgramBytes} files after (λ made. AcceptsProgram problem (λ p chain. ThinsProgram problem p chain made.0 made.1)) (IsAcceptRefusal problem)
+    (λ made. (Some r.out, made.1.bytes.items) ∷ []) (λ made. count_lines ((codes "awaits", made.0) ∷ (codes "awaits", made.1.awaits) ∷ []))
 
--- the bytes spell a program, in either version, and the others spell it in version 2
-pub record MigratesBytes (bytes migrated : List ℕ) : Type 0 where
-  pub program : Program
-  pub spelled : Spells bytes program
-  pub anew : SpellsIn Two migrated program
-
--- how many bytes there are
-abbrev pub migrated_text : List ℕ → List ℕ
-migrated_text migrated = count_lines ((codes "bytes", length migrated) ∷ [])
-
--- what `migrate` answers for the bytes of its file: OUT holds those of the program in version 2, and how many they are
--- is printed
+-- what `migrate` answers for the bytes of its file, which spell a program, in either version: OUT holds those of the
+-- program in version 2, and how many they are is printed
 abbrev pub AnswersMigrate : (files after : Option Store) → MigrateRequest → FileTexts → (out out' : SinkState) → Result ℕ Fault → Type 0
 AnswersMigrate files after r texts =
-    AnswersOut files after (MigratesBytes texts.subject.items) (IsLoadRefusal texts.subject.items) (λ migrated. (Some r.out, migrated) ∷ []) migrated_text
+    AnswersOut files after (λ migrated. (p : Program) × Spells texts.subject.items p × SpellsIn Two migrated p) (IsLoadRefusal texts.subject.items)
+    (λ migrated. (Some r.out, migrated) ∷ []) (λ migrated. count_lines ((codes "bytes", length migrated) ∷ []))
 
 -- ---- `rest`
 
@@ -163,14 +134,10 @@ IsRestRefusal problem r fault =
     ⊎ AcceptsProgram problem
     (λ p chain. IsRestFault p problem.texts.log.items fault ⊎ ((q : Program) × IsRestOf p problem.texts.log.items q × IsDeadRefusal problem.grid (length q) r.without fault))
 
--- the files that are written, in turn
-abbrev pub rest_files : RestRequest → Rest → List (Option (Bor (List ℕ)) × List ℕ)
-rest_files r made =
-    (Some r.scen_out, made.scen.items) ∷ (r.map_out, made.map.items) ∷ (r.others_out, made.others.items) ∷ (Some r.program_out, made.bytes.items) ∷ []
-
 -- What `rest` answers. The rest was made, and the files were written so; or there was a refusal before anything is
 -- written, and every file is as before
 abbrev pub AnswersRest : (files after : Option Store) → RestRequest → Problem → (out out' : SinkState) → Result ℕ Fault → Type 0
 AnswersRest files after r problem =
-    AnswersOut files after (RestsAccepted problem r) (IsRestRefusal problem r) (rest_files r)
+    AnswersOut files after (RestsAccepted problem r) (IsRestRefusal problem r)
+    (λ made. (Some r.scen_out, made.scen.items) ∷ (r.map_out, made.map.items) ∷ (r.others_out, made.others.items) ∷ (Some r.program_out, made.bytes.items) ∷ [])
     (λ made. numbers_text (length made.program) (total_moves made.program) (total_awaits made.program) made.bytes.items)

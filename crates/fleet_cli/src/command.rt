@@ -4,7 +4,7 @@ ghost use Rattle.std.specs.Prelude.{◌≡◌, ◌≢◌, None, map, string_byte
 ghost use Rattle.fleet_text.specs.Sink.{IsWorking};
 ghost use Rattle.fleet_dispatch.specs.Talk.{IsLogged};
 ghost use Rattle.fleet_cli.specs.Output.{around};
-ghost use Rattle.fleet_cli.specs.Command.{names_for, names_of, names_of_program, tasks_of, AnswersProblem, AnswersTexts, AnswersRequest, RunsRequest, StopsAtWords, RunsCommand};
+ghost use Rattle.fleet_cli.specs.Command.{names_for, names_of, names_of_program, AnswersProblem, AnswersRequest, RunsRequest, StopsAtWords, RunsCommand};
 
 use crate::dispatch_command::do_dispatch;
 use crate::fault::{Fault, finish, refuse};
@@ -28,13 +28,8 @@ fn names_for<'a>(
 ) -> FileNames<'a>
     ensures { result ≡ names_for tasks.entry subject.entry holds.entry log.entry }
 {
-    let (map, scen) = match tasks {
-        Some(tasks) => (Some(tasks.map), Some(tasks.scen)),
-        None => (None, None),
-    };
     FileNames {
-        map,
-        scen,
+        tasks,
         subject,
         holds,
         log,
@@ -74,26 +69,6 @@ fn names_of<'a>(request: &Request<'a>) -> FileNames<'a>
     }
 }
 
-/// The tasks that the request's command is about, if there are some.
-fn tasks_of<'a>(request: &Request<'a>) -> Option<Tasks<'a>>
-    ensures { result ≡ tasks_of request.now }
-{
-    match request {
-        Request::Instance(q) => Some(*q),
-        Request::Check(q) => Some(q.tasks),
-        Request::Plan(q) => Some(q.tasks),
-        Request::Compile(q) => Some(q.tasks),
-        Request::Verify(q) => Some(q.tasks),
-        Request::Run(q) => Some(q.subject.tasks),
-        Request::Rehearse(_) | Request::Migrate(_) | Request::List(_) => None,
-        Request::Auto(q) => Some(q.tasks),
-        Request::Thin(q) => Some(q.subject.tasks),
-        Request::Dispatch(q) => Some(q.subject.tasks),
-        Request::Times(q) => Some(q.subject.tasks),
-        Request::Rest(q) => Some(q.subject.tasks),
-    }
-}
-
 /// What the request's command, which is about tasks, answers for the problem for which their texts stand. Of these
 /// commands `dispatch` alone reads `input`.
 fn answer_problem<'a, R: ReportsTo<O>, F: Files, O: Flush>(
@@ -104,7 +79,7 @@ fn answer_problem<'a, R: ReportsTo<O>, F: Files, O: Flush>(
     files: &mut F,
     out: &mut O,
 ) -> Result<u8, Fault<'a>>
-    requires about { tasks_of request.now ≢ None }
+    requires about { (names_of request.now).tasks ≢ None }
     requires working { IsWorking (O.state out.old) }
     ensures { AnswersProblem (around (F.contents files.old) (F.contents files.new)
         (input.new ≡ input.old) (out.new ≡ out.old)
@@ -128,28 +103,6 @@ fn answer_problem<'a, R: ReportsTo<O>, F: Files, O: Flush>(
     }
 }
 
-/// What the request's command, which is about no tasks, answers for the texts of its files.
-fn answer_texts<'a, F: Files, O: Flush>(
-    alloc: Global,
-    request: &Request<'a>,
-    texts: &FileTexts,
-    files: &mut F,
-    out: &mut O,
-) -> Result<u8, Fault<'a>>
-    requires about { tasks_of request.now ≡ None }
-    requires working { IsWorking (O.state out.old) }
-    ensures { AnswersTexts (F.contents files.old) (F.contents files.new) request.now texts.now
-        (O.state out.old) (O.state out.new) result }
-{
-    match request {
-        Request::Rehearse(_) => rehearse_bytes(alloc, &texts.subject, &texts.holds, out),
-        Request::Migrate(q) => do_migrate(alloc, q, texts, files, out),
-        Request::List(_) => do_list(alloc, texts, out),
-        // The request is about no tasks.
-        _ => unreachable!(),
-    }
-}
-
 /// What the request's command answers for the texts of its files: the status, or the refusal that is to be written. Its
 /// output goes to `out`, and of the commands `dispatch` alone reads `input`.
 fn answer_request<'a, R: ReportsTo<O>, F: Files, O: Flush>(
@@ -164,14 +117,18 @@ fn answer_request<'a, R: ReportsTo<O>, F: Files, O: Flush>(
     ensures { AnswersRequest (around (F.contents files.old) (F.contents files.new)
         (input.new ≡ input.old) (out.new ≡ out.old)
         (IsLogged R.talks input.old out.old input.new out.new)) request.now texts
-        (O.state out.old) (O.state out.new) result }
+        (names_of request.now).tasks (O.state out.old) (O.state out.new) result }
 {
-    match tasks_of(request) {
-        None => answer_texts(alloc, request, &texts, files, out),
-        Some(tasks) => {
-            let problem = problem_of(alloc, texts, tasks)?;
-            answer_problem(alloc, request, problem, input, files, out)
-        }
+    if let Some(tasks) = names_of(request).tasks {
+        let problem = problem_of(alloc, texts, tasks)?;
+        return answer_problem(alloc, request, problem, input, files, out);
+    }
+    match request {
+        Request::Rehearse(_) => rehearse_bytes(alloc, &texts.subject, &texts.holds, out),
+        Request::Migrate(q) => do_migrate(alloc, q, &texts, files, out),
+        Request::List(_) => do_list(alloc, &texts, out),
+        // The others are about tasks.
+        _ => unreachable!(),
     }
 }
 

@@ -3,11 +3,8 @@
 ghost use Rattle.std.specs.Prelude.{◌≡◌, OnOk, IfErr, IfSome};
 ghost use Rattle.fleet_text.specs.Sink.{IsWorking};
 ghost use Rattle.fleet_model.specs.Program.{IsWellFormed};
-ghost use Rattle.fleet_dispatch.specs.Talk.{IsLogged};
-ghost use Rattle.fleet_dispatch.specs.Dispatch.{Dispatches};
-ghost use Rattle.fleet_dispatch.specs.Session.{IsReady, course_in, left_in};
-ghost use Rattle.fleet_cli.specs.Output.{around};
-ghost use Rattle.fleet_cli.specs.Files.{IsOwnLog};
+ghost use Rattle.fleet_dispatch.specs.{Talk.IsLogged, Dispatch.Dispatches, Session.IsReady, Session.course_in, Session.left_in};
+ghost use Rattle.fleet_cli.specs.{Output.around, Files.IsOwnLog};
 ghost use Rattle.fleet_cli.specs.DispatchCommand.{log_in, lines_in, ChangesOnlyLog, IsKeptAfter, IsLogFault, answer_of, pace_of, AnswersDispatch};
 
 use crate::fault::{Fault, or_refuse};

@@ -1,9 +1,8 @@
-//! Refusals of the program, with their statuses and lines, and those of the steps within.
+//! Refusals of the program, with their statuses and lines, and those of `auto_run`.
 
 ghost use Rattle.std.specs.Prelude.{◌≡◌};
 ghost use Rattle.fleet_text.specs.Sink.{IsWorking, Receives};
-ghost use Rattle.fleet_cli.specs.Output.{Finishes};
-ghost use Rattle.fleet_cli.specs.Faults.{refusal_line, status_of, step_fault};
+ghost use Rattle.fleet_cli.specs.{Output.Finishes, Faults.refusal_line, Faults.status_of};
 
 use fleet_adg::CompileFault;
 use fleet_code::{HexFault, LoadFault};
@@ -166,18 +165,4 @@ pub enum AutoFault {
     /// The run stopped before its end.
     #[error("the run: {0}")]
     Run(RunFault),
-}
-
-/// The fault of a step as a refusal of the program, with its own line and status.
-pub(crate) fn step_fault(fault: AutoFault) -> Fault<'static>
-    ensures { result ≡ step_fault fault }
-{
-    match fault {
-        AutoFault::OutOfMemory => Fault::Memory,
-        AutoFault::Map(fault) => Fault::Map(fault),
-        AutoFault::Scen(fault) => Fault::Scen(fault),
-        AutoFault::Plan(stop) => Fault::Search(stop),
-        AutoFault::Compile(fault) => Fault::Compile(fault),
-        AutoFault::Run(fault) => Fault::Run(fault),
-    }
 }

@@ -5,6 +5,7 @@ ghost use Rattle.fleet_cli.specs.Files.{Store, HoldsBytes, IsUnreadable, AreUnch
 ghost use Rattle.fleet_cli.specs.Output.{WritesGiven};
 
 use crate::fault::Fault;
+use fleet_args::Tasks;
 use fleet_text::{WriteOut, put_all};
 use std::alloc::Global;
 use std::fs::{OpenFile, OpenOptions};
@@ -160,17 +161,12 @@ impl<'r, R: rt::Files> Files for Disk<'r, R> {
     ghost contents = { λ _. None };
 
     fn read(&mut self, alloc: Global, name: &str) -> Result<Vec<u8>, FileFault> {
-        let Ok(mut file) = fs::open(self.runtime, name) else {
-            return Err(FileFault::Failed);
-        };
+        let mut file = fs::open(self.runtime, name).or(Err(FileFault::Failed))?;
         read_whole(alloc, &mut file, &mut self.chunk)
     }
 
     fn write(&mut self, name: &str, bytes: &[u8]) -> Result<(), FileFault> {
-        match fs::write(self.runtime, name, bytes) {
-            Ok(()) => Ok(()),
-            Err(_) => Err(FileFault::Failed),
-        }
+        fs::write(self.runtime, name, bytes).or(Err(FileFault::Failed))
     }
 
     /// What is no file, as a pipe or a terminal, holds nothing. The folder of a file is on the disk when it is
@@ -195,9 +191,7 @@ impl<'r, R: rt::Files> Files for Disk<'r, R> {
     /// What is put behind a file is on the disk when it is answered.
     fn append(&mut self, name: &str, bytes: &[u8]) -> Result<(), FileFault> {
         let mut file = open_to_append(self.runtime, name)?;
-        if put_all(&mut WriteOut::new(&mut file), bytes).is_err() {
-            return Err(FileFault::Failed);
-        }
+        put_all(&mut WriteOut::new(&mut file), bytes).or(Err(FileFault::Failed))?;
         if is_file(&file)? && file.sync_data().is_err() {
             return Err(FileFault::Failed);
         }
@@ -209,10 +203,7 @@ impl<'r, R: rt::Files> Files for Disk<'r, R> {
 fn open_to_append<R: rt::Files>(runtime: &R, name: &str) -> Result<R::File, FileFault> {
     let mut options = OpenOptions::new();
     options.read(true).append(true).create(true);
-    match options.open(runtime, name) {
-        Ok(file) => Ok(file),
-        Err(_) => Err(FileFault::Failed),
-    }
+    options.open(runtime, name).or(Err(FileFault::Failed))
 }
 
 /// Has the folder of this path stored. A system that opens no folder, or stores none, is no failure of the file.
@@ -229,19 +220,16 @@ fn sync_folder<R: rt::Files>(runtime: &R, name: &str) {
 /// Whether it is a file with bytes of its own, and no pipe, terminal or other device. Of what is open the system can
 /// say it; if it does not, that is a failure, and not "no file".
 fn is_file<F: OpenFile>(file: &F) -> Result<bool, FileFault> {
-    match file.metadata() {
-        Ok(metadata) => Ok(metadata.is_file()),
-        Err(_) => Err(FileFault::Failed),
-    }
+    let metadata = file.metadata().or(Err(FileFault::Failed))?;
+    Ok(metadata.is_file())
 }
 
-/// The files that a command reads, by their names, in this order: the map, the scenario, the plan or the program that
-/// it is about, the holds (of `times` the costs), and the log of reports (of `dispatch` that after which it goes on,
-/// and not the one that it writes).
+/// The files that a command reads, by their names, in this order: the map and the scenario of its tasks, if it is about
+/// some; the plan or the program that it is about, the holds (of `times` the costs), and the log of reports (of
+/// `dispatch` that after which it goes on, and not the one that it writes).
 #[derive(Clone, Copy)]
 pub(crate) struct FileNames<'a> {
-    pub(crate) map: Option<&'a str>,
-    pub(crate) scen: Option<&'a str>,
+    pub(crate) tasks: Option<Tasks<'a>>,
     pub(crate) subject: Option<&'a str>,
     pub(crate) holds: Option<&'a str>,
     pub(crate) log: Option<&'a str>,
@@ -290,8 +278,8 @@ pub(crate) fn read_files<'a, F: Files>(
     ensures fault { IfErr result (IsUnread (F.contents files.old) (given_names names.entry)) }
     ensures kept { AreUnchanged (F.contents files.old) (F.contents files.new) }
 {
-    let map = read_given(alloc, files, names.map)?;
-    let scen = read_given(alloc, files, names.scen)?;
+    let map = read_given(alloc, files, names.tasks.map(|tasks| tasks.map))?;
+    let scen = read_given(alloc, files, names.tasks.map(|tasks| tasks.scen))?;
     let subject = read_given(alloc, files, names.subject)?;
     let holds = read_given(alloc, files, names.holds)?;
     let log = read_given(alloc, files, names.log)?;

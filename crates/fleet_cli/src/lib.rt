@@ -5,22 +5,15 @@
 //! files that a command names, before any of them is judged. `fault` has every refusal of the program, with the line
 //! and the status of the fault that is within, and `finish`, by which every command ends.
 //!
-//! `steps` has what commands are made of: from the texts of a map and of a scenario to an instance, from bytes to a
-//! program and to an accepted one, and from an instance to a plan, the first or the best of several, and to the bytes
-//! of its program, each by the contract of one crate below. A command is a function from its request and its problem,
-//! or the texts of its files, to a status or a refusal: those that print what they find are in `print_commands`, those
-//! that write files in `write_commands`, those that run a program in `run_commands`, and the dispatch with its log in
-//! `dispatch_command`, each with its meaning in the file of `specs/` of the same name; `output` has what several of
-//! them print or write. A run's sink hands on what it took before anything is reported.
+//! `steps` has what commands are made of, each by the contract of one crate below, and `output` what several of them
+//! print or write. A command is a function from its request and its problem, or the texts of its files, to a status or
+//! a refusal: those that print what they find are in `print_commands`, those that write files in `write_commands`,
+//! those that run a program in `run_commands`, and the dispatch with its log in `dispatch_command`, each with its
+//! meaning in the file of `specs/` of the same name.
 //!
 //! One module, `command`, executes them: `names_of` says which files a request names, and `run_request` reads these,
-//! has the request answered by `answer_request`, and writes what is refused. A request is about tasks (`tasks_of`), and
-//! `answer_problem` has the arm of its command, or about a program alone, and `answer_texts` has it. `run_command` is
-//! what `main` calls.
-//!
-//! `auto_run` plans, compiles, encodes, loads, verifies and runs in one call. The next step takes whatever a step
-//! makes: a plan that is made is compiled, its program is loaded again from the bytes that spell it, and what is loaded
-//! is accepted. So once there is a plan with few enough moves, only memory, the holds and the sink can stop it.
+//! has the request answered by `answer_request`, and writes what is refused. A request is about tasks, and
+//! `answer_problem` has the arm of its command, or about a program alone. `run_command` is what `main` calls.
 #![tactic(auto)]
 
 mod command;

@@ -45,10 +45,7 @@ impl MemFiles {
         ensures found { IfSome result (λ bytes. file_in self.now name.now ≡ Some bytes.now) }
         ensures missing { IfNone result (file_in self.now name.now ≡ None) }
     {
-        match self.files.get(name) {
-            Some(bytes) => Some(bytes.as_slice()),
-            None => None,
-        }
+        self.files.get(name).map(|bytes| bytes.as_slice())
     }
 
     /// A copy of the file's bytes, none if there is no file of this name.
@@ -59,18 +56,6 @@ impl MemFiles {
             Some(bytes) => Ok(Vec::from_slice(self.alloc, bytes)?),
             None => Ok(Vec::new(self.alloc)),
         }
-    }
-
-    /// Puts the bytes behind those of the file. A refusal changes nothing.
-    fn extend(&mut self, name: &str, bytes: &[u8]) -> Result<(), OutOfMemory>
-        ensures held { OnOk result (file_in self.new name.now
-            ≡ Some (unwrap_or (file_in self.old name.now) [] ++ bytes.now)) }
-        ensures others { (n : List ℕ) → n ≢ name.now → file_in self.new n ≡ file_in self.old n }
-        ensures refused { OnErr result ((n : List ℕ) → file_in self.new n ≡ file_in self.old n) }
-    {
-        let mut all = self.copy_of(name)?;
-        all.extend_from_slice(bytes)?;
-        self.put(name, &all)
     }
 }
 
@@ -84,16 +69,11 @@ impl Files for MemFiles {
     ghost refuses_write = { λ _ _ fault. fault ≡ OutOfMemory };
 
     fn read(&mut self, alloc: Global, name: &str) -> Result<Vec<u8>, FileFault> {
-        let Some(bytes) = self.get(name) else {
-            return Err(FileFault::Failed);
-        };
+        let bytes = self.get(name).ok_or(FileFault::Failed)?;
         if bytes.len() > MAX_BYTES {
             return Err(FileFault::Failed);
         }
-        match Vec::from_slice(alloc, bytes) {
-            Ok(copy) => Ok(copy),
-            Err(_) => Err(FileFault::OutOfMemory),
-        }
+        Vec::from_slice(alloc, bytes).or(Err(FileFault::OutOfMemory))
     }
 
     /// Fails only if memory is refused, and then changes nothing.
@@ -104,16 +84,11 @@ impl Files for MemFiles {
         ensures refused { IfErr result (λ e. (e ≡ FileFault.OutOfMemory)
             × ((n : List ℕ) → file_in self.new n ≡ file_in self.old n)) }
     {
-        match self.put(name, bytes) {
-            Ok(()) => Ok(()),
-            Err(OutOfMemory) => Err(FileFault::OutOfMemory),
-        }
+        self.put(name, bytes).or(Err(FileFault::OutOfMemory))
     }
 
     fn begin_log(&mut self, _: Global, name: &str, past: &[u8]) -> Result<bool, FileFault> {
-        let Ok(bytes) = self.copy_of(name) else {
-            return Err(FileFault::OutOfMemory);
-        };
+        let bytes = self.copy_of(name).or(Err(FileFault::OutOfMemory))?;
         if !is_own_log(&bytes, past) {
             return Ok(false);
         }
@@ -122,9 +97,9 @@ impl Files for MemFiles {
     }
 
     fn append(&mut self, name: &str, bytes: &[u8]) -> Result<(), FileFault> {
-        match self.extend(name, bytes) {
-            Ok(()) => Ok(()),
-            Err(OutOfMemory) => Err(FileFault::OutOfMemory),
-        }
+        let mut all = self.copy_of(name).or(Err(FileFault::OutOfMemory))?;
+        all.extend_from_slice(bytes)
+            .or(Err(FileFault::OutOfMemory))?;
+        self.write(name, &all)
     }
 }

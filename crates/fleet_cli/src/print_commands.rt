@@ -150,16 +150,9 @@ pub(crate) fn do_plan<'a, O: Flush>(
     requires { IsWorking (O.state out.old) }
     ensures { AnswersPlan request.now problem (O.state out.old) (O.state out.new) result }
 {
-    let Problem {
-        texts,
-        grid,
-        instance,
-    } = problem;
-    drop(texts);
-    let found = or_refuse!(
-        plan_by(alloc, &grid, &instance, request.horizon, request.tries),
-        Fault::Search
-    );
+    drop(problem.texts);
+    let (grid, instance) = (&problem.grid, &problem.instance);
+    let found = plan_by(alloc, grid, instance, request.horizon, request.tries)?;
     let text = write_plan(alloc, found.checked.plan())?;
     let printed = put_all(out, &text);
     hand_on(out, printed)

@@ -7,7 +7,7 @@ ghost use Rattle.fleet_text.specs.Sink.{IsWorking};
 ghost use Rattle.fleet_cli.specs.Output.{end_status};
 ghost use Rattle.fleet_cli.specs.RunCommands.{FlushesRun, Runs, AutoRuns, AnswersRun, TellsNumbers, AnswersAuto, RehearsesBytes, AnswersHex, RunsHex};
 
-use crate::fault::{AutoFault, Fault, finish, or_refuse, step_fault};
+use crate::fault::{AutoFault, Fault, finish, or_refuse};
 use crate::files::{CHUNK, FileFault, read_whole};
 use crate::output::{hand_on, put_counts};
 use crate::steps::{ONE_TRY, PlanNumbers, Problem, accept, accept_made, made_bytes, view_program};
@@ -98,7 +98,12 @@ pub fn auto_run<O: TraceOut>(
         Err(ScenFault::OutOfMemory) => return Err(AutoFault::OutOfMemory),
         Err(fault) => return Err(AutoFault::Scen(fault)),
     };
-    let made = made_bytes(alloc, &grid, &instance, horizon, ONE_TRY, deps)?;
+    let made = match made_bytes(alloc, &grid, &instance, horizon, ONE_TRY, deps) {
+        Ok(made) => made,
+        Err(Fault::Search(stop)) => return Err(AutoFault::Plan(stop)),
+        Err(Fault::Compile(fault)) => return Err(AutoFault::Compile(fault)),
+        Err(_) => return Err(AutoFault::OutOfMemory),
+    };
     let Ok(accepted) = accept_made(alloc, &made.bytes, &grid, &instance) else {
         return Err(AutoFault::OutOfMemory);
     };
@@ -144,22 +149,9 @@ pub(crate) fn do_auto<'a, O: Flush>(
     requires { IsWorking (O.state out.old) }
     ensures { AnswersAuto request.now problem.now (O.state out.old) (O.state out.new) result }
 {
-    let Problem {
-        texts,
-        grid,
-        instance,
-    } = problem;
-    let made = or_refuse!(
-        made_bytes(
-            alloc,
-            grid,
-            instance,
-            request.horizon,
-            request.tries,
-            request.deps
-        ),
-        step_fault
-    );
+    let (texts, grid, instance) = (&problem.texts, &problem.grid, &problem.instance);
+    let (tries, deps) = (request.tries, request.deps);
+    let made = made_bytes(alloc, grid, instance, request.horizon, tries, deps)?;
     let accepted = accept_made(alloc, &made.bytes, grid, instance)?;
     run_flushed(alloc, accepted, &texts.holds, out)?;
     tell_numbers(request.numbers, &made.numbers, out)

@@ -3,15 +3,11 @@
 
 ghost use Rattle.std.specs.Prelude.{IfOk, IfErr, MatchResult, ◌≡◌, ℕ};
 ghost use Rattle.fleet_code.specs.Spelling.{Spells};
-ghost use Rattle.fleet_cli.specs.Steps.{IsProblemOf, Accepts, IsProblemRefusal, IsLoadRefusal, IsAcceptRefusal, SpellsMade, IsMakingFault, IsMeasure, IsPlannedFor};
-ghost use Rattle.fleet_model.specs.Program.{Program};
-ghost use Rattle.fleet_model.specs.Accepted.{IsAccepted};
+ghost use Rattle.fleet_cli.specs.Steps.{IsProblemOf, Accepts, IsProblemRefusal, IsLoadRefusal, IsAcceptRefusal, SpellsMade, IsPlanningRefusal, IsMakingRefusal, IsPlannedFor};
+ghost use Rattle.fleet_model.specs.{Program.Program, Accepted.IsAccepted};
 ghost use Rattle.fleet_grid.specs.Ground.{is_passable};
-ghost use Rattle.fleet_plan.specs.Plan.{IsConflictFree};
-ghost use Rattle.fleet_search.specs.Best.{IsBestInTries};
-ghost use Rattle.fleet_search.specs.Orders.{IsStuckInTries};
 
-use crate::fault::{AutoFault, Fault, or_refuse};
+use crate::fault::{Fault, or_refuse};
 use crate::files::FileTexts;
 use fleet_adg::{CompileFault, Deps, compile_bytes};
 use fleet_args::{Best, Tasks, Tries};
@@ -87,10 +83,10 @@ pub(crate) fn accept<'g, 'a>(
 /// What is told of a plan that was made: how many orders of the agents were tried for it, its steps, and its sum of
 /// costs in steps.
 #[derive(Clone, Copy, Debug)]
-pub struct PlanNumbers {
-    pub tried: u32,
-    pub steps: u32,
-    pub cost: u32,
+pub(crate) struct PlanNumbers {
+    pub(crate) tried: u32,
+    pub(crate) steps: u32,
+    pub(crate) cost: u32,
 }
 
 /// One order is tried, that of the agents' numbers.
@@ -101,34 +97,30 @@ pub(crate) const ONE_TRY: Tries = Tries {
 
 /// The bytes of the program of a plan, and the numbers of the plan.
 #[derive(Drop)]
-pub struct MadeBytes {
-    pub bytes: Vec<u8>,
-    pub numbers: PlanNumbers,
+pub(crate) struct MadeBytes {
+    pub(crate) bytes: Vec<u8>,
+    pub(crate) numbers: PlanNumbers,
 }
 
 /// The bytes that spell the program of the plan that is made for the map and the instance, in version 1, and the numbers
 /// of the plan.
-pub fn made_bytes(
+pub(crate) fn made_bytes<'a>(
     alloc: Global,
     grid: &Grid,
     instance: &Instance,
     horizon: u16,
     tries: Tries,
     deps: Deps,
-) -> Result<MadeBytes, AutoFault>
+) -> Result<MadeBytes, Fault<'a>>
     ensures made { IfOk result
         (λ m. SpellsMade grid.now instance.now horizon tries deps m.numbers m.bytes.items) }
-    ensures fault { IfErr result (IsMakingFault grid.now instance.now horizon tries deps) }
+    ensures fault { IfErr result (IsMakingRefusal grid.now instance.now horizon tries deps) }
 {
-    let Found { checked, tried } = match plan_by(alloc, grid, instance, horizon, tries) {
-        Ok(found) => found,
-        Err(PlanStop::OutOfMemory) => return Err(AutoFault::OutOfMemory),
-        Err(stop) => return Err(AutoFault::Plan(stop)),
-    };
+    let Found { checked, tried } = plan_by(alloc, grid, instance, horizon, tries)?;
     let compiled = match compile_bytes(alloc, &checked, deps, 0) {
         Ok(compiled) => compiled,
-        Err(CompileFault::OutOfMemory) => return Err(AutoFault::OutOfMemory),
-        Err(fault) => return Err(AutoFault::Compile(fault)),
+        Err(CompileFault::OutOfMemory) => return Err(Fault::Memory),
+        Err(fault) => return Err(Fault::Compile(fault)),
     };
     let plan = checked.plan();
     let numbers = PlanNumbers {
@@ -177,83 +169,65 @@ pub fn accept_made<'g>(
 /// What stands for the chain of a plan that has no program, since its agents make too many moves.
 pub(crate) const NO_CHAIN: u32 = u32::MAX;
 
-/// The number of actions in the longest chain of a plan's program, in which a move into a cell awaits the latest
-/// leaving of it.
+/// By what a plan is the best: the number of actions in the longest chain of its program, in which a move into a cell
+/// awaits the latest leaving of it, or its sum of costs in steps.
 #[derive(Clone, Copy)]
-struct LongestChain {
+struct MeasureBy {
     alloc: Global,
+    best: Best,
 }
 
-impl Measure for LongestChain {
+impl Measure for MeasureBy {
     ghost use Rattle.fleet_cli.specs.Steps.{IsMeasure};
-    ghost use Rattle.fleet_args.specs.declared.commands.Best.TheVariants as best;
 
-    ghost is_measure = { λ _ plan n. IsMeasure best.Chain plan n };
+    ghost is_measure = { λ m. IsMeasure m.best };
 
     fn measure(&self, checked: &Checked<'_>) -> Result<u32, OutOfMemory> {
-        match compile_bytes(self.alloc, checked, Deps::Last, 0) {
-            Ok(made) => {
-                let (grid, instance) = (checked.grid(), checked.instance());
-                let accepted = accept_made(self.alloc, &made.bytes, grid, instance)?;
-                Ok(accepted.chain())
-            }
-            Err(CompileFault::OutOfMemory) => Err(OutOfMemory),
-            Err(CompileFault::TooLong) => Ok(NO_CHAIN),
+        match self.best {
+            Best::Cost => SumOfCosts.measure(checked),
+            Best::Chain => match compile_bytes(self.alloc, checked, Deps::Last, 0) {
+                Ok(made) => {
+                    let (grid, instance) = (checked.grid(), checked.instance());
+                    let accepted = accept_made(self.alloc, &made.bytes, grid, instance)?;
+                    Ok(accepted.chain())
+                }
+                Err(CompileFault::OutOfMemory) => Err(OutOfMemory),
+                Err(CompileFault::TooLong) => Ok(NO_CHAIN),
+            },
         }
-    }
-}
-
-/// The best plan of so many orders, all of which are tried.
-fn best_plan<'g>(
-    alloc: Global,
-    grid: &'g Grid,
-    instance: &'g Instance,
-    horizon: u16,
-    tries: u32,
-    best: Best,
-) -> Result<Measured<'g>, PlanStop>
-    ensures best { IfOk result (λ m. IsBestInTries (is_passable grid.now) instance.now horizon
-        (IsMeasure best) tries m.checked.plan m.measure) }
-    ensures free { IfOk result (λ m.
-        IsConflictFree (is_passable grid.now) instance.now m.checked.plan) }
-    ensures grid { IfOk result (λ m. m.checked.grid ≡ grid.now) }
-    ensures instance { IfOk result (λ m. m.checked.instance ≡ instance.now) }
-    ensures no_path { IfErr result (λ e. (agent : ℕ) → e ≡ PlanStop.NoPath agent
-        → IsStuckInTries (is_passable grid.now) instance.now horizon tries agent) }
-{
-    match best {
-        Best::Chain => {
-            let chain = LongestChain { alloc };
-            best_in_orders(alloc, grid, instance, horizon, tries, &chain)
-        }
-        Best::Cost => best_in_orders(alloc, grid, instance, horizon, tries, &SumOfCosts),
     }
 }
 
 /// The plan that is made for the map and the instance by so many tries, with paths that arrive by the horizon, and how
-/// many orders were tried for it.
-pub(crate) fn plan_by<'g>(
+/// many orders were tried for it; or the refusal of the program.
+pub(crate) fn plan_by<'g, 'a>(
     alloc: Global,
     grid: &'g Grid,
     instance: &'g Instance,
     horizon: u16,
     tries: Tries,
-) -> Result<Found<'g>, PlanStop>
+) -> Result<Found<'g>, Fault<'a>>
     ensures planned { IfOk result
         (λ f. IsPlannedFor grid.now instance.now horizon tries f.tried f.checked.plan) }
     ensures grid { IfOk result (λ f. f.checked.grid ≡ grid.now) }
     ensures instance { IfOk result (λ f. f.checked.instance ≡ instance.now) }
-    ensures no_path { IfErr result (λ e. (agent : ℕ) → e ≡ PlanStop.NoPath agent
-        → IsStuckInTries (is_passable grid.now) instance.now horizon tries.count agent) }
+    ensures fault { IfErr result (IsPlanningRefusal grid.now instance.now horizon tries) }
 {
-    match tries.best {
-        None => first_in_orders(alloc, grid, instance, horizon, tries.count),
+    let stop = match tries.best {
+        None => match first_in_orders(alloc, grid, instance, horizon, tries.count) {
+            Ok(found) => return Ok(found),
+            Err(stop) => stop,
+        },
         Some(best) => {
-            let found = best_plan(alloc, grid, instance, horizon, tries.count, best)?;
-            Ok(Found {
-                checked: found.checked,
-                tried: tries.count.max(1),
-            })
+            let (measure, tried) = (MeasureBy { alloc, best }, tries.count.max(1));
+            match best_in_orders(alloc, grid, instance, horizon, tries.count, &measure) {
+                Ok(Measured { checked, .. }) => return Ok(Found { checked, tried }),
+                Err(stop) => stop,
+            }
         }
+    };
+    match stop {
+        PlanStop::OutOfMemory => Err(Fault::Memory),
+        PlanStop::NoPath { .. } => Err(Fault::Search(stop)),
     }
 }

@@ -34,14 +34,9 @@ pub(crate) fn do_compile<'a, F: Files, O: Flush>(
     ensures { AnswersCompile (F.contents files.old) (F.contents files.new) request.now problem
         (O.state out.old) (O.state out.new) result }
 {
-    let Problem {
-        texts,
-        grid,
-        instance,
-    } = problem;
-    let read = or_refuse!(read_plan(alloc, &texts.subject), Fault::Text);
-    drop(texts);
-    let checked = match check(alloc, read, &grid, &instance) {
+    let read = or_refuse!(read_plan(alloc, &problem.texts.subject), Fault::Text);
+    drop(problem.texts);
+    let checked = match check(alloc, read, &problem.grid, &problem.instance) {
         Ok(checked) => checked,
         Err(refusal) => return Err(Fault::Check(refusal.fault)),
     };

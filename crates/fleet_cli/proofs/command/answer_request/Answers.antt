@@ -1,5 +1,5 @@
 use Rattle.std.proofs.Common.{inl, sym}
 use Rattle.fleet_cli.proofs.command.answer_request.Goals as goal
 
-pub returns : goal.returns
-returns g c = rw (sym c.in-Some.ensures) (inl (c.in_ok-problem-in-Some.problem, c.in_ok-problem-in-Some.ensures, c.answer_problem.ensures))
+pub returns-in-Some : goal.returns-in-Some
+returns-in-Some g c = rw (sym c.names_of.ensures, c.in-Some.is) (inl (c.in_ok-problem.problem, c.in_ok-problem.ensures, c.answer_problem.ensures))

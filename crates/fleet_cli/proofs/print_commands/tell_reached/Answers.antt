@@ -5,4 +5,4 @@ pub returns : goal.returns
 returns g c =
     let printed = rw (c.deref-3.ensures.value, c.total_moves.ensures, c.stopped_agents-stopped.ensures, c.deref-2.ensures.value, c.program-program.ensures.program) at (c.hand_on.ensures _ _ c.put_reached-printed.ensures) in
     let named = rw c.program-program.ensures.program at c.in-Ok.ensures.named in
-    inl (_, record { breaks = c.in-Ok.made.items; named = named; reached = rw c.deref.ensures.value at c.in_ok-counts.ensures.reached; stops = rw c.deref.ensures.value at c.in_ok-counts.ensures.stops }, printed)
+    inl (_, _, named, rw c.deref.ensures.value at c.in_ok-counts.ensures.reached, rw c.deref.ensures.value at c.in_ok-counts.ensures.stops, printed)

@@ -12,11 +12,11 @@ stops p chain held out out' _ other h = h
 
 pub returns : goal.returns
 returns g c =
-    let m = made c.in_ok-made.ensures.made (rw c.deref.ensures.value at c.in-Ok-accept_made.ensures.only) in
+    let m = made c.in-Ok-made_bytes.ensures.made (rw c.deref.ensures.value at c.in-Ok-accept_made.ensures.only) in
     let stopped = stops _ _ c.args.holds.now _ _ c.in-Err-run_accepted.fault c.in_default-fault.not-OutOfMemory c.in-Err-run_accepted.ensures in
     (_, _, record { ground = c.in-Ok.ensures.found; tasks_read = c.in-Ok-read_scen.ensures.found }, (_, _, _, m, c.in-Ok-accept_made.ensures.accepted.accepted_for, stopped))
 
 pub returns-in-Ok-run_accepted : goal.returns-in-Ok-run_accepted
 returns-in-Ok-run_accepted g c =
-    let m = made c.in_ok-made.ensures.made (rw c.deref.ensures.value at c.in-Ok-accept_made.ensures.only) in
+    let m = made c.in-Ok-made_bytes.ensures.made (rw c.deref.ensures.value at c.in-Ok-accept_made.ensures.only) in
     (_, _, record { ground = c.in-Ok.ensures.found; tasks_read = c.in-Ok-read_scen.ensures.found }, (_, _, _, m, c.in-Ok-accept_made.ensures.accepted.accepted_for, c.in-Ok-run_accepted.ensures))

@@ -5,9 +5,8 @@ use Rattle.fleet_model.specs.{Program.Program, Machine.Configuration, Machine.in
 use Rattle.fleet_grid.specs.Ground.{is_passable}
 use Rattle.fleet_scen.specs.ScenWriting.{scen_text}
 use Rattle.fleet_verify.specs.Rest.{StandOn, RunsOn, cell_at, rest, rest_tasks}
-use Rattle.fleet_dispatch.specs.Standing.{StandsAfter}
+use Rattle.fleet_dispatch.specs.{Standing.StandsAfter, declared.dead_robot.DeadRobot.DeadRobot}
 use Rattle.fleet_adg.specs.Remaining.{task_of, tasks_of}
-use Rattle.fleet_dispatch.specs.declared.dead_robot.DeadRobot.{DeadRobot}
 use Rattle.fleet_cli.specs.WriteCommands.{IsRestOf}
 use Rattle.fleet_cli.proofs.write_commands.rest_program.Goals as goal
 

@@ -1,6 +1,6 @@
 //! Files in memory, for tests.
 
-ghost use Rattle.std.specs.Prelude.{◌≡◌, ◌≢◌, ◌++◌, ℕ, List, [], Some, None, OnOk, OnErr, IfOk, IfErr, IfSome, IfNone, unwrap_or};
+ghost use Rattle.std.specs.Prelude.{◌≡◌, ◌≢◌, ℕ, List, [], Some, None, OnOk, OnErr, IfOk, IfErr, IfSome, IfNone, unwrap_or};
 ghost use Rattle.fleet_cli.specs.Files.{Replaces};
 
 use crate::files::{FileFault, Files, MAX_BYTES, is_own_log, whole_lines};

@@ -1,7 +1,7 @@
 //! What commands are made of: from the texts of a map and a scenario to an instance, from bytes to a program and to an
 //! accepted one, and from an instance to a plan, the first or the best of several, and to the bytes of its program.
 
-ghost use Rattle.std.specs.Prelude.{IfOk, IfErr, MatchResult, ◌≡◌, ℕ};
+ghost use Rattle.std.specs.Prelude.{IfOk, IfErr, MatchResult, ◌≡◌};
 ghost use Rattle.fleet_code.specs.Spelling.{Spells};
 ghost use Rattle.fleet_cli.specs.Steps.{IsProblemOf, Accepts, IsProblemRefusal, IsLoadRefusal, IsAcceptRefusal, SpellsMade, IsPlanningRefusal, IsMakingRefusal, IsPlannedFor};
 ghost use Rattle.fleet_model.specs.{Program.Program, Accepted.IsAccepted};

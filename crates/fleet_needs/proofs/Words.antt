@@ -7,7 +7,7 @@ pub use Rattle.std.proofs.lemmas.Option.{slice_get_within, get_or_from_slice_get
 pub use Rattle.std.proofs.lemmas.List.{get_or-map, length-map, get_or-set_same, get_or-set_other, get_or_append_left, get_or_push, length_push, length-set, get_or_read, get_or_past, get_or_default, take-take, set-set, set-get_or, take_all, get_or-replicate, length-replicate, with_items_is, get_or-drop, take_at}
 pub use Rattle.std.proofs.lemmas.List.Elements.{All-contains, All-push, All-set}
 pub use Rattle.std.proofs.lemmas.List.Sums.{sum_by-take-le}
-pub use Rattle.std.specs.Vec.{with_item}
+pub use Rattle.std.specs.Vec.{with_item, vec_len}
 pub use Rattle.std.specs.declared.alloc.Global.{Global}
 pub use Rattle.std.specs.Borrow.{Bor}
 pub use Rattle.std.proofs.lemmas.Result.{IfOk-weaker}

@@ -1,5 +1,5 @@
 -- Questions for chains of needs, and their answers.
-use Rattle.std.specs.Prelude.{◌≡◌, ℕ, ◌<◌, ◌≤◌, Bool, true, false, List, length, get_or, slice_get, Some, ◌↔◌, Vec}
+use Rattle.std.specs.Prelude.{◌≡◌, ℕ, ◌<◌, ◌≤◌, Bool, true, false, List, length, get_or, slice_get, Some, All, ◌↔◌, Vec}
 use Rattle.std.specs.declared.alloc.Global.{Global}
 use Rattle.fleet_needs.specs.Words.{Program, IsAction, Reaches}
 use Rattle.fleet_needs.specs.declared.questions.Question.{Question}
@@ -23,3 +23,7 @@ AreAnswersIn p questions flags = AreAnswers p questions flags.items
 -- the agent of the question's first action is flagged
 abbrev pub IsAskedFor : List Bool → Question → Type 0
 IsAskedFor asked q = get_or asked q.first.agent false ≡ true
+
+-- .. of each of these questions
+abbrev pub AreAskedFor : Vec Bool Global → List Question → Type 0
+AreAskedFor asked questions = All (IsAskedFor asked.items) questions

@@ -1,5 +1,6 @@
 -- Flags of awaits: which of them say whether others imply their await.
-use Rattle.std.specs.Prelude.{◌≡◌, true, ℕ, ◌+◌, ◌<◌, ◌≤◌, ◌⊎◌, Bool, false, List, length, get_or, slice_get, Some}
+use Rattle.std.specs.Prelude.{◌≡◌, true, ℕ, ◌+◌, ◌<◌, ◌≤◌, ◌⊎◌, Bool, false, List, length, get_or, slice_get, Some, Vec}
+use Rattle.std.specs.declared.alloc.Global.{Global}
 use Rattle.fleet_needs.specs.Words.{Await, ActionId, Program, awaits_of, total_awaits}
 use Rattle.fleet_needs.specs.Joins.{IsRow}
 use Rattle.fleet_needs.specs.declared.schedule.Schedule.{Schedule}
@@ -41,6 +42,10 @@ IsUnsettled p asked n a k w = (n ≤ first_await p a + k) ⊎ (get_or asked w.ag
 -- of the first n awaits it is known whether they are implied, but for those whose agents are asked for
 abbrev pub AreSettledTo : Program → List Bool → ℕ → ImpliedAwaits → Type 0
 AreSettledTo p asked n m = AreFlagsBut p (IsUnsettled p asked n) m
+
+-- .. by these flags of agents
+abbrev pub AreSettledBy : Program → Vec Bool Global → ℕ → ImpliedAwaits → Type 0
+AreSettledBy p asked n m = AreSettledTo p asked.items n m
 
 -- .. of all of them
 abbrev pub AreSettled : Program → List Bool → ImpliedAwaits → Type 0

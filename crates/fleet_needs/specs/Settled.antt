@@ -1,7 +1,12 @@
 -- Awaits for which a few steps back show whether others imply them.
-use Rattle.std.specs.Prelude.{◌≡◌, ◌≢◌, ℕ, ◌<◌, ◌≤◌, ◌⊎◌, Bool, true, false, List, get_or, slice_get, Some}
+use Rattle.std.specs.Prelude.{◌≡◌, ◌≢◌, ℕ, ◌<◌, ◌≤◌, ◌⊎◌, Bool, true, false, List, get_or, slice_get, Some, Vec}
+use Rattle.std.specs.declared.alloc.Global.{Global}
 use Rattle.fleet_needs.specs.Words.{Await, ActionId, Program, awaits_of, awaited}
 use Rattle.fleet_needs.specs.Rows.{action_before, ByBeforeOr}
+
+-- agent j is asked for
+abbrev pub IsAsked : Vec Bool Global → ℕ → Type 0
+IsAsked asked j = get_or asked.items j false ≡ true
 
 -- each agent that was asked for still is
 abbrev pub AreMoreAsked : List Bool → List Bool → Type 0

@@ -1,8 +1,8 @@
 //! Questions for chains, answered agent by agent, by the rows of a block.
 
-ghost use Rattle.std.specs.Prelude.{◌≡◌, ◌≢◌, ◌+◌, ◌<◌, ◌≤◌, ℕ, length, slice_index, All, IfOk, OnOk};
+ghost use Rattle.std.specs.Prelude.{◌≡◌, ◌≢◌, ◌+◌, ◌<◌, ◌≤◌, ℕ, length, vec_len, slice_index, All, IfOk, OnOk};
 ghost use Rattle.fleet_model.specs.Program.{AreInRange};
-ghost use Rattle.fleet_needs.specs.Asked.{AreAnswersIn, IsAskedFor, IsQuestion};
+ghost use Rattle.fleet_needs.specs.Asked.{AreAnswersIn, AreAskedFor, IsAskedFor, IsQuestion};
 ghost use Rattle.fleet_needs.specs.Schedule.{IsSchedule, AreColumnsOf, AreRowCounts, joins_in};
 ghost use Rattle.fleet_needs.specs.Block.{HasItsColumn};
 ghost use Rattle.fleet_needs.specs.Answering.{AreAnsweredFrom, IsAnswering, AreListed, questions_in};
@@ -112,8 +112,8 @@ fn asked_agents<P: ProgramView>(
     questions: &[Question],
 ) -> Result<Vec<bool>, OutOfMemory>
     requires { All (IsQuestion (P.program program.now)) questions.now }
-    ensures agents { IfOk result (λ asked. length asked.items ≡ length (P.program program.now)) }
-    ensures asked { IfOk result (λ asked. All (IsAskedFor asked.items) questions.now) }
+    ensures agents { IfOk result (λ asked. vec_len asked ≡ length (P.program program.now)) }
+    ensures asked { IfOk result (λ asked. AreAskedFor asked questions.now) }
 {
     let mut asked = vec![in alloc; false; usize::from(program.agents())]?;
     for question in questions {

@@ -215,7 +215,7 @@ impl Slots {
     ) -> Result<(), OutOfMemory>
         requires joins { AreAllJoins (P.program program.now) joins.now }
         requires within { n < rows_made joins.now }
-        requires join { join.now ≡ join_at joins.now.joins.items n }
+        requires join { join.now ≡ join_at (joins_made joins.now) n }
         requires few { rows_made joins.now ≤ u32.MAX }
         requires rows { rows_in self.old ≡ rows_made joins.now + 1 }
         requires slotted { AreSlotted (TakesIn (P.program program.now) joins.now)

@@ -1,13 +1,14 @@
 //! Awaits for which a few steps back from their action show whether others imply them. How far is looked back decides
-//! what is settled, and so how much is left to rows, but not what is answered.
+//! what is settled, and so how much is left to rows, but not what is answered: the agents of awaits that are left are
+//! asked for, and once most agents are, it is looked back less, the less the shorter rows are.
 
-ghost use Rattle.std.specs.Prelude.{◌≡◌, ◌↔◌, ◌+◌, ◌<◌, ◌≤◌, ℕ, true, false, [], length, take, get_or, slice_get, Some, IfOk, ◌⊎◌, None, IsTrue};
+ghost use Rattle.std.specs.Prelude.{◌≡◌, ◌↔◌, ◌+◌, ◌<◌, ◌≤◌, ℕ, true, false, [], length, vec_len, take, get_or, slice_get, Some, IfOk, ◌⊎◌, None, IsTrue};
 ghost use Rattle.fleet_model.specs.Program.{AreInRange, awaits_of, total_awaits};
 ghost use Rattle.fleet_model.specs.Chain.{IsAction, Reaches};
-ghost use Rattle.fleet_needs.specs.Flags.{AreSettled, AreSettledTo};
+ghost use Rattle.fleet_needs.specs.Flags.{AreSettledBy, AreSettledTo};
 ghost use Rattle.fleet_needs.specs.Implied.{first_await};
 ghost use Rattle.fleet_needs.specs.Critical.{AreLevels, critical_cost};
-ghost use Rattle.fleet_needs.specs.Settled.{AreMoreAsked, ReachesNeed, IsOpenTo, HasOpenNeed};
+ghost use Rattle.fleet_needs.specs.Settled.{IsAsked, ReachesNeed, IsOpenTo, HasOpenNeed};
 
 use crate::critical::CriticalCosts;
 use crate::implied::ImpliedAwaits;
@@ -36,9 +37,9 @@ pub fn settle_all<P: ProgramView>(
 ) -> Result<Vec<bool>, OutOfMemory>
     requires levels { AreLevels (P.program program.now) levels.now }
     requires flags { AreSettledTo (P.program program.now) [] 0 implied.old }
-    ensures agents { IfOk result (λ asked. length asked.items ≡ length (P.program program.now)) }
-    ensures settled { IfOk result (λ asked. AreSettled
-        (P.program program.now) asked.items implied.new) }
+    ensures agents { IfOk result (λ asked. vec_len asked ≡ length (P.program program.now)) }
+    ensures settled { IfOk result (λ asked. AreSettledBy (P.program program.now)
+        asked (total_awaits (P.program program.now)) implied.new) }
 {
     let agents = program.agents();
     let mut asked = vec![in alloc; false; usize::from(agents)]?;
@@ -78,11 +79,11 @@ fn settle_agent<P: ProgramView>(
 )
     requires levels { AreLevels (P.program program.now) levels.now }
     requires agent { agent < length (P.program program.now) }
-    requires asked { length asked.old.items ≡ length (P.program program.now) }
-    requires settled { AreSettledTo (P.program program.now) asked.old.items
+    requires asked { vec_len asked.old ≡ length (P.program program.now) }
+    requires settled { AreSettledBy (P.program program.now) asked.old
         (total_awaits (take agent (P.program program.now))) implied.old }
-    ensures asked { length asked.new.items ≡ length asked.old.items }
-    ensures settled { AreSettledTo (P.program program.now) asked.new.items
+    ensures asked { vec_len asked.new ≡ vec_len asked.old }
+    ensures settled { AreSettledBy (P.program program.now) asked.new
         (total_awaits (take (agent + 1) (P.program program.now))) implied.new }
 {
     for finished in 0..program.moves(agent) {
@@ -104,11 +105,11 @@ fn settle_action<P: ProgramView>(
 )
     requires levels { AreLevels (P.program program.now) levels.now }
     requires action { IsAction (P.program program.now) action }
-    requires asked { length asked.old.items ≡ length (P.program program.now) }
-    requires settled { AreSettledTo (P.program program.now) asked.old.items
+    requires asked { vec_len asked.old ≡ length (P.program program.now) }
+    requires settled { AreSettledBy (P.program program.now) asked.old
         (first_await (P.program program.now) action) implied.old }
-    ensures asked { length asked.new.items ≡ length asked.old.items }
-    ensures settled { AreSettledTo (P.program program.now) asked.new.items
+    ensures asked { vec_len asked.new ≡ vec_len asked.old }
+    ensures settled { AreSettledBy (P.program program.now) asked.new
         (first_await (P.program program.now) action
         + length (awaits_of (P.program program.now) action.agent action.number)) implied.new }
 {
@@ -182,10 +183,10 @@ fn is_needed<P: ProgramView>(program: &P, first: ActionId, action: ActionId, fro
 
 /// Flags an agent, if that is so.
 fn ask_if(is_open: bool, agent: u16, asked: &mut Vec<bool>)
-    requires { agent < length asked.old.items }
-    ensures all { length asked.new.items ≡ length asked.old.items }
-    ensures more { AreMoreAsked asked.old.items asked.new.items }
-    ensures open { is_open ≡ true → get_or asked.new.items agent false ≡ true }
+    requires { agent < vec_len asked.old }
+    ensures all { vec_len asked.new ≡ vec_len asked.old }
+    ensures more { (j : ℕ) → IsAsked asked.old j → IsAsked asked.new j }
+    ensures open { is_open ≡ true → IsAsked asked.new agent }
     ensures closed { is_open ≡ false → asked.new ≡ asked.old }
 {
     if is_open {

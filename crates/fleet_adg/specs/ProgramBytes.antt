@@ -4,7 +4,7 @@ use Rattle.fleet_model.specs.Program.{Program, total_moves, total_awaits}
 use Rattle.fleet_code.specs.Spelling.{SpellsShortest}
 use Rattle.fleet_code.specs.declared.format.Version.{Version}
 use Rattle.fleet_code.specs.declared.format.Version.TheVariants.{One, Two}
-use Rattle.fleet_adg.specs.declared.program_bytes.ProgramBytes.{ProgramBytes}
+use Rattle.fleet_adg.specs.declared.compiler.ProgramBytes.{ProgramBytes}
 
 -- the bytes spell the program, in version 1 if that has bytes for it, and the numbers are those of the program
 pub record AreBytesOf (p : Program) (c : ProgramBytes) : Type 0 where

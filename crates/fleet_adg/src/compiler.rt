@@ -1,7 +1,7 @@
-//! The compiler of plans.
+//! The compiler of plans, and the bytes of a program that is made as bytes at once.
 
 ghost use Rattle.std.specs.Prelude.{◌≡◌, ◌≤◌, ◌<◌, ◌+◌, ◌^◌, ◌↔◌, ℕ, All, IfOk, length, sum_by};
-ghost use Rattle.fleet_model.specs.Program.{Program, moves, NeverStays, AreShort};
+ghost use Rattle.fleet_model.specs.Program.{Program, moves, NeverStays, AreShort, total_moves};
 ghost use Rattle.fleet_model.specs.declared.limits.TheConstants.{MAX_MOVES_V1, MAX_MOVES_IN_ALL};
 ghost use Rattle.fleet_model.specs.Accepted.{IsAccepted};
 ghost use Rattle.fleet_model.specs.Answer.{IsDueUnless};
@@ -12,15 +12,16 @@ ghost use Rattle.fleet_verify.specs.Reduced.{RunEqually};
 ghost use Rattle.fleet_plan.specs.Plan.{steps};
 ghost use Rattle.fleet_code.specs.declared.format.TheConstants.{HEAD_LEN};
 ghost use Rattle.fleet_code.specs.Offsets.{head_len};
-ghost use Rattle.fleet_code.specs.Spelling.{most_count, spelling, SpellsIn};
+ghost use Rattle.fleet_code.specs.Spelling.{most_count, spelling, SpellsIn, Spells, SpellsShortest};
 ghost use Rattle.fleet_code.specs.declared.format.Version.TheVariants.{One};
 ghost use Rattle.fleet_adg.specs.Sweep.{all_bytes_by};
 ghost use Rattle.fleet_adg.specs.ProgramBytes.{AreBytesOf, version_for};
 
 use crate::fault::CompileFault;
-use crate::program_bytes::{ProgramBytes, program_of};
 use crate::sweep::{actions_of, moves_of};
-use fleet_code::{ActionBytes, HEAD_LEN, Version, begin_program, programs_have_bytes};
+use fleet_code::{
+    ActionBytes, HEAD_LEN, Version, awaits_in, begin_program, load, programs_have_bytes,
+};
 use fleet_model::{Deps, MAX_AGENTS, MAX_MOVES, MAX_MOVES_IN_ALL, OutOfMemory, Program};
 use fleet_plan::{Checked, Plan};
 use std::alloc::Global;
@@ -225,4 +226,43 @@ fn join(
         rows[usize::from(i)].put_agent(&mut out, version, start, goal, stays)?;
     }
     Ok(out)
+}
+
+// The bytes of a program that is made as bytes at once, and the program that they spell.
+
+/// The bytes of a program: how many agents it has, and how many moves and awaits they have together.
+#[derive(Drop)]
+pub struct ProgramBytes {
+    pub bytes: Vec<u8>,
+    pub agents: u16,
+    pub moves: u32,
+    pub awaits: u64,
+}
+
+impl ProgramBytes {
+    /// The bytes, in this version, of a program of so many agents and moves.
+    pub(crate) fn new(bytes: Vec<u8>, version: Version, agents: u16, moves: u32) -> ProgramBytes
+        ensures bytes { result.bytes ≡ bytes }
+        ensures of { (p : Program) → length p ≡ agents → total_moves p ≡ moves
+            → bytes.items ≡ spelling version p → SpellsShortest bytes.items p → AreBytesOf p result }
+    {
+        let awaits = awaits_in(version, bytes.len(), agents, moves);
+        ProgramBytes {
+            bytes,
+            agents,
+            moves,
+            awaits,
+        }
+    }
+}
+
+/// The program that the bytes spell.
+pub(crate) fn program_of(alloc: Global, bytes: &[u8]) -> Result<Program, OutOfMemory>
+    ensures { IfOk result (λ q. (p : Program) → Spells bytes.now p → q ≡ p) }
+{
+    match load(alloc, bytes) {
+        Ok(program) => Ok(program),
+        // Bytes that spell a program are refused for want of memory alone.
+        Err(_) => Err(OutOfMemory),
+    }
 }

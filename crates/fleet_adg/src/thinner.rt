@@ -12,7 +12,7 @@ ghost use Rattle.fleet_needs.specs.Flags.{AreImplied};
 ghost use Rattle.fleet_adg.specs.ProgramBytes.{AreBytesOf};
 ghost use Rattle.fleet_adg.specs.Thinned.{FitsFirst, IsThinnedFor, CanThin, AreThinnedAgents, AddsAction, AddsActions};
 
-use crate::program_bytes::{ProgramBytes, program_of};
+use crate::compiler::{ProgramBytes, program_of};
 use crate::thin_fault::ThinFault;
 use fleet_code::{
     Version, begin_agent, begin_program, encoded_len, never_stays, programs_have_bytes, put_await,

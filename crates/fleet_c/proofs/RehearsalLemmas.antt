@@ -9,7 +9,7 @@ use Rattle.fleet_run.specs.HoldText.{HoldLines, source_of}
 use Rattle.fleet_run.specs.Source.{SourceState}
 use Rattle.fleet_run.specs.Rehearsal.{Rehearses}
 use Rattle.fleet_run.specs.Trace.{hold_source}
-use Rattle.fleet_run.specs.declared.report.Rehearsal.{Rehearsal}
+use Rattle.fleet_run.specs.declared.run.Rehearsal.{Rehearsal}
 use Rattle.fleet_run.specs.declared.run.RunFault.{RunFault}
 use Rattle.fleet_run.specs.declared.run.RunFault.TheVariants as r
 use Rattle.fleet_c.specs.Rehearse.{empty_sink, stop_of, RehearsesBytes, IsRehearseStop}

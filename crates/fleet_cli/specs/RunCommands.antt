@@ -4,7 +4,7 @@ use Rattle.std.specs.{Io.KnownBytes.Keeps, Result.result_map_both}
 use Rattle.fleet_model.specs.{Program.Program, declared.task.Task.Task, declared.deps.Deps.Deps}
 use Rattle.fleet_text.specs.Sink.{SinkState, IsWorking, HasFailed, IsUnwritten}
 use Rattle.fleet_run.specs.{Source.SourceState, Rehearsal.Rehearses, Trace.WritesTrace, Trace.Traces, Trace.StopsTrace, Trace.hold_source}
-use Rattle.fleet_run.specs.declared.{run.RunFault.RunFault, run.RunFault.TheVariants.Write, trace.Report.Report}
+use Rattle.fleet_run.specs.declared.{run.RunFault.RunFault, run.RunFault.TheVariants.Write, run.Report.Report}
 use Rattle.fleet_args.specs.declared.{commands.Tries.Tries, commands.AutoRequest.AutoRequest}
 use Rattle.fleet_cli.specs.declared.{fault.Fault.Fault, steps.PlanNumbers.PlanNumbers, steps.Problem.Problem, fault.AutoFault.AutoFault, files.TheConstants.MAX_BYTES}
 use Rattle.fleet_cli.specs.Steps.{AcceptsProgram, AreTextsOf, IsAcceptRefusal, IsMadeFor, IsMakingRefusal, IsLoadRefusal}

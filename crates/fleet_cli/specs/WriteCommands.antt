@@ -6,7 +6,7 @@ use Rattle.fleet_model.specs.{Program.Program, Program.total_moves, Program.tota
 use Rattle.fleet_grid.specs.{Ground.Ground, Ground.is_passable, MapWriting.map_text, MapWriting.ground_without}
 use Rattle.fleet_plan.specs.Plan.{Plan}
 use Rattle.fleet_adg.specs.{Compiled.compiled_staying_if_few, ProgramBytes.AreBytesOf, Thinned.IsThinnedFor, Remaining.tasks_of}
-use Rattle.fleet_adg.specs.declared.program_bytes.ProgramBytes.{ProgramBytes}
+use Rattle.fleet_adg.specs.declared.compiler.ProgramBytes.{ProgramBytes}
 use Rattle.fleet_adg.specs.declared.fault.CompileFault.TheVariants as c
 use Rattle.fleet_code.specs.{Spelling.SpellsShortest, Spelling.SpellsIn, Spelling.Spells, declared.format.Version.TheVariants.Two}
 use Rattle.fleet_text.specs.Sink.{SinkState}

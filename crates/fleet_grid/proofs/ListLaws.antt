@@ -4,7 +4,7 @@ use Rattle.std.specs.Prelude.{Vec, set}
 use Rattle.std.specs.declared.alloc.Global.{Global}
 use Rattle.std.proofs.lemmas.Bool.{cases_eq, cases_lt}
 use Rattle.std.proofs.lemmas.List.{map-append, get_or_past, get_or_push, get_or_append_left, length-append, length-map}
-use Rattle.fleet_grid.specs.declared.lists.Key.{Key}
+use Rattle.fleet_grid.specs.declared.table.Key.{Key}
 use Rattle.fleet_grid.specs.Table.{items_at}
 use Rattle.fleet_grid.specs.Lists.{list_at, number_at, list_numbered, list_of, lists_by_key, HaveOwnLists, IsNumbered, IsChangedBy}
 use Rattle.fleet_grid.proofs.Pages.{items-read, items-past, items-set, items-other}

@@ -2,7 +2,7 @@
 use Rattle.std.specs.Prelude.{◌≡◌, ◌≢◌, ℕ, ◌≤◌, ◌/◌, ◌%◌, List, [], ◌∷◌, length, map, get_or, Vec}
 use Rattle.std.specs.declared.alloc.Global.{Global}
 use Rattle.fleet_model.specs.declared.geometry.Cell.{Cell}
-use Rattle.fleet_grid.specs.declared.lists.Key.{Key}
+use Rattle.fleet_grid.specs.declared.table.Key.{Key}
 use Rattle.fleet_grid.specs.declared.table.TheConstants.{PAGE}
 
 -- the list of a key, which is empty past the end of its row, and past the last row

@@ -6,7 +6,7 @@ use Rattle.std.proofs.lemmas.Nat.Bits.{bit_at-lt, bit_at_above}
 use Rattle.std.proofs.lemmas.Bool.{cases_lt, true≢false}
 use Rattle.std.proofs.lemmas.List.{get_or_past}
 use Rattle.fleet_model.specs.declared.limits.TheConstants.{MAX_AGENTS}
-use Rattle.fleet_machine.specs.declared.cursor.Cursor.{Cursor}
+use Rattle.fleet_machine.specs.declared.agent_set.Cursor.{Cursor}
 use Rattle.fleet_machine.specs.Machine.{flag_of}
 use Rattle.fleet_machine.specs.AgentSet.{flags_in, AreBits, IsLowest, IsNextFrom, IsCursorOf}
 use Rattle.fleet_machine.proofs.Bits.{flag_is}

@@ -3,7 +3,7 @@ use Rattle.std.specs.Prelude.{◌≡◌, ℕ, ◌+◌, ◌-◌, ◌/◌, ◌%◌
 use Rattle.std.specs.Int.{bit_at}
 use Rattle.fleet_model.specs.declared.limits.TheConstants.{MAX_AGENTS}
 use Rattle.fleet_model.specs.Machine.{indices}
-use Rattle.fleet_machine.specs.declared.cursor.Cursor.{Cursor}
+use Rattle.fleet_machine.specs.declared.agent_set.Cursor.{Cursor}
 use Rattle.fleet_machine.specs.Machine.{flag_of}
 
 -- the bit of a member, or of none

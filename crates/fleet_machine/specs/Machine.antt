@@ -7,7 +7,7 @@ use Rattle.fleet_model.specs.declared.program.Await.{Await}
 use Rattle.fleet_model.specs.declared.standing.Standing.{Standing}
 use Rattle.fleet_model.specs.Machine.{Configuration, standing_at, count_at, next_action, finished_one, is_met, is_ready, is_moving, indices}
 use Rattle.fleet_machine.specs.declared.steps.Mark.{Mark}
-use Rattle.fleet_machine.specs.declared.wait_lists.TheConstants.{LISTS_EACH}
+use Rattle.fleet_machine.specs.declared.agent_set.TheConstants.{LISTS_EACH}
 use Rattle.fleet_machine.specs.WaitLists.{WaitState, home_of}
 
 -- flag i of the flags

@@ -12,9 +12,8 @@ ghost use Rattle.fleet_machine.specs.Machine.{MachineState, Runs, HasRows, HasRe
 ghost use Rattle.fleet_machine.specs.Waking.{IsWoken, is_woken_by, advanced_one, held_back, carried_all, HasWoken, IsCarriedOut, IsPlaced, CanJudge, HasJudged};
 ghost use Rattle.fleet_machine.specs.WaitLists.{home_of};
 
-use crate::agent_set::{AgentSet, next_flag};
+use crate::agent_set::{AgentSet, LISTS_EACH, WaitLists, list_of, next_flag};
 use crate::steps::{Mark, after_step, look_count, starts};
-use crate::wait_lists::{LISTS_EACH, WaitLists, list_of};
 use fleet_model::{Await, Instruction, MAX_AGENTS, ProgramView, Standing, Step};
 use std::alloc::{AllocError, Global};
 use std::marker::Model;

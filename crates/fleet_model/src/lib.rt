@@ -1,14 +1,13 @@
 //! Programs of a fleet of agents on a grid, and what they mean.
 //!
-//! `program` has the types of a program, with its invariant, `view` the trait by which every other crate reads one
-//! (`ProgramView`), action by action, or from front to back by its `instruction`s, `geometry` cells, places and steps,
-//! also as a row keeps these, `task` and `standing` what an agent is to do and where it stands, `agents` the numbers of
-//! agents, `deps` the two kinds of awaits of a compiled program, `limits` the limits and `well_formed`, which tests
-//! them, `memory` the one refusal of calls that fail by lack of memory alone. All that a run, a conflict or acceptance
-//! *is* stands in `specs/`, and no code there runs.
+//! `program` has the types of a program, with its invariant, the trait by which every other crate reads one
+//! (`ProgramView`), action by action, or from front to back by its `instruction`s, and the numbers of agents,
+//! `geometry` cells, places and steps, also as a row keeps these, `task` and `standing` what an agent is to do and
+//! where it stands, `deps` the two kinds of awaits of a compiled program, `limits` the limits and `well_formed`, which
+//! tests them, `memory` the one refusal of calls that fail by lack of memory alone. All that a run, a conflict or
+//! acceptance *is* stands in `specs/`, and no code there runs.
 #![tactic(auto)]
 
-mod agents;
 mod deps;
 mod geometry;
 mod limits;
@@ -16,9 +15,7 @@ mod memory;
 mod program;
 mod standing;
 mod task;
-mod view;
 
-pub use agents::agent_numbers;
 pub use deps::Deps;
 pub use geometry::{Cell, Dir, MAX_OFFSET, Place, Step};
 pub use limits::{
@@ -27,8 +24,8 @@ pub use limits::{
 };
 pub use memory::OutOfMemory;
 pub use program::{
-    Action, ActionId, Actions, AgentProgram, Await, Awaits, Instruction, Program, Reading, Visit,
+    Action, ActionId, Actions, AgentProgram, Await, Awaits, Instruction, Program, ProgramView,
+    Reading, Visit, agent_awaits, agent_numbers, total_awaits, total_moves,
 };
 pub use standing::Standing;
 pub use task::Task;
-pub use view::{ProgramView, agent_awaits, total_awaits, total_moves};

@@ -49,4 +49,4 @@ pub use Rattle.fleet_run.specs.declared.run.RunFault.TheVariants.{Hold, HoldLimi
 pub use Rattle.fleet_run.specs.declared.run.Time.{Time}
 pub use Rattle.fleet_run.specs.declared.source.SourceFault.{SourceFault}
 pub use Rattle.fleet_run.specs.declared.source.SourceFault.TheVariants.{Broken, Text}
-pub use Rattle.fleet_run.specs.declared.trace.Report.{Report}
+pub use Rattle.fleet_run.specs.declared.run.Report.{Report}

@@ -6,7 +6,7 @@ use Rattle.fleet_model.specs.Machine.{Configuration, Holds, run, held_ticks, is_
 use Rattle.fleet_run.specs.declared.source.SourceFault.TheVariants.{Broken, Text}
 use Rattle.fleet_run.specs.declared.run.RunFault.{RunFault}
 use Rattle.fleet_run.specs.declared.run.RunFault.TheVariants.{OutOfMemory, Source, Hold, Write, HoldLimit}
-use Rattle.fleet_run.specs.declared.trace.Report.{Report}
+use Rattle.fleet_run.specs.declared.run.Report.{Report}
 use Rattle.fleet_run.specs.Text.{line_of, trace_closing, trace_text}
 use Rattle.fleet_text.specs.Sink.{SinkState, IsWorking}
 use Rattle.fleet_run.specs.Source.{SourceState}

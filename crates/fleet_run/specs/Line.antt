@@ -6,7 +6,7 @@ use Rattle.fleet_model.specs.declared.geometry.Place.{Place}
 use Rattle.fleet_model.specs.Machine.{Configuration, standing_at}
 use Rattle.fleet_machine.specs.Machine.{MachineState, flag_of}
 use Rattle.fleet_run.specs.declared.line.TheConstants.{TIME, NUMERALS, LINE}
-use Rattle.fleet_text.specs.declared.backward.TheConstants.{NUMBER}
+use Rattle.fleet_text.specs.declared.numbers.TheConstants.{NUMBER}
 
 -- a number in a line, and the byte before it
 pub record Numeral : Type 0 where

@@ -6,7 +6,7 @@ use Rattle.fleet_model.specs.Machine.{Holds, run, held_ticks, is_over, IsEnd}
 use Rattle.fleet_run.specs.declared.source.SourceFault.TheVariants.{Broken, Text}
 use Rattle.fleet_run.specs.declared.run.RunFault.{RunFault}
 use Rattle.fleet_run.specs.declared.run.RunFault.TheVariants.{OutOfMemory, Source, Hold, Write, HoldLimit}
-use Rattle.fleet_run.specs.declared.report.Rehearsal.{Rehearsal}
+use Rattle.fleet_run.specs.declared.run.Rehearsal.{Rehearsal}
 use Rattle.fleet_run.specs.Text.{line_of, rehearsal_closing, rehearsal_text}
 use Rattle.fleet_text.specs.Sink.{SinkState, IsWorking}
 use Rattle.fleet_run.specs.Source.{SourceState}

@@ -11,7 +11,7 @@ use Rattle.fleet_run.specs.Drive.{Drives, IsInTime}
 use Rattle.fleet_run.specs.declared.source.SourceFault.{SourceFault}
 use Rattle.fleet_run.specs.declared.run.RunFault.{RunFault}
 use Rattle.fleet_run.specs.declared.run.RunFault.TheVariants.{OutOfMemory, Source}
-use Rattle.fleet_run.specs.declared.trace.Report.{Report}
+use Rattle.fleet_run.specs.declared.run.Report.{Report}
 
 -- the ticks of the holds, and what comes after them, for the agents of the program
 abbrev pub hold_ticks : Program → List ℕ → Holds

@@ -1,4 +1,4 @@
-//! A fleet that runs an accepted program.
+//! A fleet that runs an accepted program, tick by tick or in one call.
 
 ghost use Rattle.std.specs.Prelude.{◌≡◌, ℕ, ◌<◌, ◌≤◌, length, IsOk, IfOk, IfErr, OnOk, OnErr, All, IsTrue, IsFalse, false};
 ghost use Rattle.fleet_grid.specs.Ground.{is_passable};
@@ -14,10 +14,10 @@ ghost use Rattle.fleet_run.specs.Source.{HasNotFailed};
 ghost use Rattle.fleet_machine.specs.Confirmed.{all_but, AreAllReady, IsFirstUnready};
 ghost use Rattle.fleet_machine.specs.Looked.{ready_in, awaiting_in, LooksAt};
 ghost use Rattle.fleet_machine.specs.Machine.{flag_of};
+ghost use Rattle.fleet_run.specs.Trace.{Traces};
 
-use crate::run::RunFault;
-use crate::source::HoldSource;
-use crate::trace::{Report, run_trace};
+use crate::run::{Report, RunFault, run_trace};
+use crate::source::{HoldSource, HoldText};
 use fleet_machine::{AgentSet, Machine, Tick};
 use fleet_model::{MAX_AGENTS, Place, ProgramView, Standing, Step};
 use fleet_text::TraceOut;
@@ -315,4 +315,27 @@ pub fn drive<P: ProgramView, S: HoldSource, O: TraceOut>(
         source,
         out,
     )
+}
+
+// The run of an accepted program under a text of holds, in one call.
+
+/// Runs an accepted program, under the holds for which the bytes stand, and writes its trace to `out`, which is not
+/// flushed. The report has the trace's numbers.
+///
+/// Errors: `OutOfMemory` before anything is written, and those of `drive` except `Source`.
+pub fn run_accepted<P: ProgramView + Drop, O: TraceOut>(
+    alloc: Global,
+    accepted: Accepted<'_, P>,
+    holds: &[u8],
+    out: &mut O,
+) -> Result<Report, RunFault>
+    requires { IsWorking (O.state out.old) }
+    ensures { Traces (P.program accepted.entry.program) accepted.entry.chain holds.now
+        (O.state out.old) (O.state out.new) result }
+{
+    let mut source = HoldText::new(holds, accepted.program().agents());
+    let Ok(mut fleet) = Fleet::start(alloc, accepted) else {
+        return Err(RunFault::OutOfMemory);
+    };
+    drive(&mut fleet, &mut source, out)
 }

@@ -1,19 +1,26 @@
-//! Runs, line by line.
+//! Runs, line by line: the trace of an accepted program, and the rehearsal of any one.
 
-ghost use Rattle.std.specs.Prelude.{◌≡◌, ◌+◌, ◌<◌, ◌≤◌, ◌^◌, length, if◌then◌else◌};
+ghost use Rattle.std.specs.Prelude.{◌≡◌, ◌+◌, ◌<◌, ◌≤◌, ◌^◌, length, if◌then◌else◌, drop};
 ghost use Rattle.fleet_model.specs.Machine.{Configuration, tick, is_ready_held};
 ghost use Rattle.fleet_machine.specs.Machine.{Runs, flag_of};
-ghost use Rattle.fleet_run.specs.Text.{line_of};
+ghost use Rattle.fleet_run.specs.Text.{line_of, last_line_of, closing_lines, trace_closing};
 ghost use Rattle.fleet_run.specs.Line.{IsLineKept, places_of};
 ghost use Rattle.fleet_text.specs.Sink.{IsWorking, TakesAll};
-ghost use Rattle.fleet_run.specs.Source.{CanBeAsked};
+ghost use Rattle.fleet_run.specs.Source.{CanBeAsked, HasNotFailed};
 ghost use Rattle.fleet_run.specs.Outcome.{run_end, fault_of, AreRowsFor, AsksNext, AsksUnlessOver, CanRun, PassesTime, RunsLines};
+ghost use Rattle.fleet_run.specs.Fleet.{IsShown};
+ghost use Rattle.fleet_run.specs.Drive.{Drives};
+ghost use Rattle.fleet_run.specs.Rehearsal.{Rehearses};
 
 use crate::line::{LINE, NUMERALS, copy_places, write_moved, write_places, write_time};
 use crate::source::{HoldSource, SourceFault, ask};
 use fleet_machine::Machine;
 use fleet_model::{MAX_AGENTS, Place, ProgramView};
-use fleet_text::{OutFault, Refusal, TraceOut, put_all, put_memory, put_named, put_named_at};
+use fleet_text::{
+    OutFault, Refusal, TraceOut, put_all, put_memory, put_named, put_named_at, write_bytes,
+    write_count_line,
+};
+use std::alloc::Global;
 use thiserror::Error;
 
 /// How a run ends: with no action left, or with actions left and nobody ready.
@@ -319,4 +326,151 @@ pub fn run_lines<P: ProgramView, S: HoldSource, O: TraceOut>(
         places,
     };
     run_in(program, machine, source, out, rows)
+}
+
+// The text of a run of an accepted program, and the ends of both texts.
+
+/// The numbers of a run of a fleet: its agents, its ticks, the actions of its longest chain, and the ticks in which a
+/// ready agent was held.
+#[derive(Clone, Copy, Debug, PartialEq, Eq)]
+pub struct Report {
+    pub agents: u16,
+    pub ticks: u32,
+    pub chain: u32,
+    pub held: u32,
+}
+
+/// Runs an accepted program from its start until all is finished, and writes its trace text.
+pub fn run_trace<P: ProgramView, S: HoldSource, O: TraceOut>(
+    program: &P,
+    chain: u32,
+    machine: &mut Machine,
+    source: &mut S,
+    out: &mut O,
+) -> Result<Report, RunFault>
+    requires shown { IsShown (P.program program.now) chain }
+    requires can { CanRun (P.program program.now) machine.old (S.state source.old) (O.state out.old) }
+    ensures runs { Runs (P.program program.now) machine.new }
+    ensures looked { machine.old.looked ≤ machine.new.looked }
+    ensures outcome { Drives (P.program program.now) chain (S.state source.old) (S.state source.new)
+        (O.state out.old) (O.state out.new)
+        machine.new.configuration result }
+{
+    let agents = program.agents();
+    let ran = run_lines(program, machine, source, out)?;
+    let mut closing = [0; CLOSING];
+    let at = write_trace_closing(agents, ran.ticks, chain, ran.held, &mut closing);
+    if put_all(out, &closing[at..]).is_err() {
+        return Err(RunFault::Write);
+    }
+    Ok(Report {
+        agents,
+        ticks: ran.ticks,
+        chain,
+        held: ran.held,
+    })
+}
+
+/// The last line of a rehearsal that ended so.
+fn last_line(end: End) -> &'static [u8]
+    ensures { result.now ≡ last_line_of end }
+{
+    match end {
+        End::Finished => b"finished\n",
+        End::Stuck => b"stuck\n",
+    }
+}
+
+/// How many bytes the closing lines have at most.
+pub const CLOSING: usize = 100;
+
+/// Writes the closing lines of a rehearsal, and answers where they begin. They end with the row.
+pub fn write_rehearsal_closing(
+    agents: u16,
+    ticks: u32,
+    held: u32,
+    end: End,
+    row: &mut [u8],
+) -> usize
+    requires room { length row.old ≡ CLOSING }
+    ensures within { result ≤ length row.new }
+    ensures written { drop result row.new ≡ closing_lines agents ticks held end }
+{
+    let at = write_bytes(last_line(end), row, CLOSING);
+    let at = write_count_line(b"held", held, row, at);
+    let at = write_count_line(b"ticks", ticks, row, at);
+    write_count_line(b"agents", agents as u32, row, at)
+}
+
+/// Writes the closing lines of a trace, and answers where they begin. They end with the row.
+pub fn write_trace_closing(agents: u16, ticks: u32, chain: u32, held: u32, row: &mut [u8]) -> usize
+    requires room { length row.old ≡ CLOSING }
+    ensures within { result ≤ length row.new }
+    ensures written { drop result row.new ≡ trace_closing agents ticks chain held }
+{
+    let at = write_count_line(b"held", held, row, CLOSING);
+    let at = write_count_line(b"chain", chain, row, at);
+    let at = write_count_line(b"ticks", ticks, row, at);
+    write_count_line(b"agents", agents as u32, row, at)
+}
+
+// Rehearsals: runs of any program.
+
+/// The numbers of a rehearsal, its agents, its ticks and those in which a ready agent was held, and how it ended.
+#[derive(Clone, Copy)]
+pub struct Rehearsal {
+    pub agents: u16,
+    pub ticks: u32,
+    pub held: u32,
+    pub end: End,
+}
+
+/// Runs a program from its start to its end, and writes its rehearsal text.
+fn run_rehearsal<P: ProgramView, S: HoldSource, O: TraceOut>(
+    program: &P,
+    machine: &mut Machine,
+    source: &mut S,
+    out: &mut O,
+) -> Result<Rehearsal, RunFault>
+    requires { CanRun (P.program program.now) machine.old (S.state source.old) (O.state out.old) }
+    ensures { Rehearses (P.program program.now) (S.state source.old) (S.state source.new)
+        (O.state out.old) (O.state out.new)
+        result }
+{
+    let agents = program.agents();
+    let ran = run_lines(program, machine, source, out)?;
+    let mut closing = [0; CLOSING];
+    let at = write_rehearsal_closing(agents, ran.ticks, ran.held, ran.end, &mut closing);
+    if put_all(out, &closing[at..]).is_err() {
+        return Err(RunFault::Write);
+    }
+    Ok(Rehearsal {
+        agents,
+        ticks: ran.ticks,
+        held: ran.held,
+        end: ran.end,
+    })
+}
+
+/// Runs any program, accepted or not, from its start until it is finished or stuck, asks `source` who is held in each
+/// tick, and writes the rehearsal text to `out`: a line for each time, how many agents, ticks and ticks in which a
+/// ready agent was held there were, and `finished` or `stuck`.
+///
+/// Errors: `OutOfMemory` before anything is written; and else those of `drive`.
+pub fn rehearse<P: ProgramView, S: HoldSource, O: TraceOut>(
+    alloc: Global,
+    program: &P,
+    source: &mut S,
+    out: &mut O,
+) -> Result<Rehearsal, RunFault>
+    requires source { HasNotFailed (S.state source.old) }
+    requires sink { IsWorking (O.state out.old) }
+    ensures { Rehearses (P.program program.now) (S.state source.old) (S.state source.new)
+        (O.state out.old) (O.state out.new)
+        result }
+{
+    let Ok(mut machine) = Machine::start(alloc, program) else {
+        return Err(RunFault::OutOfMemory);
+    };
+    run_rehearsal(program, &mut machine, source, out)
 }

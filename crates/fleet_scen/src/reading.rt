@@ -1,20 +1,21 @@
-//! Reading a scenario from its text.
+//! What a fleet is to do, and reading it from the text of a scenario.
 
-ghost use Rattle.std.specs.Prelude.{◌≡◌, ◌≢◌, ◌<◌, ◌+◌, ◌^◌, ℕ, List, [], true, length, All, Some, IfSome, IfNone, IfOk, IfErr, IsOkUnless, option_map};
+ghost use Rattle.std.specs.Prelude.{◌≡◌, ◌≢◌, ◌<◌, ◌+◌, ◌^◌, ℕ, List, [], true, length, All, Some, IfSome, IfNone, IfOk, IfErr, IsOkUnless, option_map, slice_get};
 ghost use Rattle.fleet_model.specs.declared.task.Task.{Task};
 ghost use Rattle.fleet_model.specs.Answer.{IsDueUnless};
 ghost use Rattle.fleet_text.specs.Text.{Bytes, lines, words, starts_blank};
 ghost use Rattle.fleet_scen.specs.ScenText.{is_filled, is_version, HasPassableEnds, IsScenText, IsFirstScenFault};
 ghost use Rattle.fleet_scen.specs.ScenReading.{pair_at, numbers_at, task_at, lacks, enough_tasks, tasks_at, after_version, judge_asked, scen_at};
 ghost use Rattle.fleet_scen.specs.Fields.{two_words, past_blank, ends_word, next_number, two_numbers, is_one_word, fields_of};
+ghost use Rattle.fleet_scen.specs.Instance.{IsInstance};
 
 use crate::fault::ScenFault;
-use crate::instance::Instance;
 use fleet_grid::Grid;
 use fleet_model::{Cell, MAX_AGENTS, Task};
 use fleet_text::{Cursor, is_blank, next_word, small_number_front, small_number_of};
 use std::alloc::Global;
 use std::collections::HashSet;
+use std::marker::Model;
 
 const VERSION: &[u8] = b"version";
 
@@ -340,4 +341,58 @@ fn fields_of(line: &[u8]) -> Option<Fields>
         goal_x,
         goal_y,
     })
+}
+
+// What a fleet is to do.
+
+/// The start and the goal of each agent, 1 to 1,024 of them. No two agents share a start or a goal.
+#[derive(Drop)]
+pub struct Instance {
+    tasks: Vec<Task>,
+}
+
+impl Model for Instance {
+    ghost use Rattle.std.specs.Prelude.{List};
+    ghost use Rattle.fleet_model.specs.declared.task.Task.{Task};
+    ghost use Rattle.fleet_scen.specs.Instance.{IsInstance};
+
+    ghost Value = { List Task };
+
+    ghost view = { λ i. i.tasks.items };
+
+    ghost invariant = { λ i. IsInstance i.tasks.items };
+}
+
+impl Instance {
+    /// The instance of these tasks.
+    pub(crate) fn new(tasks: Vec<Task>) -> Self
+        requires { IsInstance tasks.items }
+        ensures { result ≡ tasks.items }
+    {
+        Instance { tasks }
+    }
+
+    /// How many agents there are.
+    pub fn agents(&self) -> u16
+        ensures count { result ≡ length self.now }
+        ensures instance { IsInstance self.now }
+    {
+        self.tasks.len() as u16
+    }
+
+    /// The cell on which agent `i`, counted from 0, begins.
+    pub fn start(&self, i: u16) -> Cell
+        requires { i < length self.now }
+        ensures { option_map (λ t. t.start) (slice_get self.now i) ≡ Some result }
+    {
+        self.tasks[usize::from(i)].start
+    }
+
+    /// The cell on which agent `i`, counted from 0, is to end.
+    pub fn goal(&self, i: u16) -> Cell
+        requires { i < length self.now }
+        ensures { option_map (λ t. t.goal) (slice_get self.now i) ≡ Some result }
+    {
+        self.tasks[usize::from(i)].goal
+    }
 }

@@ -8,7 +8,7 @@ use Rattle.std.proofs.lemmas.Grind.{common_steps, flat_map-append}
 use Rattle.std.specs.Io.KnownBytes.{Appends}
 use Rattle.fleet_text.specs.Sink.{SinkState, Takes, StopsWithin, TakesAll, IsWorking}
 use Rattle.fleet_text.specs.Row.{PassesOn, Gathers}
-use Rattle.fleet_text.specs.declared.writing.Word.{Word}
+use Rattle.fleet_text.specs.declared.row.Word.{Word}
 use Rattle.fleet_text.specs.Words.{word_text, with_spaces, next_words}
 
 -- growth by equal bytes

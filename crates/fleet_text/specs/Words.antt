@@ -3,8 +3,8 @@ use Rattle.std.specs.Prelude.{ℕ, zero, suc, List, [], ◌∷◌, ◌++◌, map
 use Rattle.std.specs.Fmt.{signed_decimal}
 use Rattle.std.specs.List.{flat_map, join_with_byte, range_with_len}
 use Rattle.fleet_model.specs.declared.geometry.Place.{Place}
-use Rattle.fleet_text.specs.declared.writing.Word.{Word}
-use Rattle.fleet_text.specs.declared.writing.Word.TheVariants.{Text, Number, Label, Pair, Of}
+use Rattle.fleet_text.specs.declared.row.Word.{Word}
+use Rattle.fleet_text.specs.declared.row.Word.TheVariants.{Text, Number, Label, Pair, Of}
 
 -- two numbers as `x,y`
 abbrev pub pair_text : ℕ → ℕ → List ℕ

@@ -1,12 +1,13 @@
-//! The lines of a text, and the words of a line, which stand between its blanks.
+//! The lines of a text, and the words of a line, which stand between its blanks, or have one space between two.
 //!
 //! A text is a slice of any bytes. Nothing is copied and nothing takes memory: each function lends what it finds in the
 //! slice, and gives the rest of it. The end of a line is looked for by blocks of 64 bytes.
 
-ghost use Rattle.std.specs.Prelude.{◌≡◌, ◌≤◌, ◌<◌, ◌+◌, ◌^◌, [], ◌∷◌, length, MatchOption, sum_by, not, position, ℕ, Bool, map};
+ghost use Rattle.std.specs.Prelude.{◌≡◌, ◌≤◌, ◌<◌, ◌+◌, ◌^◌, [], ◌∷◌, length, MatchOption, sum_by, not, position, ℕ, Bool, map, IfSome};
 ghost use Rattle.std.specs.Str.Lines.{strip_carriage_return};
-ghost use Rattle.fleet_text.specs.Text.{is_lf, lines, is_blank, words, words_from_front};
+ghost use Rattle.fleet_text.specs.Text.{is_lf, lines, is_blank, words, words_from_front, is_space, is_dash};
 ghost use Rattle.std.specs.Simd.Lanes.{mask_l};
+ghost use Rattle.std.specs.List.{slice_split};
 
 use std::marker::Model;
 use std::simd::prelude::*;
@@ -177,4 +178,33 @@ fn first_by_byte<C: ByteClass>(text: &[u8]) -> Option<usize>
     ensures { result ≡ position C.test text.now }
 {
     text.iter().position(|b| C::has(*b))
+}
+
+// The words of a line that has one space between two.
+
+/// Whether it is the line `-`, which has no words.
+pub fn is_dash(line: &[u8]) -> bool
+    ensures { result ≡ is_dash line.now }
+{
+    matches!(line, [b'-'])
+}
+
+/// The bytes of the line before its first space, and those after it, if there is a space.
+pub fn cut(line: &[u8]) -> (&[u8], Option<&[u8]>)
+    ensures words { MatchOption result.1
+        (slice_split is_space line.now ≡ result.0.now ∷ [])
+        (λ after. slice_split is_space line.now ≡ result.0.now ∷ slice_split is_space after.now) }
+    ensures shorter { IfSome result.1 (λ after. length after.now < length line.now) }
+{
+    match space_in(line) {
+        Some(end) => (&line[..end], Some(&line[end + 1..])),
+        None => (line, None),
+    }
+}
+
+/// Where the first space is.
+pub fn space_in(line: &[u8]) -> Option<usize>
+    ensures { result ≡ position is_space line.now }
+{
+    line.iter().position(|b| *b == b' ')
 }

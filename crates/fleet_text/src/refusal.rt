@@ -4,8 +4,8 @@ ghost use Rattle.fleet_text.specs.Sink.{IsWorking, TakesAll};
 ghost use Rattle.fleet_text.specs.Words.{line_text};
 ghost use Rattle.fleet_text.specs.Refusals.{memory_words, named, named_at, named_by};
 
+use crate::row::{Word, put_line};
 use crate::sink::{OutFault, TraceOut};
-use crate::writing::{Word, put_line};
 
 /// Why something was not done. Beside each enum of faults stands its line.
 pub trait Refusal {

@@ -3,7 +3,7 @@
 ghost use Rattle.std.specs.Prelude.{◌≡◌, MatchOption};
 ghost use Rattle.fleet_machine.specs.AgentSet.{AreNoneFrom, IsNextFrom, IsCursorOf, GoesOn};
 
-use crate::cursor::Cursor;
+use crate::agent_set::Cursor;
 use crate::machine::Machine;
 
 impl Machine {

@@ -1,0 +1,6 @@
+use Rattle.std.proofs.Common.{◌≡◌, take}
+use Rattle.fleet_model.specs.Program.{total_moves}
+use Rattle.fleet_model.proofs.program.total_moves.Given as goal
+
+abbrev pub invariant-loop-i : goal.invariant-loop-i
+invariant-loop-i g l = l.total ≡ total_moves (take l.i (g.P.ProgramView.program l.p))

@@ -1,24 +1,12 @@
 -- Members of lists, and actions and visits that are the same.
-use Rattle.fleet_verify.proofs.Words.{◌≡◌, zero, suc, Bool, true, false, List, [], ◌∷◌, map, refl, sym, ap, ◌∙◌, subst, arith, inl, inr, Contains, ◌⊎◌, filter, ActionId, Visit}
+use Rattle.fleet_verify.proofs.Words.{◌≡◌, Bool, true, false, List, [], ◌∷◌, map, refl, sym, ap, ◌∙◌, subst, inl, inr, Contains, ◌⊎◌, filter, ActionId, Visit}
+pub use Rattle.fleet_model.proofs.Members.{contains_head, contains_later, contains_none, contains_cases}
 
 pub same_action : (a b : ActionId) → a.agent ≡ b.agent → a.number ≡ b.number → a ≡ b
 same_action a b e g = λ i. record { agent = e i; number = g i }
 
 pub same_visit : (v w : Visit) → v.agent ≡ w.agent → v.position ≡ w.position → v ≡ w
 same_visit v w e g = λ i. record { agent = e i; position = g i }
-
-pub contains_head : {X : Type 0} (y : X) (ys : List X) → Contains (y ∷ ys) y
-contains_head y ys = (zero, omega arith, refl)
-
-pub contains_later : {X : Type 0} (y : X) (ys : List X) (x : X) → Contains ys x → Contains (y ∷ ys) x
-contains_later y ys x (k, l, e) = (suc k, omega arith, e)
-
-pub contains_none : {X : Type 0} (x : X) → Contains [] x → ⊥
-contains_none x (k, l, e) = omega arith
-
-pub contains_cases : {X : Type 0} (y : X) (ys : List X) (x : X) → Contains (y ∷ ys) x → (y ≡ x) ⊎ Contains ys x
-contains_cases y ys x (zero, l, e) = inl e
-contains_cases y ys x (suc k, l, e) = inr (k, omega arith, e)
 
 pub contains_map : {X Y : Type 0} (f : X → Y) (xs : List X) (x : X) → Contains xs x → Contains (map f xs) (f x)
 contains_map f [] x h = absurd (contains_none x h)

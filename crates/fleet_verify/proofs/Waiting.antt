@@ -79,16 +79,6 @@ unmet_found p counts i None d some none stuck b = absurd (stuck (none b.left))
 unmet_found p counts i (Some w) d some none stuck b = some
 
 -- readiness by counts is that of the configuration
-pub ready_by : (p : Program) (c : Configuration) (counts : List ℕ) → AreCounts c counts → (i : ℕ) → IsReadyTo p c i → IsReadyBy p counts i
-ready_by p c counts a i r = record {
-  left = (let e : slice_index counts i ≡ count_at c i = a i in let l : count_at c i < moves p i = r.left in omega arith);
-  met = λ w k.
-      let e : slice_index counts i + 1 ≡ suc (count_at c i) = (let g : slice_index counts i ≡ count_at c i = a i in omega arith) in
-      let l : w.count ≤ count_at c w.agent = r.met w (subst (λ n. Contains (awaits_of p i n) w) e k) in
-      let f : slice_index counts w.agent ≡ count_at c w.agent = a w.agent in
-      omega arith;
-}
-
 pub by_ready : (p : Program) (c : Configuration) (counts : List ℕ) → AreCounts c counts → (i : ℕ) → IsReadyBy p counts i → IsReadyTo p c i
 by_ready p c counts a i r = record {
   left = (let e : slice_index counts i ≡ count_at c i = a i in let l : slice_index counts i < moves p i = r.left in omega arith);

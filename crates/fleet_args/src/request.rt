@@ -1,10 +1,10 @@
 //! The command line, and the request that its words make.
 
-ghost use Rattle.std.specs.Prelude.{◌≡◌, None, true, find, map, option_map, string_bytes, IfOk};
+ghost use Rattle.std.specs.Prelude.{◌≡◌, true, find, map, option_map, string_bytes, IfOk};
 ghost use Rattle.std.specs.Str.{bytes_eq};
-ghost use Rattle.clap.specs.Words.{App, app_of, fault_of, is_simple_and_free, kind_of};
+ghost use Rattle.clap.specs.Words.{App, app_of, is_simple_and_free, kind_of};
 ghost use Rattle.fleet_args.specs.Commands.{commands, fleet, with_commands};
-ghost use Rattle.fleet_args.specs.Request.{IsStopOf, Parses, ReadsFleet, StopsFor, command_and_rest};
+ghost use Rattle.fleet_args.specs.Request.{IsStopOf, Parses, ReadsFleet, command_and_rest};
 ghost use Rattle.fleet_args.specs.{Arguments.own, Arguments.said, Values.AreNames, Values.rows_in};
 
 use crate::arguments::{CommandText, OptionNames, command_of};
@@ -55,17 +55,6 @@ fn matches_by<'a>(
     match command.try_get_matches_from(words) {
         Ok(matches) => Ok(matches),
         Err(error) => Err(stop_of(alloc, &error)),
-    }
-}
-
-/// Why the whole command line with these names does not take the words, which begin with the name of no command.
-fn stop_by_line<'a>(alloc: Global, names: OptionNames<'a>, words: &'a [String]) -> WordStop
-    requires { command_and_rest (map string_bytes words.now) ≡ None }
-    ensures { StopsFor (fault_of (fleet names.entry) (map string_bytes words.entry.now)) result }
-{
-    match matches_by(alloc, fleet_command(alloc, names), words) {
-        Ok(_) => unreachable!(),
-        Err(stop) => stop,
     }
 }
 
@@ -123,7 +112,11 @@ pub fn read_words<'a>(alloc: Global, words: &'a [String]) -> Result<Request<'a>,
 {
     let names = option_names();
     let Some((text, rest)) = command_and_rest(words) else {
-        return Err(stop_by_line(alloc, names, words));
+        return match matches_by(alloc, fleet_command(alloc, names), words) {
+            // The words begin with the name of no command, and the command line does not take such.
+            Ok(_) => unreachable!(),
+            Err(stop) => Err(stop),
+        };
     };
     match matches_by(alloc, own_command(alloc, names, text), rest) {
         Ok(matches) => Ok(request_by(text.name, &matches)),

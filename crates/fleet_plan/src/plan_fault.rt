@@ -44,7 +44,7 @@ pub enum PlanFault {
     #[error("agent {agent} goes wrong at time {time}")]
     Step { agent: u16, time: u32 },
     /// The first conflict by time, then by kind in the order of `Conflict`, then by agents.
-    #[error("{0}")]
+    #[error(transparent)]
     Conflict(Conflict),
 }
 

@@ -5,11 +5,11 @@
 //! files that a command names, before any of them is judged. `fault` has every refusal of the program, with the line
 //! and the status of the fault that is within, and `finish`, by which every command ends.
 //!
-//! `steps` has what commands are made of, each by the contract of one crate below, and `output` what several of them
-//! print or write. A command is a function from its request and its problem, or the texts of its files, to a status or
-//! a refusal: those that print what they find are in `print_commands`, those that write files in `write_commands`,
-//! those that run a program in `run_commands`, and the dispatch with its log in `dispatch_command`, each with its
-//! meaning in the file of `specs/` of the same name.
+//! `steps` has what commands are made of, each by the contract of one crate below, and what several of them print or
+//! write. A command is a function from its request and its problem, or the texts of its files, to a status or a
+//! refusal: those that print what they find are in `print_commands`, those that write files in `write_commands`, those
+//! that run a program in `run_commands`, and the dispatch with its log in `dispatch_command`, each with its meaning in
+//! the file of `specs/` of the same name.
 //!
 //! One module, `command`, executes them: `names_of` says which files a request names, and `run_request` reads these,
 //! has the request answered by `answer_request`, and writes what is refused. A request is about tasks, and
@@ -21,7 +21,6 @@ mod dispatch_command;
 mod fault;
 mod files;
 mod mem_files;
-mod output;
 mod print_commands;
 mod run_commands;
 mod steps;

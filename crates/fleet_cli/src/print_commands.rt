@@ -9,8 +9,7 @@ ghost use Rattle.fleet_verify.specs.Broken.{IsBrokenBy};
 
 use crate::fault::{Fault, or_refuse};
 use crate::files::FileTexts;
-use crate::output::{hand_on, put_counts, put_report};
-use crate::steps::{Problem, accept, plan_by, view_program};
+use crate::steps::{Problem, accept, hand_on, plan_by, put_counts, put_report, view_program};
 use fleet_args::{CheckRequest, PlanRequest, TimesRequest};
 use fleet_dispatch::{breaks_of, costs_of};
 use fleet_grid::Grid;

@@ -9,8 +9,10 @@ ghost use Rattle.fleet_cli.specs.RunCommands.{FlushesRun, Runs, AutoRuns, Answer
 
 use crate::fault::{AutoFault, Fault, finish, or_refuse};
 use crate::files::{CHUNK, FileFault, read_whole};
-use crate::output::{hand_on, put_counts};
-use crate::steps::{ONE_TRY, PlanNumbers, Problem, accept, accept_made, made_bytes, view_program};
+use crate::steps::{
+    ONE_TRY, PlanNumbers, Problem, accept, accept_made, hand_on, made_bytes, put_counts,
+    view_program,
+};
 use fleet_adg::Deps;
 use fleet_args::AutoRequest;
 use fleet_code::read_hex;

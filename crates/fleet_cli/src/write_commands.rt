@@ -7,8 +7,7 @@ ghost use Rattle.fleet_cli.specs.WriteCommands.{AnswersCompile, AnswersThin, Ans
 
 use crate::fault::{Fault, or_refuse};
 use crate::files::{FileTexts, Files};
-use crate::output::write_out;
-use crate::steps::{Problem, accept};
+use crate::steps::{Problem, accept, write_out};
 use fleet_adg::{accepted_tasks_are_an_instance, compile_bytes, rest, tasks_of, thin_bytes};
 use fleet_args::{CompileRequest, MigrateRequest, RestRequest, ThinRequest};
 use fleet_code::{encode_shortest, encode2, load};

@@ -1,26 +1,18 @@
 -- Answers of questions, one after another.
-use Rattle.fleet_needs.proofs.Words.{◌≡◌, ◌≢◌, ℕ, ◌+◌, ◌-◌, ◌<◌, ◌≤◌, Bool, false, List, [], ◌∷◌, ◌++◌, length, get_or, set, refl, sym, ap, subst, ◌∙◌, arith, inl, inr, ◌⊎◌, slice_index, nat_lt, None, Vec, Global, get_or-set_same, get_or-set_other, get_or_append_left, get_or_push, slice_get_within, get_or_from_slice_get, cases_lt, cases_eq, ltb-true, lt-ltb, Program, IsColumn, IsQuestion, AreAnswersIn, HasColumn, IsAnswer, column_of, AreOwn, StandsFor, AreCounts, AreRowCounts, AreAnsweredFrom, IsAnswering, IsByRow, IsLastOf, IsToCome, listed_at, no_question, question_at, question_of, questions_in, unlisted, Columns, Schedule, Answering, Question, RowQuestion}
+use Rattle.fleet_needs.proofs.Words.{◌≡◌, ◌≢◌, ℕ, ◌+◌, ◌<◌, ◌≤◌, Bool, false, length, get_or, sym, ap, subst, ◌∙◌, arith, inl, inr, ◌⊎◌, nat_lt, None, Vec, Global, slice_get_within, get_or_from_slice_get, cases_lt, cases_eq, ltb-true, lt-ltb, Program, IsColumn, IsQuestion, AreAnswersIn, HasColumn, IsAnswer, column_of, AreOwn, StandsFor, AreCounts, AreRowCounts, AreAnsweredFrom, IsAnswering, IsByRow, joins_in, joins_of, IsToCome, listed_at, no_question, question_at, question_of, questions_in, unlisted, Columns, Schedule, Answering, Question, RowQuestion}
 use Rattle.fleet_needs.proofs.Joining.{own_column}
-use Rattle.fleet_needs.proofs.RowsMade.{counts_none}
-
--- a count of the row that is below the number of the first action says that no chain begins with it
-pub answer_is : (p : Program) (q : Question) (n : ℕ) → 1 ≤ q.first.number → IsColumn p q.last q.first.agent n → IsAnswer p q (nat_lt n q.first.number)
-answer_is p q n some col = (
-  (λ e r. let l : n < q.first.number = ltb-true n q.first.number e in let le : q.first.number ≤ n = ((col q.first.number).0 r).1 in omega arith),
-  (λ none. elim (cases_lt n q.first.number) [ inl less ↦ lt-ltb n q.first.number less | inr below ↦ absurd (none ((col q.first.number).1 (some, below))) ]),
-)
 
 -- ---- the questions of a row, one after another
 
 module _ (p : Program) (s : Schedule) (columns : Columns) (m : Answering) (row : ℕ) (h : IsAnswering p s columns row m) (within : m.next < length m.rows.items) (x : RowQuestion) (at : x ≡ listed_at m m.next) (of : x.row ≡ row) where
-  pub next_is : IsByRow p s.joins.items (questions_in m) x
-  next_is = subst (IsByRow p s.joins.items (questions_in m)) (sym at) (h.answers.listed.each m.next unlisted within)
+  pub next_is : IsByRow p (joins_of s) (questions_in m) x
+  next_is = subst (IsByRow p (joins_of s) (questions_in m)) (sym at) (h.answers.listed.each m.next unlisted within)
 
   -- its row has the counts of its last action
   pub row_counts : (count : ℕ → ℕ) → AreRowCounts p s columns row count → AreCounts p columns (question_of (questions_in m) x.place).last.agent (question_of (questions_in m) x.place).last.number count
   row_counts count counts =
       let is = (h.answers.questions x.place no_question next_is.place).last in
-      counts _ _ (record { agent = is.agent; last = is.last; stands = subst (λ (r : ℕ). StandsFor p s.joins.items r (question_of (questions_in m) x.place).last.agent (question_of (questions_in m) x.place).last.number) of next_is.stands })
+      counts _ _ (record { agent = is.agent; last = is.last; stands = subst (λ (r : ℕ). StandsFor p (joins_of s) r (question_of (questions_in m) x.place).last.agent (question_of (questions_in m) x.place).last.number) of next_is.stands })
 
   -- it is answered, or its agent has no column
   pub told_on : (flags : Vec Bool Global) → length flags.items ≡ length m.flags.items → ((k : ℕ) → k ≢ x.place → get_or flags.items k false ≡ get_or m.flags.items k false)
@@ -53,16 +45,10 @@ module _ (p : Program) (s : Schedule) (columns : Columns) (m : Answering) (row :
         | inl (first, inr on) ↦ elim (cases_eq n m.next) [ inl e ↦ inl (first, inl (past e first)) | inr ne ↦ inl (first, inr (omega (arith, on, ne))) ]
       ]
 
--- ---- rows
-
--- no row has no counts
-pub none_counts : (p : Program) (s : Schedule) (columns : Columns) (count : ℕ → ℕ) → ((k : ℕ) → count k ≡ 0) → AreRowCounts p s columns 0 count
-none_counts p s columns count zeros i n stands = counts_none p s columns 0 i n stands refl count zeros
-
 -- ---- blocks
 
 -- once all rows are made
-pub answered_after : (p : Program) (s : Schedule) (columns : Columns) (m : Answering) (n : ℕ) → length s.joins.items ≤ n → IsAnswering p s columns (n + 1) m → AreAnsweredFrom p s columns.end m
+pub answered_after : (p : Program) (s : Schedule) (columns : Columns) (m : Answering) (n : ℕ) → joins_in s ≤ n → IsAnswering p s columns (n + 1) m → AreAnsweredFrom p s columns.end m
 answered_after p s columns m all whole h = record {
   questions = h.answers.questions;
   listed = h.answers.listed;
@@ -86,54 +72,18 @@ answered_end p s from m end h = record {
       ];
 }
 
--- ---- the last one of each row, one more
-
-module _ (row : ℕ → ℕ) (r n x : ℕ) (h : IsLastOf row r n x) where
-  -- a further question of another row
-  last_other : row n ≢ r → IsLastOf row r (n + 1) x
-  last_other ne = record {
-    upto = omega (arith, h.upto);
-    here = h.here;
-    none = λ k from less. elim (cases_eq k n) [
-      | inl e ↦ (λ f. ne (ap row (sym e) ∙ f))
-      | inr other ↦ h.none k from (omega arith)
-    ];
-  }
-
--- a further question is the last one of its row
-last_here : (row : ℕ → ℕ) (n : ℕ) → IsLastOf row (row n) (n + 1) (n + 1)
-last_here row n = record {
-  upto = omega arith;
-  here = λ some. (let e : n + 1 - 1 ≡ n = omega arith in ap row e);
-  none = λ k from less. absurd (omega arith);
-}
-
--- question n of row r, the last one of which was the taken one
-module _ (row : ℕ → ℕ) (n : ℕ) (lasts : List ℕ) where
-  pub last_on : (r count : ℕ) → r ≡ row n → r < length lasts → count ≡ n + 1 → ((x : ℕ) → x < length lasts → IsLastOf row x n (slice_index lasts x)) → (x : ℕ) → x < length lasts → IsLastOf row x (n + 1) (slice_index (set lasts r count) x)
-  last_on r count here within is last x l = elim (cases_eq x r) [
-    | inl e ↦
-        let at : slice_index (set lasts r count) x ≡ n + 1 = ap (slice_index (set lasts r count)) e ∙ get_or-set_same lasts r count 0 within ∙ is in
-        subst (IsLastOf row x (n + 1)) (sym at) (subst (λ (z : ℕ). IsLastOf row z (n + 1) (n + 1)) (sym (e ∙ here)) (last_here row n))
-    | inr ne ↦ subst (IsLastOf row x (n + 1)) (sym (get_or-set_other lasts r x count 0 ne)) (last_other row x n (slice_index lasts x) (last x l) (λ f. ne (sym (here ∙ f))))
-  ]
-
-  pub before_on : (befores : List ℕ) (r taken : ℕ) → r ≡ row n → taken ≡ slice_index lasts r → length befores ≡ n → IsLastOf row r n (slice_index lasts r) → ((k : ℕ) → k < n → IsLastOf row (row k) k (slice_index befores k))
-      → (k : ℕ) → k < n + 1 → IsLastOf row (row k) k (slice_index (befores ++ taken ∷ []) k)
-  before_on befores r taken here read all last before k l = elim (cases_lt k n) [
-    | inl less ↦ subst (IsLastOf row (row k) k) (sym (get_or_append_left befores (taken ∷ []) 0 k (omega (arith, all)))) (before k less)
-    | inr high ↦
-        let e : k ≡ n = omega (arith, l, high) in
-        let at : slice_index (befores ++ taken ∷ []) k ≡ slice_index lasts r = ap (slice_index (befores ++ taken ∷ [])) (e ∙ sym all) ∙ get_or_push befores taken 0 (length befores) refl ∙ read in
-        subst (IsLastOf row (row k) k) (sym at) (subst (λ (m : ℕ). IsLastOf row (row m) m (slice_index lasts r)) (sym e) (subst (λ (z : ℕ). IsLastOf row z n (slice_index lasts r)) here last))
-  ]
-
--- the count of a question's first agent at its last action
-pub asked_column : (p : Program) (columns : Columns) (q : Question) (f : ℕ → ℕ) → AreOwn p → IsQuestion p q → AreCounts p columns q.last.agent q.last.number f → (k : ℕ) → HasColumn columns q.first.agent k → (count : ℕ)
-    → (q.first.agent ≡ q.last.agent → count ≡ q.last.number) → (q.first.agent ≢ q.last.agent → count ≡ f k) → IsColumn p q.last q.first.agent count
-asked_column p columns q f own is h k has count mine other = elim (cases_eq q.first.agent q.last.agent) [
-  | inl e ↦
-      let here : IsColumn p q.last q.last.agent q.last.number = own_column p q.last.agent q.last.number is.last (λ c r. own q.last c is.last r) in
-      subst (λ (j : ℕ). IsColumn p q.last j count) (sym e) (subst (λ (v : ℕ). IsColumn p q.last q.last.agent v) (sym (mine e)) here)
-  | inr ne ↦ subst (λ (v : ℕ). IsColumn p q.last q.first.agent v) (sym (other ne)) ((h q.first.agent k has).0 ne)
-]
+-- a count of a question's first agent at its last action that is below its first action says that no chain begins with it
+pub answer_is : (p : Program) (columns : Columns) (q : Question) (f : ℕ → ℕ) → AreOwn p → IsQuestion p q → AreCounts p columns q.last.agent q.last.number f → (k : ℕ) → HasColumn columns q.first.agent k → (count : ℕ)
+    → (q.first.agent ≡ q.last.agent → count ≡ q.last.number) → (q.first.agent ≢ q.last.agent → count ≡ f k) → IsAnswer p q (nat_lt count q.first.number)
+answer_is p columns q f own is h k has count mine other = (
+  (λ e r. let l : count < q.first.number = ltb-true count q.first.number e in let le : q.first.number ≤ count = ((column q.first.number).0 r).1 in omega arith),
+  (λ none. elim (cases_lt count q.first.number) [ inl less ↦ lt-ltb count q.first.number less | inr below ↦ absurd (none ((column q.first.number).1 (is.number, below))) ]),
+)
+  where
+    column : IsColumn p q.last q.first.agent count
+    column = elim (cases_eq q.first.agent q.last.agent) [
+      | inl e ↦
+          let here : IsColumn p q.last q.last.agent q.last.number = own_column p q.last.agent q.last.number is.last (λ c r. own q.last c is.last r) in
+          subst (λ (j : ℕ). IsColumn p q.last j count) (sym e) (subst (λ (v : ℕ). IsColumn p q.last q.last.agent v) (sym (mine e)) here)
+      | inr ne ↦ subst (λ (v : ℕ). IsColumn p q.last q.first.agent v) (sym (other ne)) ((h q.first.agent k has).0 ne)
+    ]

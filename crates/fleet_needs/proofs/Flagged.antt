@@ -1,8 +1,6 @@
 -- The flags of awaits, one action and one block more.
-use Rattle.fleet_needs.proofs.Words.{refl, not, None, ◌≡◌, ℕ, ◌+◌, ◌-◌, ◌≤◌, Bool, true, false, List, [], length, get_or, replicate, length-replicate, set, sym, ap, subst, ◌∙◌, arith, inl, inr, ◌⊎◌, slice_get, Some, cases_lt, cases_eq, false≢true, slice_get_within, slice_get-get_or, same_Some, ActionId, Await, Program, awaits_of, total_awaits, AreInRange, IsAction, column_of, AreColumns, Columns, Schedule, IsImpliedFlag, first_await, AreAwaitPlaces, AreSettled, AreSettledTo, AreSure, AreSet, IsLeftOut, IsLeftIn, AreFlaggedIn, AreFlaggedTo, AreImplied, flags_of, ImpliedAwaits, AddsNone, HasRowOr, IsRow, join_at}
-use Rattle.fleet_needs.proofs.AwaitOrder.{flag_within, known_on, known_put}
-use Rattle.fleet_needs.proofs.Counting.{always_at}
-use Rattle.fleet_needs.proofs.Joining.{awaited_action, adds_none_if_implied}
+use Rattle.fleet_needs.proofs.Words.{None, ◌≡◌, ℕ, ◌+◌, ◌-◌, ◌≤◌, Bool, true, false, List, [], length, get_or, replicate, length-replicate, set, sym, ap, subst, ◌∙◌, arith, inl, inr, ◌⊎◌, slice_get, Some, cases_lt, cases_eq, false≢true, slice_get_within, slice_get-get_or, same_Some, ActionId, Await, Program, awaits_of, total_awaits, AreInRange, IsAction, column_of, AreColumns, Columns, Schedule, IsImpliedFlag, first_await, AreAwaitPlaces, AreSettled, AreSettledTo, AreSure, AreSet, IsLeftOut, IsLeftIn, AreFlaggedIn, AreFlaggedTo, AreImplied, flags_of, ImpliedAwaits, HasRowOr, IsRow, IsPassed, joins_in, joins_of, next_action}
+use Rattle.fleet_needs.proofs.{AwaitOrder.flag_within, AwaitOrder.known_on, AwaitOrder.known_put, Counting.always_at, Joining.awaited_action, Joining.adds_none_if_implied}
 
 -- no flag is set yet
 pub none_flagged : (p : Program) (m : ImpliedAwaits) (n : ℕ) → AreAwaitPlaces p m.places → flags_of m ≡ replicate n false → n ≡ total_awaits p → AreSettledTo p [] 0 m
@@ -27,13 +25,13 @@ flagged_if_none p asked m none = known_on p _ _ m (λ a is k w at left. elim lef
 -- ---- the awaits that are left
 
 -- one await of a row more
-module _ (p : Program) (s : Schedule) (asked : List Bool) (columns : Columns) (n k : ℕ) (a : ActionId) (row : IsRow s.joins.items (n + 1) a) (w : Await) (at : slice_get (awaits_of p a.agent a.number) k ≡ Some w) where
+module _ (p : Program) (s : Schedule) (asked : List Bool) (columns : Columns) (n k : ℕ) (a : ActionId) (row : IsRow (joins_of s) (n + 1) a) (w : Await) (at : slice_get (awaits_of p a.agent a.number) k ≡ Some w) where
   left_on : (b : ActionId) (j : ℕ) (v : Await) → IsLeftIn s asked columns n k b j v → IsLeftIn s asked columns n (k + 1) b j v ⊎ ((b ≡ a) × (j ≡ k))
   left_on b j v (h, inl past) = inl (h, inl past)
   left_on b j v (h, inr (inl later)) = inl (h, inr (inl later))
   left_on b j v (h, inr (inr (e, from))) = elim (cases_lt k j) [
     | inl more ↦ inl (h, inr (inr (e, omega arith)))
-    | inr less ↦ inr (sym h.of.of ∙ ap (λ (r : ℕ). (join_at s.joins.items (r - 1)).action) e ∙ row.of, omega arith)
+    | inr less ↦ inr (sym h.of.of ∙ ap (λ (r : ℕ). next_action s (r - 1)) e ∙ row.of, omega arith)
   ]
 
   -- whose agent has no column
@@ -55,20 +53,20 @@ module _ (p : Program) (s : Schedule) (asked : List Bool) (columns : Columns) (n
       (λ b j v there ne left. elim (left_on b j v left) [ inl on ↦ on | inr (e, f) ↦ absurd (ne (ap (λ (x : ActionId). first_await p x + j) e ∙ ap (λ (x : ℕ). first_await p a + x) f)) ]) (inr right)
 
 -- all awaits of a row
-pub row_flagged : (p : Program) (s : Schedule) (asked : List Bool) (columns : Columns) (n k : ℕ) (a : ActionId) → IsRow s.joins.items (n + 1) a → k ≡ length (awaits_of p a.agent a.number) → (m : ImpliedAwaits) → AreFlaggedIn p s asked columns n k m → AreFlaggedIn p s asked columns (n + 1) 0 m
+pub row_flagged : (p : Program) (s : Schedule) (asked : List Bool) (columns : Columns) (n k : ℕ) (a : ActionId) → IsRow (joins_of s) (n + 1) a → k ≡ length (awaits_of p a.agent a.number) → (m : ImpliedAwaits) → AreFlaggedIn p s asked columns n k m → AreFlaggedIn p s asked columns (n + 1) 0 m
 row_flagged p s asked columns n k a row all m = known_on p _ _ m
     (λ b is j v there left. elim left.1 [
       | inl past ↦ (left.0, inl past)
       | inr (inl later) ↦ (left.0, inr (elim (cases_eq left.0.row (n + 1 + 1)) [ inl e ↦ inr (e, omega arith) | inr ne ↦ inl (omega (arith, later, ne)) ]))
       | inr (inr (e, from)) ↦
-          let same : b ≡ a = sym left.0.of.of ∙ ap (λ (r : ℕ). (join_at s.joins.items (r - 1)).action) e ∙ row.of in
+          let same : b ≡ a = sym left.0.of.of ∙ ap (λ (r : ℕ). next_action s (r - 1)) e ∙ row.of in
           absurd (omega (arith, from, all, slice_get_within (awaits_of p b.agent b.number) j v there, ap (λ (x : ActionId). length (awaits_of p x.agent x.number)) same))
     ])
 
 -- ---- block by block
 
 -- before the first block
-pub flags_first : (p : Program) (s : Schedule) (asked : List Bool) (m : ImpliedAwaits) → AreSettled p asked m → HasRowOr (AreSet p (flags_of m)) p s.joins.items (IsAction p) → AreFlaggedTo p s asked 0 m
+pub flags_first : (p : Program) (s : Schedule) (asked : List Bool) (m : ImpliedAwaits) → AreSettled p asked m → HasRowOr (AreSet p (flags_of m)) p (joins_of s) (IsAction p) → AreFlaggedTo p s asked 0 m
 flags_first p s asked m settled passed = record {
   places = settled.places;
   all = settled.all;
@@ -87,7 +85,7 @@ pub flags_begun : (p : Program) (s : Schedule) (asked : List Bool) (columns : Co
 flags_begun p s asked columns m = known_on p _ _ m (λ a is k w at left. (left, inr (elim (cases_eq left.row 1) [ inl e ↦ inr (e, omega arith) | inr ne ↦ inl (omega (arith, ne, left.of.some)) ])))
 
 -- after its last one
-pub flags_after : (p : Program) (s : Schedule) (asked : List Bool) (columns : Columns) (n : ℕ) (m : ImpliedAwaits) → length s.joins.items ≤ n → AreFlaggedIn p s asked columns n 0 m → AreFlaggedTo p s asked columns.end m
+pub flags_after : (p : Program) (s : Schedule) (asked : List Bool) (columns : Columns) (n : ℕ) (m : ImpliedAwaits) → joins_in s ≤ n → AreFlaggedIn p s asked columns n 0 m → AreFlaggedTo p s asked columns.end m
 flags_after p s asked columns n m all = known_on p _ _ m
     (λ a is k w at left. record {
       row = left.0.row;
@@ -105,23 +103,10 @@ flags_end p range s asked from m end = known_on p _ _ m (λ a is k w at left. le
 
 -- ---- an action of one await, the flag of which is set
 
-pub none_if_set : (p : Program) (flags : List Bool) (a : ActionId) → AreSure p flags → IsAction p a → IsLeftOut p flags a → AddsNone p a.agent a.number
-none_if_set p flags a sure is (one, set) =
-    let no_await : Await = record { agent = 0; count = 0 } in
-    let at = slice_get-get_or (awaits_of p a.agent a.number) 0 no_await (omega (arith, one)) in
-    let e : first_await p a ≡ first_await p a + 0 = omega arith in
-    adds_none_if_implied p a (get_or (awaits_of p a.agent a.number) 0 no_await) one at (sure a is 0 _ at (subst (λ (n : ℕ). get_or flags n false ≡ true) e set))
-
-pub passed_if_set : (p : Program) (flags : List Bool) (a : ActionId) → IsLeftOut p flags a → AreSet p flags a
-passed_if_set p flags a (one, set) k w at =
-    let e : first_await p a ≡ first_await p a + k = (let l = slice_get_within (awaits_of p a.agent a.number) k w at in omega (arith, l, one)) in
-    subst (λ (n : ℕ). get_or flags n false ≡ true) e set
-
--- what is not unset is set
-pub is_set : (flag : Bool) → not flag ≡ false → flag ≡ true
-is_set true e = refl
-is_set false e = absurd (false≢true (sym e))
-
--- an action that awaits nothing
-pub passed_if_none : (p : Program) (flags : List Bool) (a : ActionId) → length (awaits_of p a.agent a.number) ≡ 0 → AreSet p flags a
-passed_if_none p flags a none k w at = absurd (let l = slice_get_within (awaits_of p a.agent a.number) k w at in omega (arith, l, none))
+pub passed_one : (p : Program) (flags : List Bool) (a : ActionId) → AreSure p flags → IsAction p a → IsLeftOut p flags a → IsPassed p flags a
+passed_one p flags a sure is (one, set) = ((let at = slice_get-get_or (awaits_of p a.agent a.number) 0 (record { agent = 0; count = 0 }) (omega (arith, one)) in adds_none_if_implied p a _ one at (sure a is 0 _ at (all 0 _ at))), all)
+  where
+    all : AreSet p flags a
+    all k w at =
+        let e : first_await p a ≡ first_await p a + k = (let l = slice_get_within (awaits_of p a.agent a.number) k w at in omega (arith, l, one)) in
+        subst (λ (n : ℕ). get_or flags n false ≡ true) e set

@@ -1,5 +1,5 @@
 -- The column of an action is made of those of the actions that it directly needs.
-use Rattle.fleet_needs.proofs.Words.{◌≡◌, ◌≢◌, ℕ, zero, suc, ◌+◌, ◌-◌, ◌<◌, ◌≤◌, length, max, refl, sym, ap, subst, ◌∙◌, arith, inl, inr, ◌⊎◌, Contains, slice_get, Some, cases_lt, cases_eq, slice_get-get_or, slice_get_within, get_or_from_slice_get, same_Some, ActionId, Await, Program, moves, awaits_of, AreInRange, IsAction, DirectlyNeeds, Reaches, awaited, IsImplied, AddsNone, AreQuiet, IsColumn, IsMost, action_before, ByBeforeOr, ByOneOf, OfFirst, OfOthers, OfOwn, OfThese, own_reach, chain_ends_by_step, Reaches-trans, Reaches-first, Reaches-last, Reaches-need}
+use Rattle.fleet_needs.proofs.Words.{◌≡◌, ◌≢◌, ℕ, zero, suc, ◌+◌, ◌-◌, ◌<◌, ◌≤◌, length, max, refl, sym, ap, subst, ◌∙◌, arith, inl, inr, ◌⊎◌, Contains, slice_get, Some, cases_lt, cases_eq, slice_get-get_or, slice_get_within, get_or_from_slice_get, same_Some, ActionId, Await, Program, moves, awaits_of, AreInRange, IsAction, Reaches, awaited, IsImplied, AddsNone, AreQuiet, IsColumn, IsMost, action_before, ByBeforeOr, ByOneOf, OfFirst, OfOthers, OfOwn, OfThese, own_reach, chain_ends_by_step, Reaches-trans, Reaches-first, Reaches-last, Reaches-need}
 
 abbrev act : ℕ → ℕ → ActionId
 act j c = record { agent = j; number = c }
@@ -140,21 +140,18 @@ adds_none_if_quiet p i n none = adds_none p i n (λ w at. absurd (let l : at.0 <
 
 -- if it has one await, which others imply: only the action before can do so
 pub adds_none_if_implied : (p : Program) (a : ActionId) (w : Await) → length (awaits_of p a.agent a.number) ≡ 1 → slice_get (awaits_of p a.agent a.number) 0 ≡ Some w → IsImplied p a w → AddsNone p a.agent a.number
-adds_none_if_implied p a w one at (b, apart, needs, reaches) = adds_none p a.agent a.number (λ v c. by v c needs)
+adds_none_if_implied p a w one at (b, apart, needs, reaches) = adds_none p a.agent a.number (λ v c. subst (λ (x : Await). Reaches p (awaited x) (action_before a)) (sym (only v c)) before)
   where
     only : (v : Await) → Contains (awaits_of p a.agent a.number) v → v ≡ w
     only v (k, l, e) =
         let first : k ≡ 0 = omega (arith, l, one) in
         same_Some v w (sym (slice_get-get_or (awaits_of p a.agent a.number) k v l ∙ ap Some e) ∙ ap (slice_get (awaits_of p a.agent a.number)) first ∙ at)
 
-    by : (v : Await) → Contains (awaits_of p a.agent a.number) v → DirectlyNeeds p a b → Reaches p (awaited v) (record { agent = a.agent; number = a.number - 1 })
-    by v c (inr x) = absurd (apart (ap awaited (only (record { agent = b.agent; count = b.number }) x)))
-    by v c (inl (same, number, some)) =
-        let e : b ≡ act a.agent (a.number - 1) = (λ t. record { agent = (sym same) t; number = (minus number) t }) in
-        subst (λ (x : Await). Reaches p (awaited x) (act a.agent (a.number - 1))) (sym (only v c)) (subst (Reaches p (awaited w)) e reaches)
-      where
-        minus : a.number ≡ b.number + 1 → b.number ≡ a.number - 1
-        minus e = omega arith
+    before : Reaches p (awaited w) (action_before a)
+    before = elim needs [
+      | inl own ↦ subst (Reaches p (awaited w)) (same_action b (action_before a) (sym own.0) (omega (arith, own.1))) reaches
+      | inr await ↦ absurd (apart (ap awaited (only (record { agent = b.agent; count = b.number }) await)))
+    ]
 
 -- the counts of other agents stay where none is added
 pub column_stays : (p : Program) (i b j v : ℕ) → IsAction p (record { agent = i; number = b + 1 }) → j ≢ i → AddsNone p i (b + 1) → IsColumn p (record { agent = i; number = b }) j v → IsColumn p (record { agent = i; number = b + 1 }) j v
@@ -170,16 +167,12 @@ column_stays p i b j v is ne none h c = (
     less = omega arith
 
 -- where none is added, what holds of an action's chains holds of later ones
-quiet_by : (p : Program) (i : ℕ) (P : ℕ → Type 0) → ((n : ℕ) → n + 1 ≤ moves p i → AddsNone p i (n + 1) → P n → P (n + 1)) → (q d : ℕ) → q + d ≤ moves p i → AreQuiet p i q (q + d) → P q → P (q + d)
-quiet_by p i P step q zero last quiet h = let e : q ≡ q + zero = omega arith in subst P e h
-quiet_by p i P step q (suc d) last quiet h =
-    let e : q + d + 1 ≡ q + suc d = omega arith in
-    subst P e (step (q + d) (omega arith) (quiet (q + d + 1) (omega arith) (omega arith)) (quiet_by p i P step q d (omega arith) (λ m from upto. quiet m from (omega arith)) h))
-
 pub quiet_on : (p : Program) (i : ℕ) (P : ℕ → Type 0) → ((n : ℕ) → n + 1 ≤ moves p i → AddsNone p i (n + 1) → P n → P (n + 1)) → (q n : ℕ) → q ≤ n → n ≤ moves p i → AreQuiet p i q n → P q → P n
-quiet_on p i P step q n upto last quiet h =
-    let e : q + (n - q) ≡ n = omega arith in
-    subst P e (quiet_by p i P step q (n - q) (omega arith) (λ m from to. quiet m from (omega arith)) h)
+quiet_on p i P step q zero upto last quiet h = let e : q ≡ zero = omega arith in subst P e h
+quiet_on p i P step q (suc n) upto last quiet h = elim (cases_lt n q) [
+  | inl past ↦ (let e : q ≡ suc n = omega arith in subst P e h)
+  | inr le ↦ (let e : n + 1 ≡ suc n = omega arith in subst P e (step n (omega arith) (quiet (n + 1) (omega arith) (omega arith)) (quiet_on p i P step q n le (omega arith) (λ m from to. quiet m from (omega arith)) h)))
+]
 
 -- an awaited action is one of the program
 pub awaited_action : (p : Program) → AreInRange p → (i n k : ℕ) (w : Await) → slice_get (awaits_of p i n) k ≡ Some w → IsAction p (awaited w)

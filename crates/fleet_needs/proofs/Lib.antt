@@ -10,12 +10,12 @@ pub mod Gathered
 pub mod AwaitOrder
 mod Settling
 pub mod ByLevel
-pub mod RowFlags
 pub mod Flagged
 mod RowPlaces
 pub mod JoinLaws
 mod Slotting
 pub mod RowsMade
 mod JoinLevels
+mod Listing
 pub mod Costing
 mod Walking

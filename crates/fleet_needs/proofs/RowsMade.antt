@@ -1,51 +1,40 @@
 -- The counts of rows that are made of rows in their slots.
-use Rattle.fleet_needs.proofs.Words.{◌≡◌, ◌≢◌, ℕ, ◌+◌, ◌-◌, ◌*◌, ◌<◌, ◌≤◌, List, length, max, slice_index, refl, sym, ap, subst, ◌∙◌, arith, inl, inr, slice_get, Some, cases_lt, cases_eq, ActionId, Await, Program, AreInRange, awaits_of, moves, IsAction, awaited, HasColumn, counts_of, are_narrow, CanHold, AreAlike, Reaches, IsColumn, IsJoined, ByBeforeOr, OfOthers, action_before, Columns, JoinRow, SlotRows, Schedule, IsJoinRow, Counts, AreQuiet, IsRow, join_at, need_of, row_taken, IsJoin, AreOwn, Need, joins_in, next_action, IsSchedule, AreColumnsOf, AreCounts, AreRowsTo, IsRowFor, IsThere, StandsThere, IsNextJoin, IsNextNeed, AreRowCounts, count_from, count_in_slot, slot_of, Join}
-use Rattle.fleet_needs.proofs.Placed.{outside}
-use Rattle.fleet_needs.proofs.Joining.{quiet_on, column_stays, column_none, IsOwnTo, some_first, some_more, some_same, part_all, own_column, awaited_action}
-
--- ---- actions that add no chain
-
--- the counts of other agents stay as long as none is added
-quiet_to : (p : Program) (i j : ℕ) → i < length p → j ≢ i → (q n v : ℕ) → q ≤ n → n ≤ moves p i → AreQuiet p i q n → IsColumn p (record { agent = i; number = q }) j v → IsColumn p (record { agent = i; number = n }) j v
-quiet_to p i j agent ne q n v =
-    quiet_on p i (λ m. IsColumn p (record { agent = i; number = m }) j v) (λ m last. column_stays p i m j v (record { agent = agent; first = omega arith; last = last }) ne) q n
+use Rattle.fleet_needs.proofs.Words.{◌≡◌, ◌≢◌, ℕ, ◌+◌, ◌-◌, ◌*◌, ◌<◌, ◌≤◌, List, length, max, get_or, slice_get-get_or, slice_index, sym, ap, subst, ◌∙◌, arith, inl, inr, slice_get, Some, cases_lt, cases_eq, ActionId, Await, Program, AreInRange, awaits_of, moves, IsAction, awaited, HasColumn, counts_of, are_narrow, CanHold, AreAlike, Reaches, IsColumn, IsJoined, ByBeforeOr, OfOthers, action_before, Columns, SlotRows, Schedule, IsJoinRow, Counts, IsRow, AreOwn, IsJoinFor, IsNeedFor, TakesIn, joins_in, joins_of, next_action, base_of, end_of, need_at, IsSchedule, AreColumnsOf, AreCounts, AreRowsTo, IsRowFor, StandsThere, IsNextJoin, IsNextNeed, AreRowCounts, count_from, count_in_slot, slot_of, Join, Need, StandsFor}
+use Rattle.fleet_needs.proofs.{Placed.outside, Joining.quiet_on, Joining.column_stays, Joining.column_none, Joining.IsOwnTo, Joining.some_first, Joining.some_more, Joining.some_same, Joining.part_all, Joining.own_column, Joining.awaited_action}
 
 -- ---- what row r stands for
 
-module _ (p : Program) (schedule : Schedule) (columns : Columns) (r i b : ℕ) (s : StandsThere p schedule r i b) where
-  -- zeros, if there is no row
-  pub counts_none : r ≡ 0 → (count : ℕ → ℕ) → ((k : ℕ) → count k ≡ 0) → AreCounts p columns i b count
-  counts_none none count zeros j k has = (
-    (λ ne. subst (λ (v : ℕ). IsColumn p (record { agent = i; number = b }) j v) (sym (zeros k)) (quiet_to p i j s.agent ne s.stands.number b 0 s.stands.upto s.last s.stands.quiet (first j))),
-    (λ e. zeros k),
+module _ (p : Program) (schedule : Schedule) (columns : Columns) (r i b : ℕ) (s : StandsThere p schedule r i b) (count : ℕ → ℕ) where
+  -- the counts of other agents stay as long as no chain is added
+  counts_on : AreCounts p columns i s.stands.number count → AreCounts p columns i b count
+  counts_on h j k has = (
+    (λ ne. quiet_on p i (λ m. IsColumn p (record { agent = i; number = m }) j (count k)) (λ m last. column_stays p i m j (count k) (record { agent = s.agent; first = omega arith; last = last }) ne) s.stands.number b s.stands.upto s.last s.stands.quiet ((h j k has).0 ne)),
+    (h j k has).1,
   )
-    where
-      first : (j : ℕ) → IsColumn p (record { agent = i; number = s.stands.number }) j 0
-      first j = elim s.stands.row [
-        | inl e ↦ subst (λ (x : ℕ). IsColumn p (record { agent = i; number = x }) j 0) (sym e.1) (column_none p i j)
-        | inr k ↦ absurd (omega (arith, k.some, none))
-      ]
+
+  -- zeros, if there is no row
+  pub counts_none : r ≡ 0 → ((k : ℕ) → count k ≡ 0) → AreCounts p columns i b count
+  counts_none none zeros = counts_on (λ j k has. elim s.stands.row [
+    | inl e ↦ ((λ ne. subst (λ (x : ℕ). IsColumn p (record { agent = i; number = x }) j (count k)) (sym e.1) (subst (IsColumn p (record { agent = i; number = 0 }) j) (sym (zeros k)) (column_none p i j))), (λ e. zeros k))
+    | inr k ↦ absurd (omega (arith, k.some, none))
+  ])
 
   -- else those of the row
-  pub counts_row : 1 ≤ r → (count : ℕ → ℕ) → AreCounts p columns (next_action schedule (r - 1)).agent (next_action schedule (r - 1)).number count → AreCounts p columns i b count
-  counts_row some count of j k has = elim s.stands.row [
+  pub counts_row : 1 ≤ r → AreCounts p columns (next_action schedule (r - 1)).agent (next_action schedule (r - 1)).number count → AreCounts p columns i b count
+  counts_row some of = elim s.stands.row [
     | inl e ↦ absurd (let z : r ≡ 0 = e.0 in omega arith)
-    | inr is ↦
-        let here = subst (λ (a : ActionId). AreCounts p columns a.agent a.number count) is.of of j k has in (
-          (λ ne. quiet_to p i j s.agent ne s.stands.number b (count k) s.stands.upto s.last s.stands.quiet (here.0 ne)),
-          here.1,
-        )
+    | inr is ↦ counts_on (subst (λ (a : ActionId). AreCounts p columns a.agent a.number count) is.of of)
   ]
 
 -- the row that is made after n others
 pub made_counts : (p : Program) (schedule : Schedule) (columns : Columns) (n : ℕ) (count : ℕ → ℕ) → AreCounts p columns (next_action schedule n).agent (next_action schedule n).number count → AreRowCounts p schedule columns (n + 1) count
 made_counts p schedule columns n count made i b s =
     let e : n ≡ n + 1 - 1 = omega arith in
-    counts_row p schedule columns (n + 1) i b s (omega arith) count (subst (λ (x : ℕ). AreCounts p columns (next_action schedule x).agent (next_action schedule x).number count) e made)
+    counts_row p schedule columns (n + 1) i b s count (omega arith) (subst (λ (x : ℕ). AreCounts p columns (next_action schedule x).agent (next_action schedule x).number count) e made)
 
--- the counts in the slot of a row that is still there, from this place on
-pub counts_at : (p : Program) (m : SlotRows) (n : ℕ) → AreRowsTo p m n → (r place : ℕ) → IsThere m.schedule.now n r → place ≡ slot_of m.schedule.now r * m.columns.width → (i b : ℕ) → StandsThere p m.schedule.now r i b → AreCounts p m.columns i b (count_from m.counts place)
-counts_at p m n rows r place there is i b s = subst (λ (x : ℕ). AreCounts p m.columns i b (count_from m.counts x)) (sym is) (rows.right r there.made there.still i b s)
+-- the counts in the slot of a row that the next join takes, from this place on
+pub counts_at : (p : Program) (m : SlotRows) (n : ℕ) → AreRowsTo p m n → (r place : ℕ) → TakesIn m.schedule.now.joins n r → place ≡ slot_of m.schedule.now r * m.columns.width → (i b : ℕ) → StandsThere p m.schedule.now r i b → AreCounts p m.columns i b (count_from m.counts place)
+counts_at p m n rows r place takes is i b s = subst (λ (x : ℕ). AreCounts p m.columns i b (count_from m.counts x)) (sym is) (rows.right r (rows.schedule.made.order.sooner n r takes) (rows.schedule.still n r takes) i b s)
 
 -- no row is made, and all counts are zeros
 pub rows_none : (p : Program) (m : SlotRows) → IsSchedule p m.schedule.now → AreColumnsOf p m.columns → length (counts_of m.counts) ≡ m.schedule.now.slots * m.columns.width → are_narrow m.counts ≡ m.schedule.now.is_narrow
@@ -55,7 +44,7 @@ rows_none p m schedule columns room narrow zeros = record {
   columns = columns;
   room = room;
   narrow = narrow;
-  right = λ r upto still i b s. counts_none p m.schedule.now m.columns r i b s (omega arith) (count_in_slot m r) (λ k. zeros _);
+  right = λ r upto still i b s. counts_none p m.schedule.now m.columns r i b s (count_in_slot m r) (omega arith) (λ k. zeros _);
 }
 
 -- a row of these counts
@@ -68,44 +57,47 @@ counts_same p columns i b f g same h j k has = (
 -- ---- the join that is next, and what it needs
 
 module _ (p : Program) (s : Schedule) (is : IsSchedule p s) (n : ℕ) (l : n < joins_in s) where
-  next_is : IsJoin p s.joins.items s.needs.items n (join_at s.joins.items n)
-  next_is = is.joins n l
+  abbrev a : ActionId
+  a = next_action s n
 
-  pub next_join : (j : Join) → j ≡ join_at s.joins.items n → IsNextJoin p s n (next_action s n) j
-  next_join j e = subst (IsNextJoin p s n (next_action s n)) (sym e) (record {
-    is = refl;
-    action = next_is.action;
-    count = next_is.count;
-    some = next_is.some;
-    base = record { made = next_is.sooner; within = omega arith; still = is.still n (join_at s.joins.items n).base l (inl refl) };
-    stands = record { agent = next_is.action.agent; last = (let m : (next_action s n).number ≤ moves p (next_action s n).agent = next_is.action.last in omega arith); stands = next_is.base };
-  })
+  join : IsJoinFor p s.joins n a
+  join = is.made.joins n l
 
-  pub next_need : AreInRange p → (k : ℕ) → k < length (awaits_of p (next_action s n).agent (next_action s n).number) → (x : Need) → x ≡ need_of s.needs.items (join_at s.joins.items n) k → IsNextNeed p s n (next_action s n) k x
-  next_need range k m x e =
-      let need = next_is.each k m in
-      let action = awaited_action p range (next_action s n).agent (next_action s n).number k (need_of s.needs.items (join_at s.joins.items n) k).wait need.await in
-      subst (IsNextNeed p s n (next_action s n) k) (sym e) (record {
-        await = need.await;
-        action = action;
-        row = record { made = need.sooner; within = omega arith; still = is.still n (row_taken s.needs.items (join_at s.joins.items n) k) l (inr (k, m, refl)) };
-        stands = record { agent = action.agent; last = action.last; stands = need.stands };
-      })
+  pub next_join : (j : Join) → j.action ≡ a → j.base ≡ base_of s.joins n → j.first ≡ end_of s.joins n → j.first + j.count ≡ end_of s.joins (n + 1) → IsNextJoin p s n a j
+  next_join j named base begin end =
+      let many : j.count ≡ length (awaits_of p a.agent a.number) = omega (arith, begin, end, join.count) in
+      record {
+        of = named;
+        first = begin;
+        action = join.is.action;
+        count = many;
+        some = omega (arith, many, join.is.some);
+        base = (l, inl base);
+        stands = record { agent = join.is.action.agent; last = omega (arith, join.is.action.last); stands = subst (λ (r : ℕ). StandsFor p (joins_of s) r a.agent (a.number - 1)) (sym base) join.base };
+      }
+
+  pub next_need : AreInRange p → (k : ℕ) → k < length (awaits_of p a.agent a.number) → (x : Need) → x ≡ need_at s.joins (end_of s.joins n + k) → IsNextNeed p s n a k x
+  next_need range k less x read =
+      let ws = awaits_of p a.agent a.number in
+      let w : Await = get_or ws k (record { agent = 0; count = 0 }) in
+      let at = slice_get-get_or ws k (record { agent = 0; count = 0 }) less in
+      let here : IsNeedFor p (joins_of s) w x = subst (IsNeedFor p (joins_of s) w) (sym read) (join.awaits k w at) in
+      let action = awaited_action p range a.agent a.number k w at in
+      record {
+        await = at ∙ ap Some (sym here.wait);
+        action = subst (λ (v : Await). IsAction p (awaited v)) (sym here.wait) action;
+        row = (l, inr (end_of s.joins n + k, omega arith, omega (arith, less, join.count), ap (λ (y : Need). y.row) read));
+        stands = subst (λ (v : Await). StandsThere p s x.row v.agent v.count) (sym here.wait) (record { agent = action.agent; last = action.last; stands = here.stands });
+      }
 
 -- ---- the row of a join, as it is made
 
-module _ (p : Program) (row : JoinRow) (is : IsJoinRow p row) where
-  pub row_of_action : IsAction p row.action
-  row_of_action = subst (IsAction p) (sym is.of) (is.schedule.joins row.n is.next).action
+module _ (p : Program) (m : SlotRows) (n : ℕ) (row : Counts) (is : IsJoinRow p m n row) where
+  pub row_of_action : IsAction p (next_action m.schedule.now n)
+  row_of_action = (is.schedule.made.joins n is.next).is.action
 
-  pub row_join : (j : Join) → IsNextJoin p row.schedule.now row.n (next_action row.schedule.now row.n) j → IsNextJoin p row.schedule.now row.n row.action j
-  row_join j = subst (λ (a : ActionId). IsNextJoin p row.schedule.now row.n a j) (sym is.of)
-
-  pub row_need : (k : ℕ) (x : Need) → IsNextNeed p row.schedule.now row.n (next_action row.schedule.now row.n) k x → IsNextNeed p row.schedule.now row.n row.action k x
-  row_need k x = subst (λ (a : ActionId). IsNextNeed p row.schedule.now row.n a k x) (sym is.of)
-
-  pub row_here : IsRow row.schedule.now.joins.items (row.n + 1) row.action
-  row_here = record { some = omega arith; upto = omega (arith, is.next); of = (let e : row.n + 1 - 1 ≡ row.n = omega arith in ap (next_action row.schedule.now) e ∙ sym is.of) }
+  pub row_here : IsRow (joins_of m.schedule.now) (n + 1) (next_action m.schedule.now n)
+  row_here = record { some = omega arith; upto = omega (arith, is.next); of = (let e : n + 1 - 1 ≡ n = omega arith in ap (next_action m.schedule.now) e) }
 
 -- ---- the row of an action, await by await
 

@@ -1,8 +1,6 @@
 -- What is reached, and what is not, by the levels of actions and by what they directly need.
-use Rattle.fleet_needs.proofs.Words.{◌≡◌, ◌≢◌, ℕ, ◌+◌, ◌-◌, ◌<◌, ◌≤◌, Bool, true, false, List, length, get_or, refl, sym, ap, subst, ◌∙◌, arith, inl, inr, ◌⊎◌, Contains, slice_get, Some, None, Option, unwrap_or, cases_lt, cases_eq, false≢true, true≢false, slice_get_within, get_or_from_slice_get, same_Some, ActionId, Await, Program, awaits_of, moves, AreInRange, IsWellFormed, IsAction, Reaches, IsNumbering, awaited, chain_ends_by_step, Reaches-rises, Reaches-last, IsImplied, IsImpliedFlag, IsUnsettled, AreSettledTo, ImpliedAwaits, AreMoreAsked, ReachesNeed, IsUpTo, action_before, ByBeforeOr, OfFirst, OfOthers}
-use Rattle.fleet_needs.proofs.AwaitOrder.{other_agent, known_on}
-use Rattle.fleet_needs.proofs.RowFlags.{implied_by, implied_back}
-use Rattle.fleet_needs.proofs.Joining.{one_of, own_first, awaited_action, step_back, step_on}
+use Rattle.fleet_needs.proofs.Words.{◌≡◌, ◌≢◌, ℕ, ◌+◌, ◌-◌, ◌<◌, ◌≤◌, Bool, true, false, List, length, get_or, refl, sym, ap, subst, ◌∙◌, arith, inl, inr, ◌⊎◌, Contains, slice_get, Some, None, Option, unwrap_or, cases_lt, cases_eq, false≢true, true≢false, slice_get_within, get_or_from_slice_get, same_Some, ActionId, Await, Program, awaits_before, awaits_of, moves, AreInRange, IsWellFormed, IsAction, Reaches, IsNumbering, awaited, chain_ends_by_step, Reaches-rises, Reaches-last, first_await, IsImplied, IsImpliedFlag, IsUnsettled, AreSettledBy, Vec, Global, ImpliedAwaits, ReachesNeed, IsUpTo, action_before, ByBeforeOr, OfFirst, OfOthers}
+use Rattle.fleet_needs.proofs.{AwaitOrder.other_agent, AwaitOrder.known_on, AwaitOrder.implied_by, AwaitOrder.implied_back, Joining.one_of, Joining.own_first, Joining.awaited_action, Joining.step_back, Joining.step_on, RowPlaces.before_with}
 
 -- the answer of a search that says yes is not the one that says no
 pub no_is_not_yes : Some false ≡ Some true → ⊥
@@ -36,10 +34,8 @@ module _ (p : Program) (number : ActionId → ℕ) (rising : IsNumbering p numbe
   own_only a b k m same r = elim (cases_lt b.number a.number) [
     | inr le ↦ le
     | inl lt ↦
-        let back : Reaches p b a = own_first p b a m.first k (sym same) (omega arith) in
-        let up : number b < number a = rises b a (λ e. (let f : b.number ≡ a.number = ap (λ (x : ActionId). x.number) e in omega arith)) back in
-        let down : number a ≤ number b = Reaches-rises p number rising a b r in
-        omega arith
+        let ne : a ≢ b = (λ e. omega (arith, lt, ap (λ (x : ActionId). x.number) e)) in
+        absurd (omega (arith, rises a b ne r, rises b a (λ e. ne (sym e)) (own_first p b a m.first k (sym same) (omega arith))))
   ]
 
 -- ---- by what the last action directly needs
@@ -65,6 +61,10 @@ none_before p x a first r = let f : 1 ≤ a.number - 1 = (Reaches-last p x (acti
 pub none_need : (p : Program) (first a : ActionId) (but n : ℕ) → n ≡ length (awaits_of p a.agent a.number) → NoneIsReached p first a but n → (Reaches p first (action_before a) → ⊥) → ReachesNeed p first a but → ⊥
 none_need p first a but n all awaits own (inl r) = own r
 none_need p first a but n all awaits own (inr by) = awaits by.place by.await (omega (arith, all, slice_get_within (awaits_of p a.agent a.number) by.place by.await by.at)) by.this by.at by.reaches
+
+-- an await but that one gives it
+pub need_by : (p : Program) (x a : ActionId) (but k : ℕ) (w : Await) → k ≢ but → slice_get (awaits_of p a.agent a.number) k ≡ Some w → Reaches p x (awaited w) → ReachesNeed p x a but
+need_by p x a but k w apart at r = inr (record { place = k; await = w; this = apart; at = at; reaches = r })
 
 -- what one of these awaits gives, one of more gives
 by_more : (p : Program) (x a : ActionId) (These More : ℕ → Await → Type 0) → ((k : ℕ) (w : Await) → slice_get (awaits_of p a.agent a.number) k ≡ Some w → These k w → More k w) → ByBeforeOr These p x a → ByBeforeOr More p x a
@@ -99,9 +99,16 @@ module _ (p : Program) (formed : IsWellFormed p) (range : AreInRange p) (a : Act
 
 -- ---- awaits settled one after another
 
--- more agents are asked for, or fewer awaits are said to be settled
-pub settled_on : (p : Program) (was asked : List Bool) (n many : ℕ) (m : ImpliedAwaits) → many ≤ n → AreMoreAsked was asked → AreSettledTo p was n m → AreSettledTo p asked many m
-settled_on p was asked n many m le more = known_on p _ _ m (λ a is k w at left. elim left [ inl past ↦ inl (omega (arith, past, le)) | inr set ↦ inr (more w.agent set) ])
+-- fewer awaits are said to be settled
+pub settled_on : (p : Program) (asked : Vec Bool Global) (n many : ℕ) (m : ImpliedAwaits) → many ≤ n → AreSettledBy p asked n m → AreSettledBy p asked many m
+settled_on p asked n many m le h = record {
+  agents = h.agents;
+  settled = known_on p _ _ m (λ a is k w at left. elim left [ inl past ↦ inl (omega (arith, past, le)) | inr set ↦ inr set ]) h.settled;
+}
+
+-- after the awaits of an action come those of the next one
+pub first_next : (p : Program) (a : ActionId) → 1 ≤ a.number → first_await p (record { agent = a.agent; number = a.number + 1 }) ≡ first_await p a + length (awaits_of p a.agent a.number)
+first_next p a some = (let e : a.number + 1 - 1 ≡ a.number = omega arith in omega (arith, before_with p a.agent a.number some, ap (awaits_before p a.agent) e))
 
 -- an await, by what is known of it
 pub settled_by : (p : Program) → IsWellFormed p → AreInRange p → (a : ActionId) → 1 ≤ a.number → (k : ℕ) (x : ActionId) → slice_get (awaits_of p a.agent a.number) k ≡ Some (await_of x) → (asked : List Bool) (n : ℕ) (known : Option Bool) → (known ≡ None → get_or asked x.agent false ≡ true)
@@ -119,10 +126,4 @@ upto_next p i a is (inl low) = elim (cases_eq a.agent i) [ inr ne ↦ inl (omega
 pub needed_by : (p : Program) (range : AreInRange p) (first a : ActionId) (k : ℕ) (w : Await) → IsAction p first → IsAction p a → slice_get (awaits_of p a.agent a.number) k ≡ Some w
     → w.agent ≡ first.agent → first.number ≤ w.count → Reaches p first a
 needed_by p range first a k w is last at same more =
-    need_on p first a (k + 1) last (inr (record {
-      place = k;
-      await = w;
-      this = λ e. omega (arith, e);
-      at = at;
-      reaches = own_first p first (awaited w) is.first (awaited_action p range a.agent a.number k w at) same more;
-    }))
+    need_on p first a (k + 1) last (need_by p first a (k + 1) k w (λ e. omega (arith, e)) at (own_first p first (awaited w) is.first (awaited_action p range a.agent a.number k w at) same more))

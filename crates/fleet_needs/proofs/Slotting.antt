@@ -1,5 +1,5 @@
 -- Slots for rows, from the last row back to the first.
-use Rattle.fleet_needs.proofs.Words.{◌≡◌, ◌≢◌, ℕ, ◌+◌, ◌<◌, ◌≤◌, List, [], ◌∷◌, ◌++◌, length, get_or, slice_index, Option, None, same_Some, none-some, refl, sym, ap, subst, ◌∙◌, arith, inl, inr, cases_lt, cases_eq, get_or-set_other, get_or_past, length-set, length_push, get_or_append_left, get_or_push, Vec, with_item, Global, Program, AreAllJoins, IsJoin, Takes, join_at, row_taken, AreSlotted, HasSlotNow, IsFree, IsHeld, TakesIn, owner_of, slot_in, slots_in, Join, Joins, Slots}
+use Rattle.fleet_needs.proofs.Words.{◌≡◌, ◌≢◌, ℕ, zero, suc, ◌+◌, ◌<◌, ◌≤◌, List, [], ◌∷◌, ◌++◌, length, get_or, slice_index, Option, None, same_Some, none-some, refl, sym, ap, subst, ◌∙◌, arith, inl, inr, cases_lt, cases_eq, get_or-set_other, get_or_past, length-set, length_push, Vec, with_item, Global, AreSlotted, HasSlotNow, IsFree, IsHeld, TakesIn, base_of, end_of, need_at, owner_of, slot_in, slots_in, Joins, Slots}
 
 -- the slot of a row is one of them
 pub slot_within : (m : Slots) (r : ℕ) → HasSlotNow m r → slot_in m r < slots_in m
@@ -12,26 +12,19 @@ slot_within m r has = elim (cases_lt (slot_in m r) (slots_in m)) [
 slots_apart : (m : Slots) (r x : ℕ) → r ≢ x → HasSlotNow m r → HasSlotNow m x → slot_in m r ≢ slot_in m x
 slots_apart m r x ne has other same = ne (same_Some r x (sym has ∙ ap (owner_of m) same ∙ other))
 
--- a new slot is free
-pub free_new : (old new : Slots) (slot : ℕ) → slot ≡ slots_in old → new.owners.items ≡ old.owners.items ++ None ∷ [] → IsFree slot old new
-free_new old new slot is put = record {
-  within = omega (arith, is, long);
-  none = same slot ∙ get_or_past old.owners.items slot None (omega (arith, is));
-  more = omega (arith, long);
-  same = same;
-}
-  where
-    long : slots_in new ≡ slots_in old + 1
-    long = ap (λ (xs : List (Option ℕ)). length xs) put ∙ length_push old.owners.items None
+-- none at the end is as none past it
+none_last : (owners : List (Option ℕ)) (x : ℕ) → get_or (owners ++ None ∷ []) x None ≡ get_or owners x None
+none_last [] zero = refl
+none_last [] (suc x) = refl
+none_last (o ∷ owners) zero = refl
+none_last (o ∷ owners) (suc x) = none_last owners x
 
-    same : (x : ℕ) → owner_of new x ≡ owner_of old x
-    same x = ap (λ (xs : List (Option ℕ)). get_or xs x None) put ∙ elim (cases_lt x (slots_in old)) [
-      | inl low ↦ get_or_append_left old.owners.items (None ∷ []) None x low
-      | inr high ↦ elim (cases_eq x (slots_in old)) [
-        | inl e ↦ ap (λ (n : ℕ). get_or (old.owners.items ++ None ∷ []) n None) e ∙ get_or_push old.owners.items None None (slots_in old) refl ∙ sym (get_or_past old.owners.items x None high)
-        | inr ne ↦ get_or_past (old.owners.items ++ None ∷ []) x None (omega (arith, high, ne, length_push old.owners.items None)) ∙ sym (get_or_past old.owners.items x None high)
-      ]
-    ]
+-- so a new slot is free
+pub free_new : (old new : Slots) (slot : ℕ) → slot ≡ slots_in old → new.owners.items ≡ old.owners.items ++ None ∷ [] → IsFree slot old new
+free_new old new slot is put =
+    let long : slots_in new ≡ slots_in old + 1 = ap (λ (xs : List (Option ℕ)). length xs) put ∙ length_push old.owners.items None in
+    let same : (x : ℕ) → owner_of new x ≡ owner_of old x = λ x. ap (λ (xs : List (Option ℕ)). get_or xs x None) put ∙ none_last old.owners.items x in
+    record { within = omega (arith, is, long); none = same slot ∙ get_or_past old.owners.items slot None (omega (arith, is)); more = omega (arith, long); same = same }
 
 module _ (Takes : ℕ → ℕ → Type 0) (from n : ℕ) where
   -- a row that is taken, or the last one that is left
@@ -79,31 +72,18 @@ module _ (Takes : ℕ → ℕ → Type 0) (n : ℕ) (old mid : Slots) (h : IsHel
 
 -- ---- what a join takes
 
-module _ (p : Program) (joins : Joins) (h : AreAllJoins p joins) (n : ℕ) (within : n < length joins.joins.items) (j : Join) (same : j ≡ join_at joins.joins.items n) where
-  is_join : IsJoin p joins.joins.items joins.needs.items n j
-  is_join = subst (IsJoin p joins.joins.items joins.needs.items n) (sym same) (h.joins n within)
+module _ (x : Joins) (n : ℕ) (m : Slots) (base : HasSlotNow m (base_of x n)) (each : (y : ℕ) → end_of x n ≤ y → y < end_of x (n + 1) → HasSlotNow m (need_at x y).row) where
+  has_slot : (r : ℕ) → TakesIn x n r → HasSlotNow m r
+  has_slot r (l, inl is) = subst (HasSlotNow m) (sym is) base
+  has_slot r (l, inr (y, from, less, is)) = subst (HasSlotNow m) (sym is) (each y from less)
 
-  pub base_sooner : j.base ≤ n
-  base_sooner = is_join.sooner
-
-  pub need_there : (k : ℕ) → k < j.count → j.first + k < length joins.needs.items
-  need_there k l = omega (arith, l, is_join.count, is_join.within)
-
-  pub need_sooner : (k : ℕ) → k < j.count → row_taken joins.needs.items j k ≤ n
-  need_sooner k l = (is_join.each k (omega (arith, l, is_join.count))).sooner
-
-  module _ (m : Slots) (base : HasSlotNow m j.base) (each : (k : ℕ) → k < j.count → HasSlotNow m (row_taken joins.needs.items j k)) where
-    has_slot : (r : ℕ) → Takes p joins.needs.items j r → HasSlotNow m r
-    has_slot r (inl e) = subst (HasSlotNow m) (sym e) base
-    has_slot r (inr (k, l, e)) = subst (HasSlotNow m) (sym e) (each k (omega (arith, l, is_join.count)))
-
-    -- once all of it has slots
-    pub join_settled : AreSlotted (TakesIn p joins) (n + 1) n m → AreSlotted (TakesIn p joins) n n m
-    join_settled was = record {
-      within = was.within;
-      taken = λ k r later takes upto. elim (cases_eq k n) [
-        | inl e ↦ has_slot r (subst (λ (x : Join). Takes p joins.needs.items x r) (ap (join_at joins.joins.items) e ∙ sym same) takes.1)
-        | inr ne ↦ was.taken k r (omega (arith, later, ne)) takes upto
-      ];
-      still = λ k r x later takes less after upto. was.still k r x (omega (arith, after, upto)) takes less after upto;
-    }
+  -- once all of it has slots
+  pub join_settled : AreSlotted (TakesIn x) (n + 1) n m → AreSlotted (TakesIn x) n n m
+  join_settled was = record {
+    within = was.within;
+    taken = λ k r later takes upto. elim (cases_eq k n) [
+      | inl e ↦ has_slot r (subst (λ (j : ℕ). TakesIn x j r) e takes)
+      | inr ne ↦ was.taken k r (omega (arith, later, ne)) takes upto
+    ];
+    still = λ k r y later takes less after upto. was.still k r y (omega (arith, after, upto)) takes less after upto;
+  }

@@ -1,50 +1,32 @@
 -- Agents that go on as far as their awaits allow: that each step is right, and that they come to the end.
-use Rattle.fleet_needs.proofs.Words.{◌≡◌, ℕ, zero, suc, ◌+◌, ◌-◌, ◌*◌, ◌<◌, ◌≤◌, List, [], ◌∷◌, ◌++◌, length, max, cond, set, get_or, refl, sym, ap, subst, ◌∙◌, arith, inl, inr, ◌⊎◌, slice_get, Contains, nat_lt, Some, ◌≢◌, cases_lt, cases_eq, lt-ltb, le-ltb, mul-le, get_or-set_same, get_or-set_other, length-set, slice_get_within, get_or_from_slice_get, slice_get-get_or, get_or_append_left, get_or_push, length_push, ActionId, Await, Program, moves, awaits_of, total_moves, IsAction, DirectlyNeeds, IsCriticalCost, awaited, ends_alone, ends_dearer, need_action, own_reach, Reaches-rises, action_place, IsNumberedTo, IsNotedCost, AreNotedCosts, value_at, Walked, after, IsGreatestTo, IsStage, IsReadyStage, IsFinished, HasAll, IsCostWalk, HaveGrown, IsUnmet, IsOpen, stage_in, finished_in, no_stage, gone_on, Stage, MAX_COST, MAX_LEVEL}
+use Rattle.fleet_needs.proofs.Words.{◌≡◌, ℕ, suc, ◌+◌, ◌-◌, ◌*◌, ◌<◌, ◌≤◌, List, [], ◌∷◌, ◌++◌, length, max, set, get_or, refl, sym, ap, subst, ◌∙◌, arith, inl, inr, ◌⊎◌, slice_get, slice_get-get_or, same_Some, Some, sum_by, cases_lt, cases_eq, mul-le, get_or-set_same, get_or-set_other, length-set, slice_get_within, get_or_from_slice_get, get_or_append_left, get_or_push, length_push, sum_by-cons, sum_by-set, ActionId, AgentProgram, Await, Program, moves, awaits_of, total_moves, AreInRange, IsAction, DirectlyNeeds, IsCriticalCost, awaited, ends_alone, ends_dearer, need_action, own_reach, Reaches-rises, Finished, IsNumberedTo, IsNotedCost, critical_cost, no_row, noted_in, row_in, after, CostsUpTo, IsGreatestTo, IsRun, IsCostWalk, HasGoneOn, IsUnmet, IsOpen, MAX_COST, MAX_LEVEL}
 use Rattle.fleet_model.specs.Chain.{EndsChainOfCost}
-use Rattle.fleet_needs.proofs.Costing.{one_cost, bound_of, bound_on}
-use Rattle.fleet_needs.proofs.Placed.{place_apart, place_within}
+use Rattle.fleet_needs.proofs.Costing.{bound_of, bound_on}
 
 -- ---- how far an agent has come
 
--- that of one that has not begun
-abbrev pub first_stage : (offset : (i finished k : ℕ) → ℕ) → ℕ → Stage
-first_stage offset i = record { finished = 0; met = 0; at = offset i 0 0; greatest = 0 }
-
 module _ (p : Program) (cost : ActionId → ℕ) where
-  -- of an agent's first action, before its awaits
-  greatest_none : (These : ActionId → Type 0) (i : ℕ) → IsGreatestTo p cost These (after i 0) 0 0
-  greatest_none These i = record { some = inl refl; needs = λ b need. absurd (elim need [ inl own ↦ omega (arith, own.1, own.2) | inr w ↦ omega (arith, w.1) ]) }
-
-  -- of a later one
-  greatest_own : (These : ActionId → Type 0) (a : ActionId) (m : ℕ) → 1 ≤ a.number → These a → IsCriticalCost p cost a m → IsGreatestTo p cost These (after a.agent a.number) 0 m
-  greatest_own These a m first done here = record {
-    some = inr (a, inl (refl, refl, first), here);
-    needs = λ b need. elim need [
-      | inl own ↦
-          let number : a.number ≡ b.number = omega (arith, own.1) in
-          let same : a ≡ b = (λ t. record { agent = own.0 t; number = number t }) in
-          subst (λ (x : ActionId). These x × ((k : ℕ) → IsCriticalCost p cost x k → k ≤ m)) same (done, (λ k c. here.most k c.some))
-      | inr w ↦ absurd (omega (arith, w.1))
-    ];
+  -- before the awaits of an agent's next action
+  pub greatest_own : (i n m : ℕ) → ((m ≡ 0) × (n ≡ 0)) ⊎ ((1 ≤ n) × IsNotedCost p cost (record { agent = i; number = n }) m) → IsGreatestTo p cost (after i n) 0 m
+  greatest_own i n m (inl first) = record { some = inl first.0; before = λ b own. absurd (omega (arith, own.1, own.2, first.1)); awaits = λ j w l. absurd (omega (arith, l)) }
+  greatest_own i n m (inr here) = record {
+    some = inr (record { agent = i; number = n }, inl (refl, refl, here.0), here.1);
+    before = λ b own. (let number : n ≡ b.number = omega (arith, own.1) in (m, omega arith, subst (λ (x : ActionId). IsNotedCost p cost x m) (λ t. record { agent = own.0 t; number = number t }) here.1));
+    awaits = λ j w l. absurd (omega (arith, l));
   }
 
-  -- one await more
-  greatest_more : (These : ActionId → Type 0) (a : ActionId) (k m : ℕ) (w : Await) (v n : ℕ) → IsGreatestTo p cost These a k m → slice_get (awaits_of p a.agent a.number) k ≡ Some w → These (awaited w)
-      → IsCriticalCost p cost (awaited w) v → n ≡ max m v → IsGreatestTo p cost These a (k + 1) n
-  greatest_more These a k m w v n h at done here is = record {
+  -- past one await more
+  pub greatest_more : (a : ActionId) (k m : ℕ) (w : Await) (v n : ℕ) → IsGreatestTo p cost a k m → slice_get (awaits_of p a.agent a.number) k ≡ Some w → IsNotedCost p cost (awaited w) v → n ≡ max m v
+      → IsGreatestTo p cost a (k + 1) n
+  greatest_more a k m w v n h at here is = record {
     some = elim (cases_lt m v) [
       | inl l ↦ (let e : v ≡ n = omega arith in subst IsSome e (inr (awaited w, inr (k, slice_get_within awaits k w at, get_or_from_slice_get awaits k w w at), here)))
       | inr l ↦ (let e : m ≡ n = omega arith in subst IsSome e h.some)
     ];
-    needs = λ b need. elim need [
-      | inl own ↦ wider b (h.needs b (inl own))
-      | inr (j, l, there) ↦ elim (cases_lt j k) [
-        | inl s ↦ wider b (h.needs b (inr (j, s, there)))
-        | inr s ↦
-            let w_of : Await = record { agent = b.agent; count = b.number } in
-            let same : awaited w ≡ b = ap awaited (sym (get_or_from_slice_get awaits k w w_of at) ∙ ap (λ (x : ℕ). get_or awaits x w_of) (let e : k ≡ j = omega arith in e) ∙ there) in
-            subst (λ (x : ActionId). These x × ((y : ℕ) → IsCriticalCost p cost x y → y ≤ n)) same (done, (λ y c. (let l : y ≤ v = here.most y c.some in omega arith)))
-      ]
+    before = λ b own. wider b (h.before b own);
+    awaits = λ j x l there. elim (cases_lt j k) [
+      | inl s ↦ wider _ (h.awaits j x s there)
+      | inr s ↦ (let same : w ≡ x = same_Some w x (sym at ∙ ap (slice_get awaits) (let e : k ≡ j = omega arith in e) ∙ there) in (v, omega arith, subst (λ (y : Await). IsNotedCost p cost (awaited y) v) same here))
     ];
   }
     where
@@ -52,258 +34,166 @@ module _ (p : Program) (cost : ActionId → ℕ) where
       awaits = awaits_of p a.agent a.number
 
       IsSome : ℕ → Type 0
-      IsSome x = (x ≡ 0) ⊎ ((b : ActionId) × DirectlyNeeds p a b × IsCriticalCost p cost b x)
+      IsSome x = (x ≡ 0) ⊎ ((b : ActionId) × DirectlyNeeds p a b × IsNotedCost p cost b x)
 
-      wider : (b : ActionId) → These b × ((y : ℕ) → IsCriticalCost p cost b y → y ≤ m) → These b × ((y : ℕ) → IsCriticalCost p cost b y → y ≤ n)
-      wider b (done, most) = (done, (λ y c. (let l : y ≤ m = most y c in omega arith)))
+      wider : (b : ActionId) → CostsUpTo p cost m b → CostsUpTo p cost n b
+      wider b (y, le, noted) = (y, omega arith, noted)
+
+  -- what an action costs, by the greatest cost of what it needs
+  module _ (range : AreInRange p) (a : ActionId) (act : IsAction p a) (k m : ℕ) (all : k ≡ length (awaits_of p a.agent a.number)) (first : IsGreatestTo p cost a k m) where
+    h : IsGreatestTo p cost a (length (awaits_of p a.agent a.number)) m
+    h = subst (λ (j : ℕ). IsGreatestTo p cost a j m) all first
+
+    needs : (b : ActionId) → DirectlyNeeds p a b → CostsUpTo p cost m b
+    needs b (inl own) = h.before b own
+    needs b (inr w) = h.awaits w.0 (record { agent = b.agent; count = b.number }) w.1 (slice_get-get_or _ _ _ w.1 ∙ ap Some w.2)
+
+    pub costs_here : (own : ℕ) → own ≡ cost a → own ≤ MAX_COST → IsNotedCost p cost a (m + own)
+    costs_here own is most = record {
+      critical = subst (λ (k : ℕ). IsCriticalCost p cost a (m + k)) (sym is) (record {
+        some = elim h.some [
+          | inl e ↦ let alone : cost a ≡ m + cost a = omega (arith, e) in subst (λ (k : ℕ). EndsChainOfCost p cost k a) alone (ends_alone p cost a act)
+          | inr d ↦ ends_dearer p cost m d.0 a d.2.critical.some act d.1
+        ];
+        most = λ k c. omega (arith, c.3, bound_on p cost a m (λ d need b cs chain. (let known = needs d need in omega (arith, known.1, bound_of p cost d known.0 known.2.critical b cs chain))) c.0 c.1 c.2);
+      });
+      few = λ number rising.
+          let times : (k : ℕ) → k < number a → (k + 1) * MAX_COST ≤ number a * MAX_COST = λ k l. mul-le (k + 1) MAX_COST (number a) MAX_COST (omega (arith, l)) (omega arith) in
+          elim h.some [
+            | inl e ↦ omega (arith, e, most, times 0 (rising.positive a act))
+            | inr d ↦ omega (arith, d.2.few number rising, most, times (number d.0) (rising.rising a d.0 act (need_action p range a d.0 act d.1) d.1))
+          ];
+    }
 
   module _ (offset : (i finished k : ℕ) → ℕ) where
-    -- past an await that is met
-    pub stage_on : (These : ActionId → Type 0) (i : ℕ) (s : Stage) → IsStage p cost offset These i s → (w : Await) → slice_get (awaits_of p i (s.finished + 1)) s.met ≡ Some w → These (awaited w)
-        → (v : ℕ) → IsCriticalCost p cost (awaited w) v → (x m : ℕ) → x ≡ offset i s.finished (s.met + 1) → m ≡ max s.greatest v → IsStage p cost offset These i (record { finished = s.finished; met = s.met + 1; at = x; greatest = m })
-    stage_on These i s h w at done v is x m place greatest = record {
-      finished = h.finished;
-      within = omega (arith, slice_get_within (awaits_of p i (s.finished + 1)) s.met w at);
-      at = place;
-      greatest = greatest_more These (after i s.finished) s.met s.greatest w v m h.greatest at done is greatest;
+    -- it finishes an action more
+    pub run_more : (i : ℕ) (row : Finished) → IsRun p cost offset i row → length row.costs < moves p i → (m x : ℕ) → IsNotedCost p cost (after i (length row.costs)) m → x ≡ offset i (length row.costs + 1) 0
+        → IsRun p cost offset i (record { costs = row.costs ++ m ∷ []; stage = record { met = 0; at = x; greatest = m } })
+    run_more i row h left m x here at = record {
+      few = omega (arith, left, count);
+      noted = λ n l. elim (cases_lt n (length row.costs)) [
+        | inl low ↦ subst (IsNotedCost p cost (after i n)) (sym (get_or_append_left row.costs (m ∷ []) 0 n low)) (h.noted n low)
+        | inr high ↦
+            let same : length row.costs ≡ n = omega (arith, l, high, count) in
+            subst (IsNotedCost p cost (after i n)) (sym (get_or_push row.costs m 0 n same)) (subst (λ (k : ℕ). IsNotedCost p cost (after i k) m) same here)
+      ];
+      next = record {
+        within = omega arith;
+        at = at ∙ ap (λ (n : ℕ). offset i n 0) (sym count);
+        greatest = subst (λ (n : ℕ). IsGreatestTo p cost (after i n) 0 m) (sym count) (greatest_own i (length row.costs + 1) m (inr (omega arith, here)));
+      };
     }
+      where
+        count : length (row.costs ++ m ∷ []) ≡ length row.costs + 1
+        count = length_push row.costs m
 
-    -- where more is finished
-    stage_wider : (These More : ActionId → Type 0) → ((a : ActionId) → These a → More a) → (i : ℕ) (s : Stage) → IsStage p cost offset These i s → IsStage p cost offset More i s
-    stage_wider These More wider i s h = record {
-      finished = h.finished;
-      within = h.within;
-      at = h.at;
-      greatest = record { some = h.greatest.some; needs = λ b need. (let known = h.greatest.needs b need in (wider b known.0, known.1)) };
-    }
+    module _ (rows : List Finished) (h : IsCostWalk p cost offset rows) where
+      -- the cost of a finished action is noted
+      pub noted_of : (a : ActionId) → IsAction p a → a.number ≤ noted_in rows a.agent → IsNotedCost p cost a (critical_cost rows a)
+      noted_of a act done =
+          let e : a.number - 1 + 1 ≡ a.number = omega (arith, act.first) in
+          subst (λ (n : ℕ). IsNotedCost p cost (record { agent = a.agent; number = n }) (critical_cost rows a)) e ((h.each a.agent act.agent).noted (a.number - 1) (omega (arith, done, act.first)))
 
-    -- ---- an agent goes on
-
-    module _ (w : Walked) (h : IsCostWalk p cost offset w) (i : ℕ) (agent : i < length p) where
-      abbrev n : ℕ
-      n = finished_in w i
-
-      abbrev number : ActionId → ℕ
-      number = h.numbered.number
-
-      module _ (s : Stage) (costs : List ℕ) where
-        abbrev on : Walked
-        on = gone_on w i s costs
-
-        own : stage_in on i ≡ s
-        own = get_or-set_same w.stages i s no_stage (omega (arith, agent, h.all.stages))
-
-        own_count : finished_in on i ≡ s.finished
-        own_count = ap (λ (x : Stage). x.finished) own
-
-        other : (j : ℕ) → j ≢ i → stage_in on j ≡ stage_in w j
-        other j ne = get_or-set_other w.stages i j s no_stage ne
-
-        -- no other agent has finished more
-        pub grown : n ≤ s.finished → HaveGrown w on
-        grown up j = elim (cases_eq j i) [
-          | inl e ↦ omega (arith, up, own_count, ap (finished_in on) e, ap (finished_in w) e)
-          | inr ne ↦ omega (arith, ap (λ (x : Stage). x.finished) (other j ne))
-        ]
-
-        comes : n ≤ s.finished → IsStage p cost offset (IsFinished on) i s → length costs ≡ total_moves p → AreNotedCosts p cost number w.places (IsFinished on) costs → IsCostWalk p cost offset on
-        comes up stage all noted = record {
-          numbered = h.numbered;
-          all = record { stages = length-set w.stages i s ∙ h.all.stages; places = h.all.places; costs = all };
-          each = λ j l. elim (cases_eq j i) [
-            | inl e ↦ subst (λ (x : ℕ). IsStage p cost offset (IsFinished on) x (stage_in on x)) (sym e) (subst (IsStage p cost offset (IsFinished on) i) (sym own) stage)
-            | inr ne ↦ subst (IsStage p cost offset (IsFinished on) j) (sym (other j ne)) (stage_wider (IsFinished w) (IsFinished on) (λ a done. omega (arith, done, grown up a.agent)) j (stage_in w j) (h.each j l))
-          ];
-          noted = noted;
-        }
-
-      -- it stops before an await
-      module _ (s : Stage) (same : s.finished ≡ n) where
-        pub kept : (j : ℕ) → finished_in (on s w.costs) j ≡ finished_in w j
-        kept j = elim (cases_eq j i) [
-          | inl e ↦ ap (finished_in (on s w.costs)) e ∙ own_count s w.costs ∙ same ∙ sym (ap (finished_in w) e)
-          | inr ne ↦ ap (λ (x : Stage). x.finished) (other s w.costs j ne)
-        ]
-
-        pub stopped : IsStage p cost offset (IsFinished w) i s → IsCostWalk p cost offset (gone_on w i s w.costs)
-        stopped stage = comes s w.costs (omega (arith, same)) (stage_wider (IsFinished w) (IsFinished (on s w.costs)) (λ a done. omega (arith, done, kept a.agent)) i s stage) h.all.costs
-            (λ a act done. h.noted a act (omega (arith, done, kept a.agent)))
-
-      -- it finishes an action more
-      module _ (s : Stage) (ready : IsReadyStage p cost offset w i s) where
-        abbrev here : ActionId
-        here = record { agent = i; number = s.finished }
-
-        here_action : IsAction p here
-        here_action = record { agent = agent; first = omega (arith, ready.finished); last = ready.left }
-
-        -- what the action costs, by the greatest cost of what it needs
-        pub costs_here : (own : ℕ) → own ≡ cost here → own ≤ MAX_COST → IsNotedCost p cost number here (s.greatest + own)
-        costs_here own is most = record {
-          critical = subst (λ (k : ℕ). IsCriticalCost p cost here (s.greatest + k)) (sym is) (record {
-            some = elim ready.greatest.some [
-              | inl e ↦ let alone : cost here ≡ s.greatest + cost here = omega (arith, e) in subst (λ (k : ℕ). EndsChainOfCost p cost k here) alone (ends_alone p cost here here_action)
-              | inr d ↦ ends_dearer p cost s.greatest d.0 here d.2.some here_action d.1
-            ];
-            most = λ k c. omega (arith, c.3, bound_on p cost here s.greatest (λ d need a cs chain. omega (arith, (ready.greatest.needs d need).1 (value d) (known d need).critical, bound_of p cost d (value d) (known d need).critical a cs chain)) c.0 c.1 c.2);
-          });
-          few = elim ready.greatest.some [
-            | inl e ↦ omega (arith, e, most, times 0 (h.numbered.rising.positive here here_action))
-            | inr d ↦ omega (arith, (known d.0 d.1).few, one_cost p cost d.0 s.greatest (value d.0) d.2 (known d.0 d.1).critical, most, times (number d.0) (h.numbered.rising.rising here d.0 here_action (need_action p h.numbered.range here d.0 here_action d.1) d.1))
-          ];
-        }
-          where
-            value : ActionId → ℕ
-            value = value_at w.places w.costs
-
-            known : (d : ActionId) → DirectlyNeeds p here d → IsNotedCost p cost number d (value d)
-            known d need = h.noted d (need_action p h.numbered.range here d here_action need) (ready.greatest.needs d need).0
-
-            times : (k : ℕ) → k < number here → (k + 1) * MAX_COST ≤ number here * MAX_COST
-            times k l = mul-le (k + 1) MAX_COST (number here) MAX_COST (omega (arith, l)) (omega arith)
-
-        -- that fits
-        pub costs_fit : (m : ℕ) → IsNotedCost p cost number here m → m ≤ MAX_LEVEL * MAX_COST
-        costs_fit m noted =
-            let times = mul-le (number here) MAX_COST MAX_LEVEL MAX_COST (h.numbered.upto here here_action) (omega arith) in
-            omega (arith, noted.few, times)
-
-        pub finished : (m : ℕ) → IsNotedCost p cost number here m → IsCostWalk p cost offset (gone_on w i (record { finished = s.finished; met = 0; at = s.at; greatest = m }) (set w.costs (action_place w.places here) m))
-        finished m is = comes there costs (omega (arith, ready.finished)) (record {
-          finished = ready.left;
-          within = omega arith;
-          at = ready.at;
-          greatest = greatest_own Done here m here_action.first (omega (arith, own_count there costs)) is.critical;
-        }) (length-set w.costs x m ∙ h.all.costs) (λ a act done. elim (split a act done) [
-          | inl was ↦ subst (IsNotedCost p cost number a)
-              (sym (get_or-set_other w.costs x (action_place w.places a) m 0 (place_apart p w.places h.all.places a here act here_action (λ e. (let late = subst (IsFinished w) e was in omega (arith, late, ready.finished)))))) (h.noted a act was)
-          | inr same ↦ subst (λ (b : ActionId). IsNotedCost p cost number b (value_at w.places costs b)) (sym same)
-              (subst (IsNotedCost p cost number here) (sym (get_or-set_same w.costs x m 0 (omega (arith, place_within p w.places h.all.places here here_action, h.all.costs)))) is)
-        ])
-          where
-            there : Stage
-            there = record { finished = s.finished; met = 0; at = s.at; greatest = m }
-
-            x : ℕ
-            x = action_place w.places here
-
-            costs : List ℕ
-            costs = set w.costs x m
-
-            Done : ActionId → Type 0
-            Done = IsFinished (on there costs)
-
-            split : (a : ActionId) → IsAction p a → Done a → IsFinished w a ⊎ (a ≡ here)
-            split a act done = elim (cases_eq a.agent i) [
-              | inr ne ↦ inl (omega (arith, done, ap (λ (y : Stage). y.finished) (other there costs a.agent ne)))
-              | inl e ↦ elim (cases_lt n a.number) [
-                | inr le ↦ inl (omega (arith, le, ap (finished_in w) e))
-                | inl more ↦ (let number : a.number ≡ s.finished = omega (arith, more, done, ap (finished_in (on there costs)) e, own_count there costs, ready.finished) in inr (λ t. record { agent = e t; number = number t }))
-              ]
-            ]
+      -- an agent has gone on
+      pub gone_on : (i : ℕ) → i < length p → (row : Finished) → IsRun p cost offset i row → IsCostWalk p cost offset (set rows i row)
+      gone_on i agent row run = record {
+        numbered = h.numbered;
+        rows = length-set rows i row ∙ h.rows;
+        each = λ j l. elim (cases_eq j i) [
+          | inl e ↦ subst (λ (k : ℕ). IsRun p cost offset k (row_in (set rows i row) k)) (sym e) (subst (IsRun p cost offset i) (sym (get_or-set_same rows i row no_row (omega (arith, agent, h.rows)))) run)
+          | inr ne ↦ subst (IsRun p cost offset j) (sym (get_or-set_other rows i j row no_row ne)) (h.each j l)
+        ];
+      }
 
 -- ---- that agents come to the end
 
--- a goal after n others, each of which waits for the next: its number is by as much below the greatest
-pub record IsDeep (p : Program) (number : ActionId → ℕ) (n : ℕ) (goal : Await) : Type 0 where
-  pub action : IsAction p (awaited goal)
-  pub deep : n + number (awaited goal) ≤ MAX_LEVEL
+-- a goal after n others, of which the first is this one, and each waits for the next: its number is by as much below
+-- the greatest
+pub record IsDeep (p : Program) (goal : Await) (n : ℕ) (w : Await) : Type 0 where
+  pub first : n ≡ 0 → w ≡ goal
+  pub action : IsAction p (awaited w)
+  pub deep : (f : IsNumberedTo p MAX_LEVEL) → n + f.number (awaited w) ≤ MAX_LEVEL
 
-abbrev pub AreDeep : Program → (ActionId → ℕ) → List Await → Type 0
-AreDeep p number goals = (k : ℕ) (d : Await) → k < length goals → IsDeep p number k (get_or goals k d)
+abbrev pub AreDeep : Program → Await → List Await → Type 0
+AreDeep p goal goals = (k : ℕ) (d : Await) → k < length goals → IsDeep p goal k (get_or goals k d)
 
-module _ (p : Program) (f : IsNumberedTo p MAX_LEVEL) where
-  -- what the agent of a goal waits for
-  pub deep_next : (w : Walked) (n : ℕ) (goal next : Await) → IsDeep p f.number n goal → IsOpen w goal → (s : Stage) → s.finished ≡ finished_in w goal.agent → IsUnmet p w goal.agent s next → IsDeep p f.number (n + 1) next
-  deep_next w n goal next h still s same unmet =
-      let here = after goal.agent s.finished in
-      let awaits = awaits_of p here.agent here.number in
-      let named : Contains awaits next = (s.met, slice_get_within awaits s.met next unmet.await, get_or_from_slice_get awaits s.met next next unmet.await) in
-      let act : IsAction p here = record { agent = h.action.agent; first = omega arith; last = omega (arith, same, still, h.action.last) } in
-      let needed = need_action p f.range here (awaited next) act (inr named) in
-      let up = Reaches-rises p f.number f.rising here (awaited goal) (own_reach p goal.agent here.number goal.count h.action.agent (omega arith) (omega (arith, still, same)) h.action.last) in
-      record { action = needed; deep = omega (arith, h.deep, up, f.rising.rising here (awaited next) act needed (inr named)) }
-
+module _ (p : Program) (goal : Await) (goals : List Await) (last : Await) where
   -- one goal more
-  pub deep_more : (goals : List Await) (goal : Await) → AreDeep p f.number goals → IsDeep p f.number (length goals) goal → AreDeep p f.number (goals ++ goal ∷ [])
-  deep_more goals goal h is k d l = elim (cases_lt k (length goals)) [
-    | inl low ↦ subst (IsDeep p f.number k) (sym (get_or_append_left goals (goal ∷ []) d k low)) (h k d low)
+  pub deep_push : AreDeep p goal goals → IsDeep p goal (length goals) last → AreDeep p goal (goals ++ last ∷ [])
+  deep_push h here k d l = elim (cases_lt k (length goals)) [
+    | inl low ↦ subst (IsDeep p goal k) (sym (get_or_append_left goals (last ∷ []) d k low)) (h k d low)
     | inr high ↦
-        let here : length goals ≡ k = omega (arith, l, high, length_push goals goal) in
-        subst (IsDeep p f.number k) (sym (get_or_push goals goal d k here)) (subst (λ (n : ℕ). IsDeep p f.number n goal) here is)
+        let same : length goals ≡ k = omega (arith, l, high, length_push goals last) in
+        subst (IsDeep p goal k) (sym (get_or_push goals last d k same)) (subst (λ (n : ℕ). IsDeep p goal n last) same here)
   ]
 
   -- one goal less
-  pub deep_less : (goals : List Await) (goal : Await) → AreDeep p f.number (goals ++ goal ∷ []) → AreDeep p f.number goals × IsDeep p f.number (length goals) goal
-  deep_less goals goal h = (
-    (λ k d l. subst (IsDeep p f.number k) (get_or_append_left goals (goal ∷ []) d k l) (h k d (omega (arith, l, length_push goals goal)))),
-    subst (IsDeep p f.number (length goals)) (get_or_push goals goal goal (length goals) refl) (h (length goals) goal (omega (arith, length_push goals goal))),
+  pub deep_pop : AreDeep p goal (goals ++ last ∷ []) → AreDeep p goal goals × IsDeep p goal (length goals) last
+  deep_pop h = (
+    (λ k d l. subst (IsDeep p goal k) (get_or_append_left goals (last ∷ []) d k l) (h k d (omega (arith, l, length_push goals last)))),
+    subst (IsDeep p goal (length goals)) (get_or_push goals last last (length goals) refl) (h (length goals) last (omega (arith, length_push goals last))),
   )
 
--- how many actions are not finished
-left : Program → (ℕ → ℕ) → ℕ
-left [] counts = 0
-left (a ∷ p) counts = (length a.actions - counts 0) + left p (λ i. counts (suc i))
+  -- what the agent of the last one waits for
+  pub deep_next : AreInRange p → (rows : List Finished) (next : Await) → IsDeep p goal (length goals) last → IsOpen rows last → IsUnmet p rows last.agent next → (n : ℕ) → n ≡ length goals + 1 → IsDeep p goal n next
+  deep_next range rows next was still unmet n is = record {
+    first = λ none. absurd (omega (arith, none, is));
+    action = needed;
+    deep = λ f.
+        let up : f.number here ≤ f.number (awaited last) = Reaches-rises p f.number f.rising here (awaited last) (own_reach p last.agent here.number last.count was.action.agent (omega arith) (omega (arith, still)) was.action.last) in
+        omega (arith, was.deep f, is, up, f.rising.rising here (awaited next) act needed (inr unmet.await));
+  }
+    where
+      here : ActionId
+      here = after last.agent (noted_in rows last.agent)
 
-left_le : (p : Program) (old new : ℕ → ℕ) → ((i : ℕ) → old i ≤ new i) → left p new ≤ left p old
-unfolding left
-left_le [] old new grown = omega arith
-left_le (a ∷ p) old new grown = omega (arith, grown 0, left_le p (λ i. old (suc i)) (λ i. new (suc i)) (λ i. grown (suc i)))
+      act : IsAction p here
+      act = record { agent = was.action.agent; first = omega arith; last = omega (arith, still, was.action.last) }
 
-left_less : (p : Program) (old new : ℕ → ℕ) → ((i : ℕ) → old i ≤ new i) → (i : ℕ) → old i < new i → new i ≤ moves p i → left p new < left p old
-unfolding left
-left_less [] old new grown i l within = absurd (omega (arith, l, within))
-left_less (a ∷ p) old new grown zero l within =
-    omega (arith, left_le p (λ i. old (suc i)) (λ i. new (suc i)) (λ i. grown (suc i)), l, (let k : new 0 ≤ length a.actions = within in k))
-left_less (a ∷ p) old new grown (suc i) l within = omega (arith, grown 0, left_less p (λ j. old (suc j)) (λ j. new (suc j)) (λ j. grown (suc j)) i l within)
+      needed : IsAction p (awaited next)
+      needed = need_action p range here (awaited next) act (inr unmet.await)
 
--- how many goals more there can be after n before an open one is reached; more if the last one is reached already
-turns : Walked → Await → ℕ → ℕ
-turns w last n = cond (nat_lt (finished_in w last.agent) last.count) (MAX_LEVEL - n) (MAX_LEVEL + 1 + n)
+-- how many actions are finished, by all rows
+finished : List Finished → ℕ
+finished rows = sum_by (λ (row : Finished). length row.costs) rows
 
-turns_open : (w : Walked) (last : Await) (n : ℕ) → IsOpen w last → turns w last n ≡ MAX_LEVEL - n
-unfolding turns
-turns_open w last n still = rw (lt-ltb (finished_in w last.agent) last.count still) refl
+-- no more than there are
+finished_fit : (p : Program) (rows : List Finished) → length rows ≡ length p → ((i : ℕ) → i < length p → noted_in rows i ≤ moves p i) → finished rows ≤ total_moves p
+unfolding finished
+finished_fit p [] same each = omega arith
+finished_fit [] (row ∷ rows) same each = absurd (omega (arith, same))
+finished_fit (a ∷ p) (row ∷ rows) same each =
+    omega (arith, sum_by-cons (λ (r : Finished). length r.costs) row rows, sum_by-cons (λ (b : AgentProgram). length b.actions) a p, (let l : length row.costs ≤ length a.actions = each 0 (omega arith) in l), finished_fit p rows (omega (arith, same)) (λ i l. each (suc i) (omega (arith, l))))
 
-turns_over : (w : Walked) (last : Await) (n : ℕ) → last.count ≤ finished_in w last.agent → turns w last n ≡ MAX_LEVEL + 1 + n
-unfolding turns
-turns_over w last n over = rw (le-ltb (finished_in w last.agent) last.count over) refl
+-- what is left, and how many turns there are before more is finished: one for each goal that can still come after n
+-- others and the last one, or, once that one is reached, after all n others
+pub to_go : Program → List Finished → Await → ℕ → ℕ
+to_go p rows last n = (total_moves p - finished rows) * (2 * MAX_LEVEL + 2) + max (MAX_LEVEL - n) (MAX_LEVEL + 1 + n - (last.count - noted_in rows last.agent) * (2 * MAX_LEVEL + 2))
 
-turns_most : (w : Walked) (last : Await) (n : ℕ) → turns w last n ≤ MAX_LEVEL + 1 + n
-turns_most w last n = elim (cases_lt (finished_in w last.agent) last.count) [
-  | inl still ↦ omega (arith, turns_open w last n still)
-  | inr over ↦ omega (arith, turns_over w last n over)
-]
+-- agent i has finished so many actions more
+module _ (rows new : List Finished) (i more : ℕ) (agent : i < length rows) (h : HasGoneOn rows new i more) where
+  pub grown : (j : ℕ) → (noted_in rows j ≤ noted_in new j) × (noted_in new j ≤ noted_in rows j + more)
+  grown j = elim (cases_eq j i) [
+    | inl e ↦ (let own = ap (λ (rs : List Finished). noted_in rs i) h.is ∙ ap (λ (r : Finished). length r.costs) (get_or-set_same rows i h.row no_row agent) in (omega (arith, own, h.more, ap (noted_in new) e, ap (noted_in rows) e), omega (arith, own, h.more, ap (noted_in new) e, ap (noted_in rows) e)))
+    | inr ne ↦ (let other = ap (λ (rs : List Finished). noted_in rs j) h.is ∙ ap (λ (r : Finished). length r.costs) (get_or-set_other rows i j h.row no_row ne) in (omega (arith, other), omega (arith, other)))
+  ]
 
--- what is left, and how many turns there are before more is finished
-pub to_go : Program → Walked → Await → ℕ → ℕ
-to_go p w last n = left p (finished_in w) * (2 * MAX_LEVEL + 2) + turns w last n
+  total : finished new ≡ finished rows + more
+  unfolding finished
+  total = omega (arith, ap (sum_by (λ (r : Finished). length r.costs)) h.is, sum_by-set (λ (r : Finished). length r.costs) rows i h.row no_row agent, h.more)
 
-module _ (p : Program) (last : Await) (n : ℕ) where
-  -- less is to go where an agent has finished more
-  pub less_more : n ≤ MAX_LEVEL → (old new : Walked) → HaveGrown old new → (i : ℕ) → finished_in old i < finished_in new i → finished_in new i ≤ moves p i → to_go p new last n < to_go p old last n
-  unfolding to_go
-  less_more few old new grown i more within = omega (arith, few, turns_most new last n, left_less p (finished_in old) (finished_in new) grown i more within)
+  module _ (p : Program) (last : Await) (n : ℕ) where
+    -- less is to go if that is one
+    pub less_more : more ≡ 1 → n ≤ MAX_LEVEL → length new ≡ length p → ((j : ℕ) → j < length p → noted_in new j ≤ moves p j) → to_go p new last n < to_go p rows last n
+    unfolding to_go
+    less_more one few same each = omega (arith, one, few, finished_fit p new same each, total)
 
-  -- .. where the agent of the last goal waits for another
-  pub less_waiting : n < MAX_LEVEL → (old new : Walked) → HaveGrown old new → IsOpen old last → (next : Await) → IsOpen new next → to_go p new next (n + 1) < to_go p old last n
-  unfolding to_go
-  less_waiting few old new grown still next more =
-      omega (arith, few, turns_open new next (n + 1) more, turns_open old last n still, left_le p (finished_in old) (finished_in new) grown)
+    -- .. or none, and the agent of the last goal waits for another
+    pub less_waiting : more ≡ 0 → n < MAX_LEVEL → IsOpen rows last → (next : Await) → IsOpen rows next → (m : ℕ) → m ≡ n + 1 → to_go p new next m < to_go p rows last n
+    unfolding to_go
+    less_waiting none few still next waits m is = omega (arith, none, few, is, still, waits, (grown next.agent).1, total)
 
-  -- .. and where the last one is reached, and the one before it is next
-  pub less_reached : (w : Walked) → last.count ≤ finished_in w last.agent → (next : Await) (m : ℕ) → n ≡ m + 1 → to_go p w next m < to_go p w last n
-  unfolding to_go
-  less_reached w over next m fewer = omega (arith, fewer, turns_over w last n over, turns_most w next m)
-
--- nothing is finished
-pub walk_begins : (p : Program) (cost : ActionId → ℕ) (offset : (i finished k : ℕ) → ℕ) (w : Walked) → IsNumberedTo p MAX_LEVEL → HasAll p w → ((i : ℕ) (s : Stage) → slice_get w.stages i ≡ Some s → s ≡ first_stage offset i) → IsCostWalk p cost offset w
-walk_begins p cost offset w numbered all first = record {
-  numbered = numbered;
-  all = all;
-  each = λ i l. subst (IsStage p cost offset (IsFinished w) i) (sym (none i l)) (record { finished = omega arith; within = omega arith; at = refl; greatest = greatest_none p cost (IsFinished w) i });
-  noted = λ a act done. absurd (omega (arith, done, ap (λ (s : Stage). s.finished) (none a.agent act.agent), act.first));
-}
-  where
-    none : (i : ℕ) → i < length p → stage_in w i ≡ first_stage offset i
-    none i l = first i (stage_in w i) (slice_get-get_or w.stages i no_stage (omega (arith, l, all.stages)))
+-- .. and where the last one is reached, and the one before it is next
+pub less_reached : (p : Program) (rows : List Finished) (last before : Await) (n m : ℕ) → last.count ≤ noted_in rows last.agent → n ≡ m + 1 → to_go p rows before m < to_go p rows last n
+unfolding to_go
+less_reached p rows last before n m over fewer = omega (arith, fewer, over)

@@ -1,62 +1,14 @@
 -- The words that proofs here cite: of std, of programs and chains, and of the specs of this crate.
-pub use Rattle.std.proofs.Common.{◌≡◌, ◌≢◌, ℕ, ◌+◌, ◌-◌, ◌<◌, ◌≤◌, Bool, false, List, length, take, get_or, set, map, refl, sym, ap, subst, ◌∙◌, arith, inl, inr, ◌⊎◌, zero, suc, ◌*◌, [], ◌∷◌, ◌++◌, slice_index, true, rules, ◌%◌, cond, ltb, max, w32, IsTrue, nat_eq, leb-true, le-leb, replicate, ◌^◌, leb}
-pub use Rattle.std.specs.Prelude.{slice_get, Some, sum_by, not, Contains, Option, is_some, unwrap_or, nat_le, ◌↔◌, None, nat_lt, All, drop, Vec}
-pub use Rattle.std.proofs.lemmas.Bool.{cases_eq, cases_order, cases_lt, false≢true, ltb-true, ltb-false, true≢false, lt-ltb, le-ltb, leb-false}
-pub use Rattle.std.proofs.lemmas.Nat.{mul-le}
-pub use Rattle.std.proofs.lemmas.Option.{slice_get_within, get_or_from_slice_get, same_Some, slice_get-get_or, none-some}
-pub use Rattle.std.proofs.lemmas.List.{get_or-map, length-map, get_or-set_same, get_or-set_other, get_or_append_left, get_or_push, length_push, length-set, get_or_read, get_or_past, get_or_default, take-take, set-set, set-get_or, take_all, get_or-replicate, length-replicate, with_items_is, get_or-drop, take_at}
-pub use Rattle.std.proofs.lemmas.List.Elements.{All-contains, All-push, All-set}
-pub use Rattle.std.proofs.lemmas.List.Sums.{sum_by-take-le}
+pub use Rattle.std.proofs.Common.{◌≡◌, ◌≢◌, ℕ, ◌+◌, ◌-◌, ◌<◌, ◌≤◌, Bool, false, List, length, take, get_or, set, map, refl, sym, ap, subst, ◌∙◌, arith, inl, inr, ◌⊎◌, zero, suc, ◌*◌, [], ◌∷◌, ◌++◌, slice_index, true, rules, ◌%◌, cond, ltb, max, w32, IsTrue, nat_eq, leb-true, le-leb, replicate, leb}
+pub use Rattle.std.specs.Prelude.{slice_get, Some, sum_by, not, Contains, Option, is_some, unwrap_or, nat_le, None, nat_lt, All, Vec}
+pub use Rattle.std.proofs.lemmas.{Bool.cases_eq, Bool.cases_order, Bool.cases_lt, Bool.false≢true, Bool.ltb-true, Bool.ltb-false, Bool.true≢false, Bool.lt-ltb, Bool.le-ltb, Bool.leb-false, Bool.not-false, Nat.mul-le, Option.slice_get_within, Option.get_or_from_slice_get, Option.same_Some, Option.slice_get-get_or, Option.none-some, List.get_or-map, List.length-map, List.get_or-set_same, List.get_or-set_other, List.set-get_or, List.get_or_append_left, List.get_or_push, List.length_push, List.length-set, List.get_or_read, List.get_or_past, List.get_or_default, List.take-take, List.take_all, List.take_more, List.get_or-replicate, List.length-replicate, List.Elements.All-push, List.Elements.All-set, List.Sums.sum_by-take-le, List.Sums.sum_by-cons, List.Sums.sum_by-set}
 pub use Rattle.std.specs.Vec.{with_item, vec_len}
 pub use Rattle.std.specs.declared.alloc.Global.{Global}
-pub use Rattle.std.specs.Borrow.{Bor}
-pub use Rattle.std.proofs.lemmas.Result.{IfOk-weaker}
-pub use Rattle.fleet_model.specs.declared.program.ActionId.{ActionId}
-pub use Rattle.fleet_model.specs.declared.program.Await.{Await}
-pub use Rattle.fleet_model.specs.declared.program.Action.{Action}
-pub use Rattle.fleet_model.specs.declared.program.AgentProgram.{AgentProgram}
-pub use Rattle.fleet_model.specs.Program.{Program, actions_of, awaits_of, agent_awaits, total_awaits, AreInRange, IsWellFormed, moves, total_moves, AreAwaits, awaits_before}
-pub use Rattle.fleet_model.specs.Chain.{IsAction, DirectlyNeeds, ChainFrom, IsCriticalCost, Reaches, awaited, IsNumbering, unit_cost}
-pub use Rattle.fleet_model.proofs.Totals.{awaits_more, actions_more, moves_more, awaits_fit, few_awaits_of}
-pub use Rattle.fleet_model.proofs.Chains.{but_last, need_action, ends_alone, ends_dearer, ends_within, own_reach, Reaches-first, Reaches-last, chain_ends_by_step, Reaches-rises, Reaches-trans, Reaches-need}
-pub use Rattle.fleet_needs.specs.Block.{HasColumn, HasItsColumn, IsAnswer}
-pub use Rattle.fleet_needs.specs.Columns.{AreColumns, BlocksLeft, IsNextBlock, column_of}
-pub use Rattle.fleet_needs.specs.CostWalk.{Walked, after, IsGreatestTo, IsStage, IsReadyStage, IsFinished, HasAll, IsCostWalk, HaveGrown, IsUnmet, IsOpen, stage_in, finished_in, no_stage, gone_on}
-pub use Rattle.fleet_needs.specs.Counts.{counts_of, count_from, are_narrow, CanHold, AreAlike}
-pub use Rattle.fleet_needs.specs.Critical.{IsNumberedTo, IsNotedCost, AreNotedCosts, CostsByPlace, AreCriticalCosts, AreLevels, critical_cost, value_at}
-pub use Rattle.fleet_needs.specs.Flags.{AreSure, AreSet, AreFlagsBut, IsLeft, IsLeftIn, AreFlaggedIn, AreFlaggedTo, AreImplied, AreSettled, AreSettledTo, IsUnsettled, flags_of, IsLeftOut}
-pub use Rattle.fleet_needs.specs.Gather.{raised, IsNoted, IsPairAt, link_at, no_link, IsReached, AreLinked, IsWithin, AreBelow, IsBlockState, IsGathering, IsGatheringRow, IsOpenPiece}
-pub use Rattle.fleet_needs.specs.Implied.{first_await, IsImplied, IsImpliedFlag, AreAwaitPlaces}
-pub use Rattle.fleet_needs.specs.JoinPass.{AreOthers, IsJoinRow, HasOthers, HasWhole}
-pub use Rattle.fleet_needs.specs.Kernels.{AreJoined}
-pub use Rattle.fleet_needs.specs.Pieces.{IsOf, IsToldBy, IsTold, AreTold, key_of, AreSorted, IsLatest, no_piece, piece_at, count_by}
-pub use Rattle.fleet_needs.specs.Places.{ArePlaces, action_place, row_place}
-pub use Rattle.fleet_needs.specs.Rows.{IsColumn, IsJoined, OfFirst, OfOthers, action_before, ByBeforeOr, ByOneOf, IsMost, OfOwn, OfThese}
-pub use Rattle.fleet_needs.specs.Settled.{AreMoreAsked, IsUpTo, ReachesNeed}
-pub use Rattle.fleet_needs.specs.declared.schedule.Columns.{Columns}
-pub use Rattle.fleet_needs.specs.declared.schedule.Schedule.{Schedule}
-pub use Rattle.fleet_needs.specs.declared.gather.Piece.{Piece}
-pub use Rattle.fleet_needs.specs.declared.gather.Link.{Link}
-pub use Rattle.fleet_needs.specs.declared.gather.Gathering.{Gathering}
-pub use Rattle.fleet_needs.specs.declared.gather.TheConstants.{AGENTS, NUMBERS}
-pub use Rattle.fleet_needs.specs.declared.cost_walk.Stage.{Stage}
-pub use Rattle.fleet_needs.specs.declared.critical.TheConstants.{MAX_COST, MAX_LEVEL}
-pub use Rattle.fleet_needs.specs.declared.join_pass.JoinRow.{JoinRow}
-pub use Rattle.fleet_needs.specs.declared.join_pass.SlotRows.{SlotRows}
-pub use Rattle.fleet_needs.specs.declared.counts.Counts.{Counts}
-pub use Rattle.fleet_needs.specs.declared.implied.ImpliedAwaits.{ImpliedAwaits}
-pub use Rattle.fleet_needs.specs.Joins.{AddsNone, AreQuiet, HasRowOr, join_at, IsRow, StandsFor, need_at, IsNeed, IsJoin, Takes, row_of, IsStanding, IsUpToLast, AreUpTo, AreJoinsOf, CanJoin, AreTaken, IsAdded, AreNone, AreJoinsBelow, AreJoinsEnd, AreJoinsFrom, HasCome, AreOwn, AreAllJoins, row_taken, need_of, rows_made}
-pub use Rattle.fleet_needs.specs.Order.{IsAwaiting, IsItem, IsLastOf, IsLevelOrder, action_of, item_at, items_of, last_of_level, levels_in, listed, IsOrderOf, IsOrderTo, HasListed}
-pub use Rattle.fleet_needs.specs.declared.joins.Join.{Join}
-pub use Rattle.fleet_needs.specs.declared.joins.Need.{Need}
-pub use Rattle.fleet_needs.specs.declared.joins.Joins.{Joins}
-pub use Rattle.fleet_needs.specs.declared.level_order.Item.{Item}
-pub use Rattle.fleet_needs.specs.declared.level_order.LevelOrder.{LevelOrder}
-pub use Rattle.fleet_needs.specs.Asked.{IsQuestion, AreAnswersIn, IsAskedFor}
-pub use Rattle.fleet_needs.specs.Schedule.{AreCounts, AreRowCounts, next_action, joins_in, IsSchedule, AreColumnsOf, AreRowsTo, IsRowFor, IsThere, StandsThere, IsNextJoin, IsNextNeed, count_in_slot, slot_of}
-pub use Rattle.fleet_needs.specs.Answering.{AreAnsweredFrom, AreListed, IsAnswering, IsByRow, IsToCome, listed_at, no_question, question_at, question_of, questions_in, unlisted}
-pub use Rattle.fleet_needs.specs.declared.questions.Answering.{Answering}
-pub use Rattle.fleet_needs.specs.declared.questions.RowQuestion.{RowQuestion}
-pub use Rattle.fleet_needs.specs.declared.questions.Question.{Question}
-pub use Rattle.fleet_needs.specs.Slots.{AreSlotted, HasSlotNow, IsFree, IsHeld, IsStill, TakesIn, owner_of, rows_in, slot_in, slots_in}
-pub use Rattle.fleet_needs.specs.declared.schedule.Slots.{Slots}
+pub use Rattle.fleet_model.specs.declared.{program.ActionId.ActionId, program.Await.Await, program.Action.Action, program.AgentProgram.AgentProgram}
+pub use Rattle.fleet_model.specs.{Program.Program, Program.actions_of, Program.awaits_of, Program.agent_awaits, Program.total_awaits, Program.AreInRange, Program.IsWellFormed, Program.moves, Program.total_moves, Program.AreAwaits, Program.awaits_before, Chain.IsAction, Chain.DirectlyNeeds, Chain.ChainFrom, Chain.IsCriticalCost, Chain.Reaches, Chain.awaited, Chain.IsNumbering, Chain.unit_cost}
+pub use Rattle.fleet_model.proofs.{Totals.awaits_more, Totals.actions_more, Totals.moves_more, Totals.awaits_fit, Totals.few_awaits_of, Chains.but_last, Chains.need_action, Chains.ends_alone, Chains.ends_dearer, Chains.ends_within, Chains.own_reach, Chains.Reaches-first, Chains.Reaches-last, Chains.chain_ends_by_step, Chains.Reaches-rises, Chains.Reaches-trans, Chains.Reaches-need}
+pub use Rattle.fleet_needs.specs.{Block.HasColumn, Block.IsAnswer, Columns.AreColumns, Columns.BlocksLeft, Columns.IsNextBlock, Columns.column_of, Counts.counts_of, Counts.count_from, Counts.are_narrow, Counts.CanHold, Counts.AreAlike, JoinPass.AreOthers, JoinPass.AreWhole, JoinPass.IsJoinRow, JoinPass.IsPass, Kernels.AreJoined, Rows.IsColumn, Rows.IsJoined, Rows.OfFirst, Rows.OfOthers, Rows.action_before, Rows.ByBeforeOr, Rows.ByOneOf, Rows.IsMost, Rows.OfOwn, Rows.OfThese, Schedule.AreCounts, Schedule.AreRowCounts, Schedule.AreInOrder, Schedule.AreRows, Schedule.IsJoinFor, Schedule.IsNeedFor, Schedule.TakesIn, Schedule.joins_of, Schedule.next_action, Schedule.joins_in, Schedule.IsSchedule, Schedule.AreColumnsOf, Schedule.AreRowsTo, Schedule.IsRowFor, Schedule.StandsThere, Schedule.IsNextJoin, Schedule.IsNextNeed, Schedule.count_in_slot, Schedule.slot_of, Slots.AreSlotted, Slots.HasSlotNow, Slots.IsFree, Slots.IsHeld, Slots.owner_of, Slots.rows_in, Slots.slot_in, Slots.slots_in}
+pub use Rattle.fleet_needs.specs.{CostWalk.after, CostWalk.CostsUpTo, CostWalk.IsGreatestTo, CostWalk.IsStage, CostWalk.IsRun, CostWalk.IsCostWalk, CostWalk.HasGoneOn, CostWalk.IsUnmet, CostWalk.IsOpen, Critical.Finished, Critical.IsNumberedTo, Critical.IsNotedCost, Critical.critical_cost, Critical.no_row, Critical.noted_in, Critical.row_in, Gather.raised, Gather.IsNoted, Gather.IsPairAt, Gather.link_at, Gather.no_link, Gather.IsReached, Gather.AreFresh, Gather.IsBlockState, Gather.IsGathering, Gather.IsGatheringRow, Gather.IsOpenPiece, Pieces.IsOf, Pieces.IsToldBy, Pieces.IsTold, Pieces.AreTold, Pieces.key_of, Pieces.AreSorted, Pieces.IsLatest, Pieces.no_piece, Pieces.piece_at, Pieces.count_by}
+pub use Rattle.fleet_needs.specs.{Flags.AreFlagsBut, Flags.IsLeftIn, Flags.AreFlaggedIn, Flags.AreFlaggedTo, Flags.AreImplied, Flags.AreSettled, Flags.AreSettledBy, Flags.AreSettledTo, Flags.IsUnsettled, Flags.flags_of, Implied.first_await, Implied.IsImplied, Implied.IsImpliedFlag, Implied.AreAwaitPlaces, Implied.AreSure, Implied.AreSet, Implied.IsLeftOut, Settled.ReachesNeed, Asked.IsQuestion, Asked.AreAnswersIn, Asked.IsAskedFor, Answering.AreAnsweredFrom, Answering.IsAnswering, Answering.IsByRow, Answering.IsToCome, Answering.listed_at, Answering.no_question, Answering.question_at, Answering.question_of, Answering.questions_in, Answering.unlisted}
+pub use Rattle.fleet_needs.specs.{Places.row_first, Places.row_place, Joins.RowTable, Joins.AddsNone, Joins.AreQuiet, Joins.HasRowOr, Joins.HasAllRows, Joins.action_at, Joins.no_action, Joins.IsRow, Joins.IsRowOrNone, Joins.StandsFor, Joins.IsUpToLast, Joins.AreOwn, Joins.AreRising, Joins.AreStanding, Joins.HasRoom, Joins.row_of, Joins.AreNoted, Joins.AreAllNoted, Joins.IsFilled, Joins.rows_of, Joins.base_of, Joins.end_of, Joins.needs_in, Joins.no_need, Joins.need_at, Joins.need_for, Joins.needs_of, Joins.AreListedTo, Joins.AreAllListed, Order.AreKeys, Order.IsAwaiting, Order.IsKey, Order.IsListed, Order.IsPassed, Order.IsUpTo, Order.IsLevelOrder, Order.IsOrderOf, Order.IsOrderTo, Order.HasListed, Order.actions_in, Order.named_in, Order.keys_of, Keys.action_of_key, Keys.need_of_key, Keys.value_of_key}
+pub use Rattle.fleet_needs.specs.declared.{schedule.Columns.Columns, schedule.Schedule.Schedule, gather.Piece.Piece, gather.Link.Link, gather.Gathering.Gathering, gather.TheConstants.AGENTS, gather.TheConstants.NUMBERS, critical.Stage.Stage, critical.TheConstants.MAX_COST, critical.TheConstants.MAX_LEVEL, join_pass.SlotRows.SlotRows, counts.Counts.Counts, implied.ImpliedAwaits.ImpliedAwaits, schedule.Join.Join, schedule.Need.Need, schedule.Joins.Joins, level_order.LevelOrder.LevelOrder, questions.Answering.Answering, questions.RowQuestion.RowQuestion, questions.Question.Question, schedule.Slots.Slots}

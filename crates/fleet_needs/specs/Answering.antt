@@ -1,11 +1,11 @@
 -- Questions in the order of their rows: those that are answered so far.
 use Rattle.std.specs.Prelude.{◌≡◌, ◌⊎◌, ℕ, ◌<◌, ◌≤◌, false, All, List, length, get_or}
 use Rattle.std.specs.List.Sorted.{IsNonDecreasingBy}
-use Rattle.fleet_needs.specs.Words.{Program}
+use Rattle.fleet_needs.specs.Words.{ActionId, Program}
 use Rattle.fleet_needs.specs.Asked.{IsQuestion}
 use Rattle.fleet_needs.specs.Block.{HasItsColumn, IsAnswer}
 use Rattle.fleet_needs.specs.Joins.{StandsFor}
-use Rattle.fleet_needs.specs.declared.joins.Join.{Join}
+use Rattle.fleet_needs.specs.Schedule.{joins_of}
 use Rattle.fleet_needs.specs.declared.questions.Answering.{Answering}
 use Rattle.fleet_needs.specs.declared.questions.Question.{Question}
 use Rattle.fleet_needs.specs.declared.questions.RowQuestion.{RowQuestion}
@@ -21,7 +21,7 @@ abbrev pub question_of : List Question → ℕ → Question
 question_of questions k = get_or questions k no_question
 
 -- the row stands for the last action of the question at this place
-pub record IsByRow (p : Program) (joins : List Join) (questions : List Question) (x : RowQuestion) : Type 0 where
+pub record IsByRow (p : Program) (joins : List ActionId) (questions : List Question) (x : RowQuestion) : Type 0 where
   pub place : x.place < length questions
   pub row : x.row ≤ length joins
   pub stands : StandsFor p joins x.row (question_of questions x.place).last.agent (question_of questions x.place).last.number
@@ -43,7 +43,7 @@ abbrev pub question_at : Answering → ℕ → Question
 question_at m n = question_of (questions_in m) (listed_at m n).place
 
 -- all questions are listed, in the order of rows that stand for their last actions
-pub record AreListed (p : Program) (joins : List Join) (m : Answering) : Type 0 where
+pub record AreListed (p : Program) (joins : List ActionId) (m : Answering) : Type 0 where
   pub each : All (IsByRow p joins (questions_in m)) m.rows.items
   pub all : (k : ℕ) → k < length (questions_in m) → (n : ℕ) × (n < length m.rows.items) × ((listed_at m n).place ≡ k)
   pub sorted : IsNonDecreasingBy (λ x. x.row) m.rows.items
@@ -52,7 +52,7 @@ pub record AreListed (p : Program) (joins : List Join) (m : Answering) : Type 0 
 -- .. and each that is listed is answered, or left
 pub record AreAnsweredBut (p : Program) (s : Schedule) (Left : ℕ → Question → Type 0) (m : Answering) : Type 0 where
   pub questions : All (IsQuestion p) (questions_in m)
-  pub listed : AreListed p s.joins.items m
+  pub listed : AreListed p (joins_of s) m
   pub told : (n : ℕ) → n < length m.rows.items → Left n (question_at m n) ⊎ IsAnswer p (question_at m n) (get_or m.flags.items (listed_at m n).place false)
 
 -- those are left whose first agents are not below this one

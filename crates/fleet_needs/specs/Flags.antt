@@ -1,8 +1,9 @@
 -- Flags of awaits: which of them say whether others imply their await.
-use Rattle.std.specs.Prelude.{◌≡◌, true, ℕ, ◌+◌, ◌<◌, ◌≤◌, ◌⊎◌, Bool, false, List, length, get_or, slice_get, Some, Vec}
+use Rattle.std.specs.Prelude.{◌≡◌, true, ℕ, ◌+◌, ◌<◌, ◌≤◌, ◌⊎◌, Bool, false, List, length, get_or, Vec, vec_len}
 use Rattle.std.specs.declared.alloc.Global.{Global}
-use Rattle.fleet_needs.specs.Words.{Await, ActionId, Program, awaits_of, total_awaits}
+use Rattle.fleet_needs.specs.Words.{Await, ActionId, Program, total_awaits}
 use Rattle.fleet_needs.specs.Joins.{IsRow}
+use Rattle.fleet_needs.specs.Schedule.{joins_of}
 use Rattle.fleet_needs.specs.declared.schedule.Schedule.{Schedule}
 use Rattle.fleet_needs.specs.declared.schedule.Columns.{Columns}
 use Rattle.fleet_needs.specs.Implied.{AreAwaitPlaces, IsImplied, IsImpliedFlag, EachFlag, first_await}
@@ -23,18 +24,6 @@ pub record AreFlagsBut (p : Program) (Open : ActionId → ℕ → Await → Type
 abbrev pub AreImplied : Program → ImpliedAwaits → Type 0
 AreImplied p m = AreFlagsBut p (λ a k w. ⊥) m
 
--- the flags of all awaits of the action are set
-abbrev pub AreSet : Program → List Bool → ActionId → Type 0
-AreSet p flags a = (k : ℕ) (w : Await) → slice_get (awaits_of p a.agent a.number) k ≡ Some w → get_or flags (first_await p a + k) false ≡ true
-
--- no flag is set but of awaits that others imply
-abbrev pub AreSure : Program → List Bool → Type 0
-AreSure p flags = EachFlag p (λ a k w flag. flag ≡ true → IsImplied p a w) flags
-
--- the action is to have no row: it has one await alone, whose flag is set
-abbrev pub IsLeftOut : Program → List Bool → ActionId → Type 0
-IsLeftOut p flags a = (length (awaits_of p a.agent a.number) ≡ 1) × (get_or flags (first_await p a) false ≡ true)
-
 -- the await is none of the first n of the program, in the order of their flags, or its agent is asked for
 abbrev pub IsUnsettled : Program → List Bool → ℕ → ActionId → ℕ → Await → Type 0
 IsUnsettled p asked n a k w = (n ≤ first_await p a + k) ⊎ (get_or asked w.agent false ≡ true)
@@ -43,9 +32,10 @@ IsUnsettled p asked n a k w = (n ≤ first_await p a + k) ⊎ (get_or asked w.ag
 abbrev pub AreSettledTo : Program → List Bool → ℕ → ImpliedAwaits → Type 0
 AreSettledTo p asked n m = AreFlagsBut p (IsUnsettled p asked n) m
 
--- .. by these flags of agents
-abbrev pub AreSettledBy : Program → Vec Bool Global → ℕ → ImpliedAwaits → Type 0
-AreSettledBy p asked n m = AreSettledTo p asked.items n m
+-- .. by these flags of all agents of the program
+pub record AreSettledBy (p : Program) (asked : Vec Bool Global) (n : ℕ) (m : ImpliedAwaits) : Type 0 where
+  pub agents : vec_len asked ≡ length p
+  pub settled : AreSettledTo p asked.items n m
 
 -- .. of all of them
 abbrev pub AreSettled : Program → List Bool → ImpliedAwaits → Type 0
@@ -54,7 +44,7 @@ AreSettled p asked m = AreSettledTo p asked (total_awaits p) m
 -- the action has a row, and the await is of an agent who is asked for, and not below this one
 pub record IsLeft (s : Schedule) (asked : List Bool) (from : ℕ) (a : ActionId) (w : Await) : Type 0 where
   pub row : ℕ
-  pub of : IsRow s.joins.items row a
+  pub of : IsRow (joins_of s) row a
   pub asks : get_or asked w.agent false ≡ true
   pub upon : from ≤ w.agent
 

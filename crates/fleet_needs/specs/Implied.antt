@@ -23,3 +23,15 @@ AreAwaitPlaces p firsts = AreFirsts (λ i. total_awaits (take i p)) (length p) f
 abbrev pub EachFlag : Program → (ActionId → ℕ → Await → Bool → Type 0) → List Bool → Type 0
 EachFlag p Is flags =
     (a : ActionId) → IsAction p a → (k : ℕ) (w : Await) → slice_get (awaits_of p a.agent a.number) k ≡ Some w → Is a k w (get_or flags (first_await p a + k) false)
+
+-- the flags of all awaits of the action are set
+abbrev pub AreSet : Program → List Bool → ActionId → Type 0
+AreSet p flags a = (k : ℕ) (w : Await) → slice_get (awaits_of p a.agent a.number) k ≡ Some w → get_or flags (first_await p a + k) false ≡ true
+
+-- no flag is set but of awaits that others imply
+abbrev pub AreSure : Program → List Bool → Type 0
+AreSure p flags = EachFlag p (λ a k w flag. flag ≡ true → IsImplied p a w) flags
+
+-- the action is to have no row: it has one await alone, whose flag is set
+abbrev pub IsLeftOut : Program → List Bool → ActionId → Type 0
+IsLeftOut p flags a = (length (awaits_of p a.agent a.number) ≡ 1) × (get_or flags (first_await p a) false ≡ true)

@@ -3,10 +3,12 @@ use Rattle.std.specs.Prelude.{◌≡◌, ◌≢◌, ℕ, ◌<◌, List, length, 
 use Rattle.fleet_needs.specs.Words.{ActionId, Program, awaits_of}
 use Rattle.fleet_needs.specs.Block.{HasColumn}
 use Rattle.fleet_needs.specs.Rows.{IsJoined, OfOthers}
-use Rattle.fleet_needs.specs.Counts.{counts_of}
-use Rattle.fleet_needs.specs.Schedule.{next_action, joins_in, AreCounts, IsSchedule, AreColumnsOf}
+use Rattle.fleet_needs.specs.Counts.{counts_of, AreAlike}
+use Rattle.fleet_needs.specs.Schedule.{joins_in, AreCounts, IsSchedule, AreColumnsOf, AreRowsTo, IsRowFor}
 use Rattle.fleet_needs.specs.declared.schedule.Columns.{Columns}
-use Rattle.fleet_needs.specs.declared.join_pass.JoinRow.{JoinRow}
+use Rattle.fleet_needs.specs.declared.counts.Counts.{Counts}
+use Rattle.fleet_needs.specs.declared.schedule.Schedule.{Schedule}
+use Rattle.fleet_needs.specs.declared.join_pass.SlotRows.{SlotRows}
 
 -- the row of all that the action directly needs, but for the count of each awaited action's own agent; nothing is said
 -- of the own agent's column
@@ -14,22 +16,26 @@ abbrev pub AreOthers : Program → Columns → ActionId → List ℕ → Type 0
 AreOthers p columns a row =
     (j k : ℕ) → HasColumn columns j k → j ≢ a.agent → IsJoined (OfOthers j (length (awaits_of p a.agent a.number))) p a j (slice_index row k)
 
+-- the count in the agent's own column, if it has one, is now this of what it was, and all others are as they were
+pub record HasOwnSet (columns : Columns) (agent : ℕ) (set : ℕ → ℕ) (old new : Counts) : Type 0 where
+  pub alike : AreAlike old new
+  pub own : (k : ℕ) → HasColumn columns agent k → slice_index (counts_of new) k ≡ set (slice_index (counts_of old) k)
+  pub others : (j k : ℕ) → j ≢ agent → HasColumn columns j k → slice_index (counts_of new) k ≡ slice_index (counts_of old) k
+
 -- the row of the action
 abbrev pub AreWhole : Program → Columns → ActionId → List ℕ → Type 0
 AreWhole p columns a row = AreCounts p columns a.agent a.number (slice_index row)
 
--- the row is of the action of a join of the program, and has a count for each column
-pub record IsJoinRow (p : Program) (row : JoinRow) : Type 0 where
-  pub schedule : IsSchedule p row.schedule.now
-  pub columns : AreColumnsOf p row.columns.now
-  pub next : row.n < joins_in row.schedule.now
-  pub of : row.action ≡ next_action row.schedule.now row.n
-  pub width : length (counts_of row.counts.now) ≡ row.columns.now.width
+-- the row is one of these rows, that of the join after n others, and has a count for each column
+pub record IsJoinRow (p : Program) (m : SlotRows) (n : ℕ) (row : Counts) : Type 0 where
+  pub schedule : IsSchedule p m.schedule.now
+  pub columns : AreColumnsOf p m.columns
+  pub next : n < joins_in m.schedule.now
+  pub width : length (counts_of row) ≡ m.columns.width
 
--- it is that of all that the action directly needs, but for the count of each awaited action's own agent
-abbrev pub HasOthers : Program → JoinRow → Type 0
-HasOthers p row = AreOthers p row.columns.now row.action (counts_of row.counts.now)
-
--- it is that of the action
-abbrev pub HasWhole : Program → JoinRow → Type 0
-HasWhole p row = AreWhole p row.columns.now row.action (counts_of row.counts.now)
+-- the rows are of this schedule and these columns, the first n of them are made, and the row can be one of them
+pub record IsPass (p : Program) (s : Schedule) (block : Columns) (m : SlotRows) (n : ℕ) (counts : Counts) : Type 0 where
+  pub schedule : m.schedule.now ≡ s
+  pub columns : m.columns ≡ block
+  pub row : IsRowFor m counts
+  pub rows : AreRowsTo p m n

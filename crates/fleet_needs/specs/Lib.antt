@@ -10,12 +10,13 @@ pub mod Pieces
 pub mod Gather
 pub mod Implied
 pub mod Settled
+pub mod Joins
 pub mod Order
 pub mod Flags
-pub mod Joins
 pub mod Answering
 pub mod Slots
 pub mod Schedule
 pub mod JoinPass
 pub mod Critical
 pub mod CostWalk
+pub mod Keys

@@ -1,47 +1,71 @@
 -- A schedule of rows, and the counts of rows in their slots.
-use Rattle.std.specs.Prelude.{◌≡◌, ◌≢◌, true, ℕ, ◌+◌, ◌-◌, ◌*◌, ◌<◌, ◌≤◌, List, length, slice_index, slice_get, Some}
-use Rattle.fleet_model.specs.declared.program.ActionId.{ActionId}
-use Rattle.fleet_model.specs.Program.{Program, awaits_of, moves}
-use Rattle.fleet_model.specs.Chain.{IsAction, awaited}
+use Rattle.std.specs.Prelude.{◌≡◌, ◌≢◌, true, ℕ, ◌+◌, ◌-◌, ◌*◌, ◌^◌, ◌<◌, ◌≤◌, ◌⊎◌, List, length, slice_index, slice_get, Some}
+use Rattle.fleet_needs.specs.Words.{ActionId, Await, Program, awaits_of, moves, IsAction, awaited}
 use Rattle.fleet_needs.specs.Block.{HasColumn}
 use Rattle.fleet_needs.specs.Columns.{agents_in}
 use Rattle.fleet_needs.specs.Counts.{counts_of, count_from, are_narrow}
-use Rattle.fleet_needs.specs.Joins.{AreJoins, join_at, Takes, StandsFor, HasAllRows, AreRising, AreOwn}
+use Rattle.fleet_needs.specs.Joins.{AreOwn, AreRising, HasAllRows, StandsFor, action_at, base_of, end_of, need_at, rows_of}
+use Rattle.fleet_needs.specs.Order.{IsAwaiting}
 use Rattle.fleet_needs.specs.Rows.{IsColumn}
 use Rattle.fleet_needs.specs.Slots.{IsStill}
 use Rattle.fleet_needs.specs.declared.counts.Counts.{Counts}
 use Rattle.fleet_needs.specs.declared.schedule.Columns.{Columns}
-use Rattle.fleet_needs.specs.declared.joins.Join.{Join}
-use Rattle.fleet_needs.specs.declared.joins.Need.{Need}
+use Rattle.fleet_needs.specs.declared.schedule.Join.{Join}
+use Rattle.fleet_needs.specs.declared.schedule.Joins.{Joins}
+use Rattle.fleet_needs.specs.declared.schedule.Need.{Need}
 use Rattle.fleet_needs.specs.declared.schedule.Schedule.{Schedule}
 use Rattle.fleet_needs.specs.declared.join_pass.SlotRows.{SlotRows}
 
--- the rows of a program: each action that adds a chain has one, and each row is still in its slot whenever it is taken
-pub record IsSchedule (p : Program) (s : Schedule) : Type 0 where
-  pub joins : AreJoins p s.joins.items s.needs.items
-  pub rows : HasAllRows p s.joins.items (IsAction p)
-  pub all : length s.outs.items ≡ length s.joins.items + 1
-  pub within : (r : ℕ) → r ≤ length s.joins.items → slice_index s.outs.items r < s.slots
-  pub still : (n r : ℕ) → n < length s.joins.items → Takes p s.needs.items (join_at s.joins.items n) r → IsStill s.outs.items r n
-  pub rising : AreRising s.joins.items
-  pub own : AreOwn p
-  pub narrow : s.is_narrow ≡ true → (i : ℕ) → i < length p → moves p i ≤ 65535
+-- the actions whose rows it has, in their order
+abbrev pub joins_of : Schedule → List ActionId
+joins_of s = rows_of s.joins
 
--- its joins, one after another
-abbrev pub joins_of : Schedule → List Join
-joins_of s = s.joins.items
-
--- what they need
-abbrev pub needs_of : Schedule → List Need
-needs_of s = s.needs.items
-
--- how many rows it has
+-- how many these are
 abbrev pub joins_in : Schedule → ℕ
-joins_in s = length s.joins.items
+joins_in s = length (joins_of s)
 
 -- the action of the join after n others
 abbrev pub next_action : Schedule → ℕ → ActionId
-next_action s n = (join_at s.joins.items n).action
+next_action s n = action_at (joins_of s) n
+
+-- the join after n others takes row r
+abbrev pub TakesIn : Joins → ℕ → ℕ → Type 0
+TakesIn x n r = (n < length (rows_of x)) × ((r ≡ base_of x n) ⊎ ((place : ℕ) × (end_of x n ≤ place) × (place < end_of x (n + 1)) × (r ≡ (need_at x place).row)))
+
+-- the rows that joins take are listed, and made before
+pub record AreInOrder (x : Joins) : Type 0 where
+  pub few : length (rows_of x) < 2 ^ 32 - 1
+  pub all : length x.ends.items ≡ length (rows_of x) + 1
+  pub within : (n : ℕ) → n < length (rows_of x) → end_of x (n + 1) ≤ length x.awaits.items
+  pub sooner : (n r : ℕ) → TakesIn x n r → r ≤ n
+
+-- a need is that of an await, and its row stands for the awaited action
+pub record IsNeedFor (p : Program) (rows : List ActionId) (w : Await) (x : Need) : Type 0 where
+  pub wait : x.wait ≡ w
+  pub stands : StandsFor p rows x.row w.agent w.count
+
+-- the row after n others, that of action a, is joined of rows that stand for what the action needs
+pub record IsJoinFor (p : Program) (x : Joins) (n : ℕ) (a : ActionId) : Type 0 where
+  pub is : IsAwaiting p a
+  pub base : StandsFor p (rows_of x) (base_of x n) a.agent (a.number - 1)
+  pub count : end_of x (n + 1) ≡ end_of x n + length (awaits_of p a.agent a.number)
+  pub awaits : (k : ℕ) (w : Await) → slice_get (awaits_of p a.agent a.number) k ≡ Some w → IsNeedFor p (rows_of x) w (need_at x (end_of x n + k))
+
+-- each action that adds a chain has a row, and each row is joined so
+pub record AreRows (p : Program) (x : Joins) : Type 0 where
+  pub order : AreInOrder x
+  pub joins : (n : ℕ) → n < length (rows_of x) → IsJoinFor p x n (action_at (rows_of x) n)
+  pub rows : HasAllRows p (rows_of x) (IsAction p)
+  pub rising : AreRising (rows_of x)
+  pub own : AreOwn p
+
+-- .. and each row is still in its slot whenever it is taken
+pub record IsSchedule (p : Program) (s : Schedule) : Type 0 where
+  pub made : AreRows p s.joins
+  pub all : length s.outs.items ≡ joins_in s + 1
+  pub within : (r : ℕ) → r ≤ joins_in s → slice_index s.outs.items r < s.slots
+  pub still : (n r : ℕ) → TakesIn s.joins n r → IsStill s.outs.items r n
+  pub narrow : s.is_narrow ≡ true → (i : ℕ) → i < length p → moves p i ≤ 65535
 
 -- the slot of row r
 abbrev pub slot_of : Schedule → ℕ → ℕ
@@ -62,7 +86,7 @@ AreCounts p columns i n count =
 pub record StandsThere (p : Program) (s : Schedule) (r i n : ℕ) : Type 0 where
   pub agent : i < length p
   pub last : n ≤ moves p i
-  pub stands : StandsFor p s.joins.items r i n
+  pub stands : StandsFor p (joins_of s) r i n
 
 -- the counts, by column, are those of what row r stands for
 abbrev pub AreRowCounts : Program → Schedule → Columns → ℕ → (ℕ → ℕ) → Type 0
@@ -85,24 +109,20 @@ pub record IsRowFor (m : SlotRows) (row : Counts) : Type 0 where
   pub width : length (counts_of row) ≡ m.columns.width
   pub narrow : are_narrow row ≡ m.schedule.now.is_narrow
 
--- row r can be taken after n rows
-pub record IsThere (s : Schedule) (n r : ℕ) : Type 0 where
-  pub made : r ≤ n
-  pub within : n ≤ joins_in s
-  pub still : IsStill s.outs.items r n
-
--- the join after n others, which is made for action a: how many awaits that has, and what the join's base stands for
+-- the join after n others, which is made for action a: where its awaits begin, how many they are, and what the join's
+-- base stands for
 pub record IsNextJoin (p : Program) (s : Schedule) (n : ℕ) (a : ActionId) (j : Join) : Type 0 where
-  pub is : j ≡ join_at s.joins.items n
+  pub of : j.action ≡ next_action s n
+  pub first : j.first ≡ end_of s.joins n
   pub action : IsAction p a
   pub count : j.count ≡ length (awaits_of p a.agent a.number)
   pub some : 1 ≤ j.count
-  pub base : IsThere s n j.base
+  pub base : TakesIn s.joins n j.base
   pub stands : StandsThere p s j.base a.agent (a.number - 1)
 
 -- .. and its need k: for which await that is, and what its row stands for
 pub record IsNextNeed (p : Program) (s : Schedule) (n : ℕ) (a : ActionId) (k : ℕ) (x : Need) : Type 0 where
   pub await : slice_get (awaits_of p a.agent a.number) k ≡ Some x.wait
   pub action : IsAction p (awaited x.wait)
-  pub row : IsThere s n x.row
+  pub row : TakesIn s.joins n x.row
   pub stands : StandsThere p s x.row x.wait.agent x.wait.count

@@ -1,5 +1,5 @@
 -- Awaits for which a few steps back show whether others imply them.
-use Rattle.std.specs.Prelude.{◌≡◌, ◌≢◌, ℕ, ◌<◌, ◌≤◌, ◌⊎◌, Bool, true, false, List, get_or, slice_get, Some, Vec}
+use Rattle.std.specs.Prelude.{◌≡◌, ◌≢◌, ℕ, ◌<◌, ◌⊎◌, Bool, true, false, get_or, slice_get, Some, Vec}
 use Rattle.std.specs.declared.alloc.Global.{Global}
 use Rattle.fleet_needs.specs.Words.{Await, ActionId, Program, awaits_of, awaited}
 use Rattle.fleet_needs.specs.Rows.{action_before, ByBeforeOr}
@@ -8,17 +8,9 @@ use Rattle.fleet_needs.specs.Rows.{action_before, ByBeforeOr}
 abbrev pub IsAsked : Vec Bool Global → ℕ → Type 0
 IsAsked asked j = get_or asked.items j false ≡ true
 
--- each agent that was asked for still is
-abbrev pub AreMoreAsked : List Bool → List Bool → Type 0
-AreMoreAsked old new = (j : ℕ) → get_or old j false ≡ true → get_or new j false ≡ true
-
 -- x reaches the action before a, or what one of its awaits names, but not this one
 abbrev pub ReachesNeed : Program → ActionId → ActionId → ℕ → Type 0
 ReachesNeed p x a but = ByBeforeOr (λ k w. k ≢ but) p x a
-
--- the actions of the agents before this one, and its first ones, so many
-abbrev pub IsUpTo : ℕ → ℕ → ActionId → Type 0
-IsUpTo i n a = (a.agent < i) ⊎ ((a.agent ≡ i) × (a.number ≤ n))
 
 -- steps back from a may show that x reaches it: a is of another agent than x, and its level is greater
 abbrev pub IsOpenTo : (ActionId → ℕ) → ActionId → ActionId → Type 0

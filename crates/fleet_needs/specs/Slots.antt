@@ -1,8 +1,5 @@
 -- Slots for rows, given from the last row back to the first: each row is kept until it was taken for the last time.
 use Rattle.std.specs.Prelude.{◌≡◌, ◌≢◌, ℕ, ◌<◌, ◌≤◌, List, length, get_or, slice_index, Option, Some, None}
-use Rattle.fleet_model.specs.Program.{Program}
-use Rattle.fleet_needs.specs.Joins.{Takes, join_at}
-use Rattle.fleet_needs.specs.declared.joins.Joins.{Joins}
 use Rattle.fleet_needs.specs.declared.schedule.Slots.{Slots}
 
 -- no row after row r, among the first n, was put into its slot
@@ -28,10 +25,6 @@ owner_of m x = get_or m.owners.items x None
 -- row r has a slot
 abbrev pub HasSlotNow : Slots → ℕ → Type 0
 HasSlotNow m r = owner_of m (slot_in m r) ≡ Some r
-
--- the join after k others takes row r
-abbrev pub TakesIn : Program → Joins → ℕ → ℕ → Type 0
-TakesIn p joins k r = (k < length joins.joins.items) × Takes p joins.needs.items (join_at joins.joins.items k) r
 
 -- the rows after the first n have their slots for good, in each of which what is taken stays as long as joins after the
 -- first `from` take it; and what these take of the first n has a slot

@@ -1,11 +1,9 @@
-//! Where actions, awaits and the rows that stand for actions are found in lists of all of a program, which go agent by
-//! agent, action by action. Places count from 0.
+//! Where awaits and the rows that stand for actions are found in lists of all of a program, which go agent by agent,
+//! action by action. Places count from 0.
 
 ghost use Rattle.std.specs.Prelude.{◌≡◌, ◌+◌, ◌<◌, ◌≤◌, length, slice_index, IfOk};
-ghost use Rattle.fleet_model.specs.Program.{awaits_of, moves, total_awaits, total_moves};
-ghost use Rattle.fleet_model.specs.Chain.{IsAction};
-ghost use Rattle.fleet_needs.specs.Implied.{AreAwaitPlaces, first_await};
-ghost use Rattle.fleet_needs.specs.Places.{ArePlaces, action_place, row_place};
+ghost use Rattle.fleet_model.specs.{Program.awaits_of, Program.moves, Program.total_awaits, Chain.IsAction};
+ghost use Rattle.fleet_needs.specs.{Implied.AreAwaitPlaces, Implied.first_await, Places.row_place};
 
 use fleet_model::{ActionId, OutOfMemory, ProgramView, agent_awaits};
 use std::alloc::Global;
@@ -65,45 +63,5 @@ impl AwaitPlaces {
         let before = program.awaits_before(action.agent, action.number);
         let agent = usize::from(action.agent);
         self.firsts[agent] as usize + agent + before as usize
-    }
-}
-
-/// Where the actions of each agent begin among all, which stand agent by agent.
-#[derive(Drop)]
-pub struct ActionPlaces {
-    firsts: Vec<u32>,
-}
-
-impl Model for ActionPlaces {
-    ghost use Rattle.std.specs.Prelude.{List, ℕ};
-
-    ghost Value = { List ℕ };
-
-    ghost view = { λ m. m.firsts.items };
-}
-
-impl ActionPlaces {
-    /// The places of the actions of a program.
-    pub fn of<P: ProgramView>(alloc: Global, program: &P) -> Result<ActionPlaces, OutOfMemory>
-        ensures { IfOk result (ArePlaces (P.program program.now)) }
-    {
-        let agents = program.agents();
-        let mut firsts = Vec::with_capacity(alloc, usize::from(agents))?;
-        let mut total = 0;
-        for i in 0..agents {
-            firsts.push(total)?;
-            total += program.moves(i);
-        }
-        Ok(ActionPlaces { firsts })
-    }
-
-    /// The place of an action of the program. Places count from 0.
-    pub(crate) fn place_of<P: ProgramView>(&self, program: &P, action: ActionId) -> usize
-        requires places { ArePlaces (P.program program.now) self.now }
-        requires action { IsAction (P.program program.now) action }
-        ensures within { result < total_moves (P.program program.now) }
-        ensures place { result ≡ action_place self.now action }
-    {
-        self.firsts[usize::from(action.agent)] as usize + action.number as usize - 1
     }
 }

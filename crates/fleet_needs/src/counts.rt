@@ -1,9 +1,9 @@
-//! The counts of rows, kept in two bytes each if all of a schedule fit in these, and else in four, which are joined
-//! eight at a time.
+//! The counts of rows, kept in two bytes each if all of a schedule fit in these, and else in four. Those of two bytes
+//! are joined in a plain loop, and those of four lane by lane, eight at a time, and then those that are left, one by
+//! one. A lane is a vector of `std::simd`, in a small function of its own, whose proof alone speaks of lanes.
 
 ghost use Rattle.std.specs.Prelude.{◌≡◌, ◌≢◌, ◌+◌, ◌<◌, ◌≤◌, ℕ, length, max, slice_index, IfOk, get_or};
-ghost use Rattle.fleet_needs.specs.Counts.{counts_of, are_narrow, CanHold, AreAlike};
-ghost use Rattle.fleet_needs.specs.Kernels.{AreJoined};
+ghost use Rattle.fleet_needs.specs.{Counts.counts_of, Counts.are_narrow, Counts.CanHold, Counts.AreAlike, Kernels.AreJoined};
 
 use fleet_model::OutOfMemory;
 use std::alloc::Global;

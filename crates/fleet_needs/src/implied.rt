@@ -1,23 +1,16 @@
-//! Awaits that others imply: what is left open of them after a few steps back is flagged by rows.
+//! Awaits that others imply: what is left open of them after a few steps back is flagged by rows, in which the agents
+//! that are asked for alone have a column. An action without a row awaits nothing or has flags that are set already.
 
 ghost use Rattle.std.specs.Prelude.{◌≡◌, ◌<◌, ◌+◌, Some, length, slice_get, IfOk, OnOk};
-ghost use Rattle.fleet_model.specs.declared.program.Await.{Await};
-ghost use Rattle.fleet_model.specs.Program.{AreInRange, awaits_of};
-ghost use Rattle.fleet_model.specs.Chain.{IsAction};
-ghost use Rattle.fleet_needs.specs.Critical.{IsNumberedTo};
-ghost use Rattle.fleet_needs.specs.Implied.{IsImpliedFlag};
-ghost use Rattle.fleet_needs.specs.Joins.{HasRowOr};
-ghost use Rattle.fleet_needs.specs.Schedule.{AreColumnsOf, IsSchedule, joins_of};
-ghost use Rattle.fleet_needs.specs.Columns.{AreColumns};
-ghost use Rattle.fleet_needs.specs.Flags.{AreImplied, AreSet, AreSettled, flags_of, AreFlaggedIn, AreFlaggedTo};
-ghost use Rattle.fleet_needs.specs.JoinPass.{IsJoinRow, HasOthers};
+ghost use Rattle.fleet_model.specs.{declared.program.Await.Await, Program.AreInRange, Program.awaits_of, Chain.IsAction};
+ghost use Rattle.fleet_needs.specs.{Critical.IsNumberedTo, Implied.AreSet, Implied.IsImpliedFlag, Joins.HasRowOr, Schedule.AreColumnsOf, Schedule.IsSchedule, Schedule.joins_of, Schedule.next_action, Counts.counts_of, Columns.AreColumns, Flags.AreImplied, Flags.AreSettled, Flags.flags_of, Flags.AreFlaggedIn, Flags.AreFlaggedTo, JoinPass.AreOthers, JoinPass.IsJoinRow};
 
 use crate::await_places::AwaitPlaces;
 use crate::counts::Counts;
 use crate::critical::CriticalCosts;
-use crate::join_pass::{JoinRow, SlotRows};
+use crate::join_pass::SlotRows;
 use crate::level_order::LevelOrder;
-use crate::schedule::{Blocks, Columns, Schedule};
+use crate::schedule::{Blocks, Columns, Joins, Schedule};
 use crate::settled::{is_any, settle_all};
 use fleet_model::{ActionId, OutOfMemory, ProgramView, total_awaits};
 use std::alloc::Global;
@@ -64,11 +57,12 @@ pub fn implied_awaits<P: ProgramView>(
     if !is_any(&asked) {
         return Ok(implied);
     }
-    let order = LevelOrder::by_levels(alloc, program, &levels, most)?;
-    drop(levels);
-    let schedule = Schedule::of(alloc, program, &order, &implied.flags)?;
+    let order = LevelOrder::by_levels(alloc, program, &levels, &implied.flags)?;
     // The rows need its room.
-    drop(order);
+    drop(levels);
+    let (joins, standing) = Joins::of(alloc, program, order, &implied.flags)?;
+    drop(standing);
+    let schedule = Schedule::of(alloc, program, joins)?;
     flag_all(alloc, program, &schedule, &asked, &mut implied)?;
     Ok(implied)
 }
@@ -117,36 +111,43 @@ fn flag_block<P: ProgramView>(
 {
     let mut row = Counts::zeros(alloc, usize::from(columns.width), schedule.is_narrow)?;
     let mut rows = SlotRows::new(alloc, program, schedule, columns)?;
-    for n in 0..schedule.joins.len() {
+    for n in 0..schedule.rows() {
         rows.join_others(program, n, &mut row);
-        let others = JoinRow::new(schedule, &rows.columns, n, &row);
-        flag_row(program, &others, asked, implied);
+        flag_row(program, &rows, n, &row, asked, implied);
         rows.finish_row(program, n, &mut row);
     }
     Ok(())
 }
 
 /// Flags the awaits of an action whose agents have a column: whether others imply them.
-fn flag_row<P: ProgramView>(program: &P, row: &JoinRow, asked: &[bool], implied: &mut ImpliedAwaits)
+fn flag_row<P: ProgramView>(
+    program: &P,
+    rows: &SlotRows,
+    n: usize,
+    row: &Counts,
+    asked: &[bool],
+    implied: &mut ImpliedAwaits,
+)
     requires range { AreInRange (P.program program.now) }
-    requires row { IsJoinRow (P.program program.now) row.now }
-    requires others { HasOthers (P.program program.now) row.now }
-    requires block { AreColumns asked.now row.now.columns.now.first row.now.columns.now }
+    requires row { IsJoinRow (P.program program.now) rows.now n row.now }
+    requires others { AreOthers (P.program program.now) rows.now.columns
+        (next_action rows.now.schedule.now n) (counts_of row.now) }
+    requires block { AreColumns asked.now rows.now.columns.first rows.now.columns }
     requires flags { AreFlaggedIn (P.program program.now)
-        row.now.schedule.now asked.now row.now.columns.now row.now.n 0 implied.old }
+        rows.now.schedule.now asked.now rows.now.columns n 0 implied.old }
     ensures { AreFlaggedIn (P.program program.now)
-        row.now.schedule.now asked.now row.now.columns.now (row.now.n + 1) 0 implied.new }
+        rows.now.schedule.now asked.now rows.now.columns (n + 1) 0 implied.new }
 {
     let _ = program.agents();
     // Of who is asked for the contract alone speaks.
     let _ = asked;
-    let join = row.schedule.join_after(program, row.n);
+    let join = rows.schedule.join_after(program, n);
     for k in 0..join.count {
-        let wait = row.schedule.need(program, row.n, &join, k).wait;
-        let Some(column) = row.columns.of(wait.agent) else {
+        let wait = rows.schedule.need(program, n, &join, k).wait;
+        let Some(column) = rows.columns.of(wait.agent) else {
             continue;
         };
-        let place = implied.places.first(program, row.action) + usize::from(k);
-        implied.flags[place] = wait.count <= row.counts.get(usize::from(column));
+        let place = implied.places.first(program, join.action) + k;
+        implied.flags[place] = wait.count <= row.get(usize::from(column));
     }
 }

@@ -2,54 +2,13 @@
 //! their slots, and kept in its own slot.
 
 ghost use Rattle.std.specs.Prelude.{◌≡◌, ◌≢◌, ◌+◌, ◌<◌, ℕ, length, max, slice_index, IfOk, ◌-◌, ◌*◌, ◌≤◌, Some};
-ghost use Rattle.fleet_needs.specs.Columns.{agents_in};
-ghost use Rattle.fleet_needs.specs.Block.{HasColumn};
+ghost use Rattle.fleet_needs.specs.{Columns.agents_in, Block.HasColumn, Counts.counts_of, Counts.CanHold, Schedule.IsSchedule, Schedule.AreColumnsOf, Schedule.AreRowsTo, Schedule.IsRowFor, Schedule.joins_in, Schedule.slot_of, Schedule.next_action, JoinPass.AreOthers, JoinPass.AreWhole, JoinPass.HasOwnSet};
 ghost use Rattle.fleet_model.specs.Program.{AreInRange};
-ghost use Rattle.fleet_needs.specs.Counts.{counts_of, CanHold, AreAlike};
-ghost use Rattle.fleet_needs.specs.Schedule.{IsSchedule, AreColumnsOf, AreRowsTo, IsRowFor, joins_in, slot_of, next_action};
-ghost use Rattle.fleet_needs.specs.JoinPass.{AreOthers, AreWhole};
 
 use crate::counts::Counts;
 use crate::schedule::{Columns, Schedule};
-use fleet_model::{ActionId, OutOfMemory, ProgramView};
+use fleet_model::{OutOfMemory, ProgramView};
 use std::alloc::Global;
-
-/// The row of a join as it is made: that of the join after n others, in the columns of a block.
-#[derive(Clone, Copy)]
-pub struct JoinRow<'a> {
-    pub(crate) schedule: &'a Schedule,
-    pub(crate) columns: &'a Columns,
-    pub(crate) n: usize,
-    pub(crate) action: ActionId,
-    pub(crate) counts: &'a Counts,
-}
-
-impl<'a> JoinRow<'a> {
-    /// The row with these counts of the join after n others.
-    pub(crate) fn new(
-        schedule: &'a Schedule,
-        columns: &'a Columns,
-        n: usize,
-        counts: &'a Counts,
-    ) -> JoinRow<'a>
-        requires { n < joins_in schedule.now }
-        ensures { result ≡ record {
-          schedule = schedule.entry;
-          columns = columns.entry;
-          n = n;
-          action = next_action schedule.now n;
-          counts = counts.entry;
-        } }
-    {
-        JoinRow {
-            schedule,
-            columns,
-            n,
-            action: schedule.joins[n].action,
-            counts,
-        }
-    }
-}
 
 /// Raises the count in the agent's own column, if it has one, to the number of an action.
 fn raise_own(columns: &Columns, row: &mut Counts, agent: u16, number: u32)
@@ -57,11 +16,7 @@ fn raise_own(columns: &Columns, row: &mut Counts, agent: u16, number: u32)
     requires within { (j k : ℕ) → HasColumn columns.now j k → k < length (counts_of row.old) }
     requires apart { (i j k : ℕ) → HasColumn columns.now i k → HasColumn columns.now j k → i ≡ j }
     requires hold { CanHold row.old number }
-    ensures alike { AreAlike row.old row.new }
-    ensures own { (k : ℕ) → HasColumn columns.now agent k → slice_index (counts_of row.new) k
-        ≡ max (slice_index (counts_of row.old) k) number }
-    ensures others { (j k : ℕ) → j ≢ agent → HasColumn columns.now j k
-        → slice_index (counts_of row.new) k ≡ slice_index (counts_of row.old) k }
+    ensures { HasOwnSet columns.now agent (λ count. max count number) row.old row.new }
 {
     if let Some(k) = columns.of(agent) {
         let k = usize::from(k);
@@ -77,10 +32,7 @@ fn clear_own(columns: &Columns, row: &mut Counts, agent: u16)
     requires agent { agent < agents_in columns.now }
     requires within { (j k : ℕ) → HasColumn columns.now j k → k < length (counts_of row.old) }
     requires apart { (i j k : ℕ) → HasColumn columns.now i k → HasColumn columns.now j k → i ≡ j }
-    ensures alike { AreAlike row.old row.new }
-    ensures own { (k : ℕ) → HasColumn columns.now agent k → slice_index (counts_of row.new) k ≡ 0 }
-    ensures others { (j k : ℕ) → j ≢ agent → HasColumn columns.now j k
-        → slice_index (counts_of row.new) k ≡ slice_index (counts_of row.old) k }
+    ensures { HasOwnSet columns.now agent (λ count. 0) row.old row.new }
 {
     if let Some(k) = columns.of(agent) {
         row.set(usize::from(k), 0);

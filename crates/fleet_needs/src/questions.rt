@@ -2,20 +2,12 @@
 
 ghost use Rattle.std.specs.Prelude.{◌≡◌, ◌≢◌, ◌+◌, ◌<◌, ◌≤◌, ℕ, length, vec_len, slice_index, All, IfOk, OnOk};
 ghost use Rattle.fleet_model.specs.Program.{AreInRange};
-ghost use Rattle.fleet_needs.specs.Asked.{AreAnswersIn, AreAskedFor, IsAskedFor, IsQuestion};
-ghost use Rattle.fleet_needs.specs.Schedule.{IsSchedule, AreColumnsOf, AreRowCounts, joins_in};
-ghost use Rattle.fleet_needs.specs.Block.{HasItsColumn};
-ghost use Rattle.fleet_needs.specs.Answering.{AreAnsweredFrom, IsAnswering, AreListed, questions_in};
-ghost use Rattle.fleet_needs.specs.Counts.{counts_of};
-ghost use Rattle.fleet_needs.specs.Implied.{AreAwaitPlaces};
-ghost use Rattle.fleet_needs.specs.Joins.{AreOwn, AreStanding, joins_made};
+ghost use Rattle.fleet_needs.specs.{Asked.AreAnswersIn, Asked.AreAskedFor, Asked.IsAskedFor, Asked.IsQuestion, Schedule.IsSchedule, Schedule.AreColumnsOf, Schedule.AreRowCounts, Schedule.joins_in, Block.HasItsColumn, Answering.AreAnsweredFrom, Answering.IsAnswering, Answering.AreListed, Answering.questions_in, Counts.counts_of, Joins.AreOwn, Joins.AreStanding, Joins.rows_of};
 
-use crate::await_places::AwaitPlaces;
 use crate::counts::Counts;
 use crate::join_pass::SlotRows;
-use crate::joins::Joins;
 use crate::level_order::OrderSource;
-use crate::schedule::{Blocks, Columns, Schedule};
+use crate::schedule::{Blocks, Columns, Joins, Schedule, Standing};
 use fleet_model::{ActionId, OutOfMemory, ProgramView};
 use std::alloc::Global;
 
@@ -46,7 +38,10 @@ pub fn answer_questions<P: ProgramView, S: OrderSource + Drop>(
     }
     let asked = asked_agents(alloc, program, questions)?;
     let order = source.order(alloc, program)?;
-    let (schedule, answering) = Schedule::for_questions(alloc, program, order, questions)?;
+    let (joins, standing) = Joins::of(alloc, program, order, &[])?;
+    let answering = Answering::of(alloc, program, &joins, &standing, questions)?;
+    drop(standing);
+    let schedule = Schedule::of(alloc, program, joins)?;
     answer_all(alloc, program, &schedule, &asked, answering)
 }
 
@@ -63,8 +58,7 @@ fn answer_all<P: ProgramView>(
     requires schedule { IsSchedule (P.program program.now) schedule.now }
     requires agents { length asked.now ≡ length (P.program program.now) }
     requires asked { All (IsAskedFor asked.now) (questions_in answering) }
-    requires answers { AreAnsweredFrom (P.program program.now)
-        schedule.now 0 answering }
+    requires answers { AreAnsweredFrom (P.program program.now) schedule.now 0 answering }
     ensures { IfOk result (AreAnswersIn (P.program program.now) (questions_in answering.entry)) }
 {
     let mut answering = answering;
@@ -97,7 +91,7 @@ fn answer_block<P: ProgramView>(
     answering.next = 0;
     answering.answer_row(program, schedule, &columns, &row, 0);
     let mut rows = SlotRows::new(alloc, program, schedule, columns)?;
-    for n in 0..schedule.joins.len() {
+    for n in 0..schedule.rows() {
         rows.join_others(program, n, &mut row);
         rows.finish_row(program, n, &mut row);
         answering.answer_row(program, schedule, &rows.columns, &row, n + 1);
@@ -144,23 +138,24 @@ impl<'a> Answering<'a> {
     pub(crate) fn of<P: ProgramView>(
         alloc: Global,
         program: &P,
-        places: &AwaitPlaces,
         joins: &Joins,
+        standing: &Standing,
         questions: &'a [Question],
     ) -> Result<Answering<'a>, OutOfMemory>
-        requires places { AreAwaitPlaces (P.program program.now) places.now }
-        requires joins { AreStanding (P.program program.now) joins.now }
+        requires standing { AreStanding (P.program program.now) (rows_of joins.now) standing.now }
         requires questions { All (IsQuestion (P.program program.now)) questions.now }
         ensures questions { IfOk result (λ m. questions_in m ≡ questions.now) }
-        ensures listed { IfOk result (AreListed (P.program program.now) (joins_made joins.now)) }
+        ensures listed { IfOk result (AreListed (P.program program.now) (rows_of joins.now)) }
     {
+        // Of the rows the contract alone speaks.
+        let _ = joins;
         let count = questions.len();
         if count > u32::MAX as usize {
             return Err(OutOfMemory);
         }
         let mut rows = Vec::with_capacity(alloc, count)?;
         for k in 0..count {
-            let row = joins.row_of(program, places, questions[k].last);
+            let row = standing.row_of(program, questions[k].last);
             let place = k as u32;
             rows.push(RowQuestion { row, place })?;
         }

@@ -1,28 +1,18 @@
-//! A schedule of rows, made once for all blocks of columns: which rows are made, in which order, of which rows each is
-//! joined, the slot in which it is kept, and the columns of the blocks, one block after another.
+//! A schedule of rows, made once for all blocks of columns: which rows are made, in which order, which stand for other
+//! actions, of which rows each is joined, the slot in which it is kept, and the columns of the blocks, one after another.
 
-ghost use Rattle.std.specs.Prelude.{◌≡◌, ◌↔◌, ◌+◌, ◌<◌, ◌≤◌, ℕ, true, All, length, IfOk, OnOk, MatchOption};
-ghost use Rattle.fleet_model.specs.declared.limits.TheConstants.{MAX_AGENTS};
-ghost use Rattle.fleet_model.specs.Program.{AreInRange, moves};
-ghost use Rattle.fleet_model.specs.Chain.{IsAction};
-ghost use Rattle.fleet_needs.specs.Asked.{IsQuestion};
-ghost use Rattle.fleet_needs.specs.Joins.{AreAllJoins, HasRowOr, join_at, joins_made, rows_made};
-ghost use Rattle.fleet_needs.specs.Flags.{AreSet, AreSure};
-ghost use Rattle.fleet_needs.specs.Order.{IsLevelOrder};
-ghost use Rattle.fleet_needs.specs.Answering.{AreListed, questions_in};
-ghost use Rattle.fleet_needs.specs.Schedule.{IsSchedule, IsNextJoin, IsNextNeed, joins_of, joins_in, next_action};
-ghost use Rattle.fleet_needs.specs.Slots.{AreSlotted, HasSlotNow, IsFree, IsHeld, TakesIn, rows_in};
-ghost use Rattle.fleet_needs.specs.Columns.{AreColumns, IsNextBlock, agents_in, column_of};
+ghost use Rattle.std.specs.Prelude.{◌≡◌, ◌↔◌, ◌+◌, ◌++◌, ◌<◌, ◌≤◌, All, List, ℕ, true, length, vec_len, IfOk, OnOk, MatchOption};
+ghost use Rattle.fleet_model.specs.{declared.limits.TheConstants.MAX_AGENTS, declared.program.ActionId.ActionId, Program.AreInRange, Program.moves, Chain.IsAction, Chain.awaited};
+ghost use Rattle.fleet_needs.specs.{Implied.AreAwaitPlaces, Implied.AreSet, Joins.AreAllListed, Joins.AreListedTo, Joins.AreStanding, Joins.HasAllRows, Joins.HasRoom, Joins.HasRowOr, Joins.IsFilled, Joins.IsUpToLast, Joins.action_at, Joins.base_of, Joins.end_of, Joins.need_at, Joins.need_for, Joins.needs_in, Joins.needs_of, Joins.row_of, Joins.rows_of, Keys.need_of_key, Order.AreKeys, Order.IsAwaiting, Order.IsLevelOrder, Order.named_in, Schedule.AreInOrder, Schedule.AreRows, Schedule.IsSchedule, Schedule.IsNextJoin, Schedule.IsNextNeed, Schedule.TakesIn, Schedule.joins_in, Schedule.next_action, Slots.AreSlotted, Slots.IsFree, Slots.IsHeld, Slots.rows_in, Columns.AreColumns, Columns.IsNextBlock, Columns.agents_in, Columns.column_of};
 
-use crate::joins::{Join, Joins, Need, joins_of, need_of};
-use crate::level_order::LevelOrder;
-use crate::questions::{Answering, Question};
-use fleet_model::{MAX_AGENTS, OutOfMemory, ProgramView};
+use crate::await_places::AwaitPlaces;
+use crate::level_order::{LevelOrder, action_in, key_of, value_in};
+use fleet_model::{ActionId, Await, MAX_AGENTS, OutOfMemory, ProgramView, total_awaits};
 use std::alloc::Global;
 use std::marker::Model;
 
-/// There is room for so many counts of rows at once, of four bytes each, or twice as many of two: 3 MiB.
-const COUNTS: u32 = 786_432;
+/// There is room for so many counts of rows at once, of four bytes each, or twice as many of two: 2.5 MiB.
+const COUNTS: u32 = 655_360;
 
 /// The least number of columns of a block.
 const LEAST_COLUMNS: u32 = 8;
@@ -31,12 +21,180 @@ const LEAST_COLUMNS: u32 = 8;
 /// it may have is a multiple of this.
 const WHOLE_COLUMNS: u32 = 16;
 
+/// A row that is made: that of an action, joined of the row that stands for the agent's action before (`base`) and of
+/// those that stand for the actions that it awaits. Rows count from 1, in the order in which they are made; row 0 is
+/// that of no action.
+#[derive(Clone, Copy)]
+pub(crate) struct Join {
+    pub(crate) action: ActionId,
+    pub(crate) base: u32,
+    /// Where its awaits begin.
+    first: usize,
+    /// How many awaits the action has, at least one.
+    pub(crate) count: usize,
+}
+
+/// What a join needs by one await: the row that stands for the action that is waited for.
+#[derive(Clone, Copy)]
+pub(crate) struct Need {
+    pub(crate) row: u32,
+    pub(crate) wait: Await,
+}
+
+/// The need of which a key says the row, beside the action that is waited for.
+fn need_in(key: u64) -> Need
+    ensures { result ≡ need_of_key key }
+{
+    let ActionId { agent, number } = action_in(key);
+    Need {
+        row: value_in(key),
+        wait: Await {
+            agent,
+            count: number,
+        },
+    }
+}
+
 /// The rows of a program: those of the actions that add a chain, each after all rows that it is joined of.
 #[derive(Drop)]
+pub(crate) struct Joins {
+    /// For each row a key: its action, and beside it the row that stands for the agent's action before.
+    keys: Vec<u64>,
+    /// A key for each await of these actions, one row after another: the awaited action, and beside it the row that
+    /// stands for it.
+    awaits: Vec<u64>,
+    /// Where the awaits of each row end, from row 0 on, which has none.
+    ends: Vec<u32>,
+}
+
+impl Joins {
+    /// The rows of a program whose actions have this order, and which of them stand for the actions. Those may be
+    /// passed in it whose awaits are flagged in `implied`.
+    pub(crate) fn of<P: ProgramView>(
+        alloc: Global,
+        program: &P,
+        order: LevelOrder,
+        implied: &[bool],
+    ) -> Result<(Joins, Standing), OutOfMemory>
+        requires range { AreInRange (P.program program.now) }
+        requires order { IsLevelOrder (P.program program.now) implied.now order }
+        ensures rows { IfOk result (λ made. AreRows (P.program program.now) made.0) }
+        ensures standing { IfOk result (λ made.
+            AreStanding (P.program program.now) (rows_of made.0) made.1) }
+        ensures passed { IfOk result (λ made. HasRowOr (AreSet (P.program program.now) implied.now)
+            (P.program program.now) (rows_of made.0) (IsAction (P.program program.now))) }
+    {
+        // Of what is flagged the contract alone speaks.
+        let _ = implied;
+        let mut order = order;
+        order.sort();
+        let LevelOrder { places, keys } = order;
+        if keys.len() >= u32::MAX as usize {
+            return Err(OutOfMemory);
+        }
+        let standing = Standing::of(alloc, program, places, &keys)?;
+        let joins = Joins::listed(alloc, program, &standing, keys)?;
+        Ok((joins, standing))
+    }
+
+    /// The rows of the actions that these keys name, with what they are joined of.
+    fn listed<P: ProgramView>(
+        alloc: Global,
+        program: &P,
+        standing: &Standing,
+        keys: Vec<u64>,
+    ) -> Result<Joins, OutOfMemory>
+        requires range { AreInRange (P.program program.now) }
+        requires room { HasRoom (P.program program.now) standing.now }
+        requires keys { AreKeys (P.program program.now) keys }
+        ensures { IfOk result (AreAllListed (P.program program.now) (named_in keys) standing.now) }
+    {
+        let count = keys.len();
+        let mut joins = Joins {
+            keys,
+            awaits: Vec::with_capacity(alloc, total_awaits(program) as usize)?,
+            ends: Vec::with_capacity(alloc, count + 1)?,
+        };
+        joins.ends.push(0)?;
+        for n in 0..count {
+            joins.list(program, standing, n)?;
+        }
+        Ok(joins)
+    }
+
+    /// Lists what the row after n others is joined of: the row for the action before, and those for its awaits.
+    fn list<P: ProgramView>(
+        &mut self,
+        program: &P,
+        standing: &Standing,
+        n: usize,
+    ) -> Result<(), OutOfMemory>
+        requires range { AreInRange (P.program program.now) }
+        requires room { HasRoom (P.program program.now) standing.now }
+        requires within { n < length (rows_of self.old) }
+        requires keys { All (IsAwaiting (P.program program.now)) (rows_of self.old) }
+        requires listed { AreListedTo
+            (P.program program.now) (rows_of self.old) standing.now n self.old }
+        ensures { OnOk result (AreListedTo
+            (P.program program.now) (rows_of self.old) standing.now (n + 1) self.new) }
+    {
+        let _ = program.agents();
+        let action = named(program, &self.keys, n);
+        let before = ActionId {
+            agent: action.agent,
+            number: action.number - 1,
+        };
+        self.keys[n] = key_of(action, standing.row_of(program, before));
+        standing.list_awaits(program, action, &mut self.awaits)?;
+        let end = self.awaits.len();
+        if end > u32::MAX as usize {
+            return Err(OutOfMemory);
+        }
+        self.ends.push(end as u32)?;
+        Ok(())
+    }
+
+    /// The row for the action before that the one after n others is joined of.
+    fn base(&self, n: usize) -> u32
+        requires { n < length (rows_of self.now) }
+        ensures { result ≡ base_of self.now n }
+    {
+        value_in(self.keys[n])
+    }
+
+    /// Where the awaits of row n end.
+    fn end(&self, n: usize) -> usize
+        requires { n < vec_len self.now.ends }
+        ensures { result ≡ end_of self.now n }
+    {
+        self.ends[n] as usize
+    }
+
+    /// What is needed by the await at a place.
+    fn need(&self, place: usize) -> Need
+        requires { place < vec_len self.now.awaits }
+        ensures { result ≡ need_at self.now place }
+    {
+        need_in(self.awaits[place])
+    }
+}
+
+/// The action that a key names, in the order of these keys.
+fn named<P: ProgramView>(program: &P, keys: &Vec<u64>, n: usize) -> ActionId
+    requires keys { AreKeys (P.program program.now) keys.now }
+    requires within { n < length (named_in keys.now) }
+    ensures at { result ≡ action_at (named_in keys.now) n }
+    ensures is { IsAwaiting (P.program program.now) result }
+{
+    // Of the program the contract alone speaks.
+    let _ = program;
+    action_in(keys[n])
+}
+
+/// The rows of a program, with the slots in which they are kept.
+#[derive(Drop)]
 pub struct Schedule {
-    pub(crate) joins: Vec<Join>,
-    /// For each await of the joins what it needs.
-    pub(crate) needs: Vec<Need>,
+    joins: Joins,
     /// For each row, from row 0 on, its slot.
     pub(crate) outs: Vec<u32>,
     /// How many slots there are.
@@ -46,95 +204,84 @@ pub struct Schedule {
 }
 
 impl Schedule {
-    /// The schedule of a program, in which an action of one await alone has no row if that is known to be implied:
-    /// `implied` has flags of awaits, some of those that others imply, by their places; or it is empty.
+    /// The schedule of these rows.
     pub(crate) fn of<P: ProgramView>(
-        alloc: Global,
-        program: &P,
-        order: &LevelOrder,
-        implied: &[bool],
-    ) -> Result<Schedule, OutOfMemory>
-        requires range { AreInRange (P.program program.now) }
-        requires order { IsLevelOrder (P.program program.now) order.now }
-        requires sure { AreSure (P.program program.now) implied.now }
-        ensures schedule { IfOk result (IsSchedule (P.program program.now)) }
-        ensures passed { IfOk result (λ s. HasRowOr (AreSet (P.program program.now) implied.now)
-            (P.program program.now) (joins_of s) (IsAction (P.program program.now))) }
-    {
-        let joins = joins_of(alloc, program, order, implied)?;
-        Schedule::of_joins(alloc, program, joins)
-    }
-
-    /// The schedule of a program whose actions have this order, and the questions by the rows that stand for their
-    /// last actions.
-    pub(crate) fn for_questions<'a, P: ProgramView>(
-        alloc: Global,
-        program: &P,
-        order: LevelOrder,
-        questions: &'a [Question],
-    ) -> Result<(Schedule, Answering<'a>), OutOfMemory>
-        requires range { AreInRange (P.program program.now) }
-        requires order { IsLevelOrder (P.program program.now) order }
-        requires questions { All (IsQuestion (P.program program.now)) questions.now }
-        ensures schedule { IfOk result (λ made. IsSchedule (P.program program.now) made.0) }
-        ensures questions { IfOk result (λ made. questions_in made.1 ≡ questions.now) }
-        ensures listed { IfOk result (λ made.
-            AreListed (P.program program.now) (joins_of made.0) made.1) }
-    {
-        let joins = joins_of(alloc, program, &order, &[])?;
-        let answering = Answering::of(alloc, program, &order.places, &joins, questions)?;
-        // The slots need its room.
-        drop(order);
-        let schedule = Schedule::of_joins(alloc, program, joins)?;
-        Ok((schedule, answering))
-    }
-
-    /// The schedule of these joins.
-    fn of_joins<P: ProgramView>(
         alloc: Global,
         program: &P,
         joins: Joins,
     ) -> Result<Schedule, OutOfMemory>
-        requires { AreAllJoins (P.program program.now) joins }
+        requires { AreRows (P.program program.now) joins }
         ensures schedule { IfOk result (IsSchedule (P.program program.now)) }
-        ensures joins { IfOk result (λ s. joins_of s ≡ joins_made joins) }
+        ensures joins { IfOk result (λ s. s.joins ≡ joins) }
     {
-        let slots = slots_of(alloc, program, &joins)?;
+        let rows = joins.keys.len();
+        let mut slots = Slots {
+            outs: vec![in alloc; 0; rows + 1]?,
+            owners: Vec::new(alloc),
+            free: Vec::new(alloc),
+        };
+        for n in (0..rows).rev() {
+            slots.settle(&joins, n)?;
+        }
+        slots.hold(0)?;
         let count = slots.owners.len();
         if count > u32::MAX as usize {
             return Err(OutOfMemory);
         }
         Ok(Schedule {
-            joins: joins.joins,
-            needs: joins.needs,
+            joins,
             outs: slots.outs,
             slots: count as u32,
             is_narrow: is_narrow(program),
         })
     }
 
+    /// How many rows are made.
+    pub(crate) fn rows(&self) -> usize
+        ensures { result ≡ joins_in self.now }
+    {
+        self.joins.keys.len()
+    }
+
+    /// The action of the join after n others.
+    pub(crate) fn action(&self, n: usize) -> ActionId
+        requires { n < joins_in self.now }
+        ensures { result ≡ next_action self.now n }
+    {
+        action_in(self.joins.keys[n])
+    }
+
     /// The join after n others.
-    #[tactic(auto, using(crate::proofs::RowsMade::next_join))]
     pub(crate) fn join_after<P: ProgramView>(&self, program: &P, n: usize) -> Join
         requires schedule { IsSchedule (P.program program.now) self.now }
         requires within { n < joins_in self.now }
         ensures { IsNextJoin (P.program program.now) self.now n (next_action self.now n) result }
     {
-        self.joins[n]
+        // Of the program the contract alone speaks.
+        let _ = program;
+        let first = self.joins.end(n);
+        Join {
+            action: self.action(n),
+            base: self.joins.base(n),
+            first,
+            count: self.joins.end(n + 1) - first,
+        }
     }
 
     /// Need `k` of the join after n others.
-    pub(crate) fn need<P: ProgramView>(&self, program: &P, n: usize, join: &Join, k: u16) -> Need
+    pub(crate) fn need<P: ProgramView>(&self, program: &P, n: usize, join: &Join, k: usize) -> Need
         requires range { AreInRange (P.program program.now) }
         requires schedule { IsSchedule (P.program program.now) self.now }
         requires within { n < joins_in self.now }
         requires join { IsNextJoin (P.program program.now)
             self.now n (next_action self.now n) join.now }
         requires place { k < join.now.count }
-        ensures { IsNextNeed (P.program program.now)
-            self.now n (next_action self.now n) k result }
+        ensures { IsNextNeed (P.program program.now) self.now n (next_action self.now n) k result }
     {
-        need_of(&self.needs, join, k)
+        // Of the program, and of how many rows are made, the contract alone speaks.
+        let _ = program;
+        let _ = n;
+        self.joins.need(join.first + k)
     }
 
     /// How many columns a block has at most: as many as there is room for in all slots, but at least 8, and no more
@@ -167,6 +314,111 @@ fn is_narrow<P: ProgramView>(program: &P) -> bool
     true
 }
 
+/// For each action of a program the row that stands for it.
+#[derive(Drop)]
+pub(crate) struct Standing {
+    places: AwaitPlaces,
+    /// By the place of an action among rows, one more than its row.
+    rows: Vec<u32>,
+}
+
+impl Model for Standing {
+    ghost use Rattle.fleet_needs.specs.Joins.{RowTable};
+
+    ghost Value = { RowTable };
+
+    ghost view = { λ m. record { places = m.places; rows = m.rows.items } };
+}
+
+impl Standing {
+    /// The rows that stand for the actions, if those have rows that these keys name, in their order.
+    fn of<P: ProgramView>(
+        alloc: Global,
+        program: &P,
+        places: AwaitPlaces,
+        keys: &Vec<u64>,
+    ) -> Result<Standing, OutOfMemory>
+        requires places { AreAwaitPlaces (P.program program.now) places }
+        requires keys { AreKeys (P.program program.now) keys.now }
+        requires few { vec_len keys.now < u32.MAX }
+        requires rows { HasAllRows (P.program program.now) (named_in keys.now)
+            (IsAction (P.program program.now)) }
+        ensures { IfOk result (AreStanding (P.program program.now) (named_in keys.now)) }
+    {
+        let agents = usize::from(program.agents());
+        let mut rows = vec![in alloc; 0; total_awaits(program) as usize + agents]?;
+        // Row 0 stands before the first action of each agent.
+        for n in 0..agents + keys.len() {
+            let is_none = n < agents;
+            let place = if is_none {
+                let agent = n as u16;
+                places.row_place(program, ActionId { agent, number: 0 })
+            } else {
+                places.row_place(program, named(program, keys, n - agents))
+            };
+            let row = (n + 1).saturating_sub(agents);
+            rows[place] = row as u32 + 1;
+        }
+        fill(&mut rows);
+        Ok(Standing { places, rows })
+    }
+
+    /// The row that stands for an action, or, with the number 0, for none of its agent.
+    pub(crate) fn row_of<P: ProgramView>(&self, program: &P, action: ActionId) -> u32
+        requires room { HasRoom (P.program program.now) self.now }
+        requires action { IsUpToLast (P.program program.now) action }
+        ensures { result ≡ row_of (P.program program.now) self.now action }
+    {
+        self.rows[self.places.row_place(program, action)].saturating_sub(1)
+    }
+
+    /// The key of what is needed by a wait for an action.
+    fn key_for<P: ProgramView>(&self, program: &P, wait: Await) -> u64
+        requires room { HasRoom (P.program program.now) self.now }
+        requires action { IsAction (P.program program.now) (awaited wait) }
+        ensures { need_of_key result ≡ need_for (P.program program.now) self.now wait }
+    {
+        let _ = program.agents();
+        let action = ActionId {
+            agent: wait.agent,
+            number: wait.count,
+        };
+        key_of(action, self.row_of(program, action))
+    }
+
+    /// Lists the keys of what the action needs by its awaits.
+    fn list_awaits<P: ProgramView>(
+        &self,
+        program: &P,
+        action: ActionId,
+        keys: &mut Vec<u64>,
+    ) -> Result<(), OutOfMemory>
+        requires range { AreInRange (P.program program.now) }
+        requires room { HasRoom (P.program program.now) self.now }
+        requires action { IsAction (P.program program.now) action }
+        ensures { OnOk result (needs_in keys.new
+            ≡ needs_in keys.old ++ needs_of (P.program program.now) self.now action) }
+    {
+        for k in 0..program.await_count(action.agent, action.number) {
+            let wait = program.await_at(action.agent, action.number, k);
+            keys.push(self.key_for(program, wait))?;
+        }
+        Ok(())
+    }
+}
+
+/// Gives to each place that has 0 what the one before has.
+fn fill(noted: &mut Vec<u32>)
+    ensures all { vec_len noted.new ≡ vec_len noted.old }
+    ensures filled { (x : ℕ) → x < vec_len noted.old → IsFilled noted.old noted.new x }
+{
+    for place in 1..noted.len() {
+        if noted[place] == 0 {
+            noted[place] = noted[place - 1];
+        }
+    }
+}
+
 /// Slots for rows, which are given from the last row back to the first: what takes a row is made after it, so a row
 /// that has no slot yet when another takes it is taken there for the last time. Row 0 is never made: it has one from
 /// the beginning on.
@@ -180,60 +432,26 @@ pub(crate) struct Slots {
     free: Vec<u32>,
 }
 
-/// The slots of all rows.
-fn slots_of<P: ProgramView>(alloc: Global, program: &P, joins: &Joins) -> Result<Slots, OutOfMemory>
-    requires { AreAllJoins (P.program program.now) joins.now }
-    ensures all { IfOk result (λ m. rows_in m ≡ rows_made joins.now + 1) }
-    ensures slotted { IfOk result (AreSlotted (TakesIn (P.program program.now) joins.now) 0 0) }
-    ensures none { IfOk result (λ m. HasSlotNow m 0) }
-{
-    let rows = joins.joins.len();
-    if rows > u32::MAX as usize {
-        return Err(OutOfMemory);
-    }
-    let mut slots = Slots {
-        outs: vec![in alloc; 0; rows + 1]?,
-        owners: Vec::new(alloc),
-        free: Vec::new(alloc),
-    };
-    for n in (0..rows).rev() {
-        slots.settle(program, joins, n, &joins.joins[n])?;
-    }
-    slots.hold(0)?;
-    Ok(slots)
-}
-
 impl Slots {
     /// Gives a slot to the row of the join after n others, if no later one took it, and frees the slot: before the row
     /// is made another one may have it. Then gives slots to the rows that the join takes.
-    fn settle<P: ProgramView>(
-        &mut self,
-        program: &P,
-        joins: &Joins,
-        n: usize,
-        join: &Join,
-    ) -> Result<(), OutOfMemory>
-        requires joins { AreAllJoins (P.program program.now) joins.now }
-        requires within { n < rows_made joins.now }
-        requires join { join.now ≡ join_at (joins_made joins.now) n }
-        requires few { rows_made joins.now ≤ u32.MAX }
-        requires rows { rows_in self.old ≡ rows_made joins.now + 1 }
-        requires slotted { AreSlotted (TakesIn (P.program program.now) joins.now)
-            (n + 1) (n + 1) self.old }
+    fn settle(&mut self, joins: &Joins, n: usize) -> Result<(), OutOfMemory>
+        requires order { AreInOrder joins.now }
+        requires within { n < length (rows_of joins.now) }
+        requires rows { rows_in self.old ≡ length (rows_of joins.now) + 1 }
+        requires slotted { AreSlotted (TakesIn joins.now) (n + 1) (n + 1) self.old }
         ensures rows { OnOk result (rows_in self.new ≡ rows_in self.old) }
-        ensures slotted { OnOk result (AreSlotted (TakesIn (P.program program.now) joins.now)
-            n n self.new) }
+        ensures slotted { OnOk result (AreSlotted (TakesIn joins.now) n n self.new) }
     {
-        // Of the program the contract alone speaks.
-        let _ = program;
         self.hold(n as u32 + 1)?;
         let slot = self.outs[n + 1];
         self.owners[slot as usize] = None;
         self.free.push(slot)?;
-        self.hold(join.base)?;
-        for k in 0..join.count {
-            let need = need_of(&joins.needs, join, k);
-            self.hold(need.row)?;
+        self.hold(joins.base(n))?;
+        let first = joins.end(n);
+        let end = joins.end(n + 1);
+        for x in first..end {
+            self.hold(joins.need(x).row)?;
         }
         Ok(())
     }
@@ -243,22 +461,14 @@ impl Slots {
         requires { row < rows_in self.old }
         ensures { OnOk result (IsHeld row self.old self.new) }
     {
-        if self.is_held(row) {
+        let held = self.outs[row as usize] as usize;
+        if held < self.owners.len() && self.owners[held] == Some(row) {
             return Ok(());
         }
         let slot = self.take_free()?;
         self.owners[slot as usize] = Some(row);
         self.outs[row as usize] = slot;
         Ok(())
-    }
-
-    /// Whether the row has a slot.
-    fn is_held(&self, row: u32) -> bool
-        requires { row < rows_in self.now }
-        ensures { (result ≡ true) ↔ HasSlotNow self.now row }
-    {
-        let slot = self.outs[row as usize] as usize;
-        slot < self.owners.len() && self.owners[slot] == Some(row)
     }
 
     /// A slot that no row has, which is new if no free one is left.

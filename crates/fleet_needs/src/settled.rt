@@ -3,12 +3,8 @@
 //! asked for, and once most agents are, it is looked back less, the less the shorter rows are.
 
 ghost use Rattle.std.specs.Prelude.{◌≡◌, ◌↔◌, ◌+◌, ◌<◌, ◌≤◌, ℕ, true, false, [], length, vec_len, take, get_or, slice_get, Some, IfOk, ◌⊎◌, None, IsTrue};
-ghost use Rattle.fleet_model.specs.Program.{AreInRange, awaits_of, total_awaits};
-ghost use Rattle.fleet_model.specs.Chain.{IsAction, Reaches};
-ghost use Rattle.fleet_needs.specs.Flags.{AreSettledBy, AreSettledTo};
-ghost use Rattle.fleet_needs.specs.Implied.{first_await};
-ghost use Rattle.fleet_needs.specs.Critical.{AreLevels, critical_cost};
-ghost use Rattle.fleet_needs.specs.Settled.{IsAsked, ReachesNeed, IsOpenTo, HasOpenNeed};
+ghost use Rattle.fleet_model.specs.{Program.AreInRange, Program.awaits_of, Program.total_awaits, Chain.IsAction, Chain.Reaches};
+ghost use Rattle.fleet_needs.specs.{Flags.AreSettledBy, Flags.AreSettledTo, Implied.first_await, Critical.AreLevels, Critical.critical_cost, Settled.IsAsked, Settled.ReachesNeed, Settled.IsOpenTo, Settled.HasOpenNeed};
 
 use crate::critical::CriticalCosts;
 use crate::implied::ImpliedAwaits;
@@ -37,8 +33,7 @@ pub fn settle_all<P: ProgramView>(
 ) -> Result<Vec<bool>, OutOfMemory>
     requires levels { AreLevels (P.program program.now) levels.now }
     requires flags { AreSettledTo (P.program program.now) [] 0 implied.old }
-    ensures agents { IfOk result (λ asked. vec_len asked ≡ length (P.program program.now)) }
-    ensures settled { IfOk result (λ asked. AreSettledBy (P.program program.now)
+    ensures { IfOk result (λ asked. AreSettledBy (P.program program.now)
         asked (total_awaits (P.program program.now)) implied.new) }
 {
     let agents = program.agents();
@@ -79,11 +74,9 @@ fn settle_agent<P: ProgramView>(
 )
     requires levels { AreLevels (P.program program.now) levels.now }
     requires agent { agent < length (P.program program.now) }
-    requires asked { vec_len asked.old ≡ length (P.program program.now) }
     requires settled { AreSettledBy (P.program program.now) asked.old
         (total_awaits (take agent (P.program program.now))) implied.old }
-    ensures asked { vec_len asked.new ≡ vec_len asked.old }
-    ensures settled { AreSettledBy (P.program program.now) asked.new
+    ensures { AreSettledBy (P.program program.now) asked.new
         (total_awaits (take (agent + 1) (P.program program.now))) implied.new }
 {
     for finished in 0..program.moves(agent) {
@@ -105,20 +98,17 @@ fn settle_action<P: ProgramView>(
 )
     requires levels { AreLevels (P.program program.now) levels.now }
     requires action { IsAction (P.program program.now) action }
-    requires asked { vec_len asked.old ≡ length (P.program program.now) }
     requires settled { AreSettledBy (P.program program.now) asked.old
         (first_await (P.program program.now) action) implied.old }
-    ensures asked { vec_len asked.new ≡ vec_len asked.old }
-    ensures settled { AreSettledBy (P.program program.now) asked.new
-        (first_await (P.program program.now) action
-        + length (awaits_of (P.program program.now) action.agent action.number)) implied.new }
+    ensures { AreSettledBy (P.program program.now) asked.new (first_await (P.program program.now)
+        (record { agent = action.agent; number = action.number + 1 })) implied.new }
 {
     let _ = program.agents();
     let awaits = program.await_count(action.agent, action.number);
     if awaits == 0 {
         return;
     }
-    let first = implied.places.first(program, action);
+    let place = implied.places.first(program, action);
     let latest = latest_await(program, levels, action);
     let other = awaited_at(program, action, latest);
     let mut from = 0;
@@ -129,10 +119,14 @@ fn settle_action<P: ProgramView>(
         let known = if is_passed {
             Some(true)
         } else {
+            let first = Start {
+                action: awaited,
+                level: levels.cost(program, awaited),
+            };
             let mut steps = looks;
-            reaches_need(program, levels, awaited, action, k, &mut steps)
+            reaches_need(program, levels, &first, action, k, &mut steps)
         };
-        implied.flags[first + usize::from(k)] = known.unwrap_or(false);
+        implied.flags[place + usize::from(k)] = known.unwrap_or(false);
         ask_if(known.is_none(), awaited.agent, asked);
     }
 }
@@ -210,29 +204,38 @@ fn awaited_at<P: ProgramView>(program: &P, action: ActionId, k: u16) -> ActionId
     }
 }
 
+/// The action with which a chain is to begin, and its level.
+#[derive(Clone, Copy)]
+struct Start {
+    action: ActionId,
+    level: u64,
+}
+
 /// Whether a chain of needs begins with the first action and ends with the last, if so many steps back from the last
 /// show it. `steps` is one less after each step.
 #[cycle(reaches)]
+#[tactic(auto, using(crate::proofs::Settling::no_is_not_yes, crate::proofs::Settling::yes_is_not_no))]
 fn reaches<P: ProgramView>(
     program: &P,
     levels: &CriticalCosts,
-    first: ActionId,
+    first: &Start,
     last: ActionId,
     steps: &mut u8,
 ) -> Option<bool>
     requires levels { AreLevels (P.program program.now) levels.now }
-    requires first { IsAction (P.program program.now) first }
+    requires first { IsAction (P.program program.now) first.now.action }
+    requires level { first.now.level ≡ critical_cost levels.now first.now.action }
     requires last { IsAction (P.program program.now) last }
-    ensures yes { result ≡ Some true → Reaches (P.program program.now) first last }
-    ensures no { result ≡ Some false → Reaches (P.program program.now) first last → ⊥ }
-    ensures open { result ≡ None → IsOpenTo (critical_cost levels.now) first last }
+    ensures yes { result ≡ Some true → Reaches (P.program program.now) first.now.action last }
+    ensures no { result ≡ Some false → Reaches (P.program program.now) first.now.action last → ⊥ }
+    ensures open { result ≡ None → IsOpenTo (critical_cost levels.now) first.now.action last }
     ensures fewer { steps.new ≤ steps.old }
 {
-    let is_own = last.agent == first.agent;
+    let is_own = last.agent == first.action.agent;
     if is_own {
-        return Some(first.number <= last.number);
+        return Some(first.action.number <= last.number);
     }
-    if levels.cost(program, last) <= levels.cost(program, first) {
+    if levels.cost(program, last) <= first.level {
         return Some(false);
     }
     let no_await = program.await_count(last.agent, last.number);
@@ -247,21 +250,25 @@ fn reaches<P: ProgramView>(
 /// await `but`, if so many steps back from them show it. `steps` is one less after each step.
 #[cycle(reaches)]
 #[inline(always)]
+#[tactic(auto, using(crate::proofs::Settling::no_is_not_yes, crate::proofs::Settling::yes_is_not_no))]
 fn reaches_need<P: ProgramView>(
     program: &P,
     levels: &CriticalCosts,
-    first: ActionId,
+    first: &Start,
     action: ActionId,
     but: u16,
     steps: &mut u8,
 ) -> Option<bool>
     requires levels { AreLevels (P.program program.now) levels.now }
-    requires first { IsAction (P.program program.now) first }
+    requires first { IsAction (P.program program.now) first.now.action }
+    requires level { first.now.level ≡ critical_cost levels.now first.now.action }
     requires action { IsAction (P.program program.now) action }
-    ensures yes { result ≡ Some true → ReachesNeed (P.program program.now) first action but }
-    ensures no { result ≡ Some false → ReachesNeed (P.program program.now) first action but → ⊥ }
-    ensures open { result ≡ None
-        → HasOpenNeed (P.program program.now) (critical_cost levels.now) first action but }
+    ensures yes { result ≡ Some true
+        → ReachesNeed (P.program program.now) first.now.action action but }
+    ensures no { result ≡ Some false
+        → ReachesNeed (P.program program.now) first.now.action action but → ⊥ }
+    ensures open { result ≡ None → HasOpenNeed (P.program program.now)
+        (critical_cost levels.now) first.now.action action but }
     ensures fewer { steps.new ≤ steps.old }
 {
     let mut known = true;
@@ -277,25 +284,17 @@ fn reaches_need<P: ProgramView>(
         }
     }
     let is_first = action.number <= 1;
-    if is_first {
-        return join_answers(known, Some(false));
-    }
-    let before = ActionId {
-        agent: action.agent,
-        number: action.number - 1,
+    let own = if is_first {
+        Some(false)
+    } else {
+        let before = ActionId {
+            agent: action.agent,
+            number: action.number - 1,
+        };
+        reaches(program, levels, first, before, steps)
     };
-    let own = reaches(program, levels, first, before, steps);
-    join_answers(known, own)
-}
-
-/// The answer for all of some actions, by that for one of them: no only if it is `known` that it is no for the others.
-fn join_answers(known: bool, one: Option<bool>) -> Option<bool>
-    ensures yes { result ≡ Some true → one ≡ Some true }
-    ensures no { result ≡ Some false → (known ≡ true) × (one ≡ Some false) }
-    ensures open { result ≡ None → (known ≡ false) ⊎ (one ≡ None) }
-{
-    match one {
+    match own {
         Some(false) if !known => None,
-        _ => one,
+        _ => own,
     }
 }

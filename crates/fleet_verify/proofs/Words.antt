@@ -60,7 +60,7 @@ pub use Rattle.fleet_model.specs.declared.task.Task.{Task}
 pub use Rattle.fleet_needs.proofs.Costing.{one_cost, own_cost, IsBound, bound_of, bound_on}
 pub use Rattle.fleet_needs.specs.Asked.{AreAnswers, IsQuestion}
 pub use Rattle.fleet_needs.specs.Critical.{IsNumberedTo, critical_cost}
-pub use Rattle.fleet_needs.specs.Order.{IsOrderTo, levels_in, IsLevelOrder}
+pub use Rattle.fleet_needs.specs.Order.{IsOrderTo, IsLevelOrder}
 pub use Rattle.fleet_needs.specs.declared.questions.Question.{Question}
 pub use Rattle.fleet_text.proofs.SinkLemmas.{gathers_err, gathers_then, lists_with_spaces, passed_element, passed_words, stops_before, stops_within_element, stops_within_more, stops_within_words, takes_err, takes_rest}
 pub use Rattle.fleet_text.specs.Row.{PassesOn}

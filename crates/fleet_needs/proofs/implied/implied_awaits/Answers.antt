@@ -11,16 +11,16 @@ pub returns-then-not-is_any : goal.returns-then-not-is_any
 returns-then-not-is_any g c = flagged_if_none (g.P.ProgramView.program c.args.program.now) c.in_ok-asked.asked.items c.settle_all.new.implied
     (λ j. ap (λ (xs : List Bool). get_or xs j false) (sym c.deref.ensures.value) ∙ c.is_any.ensures.0 c.if-not-is_any.true j) c.in_ok-asked.ensures.settled
 
-pub of-requires-2-clause-sure : goal.of-requires-2-clause-sure
-of-requires-2-clause-sure g c =
+pub by_levels-requires-clause-sure : goal.by_levels-requires-clause-sure
+by_levels-requires-clause-sure g c =
     let p = g.P.ProgramView.program c.args.program.now in
     subst (AreSure p) (sym c.deref-2.ensures.value) (sure_of p c.in_ok-asked.asked.items c.settle_all.new.implied c.in_ok-asked.ensures.settled)
 
 pub flag_all-requires-clause-settled : goal.flag_all-requires-clause-settled
 flag_all-requires-clause-settled g c =
-    subst (λ (xs : List Bool). AreSettled (g.P.ProgramView.program c.args.program.now) xs c.settle_all.new.implied) (sym c.deref-3.ensures.value) c.in_ok-asked.ensures.settled
+    subst (λ (xs : List Bool). AreSettled (g.P.ProgramView.program c.args.program.now) xs c.settle_all.new.implied) (sym c.deref-4.ensures.value) c.in_ok-asked.ensures.settled
 
 pub flag_all-requires-clause-passed : goal.flag_all-requires-clause-passed
 flag_all-requires-clause-passed g c =
     let p = g.P.ProgramView.program c.args.program.now in
-    subst (λ (xs : List Bool). HasRowOr (AreSet p xs) p (joins_of c.in_ok-schedule.schedule) (IsAction p)) c.deref-2.ensures.value c.in_ok-schedule.ensures.passed
+    subst (λ (xs : List Bool). HasRowOr (AreSet p xs) p (joins_of c.in_ok-schedule.schedule) (IsAction p)) c.deref-3.ensures.value (rw c.in_ok-schedule.ensures.joins c.in_ok-joins.ensures.passed)

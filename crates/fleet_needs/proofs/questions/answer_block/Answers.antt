@@ -1,10 +1,9 @@
-use Rattle.fleet_needs.proofs.Words.{slice_index, arith, counts_of}
-use Rattle.fleet_needs.proofs.Answered.{answered_after, none_counts}
-use Rattle.fleet_needs.proofs.RowsMade.{made_counts}
+use Rattle.fleet_needs.proofs.Words.{slice_index, refl, arith, counts_of, inl, inr}
+use Rattle.fleet_needs.proofs.{Answered.answered_after, RowsMade.counts_none, RowsMade.made_counts}
 use Rattle.fleet_needs.proofs.questions.answer_block.Goals as goal
 
 pub answer_row-requires-clause-counts : goal.answer_row-requires-clause-counts
-answer_row-requires-clause-counts g c = none_counts (g.P.ProgramView.program c.args.program.now) c.args.schedule.now c.args.columns (slice_index (counts_of c.in_ok-row.row)) c.in_ok-row.ensures.zeros
+answer_row-requires-clause-counts g c = λ i n stands. counts_none (g.P.ProgramView.program c.args.program.now) c.args.schedule.now c.args.columns 0 i n stands (slice_index (counts_of c.in_ok-row.row)) refl c.in_ok-row.ensures.zeros
 
 pub answer_row-requires-in-loop-n-clause-counts : goal.answer_row-requires-in-loop-n-clause-counts
 answer_row-requires-in-loop-n-clause-counts g c =
@@ -12,4 +11,18 @@ answer_row-requires-in-loop-n-clause-counts g c =
 
 pub returns-clause-answers : goal.returns-clause-answers
 returns-clause-answers g c =
-    answered_after (g.P.ProgramView.program c.args.program.now) c.args.schedule.now c.args.columns c.loop-n.answering c.loop-n.n (omega (arith, c.loop-n-test.false, c.len-n-end.ensures)) c.loop-n.invariant.answers
+    answered_after (g.P.ProgramView.program c.args.program.now) c.args.schedule.now c.args.columns c.loop-n.answering c.loop-n.n (omega (arith, c.loop-n-test.false, c.rows-n-end.ensures)) c.loop-n.invariant.answers
+
+pub answer_row-requires-clause-answers : goal.answer_row-requires-clause-answers
+answer_row-requires-clause-answers g c =
+    let was = c.requires.answers in
+    let listed = was.listed in
+    record {
+      block = c.requires.block;
+      answers = record {
+        questions = was.questions;
+        listed = record { each = listed.each; all = listed.all; sorted = listed.sorted; flags = listed.flags };
+        told = λ n l. elim (was.told n l) [ inl from ↦ inl (from, inr (omega arith)) | inr it ↦ inr it ];
+      };
+      due = λ n from l. omega arith;
+    }

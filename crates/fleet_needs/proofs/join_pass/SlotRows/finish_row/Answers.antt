@@ -13,7 +13,7 @@ loop-k-preserved g c =
     let need = c.need.ensures in
     record {
       row = row_alike m c.loop-k.row c.raise_own.new.row c.raise_own.ensures.alike c.loop-k.invariant.row;
-      own = own_next (g.P.ProgramView.program c.args.program.now) m.columns (next_action m.schedule.now c.args.n) c.loop-k.k c.need.result.wait need.await (counts_of c.loop-k.row) (counts_of c.raise_own.new.row) c.requires.rows.schedule.own need.action
+      own = own_next (g.P.ProgramView.program c.args.program.now) m.columns (next_action m.schedule.now c.args.n) c.loop-k.k c.need.result.wait need.await (counts_of c.loop-k.row) (counts_of c.raise_own.new.row) c.requires.rows.schedule.made.own need.action
           c.raise_own.ensures.own c.raise_own.ensures.others c.loop-k.invariant.own;
     }
 
@@ -30,8 +30,8 @@ returns g c =
     let join = c.join_after-join.ensures in
     let whole : c.loop-k.k ≡ length (awaits_of p a.agent a.number) = omega (arith, c.loop-k-test.false, join.count, c.loop-k.auto.k-end) in
     let row = row_alike m c.loop-k.row c.clear_own.new.row c.clear_own.ensures.alike c.loop-k.invariant.row in
-    let made = own_last p m.columns a (counts_of c.loop-k.row) (counts_of c.clear_own.new.row) join.action (subst (λ (n : ℕ). AreOwnTo p m.columns a n (counts_of c.loop-k.row)) whole c.loop-k.invariant.own) (rw join.is at c.clear_own.ensures.own)
-    (rw join.is at c.clear_own.ensures.others) in
+    let made = own_last p m.columns a (counts_of c.loop-k.row) (counts_of c.clear_own.new.row) join.action (subst (λ (n : ℕ). AreOwnTo p m.columns a n (counts_of c.loop-k.row)) whole c.loop-k.invariant.own) (rw join.of at c.clear_own.ensures.own)
+    (rw join.of at c.clear_own.ensures.others) in
     record {
       schedule = refl;
       columns = refl;

@@ -1,5 +1,5 @@
 use Rattle.fleet_needs.proofs.Words.{◌≡◌, ◌+◌, ◌<◌, length, refl, sym, subst, ap, ◌∙◌, arith, inl, inr, get_or_read, get_or-set_same, get_or-set_other, length-set, false, slice_index, counts_of, HasColumn, IsAnswer, IsAnswering, listed_at, no_question, question_of, unlisted, Answering, Question, RowQuestion}
-use Rattle.fleet_needs.proofs.Answered.{answer_is, asked_column, next_is, row_counts, told_on}
+use Rattle.fleet_needs.proofs.Answered.{answer_is, next_is, row_counts, told_on}
 use Rattle.fleet_needs.proofs.questions.Answering.answer_row.Goals.{in-Some, in_default}
 use Rattle.fleet_needs.proofs.questions.Answering.answer_row.Goals as goal
 
@@ -24,8 +24,7 @@ loop-self-preserved g c =
       answers = elim c.match-of.branch [
         | in-Some w ↦
             let has : HasColumn columns q.first.agent w.in-Some.k = sym c.of.ensures ∙ w.in-Some.is in
-            let right = answer_is p q w.count_for-count.result is.number
-            (asked_column p columns q count c.requires.own is counts w.in-Some.k has w.count_for-count.result w.count_for-count.ensures.own (λ ne. w.count_for-count.ensures.other ne ∙ ap count w.from.ensures)) in
+            let right = answer_is p columns q count c.requires.own is counts w.in-Some.k has w.count_for-count.result w.count_for-count.ensures.own (λ ne. w.count_for-count.ensures.other ne ∙ ap count w.from.ensures) in
             subst (λ (y : Answering). IsAnswering p s columns c.args.number (record { questions = y.questions; rows = y.rows; flags = y.flags; next = y.next + 1 })) (sym w.self-is)
             (told_on p s columns m c.args.number h within x at of _ (length-set m.flags.items x.place _) (λ k ne. get_or-set_other m.flags.items x.place k _ false ne)
             (inl (subst (IsAnswer p q) (sym (get_or-set_same m.flags.items x.place _ false (omega (arith, low, h.answers.listed.flags)))) right)))

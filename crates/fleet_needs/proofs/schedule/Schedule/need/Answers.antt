@@ -1,9 +1,10 @@
-use Rattle.fleet_needs.proofs.Words.{◌∙◌, ap, arith, need_of, Join}
+use Rattle.fleet_needs.proofs.Words.{◌≡◌, ◌+◌, ap, arith, ◌∙◌, end_of, need_at}
 use Rattle.fleet_needs.proofs.RowsMade.{next_need}
 use Rattle.fleet_needs.proofs.schedule.Schedule.need.Goals as goal
 
 pub returns : goal.returns
 returns g c =
     let s = c.args.self.now in
-    next_need (g.P.ProgramView.program c.args.program.now) s c.requires.schedule c.args.n c.requires.within c.requires.range c.args.k (omega (arith, c.requires.place, c.requires.join.count)) c.need_of.result
-    (rw c.deref.ensures.value at c.need_of.ensures ∙ ap (λ (j : Join). need_of s.needs.items j c.args.k) c.requires.join.is)
+    let join = c.requires.join in
+    let same : c.args.join.now.first + c.args.k ≡ end_of s.joins c.args.n + c.args.k = omega (arith, join.first) in
+    next_need (g.P.ProgramView.program c.args.program.now) s c.requires.schedule c.args.n c.requires.within c.requires.range c.args.k (omega (arith, join.count, c.requires.place)) c.need.result (c.need.ensures ∙ ap (need_at s.joins) same)

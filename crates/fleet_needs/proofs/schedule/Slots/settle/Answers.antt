@@ -1,46 +1,50 @@
-use Rattle.fleet_needs.proofs.Words.{◌≡◌, ◌+◌, arith, ◌∙◌, ap, refl, inl, inr, subst, cases_lt, row_taken, HasSlotNow, TakesIn, Need}
-use Rattle.fleet_needs.proofs.Counting.{count_read}
-use Rattle.fleet_needs.proofs.Slotting.{base_sooner, held_on, join_settled, need_sooner, row_ended}
+use Rattle.fleet_needs.proofs.Words.{◌+◌, ℕ, arith, ◌∙◌, ap, inl, inr, refl, subst, cases_lt, HasSlotNow, Need, TakesIn, need_at}
+use Rattle.fleet_needs.proofs.{Counting.count_read, Slotting.held_on, Slotting.join_settled, Slotting.row_ended}
 use Rattle.fleet_needs.proofs.schedule.Slots.settle.Goals as goal
 
-pub loop-k-init : goal.loop-k-init
-loop-k-init g c =
-    let p = g.P.ProgramView.program c.args.program.now in
-    let m = c.args.joins.now in
+pub hold-requires-2 : goal.hold-requires-2
+hold-requires-2 c = omega (arith, c.base.ensures, c.requires.order.sooner c.args.n _ (c.requires.within, inl refl), c.in_ok-hold.ensures.rows, c.requires.rows, c.requires.within)
+
+pub loop-x-init : goal.loop-x-init
+loop-x-init c =
+    let s = c.args.joins.now in
+    let n = c.args.n in
     let mid = c.hold.new.self in
-    let read = count_read mid.outs.items (c.args.n + 1) (c.args.n + 1) c.index-slot.result.now refl (omega (arith, c.requires.within, c.requires.rows, c.in_ok-hold.ensures.rows)) c.index-slot.ensures in
-    let ended = row_ended (TakesIn p m) c.args.n c.args.self.now mid c.in_ok-hold.ensures c.push.new.self c.index-slot.result.now read c.requires.slotted in
+    let slot = count_read mid.outs.items (n + 1) (n + 1) c.index-slot.result.now refl (omega (arith, c.requires.within, c.requires.rows, c.in_ok-hold.ensures.rows)) c.index-slot.ensures in
+    let h = c.in_ok-hold-2.ensures in
     record {
-      rows = c.in_ok-hold-2.ensures.rows ∙ c.in_ok-hold.ensures.rows;
-      slotted = held_on (TakesIn p m) (c.args.n + 1) c.args.n c.args.join.now.base _ c.hold-2.new.self (base_sooner p m c.requires.joins c.args.n c.requires.within c.args.join.now c.requires.join) c.in_ok-hold-2.ensures ended;
-      base = c.in_ok-hold-2.ensures.here;
-      each = λ k l. absurd (omega arith);
+      rows = h.rows ∙ c.in_ok-hold.ensures.rows;
+      slotted = held_on (TakesIn s) (n + 1) n c.base.result _ c.hold-2.new.self (omega (arith, c.base.ensures, c.requires.order.sooner n _ (c.requires.within, inl refl))) h (row_ended (TakesIn s) n c.args.self.now mid c.in_ok-hold.ensures c.push.new.self c.index-slot.result.now slot c.requires.slotted);
+      base = subst (HasSlotNow c.hold-2.new.self) c.base.ensures h.here;
+      each = λ y from less. absurd (omega (arith, from, less, c.end-first.ensures));
     }
 
-pub loop-k-preserved : goal.loop-k-preserved
-loop-k-preserved g c =
-    let p = g.P.ProgramView.program c.args.program.now in
-    let m = c.args.joins.now in
-    let j = c.args.join.now in
-    let k = c.loop-k.k in
-    let new = c.hold-in-loop-k.new.self in
+pub hold-requires-in-loop-x : goal.hold-requires-in-loop-x
+hold-requires-in-loop-x c =
+    let low = c.requires.order.sooner c.args.n _ (c.requires.within, inr (c.loop-x.x, omega (arith, c.loop-x.auto.x, c.end-first.ensures), omega (arith, c.loop-x-test.true, c.end-end.ensures), refl)) in
+    omega (arith, ap (λ (y : Need). y.row) c.need.ensures, low, c.loop-x.invariant.rows, c.requires.rows, c.requires.within)
+
+pub loop-x-preserved : goal.loop-x-preserved
+loop-x-preserved c =
+    let s = c.args.joins.now in
+    let n = c.args.n in
+    let x : ℕ = c.loop-x.x in
+    let low = c.requires.order.sooner n _ (c.requires.within, inr (x, omega (arith, c.loop-x.auto.x, c.end-first.ensures), omega (arith, c.loop-x-test.true, c.end-end.ensures), refl)) in
+    let is = ap (λ (y : Need). y.row) c.need.ensures in
+    let new = c.hold-in-loop-x.new.self in
     let h = c.in_ok-hold-3.ensures in
-    let was = c.loop-k.invariant in
-    let row = ap (λ (x : Need). x.row) (rw c.deref.ensures.value at c.need_of-need.ensures) in
-    let low = need_sooner p m c.requires.joins c.args.n c.requires.within j c.requires.join k (omega (arith, c.loop-k-test.true)) in
+    let was = c.loop-x.invariant in
     record {
       rows = h.rows ∙ was.rows;
-      slotted = held_on (TakesIn p m) (c.args.n + 1) c.args.n c.need_of-need.result.row c.loop-k.self new (omega (arith, row, low)) h was.slotted;
-      base = (h.kept j.base was.base).0;
-      each = λ i l. elim (cases_lt i k) [
-        | inl less ↦ (h.kept (row_taken m.needs.items j i) (was.each i less)).0
-        | inr more ↦
-            let e : c.need_of-need.result.row ≡ row_taken m.needs.items j i = row ∙ ap (row_taken m.needs.items j) (let e : k ≡ i = omega (arith, l, more) in e) in
-            subst (HasSlotNow new) e h.here
+      slotted = held_on (TakesIn s) (n + 1) n c.need.result.row c.loop-x.self new (omega (arith, is, low)) h was.slotted;
+      base = (h.kept _ was.base).0;
+      each = λ y first last. elim (cases_lt y x) [
+        | inl sooner ↦ (h.kept _ (was.each y first sooner)).0
+        | inr later ↦ subst (HasSlotNow new) (is ∙ ap (λ (z : ℕ). (need_at s z).row) (omega (arith, later, last))) h.here
       ];
     }
 
 pub returns-clause-slotted : goal.returns-clause-slotted
-returns-clause-slotted g c =
-    join_settled (g.P.ProgramView.program c.args.program.now) c.args.joins.now c.requires.joins c.args.n c.requires.within c.args.join.now c.requires.join c.loop-k.self c.loop-k.invariant.base
-    (λ k l. c.loop-k.invariant.each k (omega (arith, l, c.loop-k-test.false))) c.loop-k.invariant.slotted
+returns-clause-slotted c =
+    let was = c.loop-x.invariant in
+    join_settled c.args.joins.now c.args.n c.loop-x.self was.base (λ y from less. was.each y from (omega (arith, less, c.loop-x-test.false, c.end-end.ensures))) was.slotted

@@ -14,13 +14,6 @@ pub record AreFilledTo (n : ℕ) (old new : Vec ℕ Global) : Type 0 where
   pub inside : (x : ℕ) → x < n → IsFilled old new x
   pub after : (x : ℕ) → n ≤ x → slice_index new.items x ≡ slice_index old.items x
 
-pub filled_first : (old : Vec ℕ Global) → AreFilledTo 1 old old
-filled_first old = record {
-  all = refl;
-  inside = λ x less. record { from = x; upto = omega arith; same = refl; some = λ more. absurd (omega (arith, less, more)); none = λ y more le. absurd (omega (arith, more, le)) };
-  after = λ x from. refl;
-}
-
 -- one place more: it has what it had, or else what the one before has
 pub filled_more : (old mid new : Vec ℕ Global) (x : ℕ) → 1 ≤ x → length new.items ≡ length mid.items → ((y : ℕ) → y ≢ x → slice_index new.items y ≡ slice_index mid.items y) → ((slice_index new.items x ≡ slice_index mid.items x) × (1 ≤ slice_index mid.items x)) ⊎ ((slice_index new.items x ≡ slice_index mid.items (x - 1)) × (slice_index mid.items x ≡ 0))
     → AreFilledTo x old mid → AreFilledTo (x + 1) old new

@@ -1,11 +1,13 @@
 -- Questions in the order of their rows: those that are answered so far.
-use Rattle.std.specs.Prelude.{◌≡◌, ◌⊎◌, ℕ, ◌<◌, ◌≤◌, false, All, List, length, get_or}
+use Rattle.std.specs.Prelude.{◌≡◌, ◌⊎◌, ℕ, ◌<◌, ◌≤◌, false, All, List, length, get_or, slice_index}
 use Rattle.std.specs.List.Sorted.{IsNonDecreasingBy}
 use Rattle.fleet_needs.specs.Words.{ActionId, Program}
 use Rattle.fleet_needs.specs.Asked.{IsQuestion}
 use Rattle.fleet_needs.specs.Block.{HasItsColumn, IsAnswer}
 use Rattle.fleet_needs.specs.Joins.{StandsFor}
-use Rattle.fleet_needs.specs.Schedule.{joins_of}
+use Rattle.fleet_needs.specs.Schedule.{joins_of, AreRowCounts}
+use Rattle.fleet_needs.specs.Counts.{counts_of}
+use Rattle.fleet_needs.specs.declared.counts.Counts.{Counts}
 use Rattle.fleet_needs.specs.declared.questions.Answering.{Answering}
 use Rattle.fleet_needs.specs.declared.questions.Question.{Question}
 use Rattle.fleet_needs.specs.declared.questions.RowQuestion.{RowQuestion}
@@ -59,6 +61,11 @@ pub record AreAnsweredBut (p : Program) (s : Schedule) (Left : ℕ → Question 
 abbrev pub AreAnsweredFrom : Program → Schedule → ℕ → Answering → Type 0
 AreAnsweredFrom p s from m = AreAnsweredBut p s (λ n q. from ≤ q.first.agent) m
 
+-- they are still the same questions
+pub record HasAnswered (p : Program) (s : Schedule) (from : ℕ) (old new : Answering) : Type 0 where
+  pub answers : AreAnsweredFrom p s from new
+  pub same : questions_in new ≡ questions_in old
+
 -- in a block of columns those are left that are of a later block, or are still to come
 abbrev pub IsToCome : Columns → ℕ → ℕ → Question → Type 0
 IsToCome columns next n q = (columns.first ≤ q.first.agent) × ((columns.end ≤ q.first.agent) ⊎ (next ≤ n))
@@ -68,3 +75,8 @@ pub record IsAnswering (p : Program) (s : Schedule) (columns : Columns) (row : �
   pub block : All (HasItsColumn columns) (questions_in m)
   pub answers : AreAnsweredBut p s (IsToCome columns m.next) m
   pub due : (n : ℕ) → m.next ≤ n → n < length m.rows.items → row ≤ (listed_at m n).row
+
+-- the row with this number, in these columns
+pub record IsRowAt (p : Program) (s : Schedule) (columns : Columns) (number : ℕ) (row : Counts) : Type 0 where
+  pub width : length (counts_of row) ≡ columns.width
+  pub counts : AreRowCounts p s columns number (slice_index (counts_of row))

@@ -1,12 +1,20 @@
 -- Awaits for which a few steps back show whether others imply them.
-use Rattle.std.specs.Prelude.{◌≡◌, ◌≢◌, ℕ, ◌<◌, ◌⊎◌, Bool, true, false, get_or, slice_get, Some, Vec}
+use Rattle.std.specs.Prelude.{◌≡◌, ◌≢◌, ℕ, ◌<◌, ◌⊎◌, Bool, List, true, false, get_or, slice_get, Some, Vec}
 use Rattle.std.specs.declared.alloc.Global.{Global}
-use Rattle.fleet_needs.specs.Words.{Await, ActionId, Program, awaits_of, awaited}
+use Rattle.fleet_needs.specs.Words.{Await, ActionId, Program, IsAction, awaits_of, awaited}
 use Rattle.fleet_needs.specs.Rows.{action_before, ByBeforeOr}
+use Rattle.fleet_needs.specs.Critical.{AreLevels, Finished, critical_cost}
+use Rattle.fleet_needs.specs.declared.settled.Start.{Start}
 
 -- agent j is asked for
 abbrev pub IsAsked : Vec Bool Global → ℕ → Type 0
 IsAsked asked j = get_or asked.items j false ≡ true
+
+-- what a look back goes by: the levels of the program, and an action of it with its level
+pub record IsLook (p : Program) (costs : List Finished) (first : Start) : Type 0 where
+  pub levels : AreLevels p costs
+  pub action : IsAction p first.action
+  pub level : first.level ≡ critical_cost costs first.action
 
 -- x reaches the action before a, or what one of its awaits names, but not this one
 abbrev pub ReachesNeed : Program → ActionId → ActionId → ℕ → Type 0

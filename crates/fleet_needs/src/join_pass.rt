@@ -2,7 +2,7 @@
 //! their slots, and kept in its own slot.
 
 ghost use Rattle.std.specs.Prelude.{◌≡◌, ◌≢◌, ◌+◌, ◌<◌, ℕ, length, max, slice_index, IfOk, ◌-◌, ◌*◌, ◌≤◌, Some};
-ghost use Rattle.fleet_needs.specs.{Columns.agents_in, Block.HasColumn, Counts.counts_of, Counts.CanHold, Schedule.IsSchedule, Schedule.AreColumnsOf, Schedule.AreRowsTo, Schedule.IsRowFor, Schedule.joins_in, Schedule.slot_of, Schedule.next_action, JoinPass.AreOthers, JoinPass.AreWhole, JoinPass.HasOwnSet};
+ghost use Rattle.fleet_needs.specs.{Columns.agents_in, Block.HasColumn, Counts.counts_of, Counts.CanHold, Schedule.IsSchedule, Schedule.AreColumnsOf, Schedule.AreRowsTo, Schedule.IsRowFor, Schedule.joins_in, Schedule.slot_of, Schedule.next_action, JoinPass.AreOthers, JoinPass.AreWhole, JoinPass.HasOwnSet, JoinPass.IsPass};
 ghost use Rattle.fleet_model.specs.Program.{AreInRange};
 
 use crate::counts::Counts;
@@ -113,17 +113,15 @@ impl<'a> SlotRows<'a> {
     /// Makes the row of the action of what `join_others` has left in `row`, and keeps it in its slot.
     pub(crate) fn finish_row<P: ProgramView>(&mut self, program: &P, n: usize, row: &mut Counts)
         requires range { AreInRange (P.program program.now) }
-        requires rows { AreRowsTo (P.program program.now) self.old n }
+        requires pass { IsPass (P.program program.now)
+            self.old.schedule.now self.old.columns self.old n row.old }
         requires next { n < joins_in self.old.schedule.now }
-        requires row { IsRowFor self.old row.old }
         requires others { AreOthers (P.program program.now) self.old.columns
             (next_action self.old.schedule.now n) (counts_of row.old) }
-        ensures schedule { self.new.schedule ≡ self.old.schedule }
-        ensures columns { self.new.columns ≡ self.old.columns }
-        ensures row { IsRowFor self.new row.new }
+        ensures pass { IsPass (P.program program.now)
+            self.old.schedule.now self.old.columns self.new (n + 1) row.new }
         ensures made { AreWhole (P.program program.now) self.old.columns
             (next_action self.old.schedule.now n) (counts_of row.new) }
-        ensures rows { AreRowsTo (P.program program.now) self.new (n + 1) }
     {
         let join = self.schedule.join_after(program, n);
         for k in 0..join.count {

@@ -2,7 +2,7 @@
 
 ghost use Rattle.std.specs.Prelude.{◌≡◌, ◌≢◌, ◌+◌, ◌<◌, ◌≤◌, ℕ, length, vec_len, slice_index, All, IfOk, OnOk};
 ghost use Rattle.fleet_model.specs.Program.{AreInRange};
-ghost use Rattle.fleet_needs.specs.{Asked.AreAnswersIn, Asked.AreAskedFor, Asked.IsAskedFor, Asked.IsQuestion, Schedule.IsSchedule, Schedule.AreColumnsOf, Schedule.AreRowCounts, Schedule.joins_in, Block.HasItsColumn, Answering.AreAnsweredFrom, Answering.IsAnswering, Answering.AreListed, Answering.questions_in, Counts.counts_of, Joins.AreOwn, Joins.AreStanding, Joins.rows_of};
+ghost use Rattle.fleet_needs.specs.{Asked.AreAnswersIn, Asked.AreAskedFor, Asked.IsAskedFor, Asked.IsQuestion, Schedule.IsSchedule, Schedule.AreColumnsOf, Schedule.joins_in, Block.HasItsColumn, Answering.AreAnsweredFrom, Answering.HasAnswered, Answering.IsAnswering, Answering.IsRowAt, Answering.AreListed, Answering.questions_in, Counts.counts_of, Joins.AreOwn, Joins.AreStanding, Joins.rows_of};
 
 use crate::counts::Counts;
 use crate::join_pass::SlotRows;
@@ -83,9 +83,8 @@ fn answer_block<P: ProgramView>(
     requires block { All (HasItsColumn columns) (questions_in answering.old) }
     requires answers { AreAnsweredFrom (P.program program.now)
         schedule.now columns.first answering.old }
-    ensures answers { OnOk result (AreAnsweredFrom (P.program program.now)
-        schedule.now columns.end answering.new) }
-    ensures same { OnOk result (questions_in answering.new ≡ questions_in answering.old) }
+    ensures { OnOk result (HasAnswered (P.program program.now)
+        schedule.now columns.end answering.old answering.new) }
 {
     let mut row = Counts::zeros(alloc, usize::from(columns.width), schedule.is_narrow)?;
     answering.next = 0;
@@ -179,9 +178,7 @@ impl<'a> Answering<'a> {
     )
         requires own { AreOwn (P.program program.now) }
         requires columns { AreColumnsOf (P.program program.now) columns.now }
-        requires row { length (counts_of row.now) ≡ columns.now.width }
-        requires counts { AreRowCounts (P.program program.now)
-            schedule.now columns.now number (slice_index (counts_of row.now)) }
+        requires row { IsRowAt (P.program program.now) schedule.now columns.now number row.now }
         requires answers { IsAnswering (P.program program.now)
             schedule.now columns.now number self.old }
         ensures answers { IsAnswering (P.program program.now)

@@ -4,7 +4,7 @@
 
 ghost use Rattle.std.specs.Prelude.{◌≡◌, ◌↔◌, ◌+◌, ◌<◌, ◌≤◌, ℕ, true, false, [], length, vec_len, take, get_or, slice_get, Some, IfOk, ◌⊎◌, None, IsTrue};
 ghost use Rattle.fleet_model.specs.{Program.AreInRange, Program.awaits_of, Program.total_awaits, Chain.IsAction, Chain.Reaches};
-ghost use Rattle.fleet_needs.specs.{Flags.AreSettledBy, Flags.AreSettledTo, Implied.first_await, Critical.AreLevels, Critical.critical_cost, Settled.IsAsked, Settled.ReachesNeed, Settled.IsOpenTo, Settled.HasOpenNeed};
+ghost use Rattle.fleet_needs.specs.{Flags.AreSettledBy, Flags.AreSettledTo, Implied.first_await, Critical.AreLevels, Critical.critical_cost, Settled.IsAsked, Settled.IsLook, Settled.ReachesNeed, Settled.IsOpenTo, Settled.HasOpenNeed};
 
 use crate::critical::CriticalCosts;
 use crate::implied::ImpliedAwaits;
@@ -167,8 +167,10 @@ fn is_needed<P: ProgramView>(program: &P, first: ActionId, action: ActionId, fro
     let count = program.await_count(action.agent, action.number);
     while *from < count {
         let needed = program.await_at(action.agent, action.number, *from);
-        if needed.agent >= first.agent {
-            return needed.agent == first.agent && first.number <= needed.count;
+        let is_at_agent = needed.agent >= first.agent;
+        if is_at_agent {
+            let is_of_agent = needed.agent == first.agent;
+            return is_of_agent && first.number <= needed.count;
         }
         *from += 1;
     }
@@ -222,9 +224,7 @@ fn reaches<P: ProgramView>(
     last: ActionId,
     steps: &mut u8,
 ) -> Option<bool>
-    requires levels { AreLevels (P.program program.now) levels.now }
-    requires first { IsAction (P.program program.now) first.now.action }
-    requires level { first.now.level ≡ critical_cost levels.now first.now.action }
+    requires look { IsLook (P.program program.now) levels.now first.now }
     requires last { IsAction (P.program program.now) last }
     ensures yes { result ≡ Some true → Reaches (P.program program.now) first.now.action last }
     ensures no { result ≡ Some false → Reaches (P.program program.now) first.now.action last → ⊥ }
@@ -259,9 +259,7 @@ fn reaches_need<P: ProgramView>(
     but: u16,
     steps: &mut u8,
 ) -> Option<bool>
-    requires levels { AreLevels (P.program program.now) levels.now }
-    requires first { IsAction (P.program program.now) first.now.action }
-    requires level { first.now.level ≡ critical_cost levels.now first.now.action }
+    requires look { IsLook (P.program program.now) levels.now first.now }
     requires action { IsAction (P.program program.now) action }
     ensures yes { result ≡ Some true
         → ReachesNeed (P.program program.now) first.now.action action but }

@@ -19,7 +19,7 @@ ghost use Rattle.fleet_verify.specs.Chained.{IsChained};
 ghost use Rattle.fleet_verify.specs.Outlook.{IsFound, IsFoundUnless, IsOutlook};
 
 use crate::agents::{ends_right, next_number, numbered_cell};
-use crate::chained::{Answers, unless_chained};
+use crate::chained::{Answers, are_near, unless_chained};
 use crate::last_visits::LastVisits;
 use crate::level_row::{AllLevels, LevelRow, Levels, row_of};
 use crate::order::{OpenPair, PlacedVisit, add_visit, is_left_by, number_of, open_unless_after};
@@ -684,7 +684,7 @@ pub enum Outlook {
 }
 
 /// Whether all has been found right. Chains are asked for at open pairs alone, once the memory of all else is given
-/// back. If there are none, the levels are handed on.
+/// back. If there are none, or short chains order all of them, the levels are handed on.
 fn judge_ahead<P: ProgramView>(
     alloc: Global,
     program: &P,
@@ -710,7 +710,7 @@ fn judge_ahead<P: ProgramView>(
     } = ahead;
     drop(cells);
     last.let_go();
-    if pairs.is_empty() {
+    if are_near(program, &pairs) {
         return Ok(Outlook::Accepted(chain, Some(Levels::of(rows))));
     }
     let levels = AllLevels { rows, most: chain };

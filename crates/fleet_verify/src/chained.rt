@@ -1,8 +1,8 @@
 //! Whether chains of needs order all open pairs of a program whose levels are known: yes, or what was answered, so that
 //! it need not be asked again.
 
-ghost use Rattle.std.specs.Prelude.{◌≡◌, ◌<◌, ◌↔◌, ℕ, false, IsTrue, All, IfOk, IfNone, IfSome, get_or, length};
-ghost use Rattle.fleet_model.specs.Program.{AreInRange};
+ghost use Rattle.std.specs.Prelude.{◌≡◌, ◌<◌, ◌≤◌, ◌↔◌, ℕ, false, IsTrue, All, IfOk, IfNone, IfSome, get_or, length};
+ghost use Rattle.fleet_model.specs.{Program.AreInRange, Chain.IsAction, Chain.Reaches, Chain.awaited};
 ghost use Rattle.fleet_needs.specs.Asked.{AreAnswers};
 ghost use Rattle.fleet_verify.specs.LevelOrder.{AreAllLevels};
 ghost use Rattle.fleet_verify.specs.LevelRows.{HasLevels};
@@ -11,7 +11,7 @@ ghost use Rattle.fleet_verify.specs.Chained.{key_of, AreKnown, IsChained, IsAske
 
 use crate::level_row::{AllLevels, LevelRow, row_of};
 use crate::order::{OpenPair, leaving};
-use fleet_model::{ActionId, OutOfMemory, ProgramView, Visit};
+use fleet_model::{ActionId, Await, OutOfMemory, ProgramView, Visit};
 use fleet_needs::{OrderSource, Question, answer_questions};
 use indexmap::IndexMap;
 use std::alloc::Global;
@@ -143,6 +143,58 @@ impl Answers {
         }
         Some(self.flags[k])
     }
+}
+
+/// Whether each of the open pairs is ordered by a chain of three actions or fewer. It ends at the first pair that is
+/// not, so where chains are longer it costs next to nothing. Takes no memory.
+pub fn are_near<P: ProgramView>(program: &P, pairs: &Vec<OpenPair>) -> bool
+    requires range { AreInRange (P.program program.now) }
+    requires visits { All (AreVisits (P.program program.now)) pairs.now.items }
+    ensures { IsTrue result → All (IsChained (P.program program.now)) pairs.now.items }
+{
+    for k in 0..pairs.len() {
+        if !is_near(program, pair_at(pairs, k)) {
+            return false;
+        }
+    }
+    true
+}
+
+/// Whether the action that enters the second visit of an open pair awaits one that awaits that the first visit is left.
+fn is_near<P: ProgramView>(program: &P, pair: OpenPair) -> bool
+    requires range { AreInRange (P.program program.now) }
+    requires visits { AreVisits (P.program program.now) pair }
+    ensures { IsTrue result → IsChained (P.program program.now) pair }
+{
+    let OpenPair { first, second, .. } = pair;
+    if second.position == 0 {
+        return false;
+    }
+    let first = leaving(program, first);
+    for k in 0..program.await_count(second.agent, second.position) {
+        let awaited = program.await_at(second.agent, second.position, k);
+        if awaits(program, awaited, first) {
+            return true;
+        }
+    }
+    false
+}
+
+/// Whether the action that is waited for awaits this one, or a later one of its agent.
+fn awaits<P: ProgramView>(program: &P, wait: Await, first: ActionId) -> bool
+    requires range { AreInRange (P.program program.now) }
+    requires action { IsAction (P.program program.now) (awaited wait) }
+    requires first { 1 ≤ first.number }
+    ensures { IsTrue result → Reaches (P.program program.now) first (awaited wait) }
+{
+    for k in 0..program.await_count(wait.agent, wait.count) {
+        let needed = program.await_at(wait.agent, wait.count, k);
+        let is_of_agent = needed.agent == first.agent;
+        if is_of_agent && first.number <= needed.count {
+            return true;
+        }
+    }
+    false
 }
 
 /// Nothing if a chain orders each of the open pairs of a program whose levels these are. Else what was answered: all is

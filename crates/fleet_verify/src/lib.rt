@@ -10,8 +10,9 @@
 //! nobody can go on: whom it looks at next says its `Queue`, and at the end it looks at each once more. `ahead` keeps
 //! the levels of the actions (`level_row`), of each cell the last visit (`last_visits`) and the open pairs, which
 //! mostly the last await of an action spares, and says yes if all arrive on passable ground and chains order those
-//! pairs, which `chained` asks for: `level_row` lists the actions that await something by their levels, and chains are
-//! found in that order. If it does not, `unheld_run` runs the program with nobody held, looks whether each place that
+//! pairs. `chained` looks whether what the awaited actions await in turn orders all of them, and asks for chains where
+//! it does not: `level_row` lists the actions that await something by their levels, and chains are found in that
+//! order. If all is not right, `unheld_run` runs the program with nobody held, looks whether each place that
 //! it comes to is passable, and adds each visit as it begins to the `VisitOrder` of `order`, which keeps the last one
 //! of each cell and the *open pairs*: a visit and the next of its cell, by another agent, which does not await that the
 //! first is left. A run that finishes has met each await, and `agents` looks whether all stand on their goals. Only if

@@ -1,17 +1,24 @@
-use Rattle.fleet_needs.proofs.Words.{slice_index, refl, arith, counts_of, inl, inr}
+use Rattle.fleet_needs.proofs.Words.{slice_index, refl, ap, ◌∙◌, arith, counts_of, inl, inr, Columns}
 use Rattle.fleet_needs.proofs.{Answered.answered_after, RowsMade.counts_none, RowsMade.made_counts}
 use Rattle.fleet_needs.proofs.questions.answer_block.Goals as goal
 
-pub answer_row-requires-clause-counts : goal.answer_row-requires-clause-counts
-answer_row-requires-clause-counts g c = λ i n stands. counts_none (g.P.ProgramView.program c.args.program.now) c.args.schedule.now c.args.columns 0 i n stands (slice_index (counts_of c.in_ok-row.row)) refl c.in_ok-row.ensures.zeros
+pub answer_row-requires-clause-row : goal.answer_row-requires-clause-row
+answer_row-requires-clause-row g c = record {
+  width = c.in_ok-row.ensures.all ∙ c.from.ensures;
+  counts = λ i n stands. counts_none (g.P.ProgramView.program c.args.program.now) c.args.schedule.now c.args.columns 0 i n stands (slice_index (counts_of c.in_ok-row.row)) refl c.in_ok-row.ensures.zeros;
+}
 
-pub answer_row-requires-in-loop-n-clause-counts : goal.answer_row-requires-in-loop-n-clause-counts
-answer_row-requires-in-loop-n-clause-counts g c =
-    rw c.finish_row.ensures.columns (made_counts (g.P.ProgramView.program c.args.program.now) c.args.schedule.now c.loop-n.rows.columns c.loop-n.n (slice_index (counts_of c.finish_row.new.row)) (rw (← c.loop-n.invariant.schedule) c.finish_row.ensures.made))
+pub answer_row-requires-in-loop-n-clause-row : goal.answer_row-requires-in-loop-n-clause-row
+answer_row-requires-in-loop-n-clause-row g c = rw c.finish_row.ensures.pass.columns (record {
+  width = c.finish_row.ensures.pass.row.width ∙ ap (λ (x : Columns). x.width) c.finish_row.ensures.pass.columns;
+  counts = made_counts (g.P.ProgramView.program c.args.program.now) c.args.schedule.now c.loop-n.rows.columns c.loop-n.n (slice_index (counts_of c.finish_row.new.row)) (rw (← c.loop-n.invariant.pass.schedule) c.finish_row.ensures.made);
+})
 
-pub returns-clause-answers : goal.returns-clause-answers
-returns-clause-answers g c =
-    answered_after (g.P.ProgramView.program c.args.program.now) c.args.schedule.now c.args.columns c.loop-n.answering c.loop-n.n (omega (arith, c.loop-n-test.false, c.rows-n-end.ensures)) c.loop-n.invariant.answers
+pub returns : goal.returns
+returns g c = record {
+  answers = answered_after (g.P.ProgramView.program c.args.program.now) c.args.schedule.now c.args.columns c.loop-n.answering c.loop-n.n (omega (arith, c.loop-n-test.false, c.rows-n-end.ensures)) c.loop-n.invariant.answers;
+  same = c.loop-n.invariant.same;
+}
 
 pub answer_row-requires-clause-answers : goal.answer_row-requires-clause-answers
 answer_row-requires-clause-answers g c =

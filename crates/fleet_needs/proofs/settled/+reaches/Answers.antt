@@ -5,18 +5,18 @@ use Rattle.fleet_needs.proofs.settled.+reaches.Goals.{reaches_need-then-is_other
 
 pub reaches-returns-then-is_own-clause-yes : goal.reaches-returns-then-is_own-clause-yes
 reaches-returns-then-is_own-clause-yes g t c = λ e.
-    own_first (g.P.ProgramView.program c.args.program.now) c.args.first.now.action c.args.last c.requires.first.first c.requires.last (omega (arith, c.if-is_own.true))
+    own_first (g.P.ProgramView.program c.args.program.now) c.args.first.now.action c.args.last c.requires.look.action.first c.requires.last (omega (arith, c.if-is_own.true))
     (leb-true c.args.first.now.action.number c.args.last.number (same_Some _ _ e))
 
 pub reaches-returns-then-is_own-clause-no : goal.reaches-returns-then-is_own-clause-no
 reaches-returns-then-is_own-clause-no g t c = λ e r.
-    let le = own_only (g.P.ProgramView.program c.args.program.now) (critical_cost c.args.levels.now) c.requires.levels.rising c.args.first.now.action c.args.last c.requires.first c.requires.last (omega (arith, c.if-is_own.true)) r in
+    let le = own_only (g.P.ProgramView.program c.args.program.now) (critical_cost c.args.levels.now) c.requires.look.levels.rising c.args.first.now.action c.args.last c.requires.look.action c.requires.last (omega (arith, c.if-is_own.true)) r in
     grind (arith, same_Some _ _ e, le-leb c.args.first.now.action.number c.args.last.number le)
 
 pub reaches-returns-then-cost-first-clause-no : goal.reaches-returns-then-cost-first-clause-no
 reaches-returns-then-cost-first-clause-no g t c = λ e.
-    none_if_low (g.P.ProgramView.program c.args.program.now) (critical_cost c.args.levels.now) c.requires.levels.rising c.args.first.now.action c.args.last (λ s. omega (arith, s, c.if-is_own.false))
-    (omega (arith, c.if-cost-first.true, c.cost.ensures, c.requires.level))
+    none_if_low (g.P.ProgramView.program c.args.program.now) (critical_cost c.args.levels.now) c.requires.look.levels.rising c.args.first.now.action c.args.last (λ s. omega (arith, s, c.if-is_own.false))
+    (omega (arith, c.if-cost-first.true, c.cost.ensures, c.requires.look.level))
 
 pub reaches-returns-clause-yes : goal.reaches-returns-clause-yes
 reaches-returns-clause-yes g t c = λ e. need_on (g.P.ProgramView.program c.args.program.now) c.args.first.now.action c.args.last _ c.requires.last (c.reaches_need.ensures.yes e)

@@ -1,4 +1,4 @@
-use Rattle.fleet_verify.proofs.Words.{◌≡◌, ◌∙◌, subst, sym, arith, eqb-true, HasLevels}
+use Rattle.fleet_verify.proofs.Words.{subst, sym, arith, HasLevels}
 use Rattle.fleet_verify.proofs.Beginning.{done_counted, done_range, done_finish, done_visits, done_apart, done_levels, ahead_accepted}
 use Rattle.fleet_verify.proofs.Asked.{known_none}
 use Rattle.fleet_verify.proofs.ahead.judge_ahead.Goals as goal
@@ -22,14 +22,26 @@ unless_chained-requires g c =
       apart = done_apart c.args.grid.now c.args.instance.now p c.args.ahead n c.in-Some.chain wf c.requires.starts c.requires.ahead done all;
     }
 
-pub returns-then-is_empty-clause-outlook : goal.returns-then-is_empty-clause-outlook
-returns-then-is_empty-clause-outlook g c =
+pub are_near-requires : goal.are_near-requires
+are_near-requires g c =
+    let p = g.P.ProgramView.program c.args.program.now in
+    let n = c.in-Some.ensures.done.0 in
+    let all = c.in-Some.ensures.done.1 in
+    let done = c.in-Some.ensures.done.2 in
+    let wf = c.agents-agents.ensures.well_formed in
+    record {
+      range = done_range c.args.grid.now c.args.instance.now p c.args.ahead n c.in-Some.chain wf c.requires.starts c.requires.ahead done all;
+      visits = done_visits c.args.grid.now c.args.instance.now p c.args.ahead n c.in-Some.chain wf c.requires.starts c.requires.ahead done all;
+    }
+
+pub returns-then-are_near-clause-outlook : goal.returns-then-are_near-clause-outlook
+returns-then-are_near-clause-outlook g c =
     let p = g.P.ProgramView.program c.args.program.now in
     let n = c.in-Some.ensures.done.0 in
     let all = c.in-Some.ensures.done.1 in
     let done = c.in-Some.ensures.done.2 in
     let wf = c.agents-agents.ensures.well_formed in (
-      ahead_accepted c.args.grid.now c.args.instance.now p c.args.ahead n c.in-Some.chain wf c.requires.starts c.requires.ahead done all (λ k o l. absurd (let none : c.args.ahead.pairs.len ≡ 0 = eqb-true c.args.ahead.pairs.len 0 (sym c.is_empty.ensures ∙ c.if-is_empty.true) in omega (arith, none, l, c.args.ahead.pairs.ok.0))),
+      ahead_accepted c.args.grid.now c.args.instance.now p c.args.ahead n c.in-Some.chain wf c.requires.starts c.requires.ahead done all (c.are_near.ensures c.if-are_near.true),
       subst (HasLevels p) (sym c.of.ensures) (done_levels c.args.grid.now c.args.instance.now p c.args.ahead n c.in-Some.chain wf c.requires.starts c.requires.ahead done all),
     )
 

@@ -19,7 +19,7 @@ loop-self-preserved g c =
     let q : Question = question_of m.questions.now x.place in
     let low = (next_is p s columns m c.args.number h within x at of).place in
     let is = h.answers.questions x.place no_question low in
-    let counts = row_counts p s columns m c.args.number h within x at of count c.requires.counts in
+    let counts = row_counts p s columns m c.args.number h within x at of count c.requires.row.counts in
     record {
       answers = elim c.match-of.branch [
         | in-Some w ↦

@@ -23,9 +23,9 @@ pub use Rattle.fleet_model.specs.declared.geometry.Place.{Place}
 pub use Rattle.fleet_model.specs.declared.limits.TheConstants.{MAX_AGENTS, MAX_MOVES}
 pub use Rattle.fleet_model.specs.declared.program.Action.{Action}
 pub use Rattle.fleet_model.specs.declared.standing.Standing.{Standing}
-pub use Rattle.fleet_text.proofs.SinkLemmas.{stops_within_more, takes_err, stops_after, stops_before, takes_then, gathers_err, stops_past, takes_more, takes_rest, appends_same, gathers_then, passed_element, passes_more, stops_within_element}
+pub use Rattle.fleet_text.proofs.SinkLemmas.{stops_within_more, takes_err, takes_err_then, stops_after, stops_before, takes_then, stops_past, takes_more, takes_rest, appends_same, passed_element, stops_within_element}
 pub use Rattle.fleet_text.proofs.WrittenLaws.{each_spaced, From, decimal_from, from_join, from_less, line_more, line_written, lines_written, spaced_more}
-pub use Rattle.fleet_text.specs.Row.{PassesOn, Gathers}
+pub use Rattle.fleet_text.specs.Row.{PassesOn}
 pub use Rattle.fleet_text.specs.Sink.{Takes, SinkState, TakesAll, HasFailed, StopsWithin, IsWorking}
 pub use Rattle.fleet_text.specs.Text.{Bytes, is_dash, is_space, plain_number}
 unfoldable pub use Rattle.fleet_text.specs.Text.{lines}

@@ -1,12 +1,12 @@
 //! Programs as text.
 
 ghost use Rattle.std.specs.Prelude.{◌≡◌, ◌<◌, ◌∷◌, [], length};
-ghost use Rattle.fleet_model.specs.Program.{IsWellFormed, path, awaits_of};
+ghost use Rattle.fleet_model.specs.Program.{IsWellFormed, path};
 ghost use Rattle.fleet_model.specs.Chain.{IsAction};
 ghost use Rattle.fleet_text.specs.Sink.{IsWorking, TakesAll};
 ghost use Rattle.fleet_text.specs.Row.{Gathers};
-ghost use Rattle.fleet_text.specs.Words.{place_text, with_spaces, next_words, numbered_text};
-ghost use Rattle.fleet_run.specs.Listing.{dir_name, step_words, await_words, agent_line, action_line, actions_text, agent_text, program_text};
+ghost use Rattle.fleet_text.specs.Words.{place_text, with_spaces, numbered_text};
+ghost use Rattle.fleet_run.specs.Listing.{dir_name, step_words, agent_line, action_line, agent_text, program_text};
 
 use fleet_model::{ActionId, Cell, Dir, Place, ProgramView, Step};
 use fleet_text::{
@@ -61,32 +61,8 @@ fn put_place<O: TraceOut>(row: &mut Row, out: &mut O, place: Place) -> Result<()
     row.add(out, &text[at..])
 }
 
-/// Adds what an action awaits, if it awaits anything: a word, and one for each await.
-fn put_awaits<P: ProgramView, O: TraceOut>(
-    row: &mut Row,
-    out: &mut O,
-    program: &P,
-    action: ActionId,
-) -> Result<(), OutFault>
-    requires working { IsWorking (O.state out.old) }
-    requires action { IsAction (P.program program.now) action }
-    ensures { Gathers (O.state out.old) (O.state out.new) result row.old row.new
-        (next_words (await_words (awaits_of (P.program program.now) action.agent action.number))) }
-{
-    let ActionId { agent, number } = action;
-    let has_none = program.await_count(agent, number) == 0;
-    if has_none {
-        return Ok(());
-    }
-    put_next_word(row, out, Word::Text("after"))?;
-    for k in 0..program.await_count(agent, number) {
-        let one = program.await_at(agent, number, k);
-        put_next_word(row, out, Word::Of(one.agent, one.count))?;
-    }
-    Ok(())
-}
-
-/// Writes the line of an action, which leads to this place.
+/// Writes the line of an action, which leads to this place. What it awaits, if anything, stands at its end: a word, and
+/// one for each await.
 fn put_action<P: ProgramView, O: TraceOut>(
     out: &mut O,
     program: &P,
@@ -99,36 +75,22 @@ fn put_action<P: ProgramView, O: TraceOut>(
     ensures { TakesAll (O.state out.old) (O.state out.new) result
         (action_line (P.program program.now) action.agent action.number) }
 {
-    let step = program.step(action.agent, action.number);
+    let ActionId { agent, number } = action;
+    let step = program.step(agent, number);
     let mut row = Row::new();
     put_step(&mut row, out, action, step)?;
     put_place(&mut row, out, place)?;
-    put_awaits(&mut row, out, program, action)?;
-    row.end_line(out)
-}
-
-/// Writes the line of each action of agent `i`.
-fn put_actions<P: ProgramView, O: TraceOut>(
-    out: &mut O,
-    program: &P,
-    i: u16,
-) -> Result<(), OutFault>
-    requires working { IsWorking (O.state out.old) }
-    requires well_formed { IsWellFormed (P.program program.now) }
-    requires agent { i < length (P.program program.now) }
-    ensures { TakesAll (O.state out.old) (O.state out.new) result
-        (actions_text (P.program program.now) i) }
-{
-    let mut place = Place::from(program.start(i));
-    for n in 0..program.moves(i) {
-        let action = ActionId {
-            agent: i,
-            number: n + 1,
-        };
-        place = place.after(program.step(i, action.number));
-        put_action(out, program, action, place)?;
+    let awaits = program.await_count(agent, number);
+    let has_none = awaits == 0;
+    if has_none {
+        return row.end_line(out);
     }
-    Ok(())
+    put_next_word(&mut row, out, Word::Text("after"))?;
+    for k in 0..awaits {
+        let one = program.await_at(agent, number, k);
+        row.add_next_two(out, one.agent, b':', one.count)?;
+    }
+    row.end_line(out)
 }
 
 /// Writes the line of agent `i`.
@@ -154,8 +116,18 @@ fn put_agent<P: ProgramView, O: TraceOut>(out: &mut O, program: &P, i: u16) -> R
     ensures { TakesAll (O.state out.old) (O.state out.new) result
         (agent_text (P.program program.now) i) }
 {
-    put_agent_line(out, i, program.start(i), program.goal(i))?;
-    put_actions(out, program, i)
+    let start = program.start(i);
+    put_agent_line(out, i, start, program.goal(i))?;
+    let mut place = Place::from(start);
+    for n in 0..program.moves(i) {
+        let action = ActionId {
+            agent: i,
+            number: n + 1,
+        };
+        place = place.after(program.step(i, action.number));
+        put_action(out, program, action, place)?;
+    }
+    Ok(())
 }
 
 /// Writes any program as text: for each agent a line with its start and its goal, `agent i: x,y to x,y`, and after it

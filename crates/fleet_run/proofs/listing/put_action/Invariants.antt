@@ -1,5 +1,5 @@
 use Rattle.fleet_run.proofs.Words.{map, take, awaits_of, PassesOn, next_words, await_text}
-use Rattle.fleet_run.proofs.listing.put_awaits.Given as goal
+use Rattle.fleet_run.proofs.listing.put_action.Given as goal
 
 abbrev pub invariant-loop-k : goal.invariant-loop-k
 invariant-loop-k g l = record {

@@ -145,8 +145,12 @@ impl Answers {
     }
 }
 
-/// Whether each of the open pairs is ordered by a chain of three actions or fewer. It ends at the first pair that is
-/// not, so where chains are longer it costs next to nothing. Takes no memory.
+/// Of an action with more awaits none is looked at.
+const FEW: u16 = 8;
+
+/// Whether each of the open pairs is ordered by a chain of three actions or fewer, as far as a look at few awaits shows
+/// it. It ends at the first pair of which that does not, so where chains are longer it costs next to nothing. Takes no
+/// memory.
 pub fn are_near<P: ProgramView>(program: &P, pairs: &Vec<OpenPair>) -> bool
     requires range { AreInRange (P.program program.now) }
     requires visits { All (AreVisits (P.program program.now)) pairs.now.items }
@@ -161,6 +165,7 @@ pub fn are_near<P: ProgramView>(program: &P, pairs: &Vec<OpenPair>) -> bool
 }
 
 /// Whether the action that enters the second visit of an open pair awaits one that awaits that the first visit is left.
+/// Otherwise, and where awaits are many, it says no.
 fn is_near<P: ProgramView>(program: &P, pair: OpenPair) -> bool
     requires range { AreInRange (P.program program.now) }
     requires visits { AreVisits (P.program program.now) pair }
@@ -170,8 +175,12 @@ fn is_near<P: ProgramView>(program: &P, pair: OpenPair) -> bool
     if second.position == 0 {
         return false;
     }
+    let count = program.await_count(second.agent, second.position);
+    if count > FEW {
+        return false;
+    }
     let first = leaving(program, first);
-    for k in 0..program.await_count(second.agent, second.position) {
+    for k in 0..count {
         let awaited = program.await_at(second.agent, second.position, k);
         if awaits(program, awaited, first) {
             return true;
@@ -180,14 +189,19 @@ fn is_near<P: ProgramView>(program: &P, pair: OpenPair) -> bool
     false
 }
 
-/// Whether the action that is waited for awaits this one, or a later one of its agent.
+/// Whether the action that is waited for awaits this one, or a later one of its agent. Where its awaits are many it says
+/// no.
 fn awaits<P: ProgramView>(program: &P, wait: Await, first: ActionId) -> bool
     requires range { AreInRange (P.program program.now) }
     requires action { IsAction (P.program program.now) (awaited wait) }
     requires first { 1 ≤ first.number }
     ensures { IsTrue result → Reaches (P.program program.now) first (awaited wait) }
 {
-    for k in 0..program.await_count(wait.agent, wait.count) {
+    let count = program.await_count(wait.agent, wait.count);
+    if count > FEW {
+        return false;
+    }
+    for k in 0..count {
         let needed = program.await_at(wait.agent, wait.count, k);
         let is_of_agent = needed.agent == first.agent;
         if is_of_agent && first.number <= needed.count {

@@ -172,7 +172,8 @@ fn is_near<P: ProgramView>(program: &P, pair: OpenPair) -> bool
     ensures { IsTrue result → IsChained (P.program program.now) pair }
 {
     let OpenPair { first, second, .. } = pair;
-    if second.position == 0 {
+    let is_start = second.position == 0;
+    if is_start {
         return false;
     }
     let count = program.await_count(second.agent, second.position);

@@ -10,6 +10,6 @@ awaits-requires-clause-action g c =
 pub returns-then-awaits : goal.returns-then-awaits
 returns-then-awaits g c = λ _.
     let p = g.P.ProgramView.program c.args.program.now in
-    let is : IsAction p (entering c.args.pair.second) = record { agent = c.requires.visits.second.agent; first = omega (arith, c.if-second-eq0.false); last = c.requires.visits.second.position } in
+    let is : IsAction p (entering c.args.pair.second) = record { agent = c.requires.visits.second.agent; first = omega (arith, c.if-is_start.false); last = c.requires.visits.second.position } in
     reached_on p c.requires.range (leaving p c.args.pair.first) (entering c.args.pair.second) c.loop-k.k c.await_at-awaited.result is c.await_at-awaited.ensures
     (subst (λ (a : ActionId). Reaches p a (awaited c.await_at-awaited.result)) c.leaving-first.ensures (c.awaits.ensures c.if-awaits.true))

@@ -205,7 +205,8 @@ fn awaits<P: ProgramView>(program: &P, wait: Await, first: ActionId) -> bool
     for k in 0..count {
         let needed = program.await_at(wait.agent, wait.count, k);
         let is_of_agent = needed.agent == first.agent;
-        if is_of_agent && first.number <= needed.count {
+        let is_late = first.number <= needed.count;
+        if is_of_agent && is_late {
             return true;
         }
     }

@@ -1,5 +1,5 @@
--- Counts that are read, and lists of one value.
-use Rattle.fleet_needs.proofs.Words.{◌≡◌, ℕ, ◌<◌, List, length, replicate, slice_index, ap, ◌∙◌, arith, inl, inr, cases_lt, get_or-replicate, get_or_past, length-replicate, get_or_read, get_or}
+-- Counts that are read, where rows of them stand, and sums over the first ones of a list.
+use Rattle.fleet_needs.proofs.Words.{◌≢◌, ℕ, ◌+◌, ◌*◌, ◌<◌, ◌≤◌, List, take, subst, arith, inl, inr, ◌⊎◌, cases_order, mul-le, sum_by, take-take, sum_by-take-le, ◌≡◌, length, replicate, slice_index, ap, ◌∙◌, cases_lt, get_or-replicate, get_or_past, length-replicate, get_or_read, get_or}
 
 -- a count that is read at a place
 pub count_read : (counts : List ℕ) (x y v : ℕ) → x ≡ y → y < length counts → v ≡ get_or counts x v → v ≡ get_or counts y 0
@@ -14,3 +14,19 @@ always_at x n i = elim (cases_lt i n) [
 
 pub none_at : (n i : ℕ) → slice_index (replicate n 0) i ≡ 0
 none_at n i = always_at 0 n i
+
+-- more of a list have as much together, or more
+pub sums_rise : {X : Type 0} (f : X → ℕ) (xs : List X) (i j : ℕ) → i ≤ j → sum_by f (take i xs) ≤ sum_by f (take j xs)
+sums_rise f xs i j l = subst (λ ys. sum_by f ys ≤ sum_by f (take j xs)) (take-take i j xs l) (sum_by-take-le f (take j xs) i)
+
+-- a row at a place ends before that of a later place begins
+pub row_ends : (w x y : ℕ) → x < y → x * w + w ≤ y * w
+row_ends w x y l = let s : (x + 1) * w ≤ y * w = mul-le (x + 1) w y w (omega arith) (omega arith) in omega arith
+
+-- the counts of a row are no counts of the row at another place
+pub outside : (w x y k : ℕ) → x ≢ y → k < w → (x * w + k < y * w) ⊎ (y * w + w ≤ x * w + k)
+outside w x y k n l = elim (cases_order x y) [
+  | inl e ↦ absurd (n e)
+  | inr (inl less) ↦ (let r : x * w + w ≤ y * w = row_ends w x y less in inl (omega arith))
+  | inr (inr more) ↦ (let r : y * w + w ≤ x * w = row_ends w y x more in inr (omega arith))
+]

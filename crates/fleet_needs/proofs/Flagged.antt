@@ -1,10 +1,10 @@
 -- The flags of awaits, one action and one block more.
-use Rattle.fleet_needs.proofs.Words.{None, ◌≡◌, ℕ, ◌+◌, ◌-◌, ◌≤◌, Bool, true, false, List, [], length, get_or, replicate, length-replicate, set, sym, ap, subst, ◌∙◌, arith, inl, inr, ◌⊎◌, slice_get, Some, cases_lt, cases_eq, false≢true, slice_get_within, slice_get-get_or, same_Some, ActionId, Await, Program, awaits_of, total_awaits, AreInRange, IsAction, column_of, AreColumns, Columns, Schedule, IsImpliedFlag, first_await, AreAwaitPlaces, AreSettled, AreSettledTo, AreSure, AreSet, IsLeftOut, IsLeftIn, AreFlaggedIn, AreFlaggedTo, AreImplied, flags_of, ImpliedAwaits, HasRowOr, IsRow, IsPassed, joins_in, joins_of, next_action}
+use Rattle.fleet_needs.proofs.Words.{None, ◌≡◌, ℕ, ◌+◌, ◌-◌, ◌≤◌, Bool, true, false, List, length, get_or, replicate, length-replicate, set, sym, ap, subst, ◌∙◌, arith, inl, inr, ◌⊎◌, slice_get, Some, cases_lt, cases_eq, false≢true, slice_get_within, slice_get-get_or, same_Some, ActionId, Await, Program, awaits_of, total_awaits, AreInRange, IsAction, column_of, AreColumns, Columns, Schedule, IsImpliedFlag, first_await, AreAwaitPlaces, AreSettled, AreSettledTo, AreSure, AreSet, IsLeftOut, IsLeftIn, AreFlaggedIn, AreFlaggedTo, AreImplied, flags_of, ImpliedAwaits, HasRowUnlessSet, IsRow, IsPassed, joins_in, joins_of, next_action}
 use Rattle.fleet_needs.proofs.{AwaitOrder.flag_within, AwaitOrder.known_on, AwaitOrder.known_put, Counting.always_at, Joining.awaited_action, Joining.adds_none_if_implied}
 
 -- no flag is set yet
-pub none_flagged : (p : Program) (m : ImpliedAwaits) (n : ℕ) → AreAwaitPlaces p m.places → flags_of m ≡ replicate n false → n ≡ total_awaits p → AreSettledTo p [] 0 m
-none_flagged p m n places none all = record {
+pub none_flagged : (p : Program) (asked : List Bool) (m : ImpliedAwaits) (n : ℕ) → AreAwaitPlaces p m.places → flags_of m ≡ replicate n false → n ≡ total_awaits p → AreSettledTo p asked 0 m
+none_flagged p asked m n places none all = record {
   places = places;
   all = ap (λ (xs : List Bool). length xs) none ∙ length-replicate n false ∙ all;
   known = λ a is k w at. inl (inl (omega arith), (λ set. absurd (false≢true (sym (ap (λ (xs : List Bool). get_or xs (first_await p a + k) false) none ∙ always_at false n (first_await p a + k)) ∙ set))));
@@ -66,7 +66,7 @@ row_flagged p s asked columns n k a row all m = known_on p _ _ m
 -- ---- block by block
 
 -- before the first block
-pub flags_first : (p : Program) (s : Schedule) (asked : List Bool) (m : ImpliedAwaits) → AreSettled p asked m → HasRowOr (AreSet p (flags_of m)) p (joins_of s) (IsAction p) → AreFlaggedTo p s asked 0 m
+pub flags_first : (p : Program) (s : Schedule) (asked : List Bool) (m : ImpliedAwaits) → AreSettled p asked m → HasRowUnlessSet p (flags_of m) (joins_of s) → AreFlaggedTo p s asked 0 m
 flags_first p s asked m settled passed = record {
   places = settled.places;
   all = settled.all;

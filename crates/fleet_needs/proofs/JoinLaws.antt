@@ -1,5 +1,5 @@
 -- The rows that stand for actions, by their places.
-use Rattle.fleet_needs.proofs.Words.{◌≡◌, ◌≢◌, ℕ, ◌+◌, ◌-◌, ◌<◌, ◌≤◌, All, Vec, Global, List, length, set, slice_index, refl, sym, ap, subst, ◌∙◌, arith, inl, inr, ◌⊎◌, cases_lt, cases_eq, get_or-set_same, get_or-set_other, ActionId, Program, awaits_of, IsAction, IsAwaiting, row_first, row_place, AreAllNoted, HasAllRows, IsRow, IsRowOrNone, StandsFor, IsUpToLast, IsFilled, no_action}
+use Rattle.fleet_needs.proofs.Words.{◌≡◌, ◌≢◌, ℕ, ◌+◌, ◌-◌, ◌<◌, ◌≤◌, All, Vec, Global, List, length, set, slice_index, sym, ap, subst, ◌∙◌, arith, inl, inr, ◌⊎◌, cases_lt, cases_eq, get_or-set_same, get_or-set_other, ActionId, Program, awaits_of, IsAction, IsAwaiting, row_first, row_place, AreAllNoted, HasAllRows, IsRow, IsRowOrNone, StandsFor, IsUpToLast, IsFilled, no_action}
 use Rattle.fleet_needs.proofs.RowPlaces.{row_less, row_own, row_rises, row_within}
 
 -- what stands for an action is one of the rows, or none

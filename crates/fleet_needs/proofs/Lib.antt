@@ -1,7 +1,6 @@
 pub mod Words
 pub mod Lanes
 pub mod Joining
-pub mod Placed
 pub mod Counting
 pub mod NextBlock
 pub mod Answered

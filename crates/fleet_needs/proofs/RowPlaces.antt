@@ -1,6 +1,6 @@
 -- The places of the rows that stand for actions.
 use Rattle.fleet_needs.proofs.Words.{◌≡◌, ℕ, ◌+◌, ◌-◌, ◌<◌, ◌≤◌, length, take, subst, arith, inl, inr, sum_by, cases_order, sum_by-take-le, Action, ActionId, AgentProgram, Program, actions_of, agent_awaits, awaits_before, awaits_of, total_awaits, actions_more, awaits_more, IsUpToLast, IsAction, row_first, row_place}
-use Rattle.fleet_needs.proofs.Placed.{sums_rise}
+use Rattle.fleet_needs.proofs.Counting.{sums_rise}
 
 module _ (p : Program) where
   pub before_rises : (i m n : ℕ) → m ≤ n → awaits_before p i m ≤ awaits_before p i n

@@ -1,6 +1,6 @@
 -- The counts of rows that are made of rows in their slots.
-use Rattle.fleet_needs.proofs.Words.{◌≡◌, ◌≢◌, ℕ, ◌+◌, ◌-◌, ◌*◌, ◌<◌, ◌≤◌, List, length, max, get_or, slice_get-get_or, slice_index, sym, ap, subst, ◌∙◌, arith, inl, inr, slice_get, Some, cases_lt, cases_eq, ActionId, Await, Program, AreInRange, awaits_of, moves, IsAction, awaited, HasColumn, counts_of, are_narrow, CanHold, AreAlike, Reaches, IsColumn, IsJoined, ByBeforeOr, OfOthers, action_before, Columns, SlotRows, Schedule, IsJoinRow, Counts, IsRow, AreOwn, IsJoinFor, IsNeedFor, TakesIn, joins_in, joins_of, next_action, base_of, end_of, need_at, IsSchedule, AreColumnsOf, AreCounts, AreRowsTo, IsRowFor, StandsThere, IsNextJoin, IsNextNeed, AreRowCounts, count_from, count_in_slot, slot_of, Join, Need, StandsFor}
-use Rattle.fleet_needs.proofs.{Placed.outside, Joining.quiet_on, Joining.column_stays, Joining.column_none, Joining.IsOwnTo, Joining.some_first, Joining.some_more, Joining.some_same, Joining.part_all, Joining.own_column, Joining.awaited_action}
+use Rattle.fleet_needs.proofs.Words.{◌≡◌, ◌≢◌, ℕ, ◌+◌, ◌-◌, ◌*◌, ◌<◌, ◌≤◌, List, length, max, get_or, slice_get-get_or, slice_index, sym, ap, subst, ◌∙◌, arith, inl, inr, slice_get, Some, cases_lt, cases_eq, ActionId, Await, Program, AreInRange, awaits_of, moves, IsAction, awaited, HasColumn, counts_of, are_narrow, CanHold, AreAlike, AreWritten, Reaches, IsColumn, IsJoined, ByBeforeOr, OfOthers, action_before, Columns, SlotRows, Schedule, IsJoinRow, Counts, IsRow, AreOwn, IsJoinFor, IsNeedFor, TakesIn, joins_in, joins_of, next_action, base_of, end_of, need_at, IsSchedule, AreColumnsOf, AreCounts, AreRowsTo, IsRowFor, StandsThere, IsNextJoin, IsNextNeed, AreRowCounts, count_from, count_in_slot, slot_of, Join, Need, StandsFor}
+use Rattle.fleet_needs.proofs.{Counting.outside, Joining.quiet_on, Joining.column_stays, Joining.column_none, Joining.IsOwnTo, Joining.some_first, Joining.some_more, Joining.some_same, Joining.part_all, Joining.own_column, Joining.awaited_action}
 
 -- ---- what row r stands for
 
@@ -168,30 +168,28 @@ row_alike m old new alike fits = record { width = alike.all ∙ fits.width; narr
 
 -- ---- one row more in its slot
 
-module _ (p : Program) (old : SlotRows) (n place : ℕ) (counts : Counts) (row : List ℕ) (rows : AreRowsTo p old n) (at : place ≡ slot_of old.schedule.now (n + 1) * old.columns.width) (width : length row ≡ old.columns.width)
-    (alike : AreAlike old.counts counts) (put : (k : ℕ) → k < length row → slice_index (counts_of counts) (place + k) ≡ slice_index row k) (before : (k : ℕ) → k < place → slice_index (counts_of counts) k ≡ slice_index (counts_of old.counts) k)
-    (after : (k : ℕ) → place + length row ≤ k → slice_index (counts_of counts) k ≡ slice_index (counts_of old.counts) k)
-    (made : AreCounts p old.columns (next_action old.schedule.now n).agent (next_action old.schedule.now n).number (slice_index row)) where
+module _ (p : Program) (old : SlotRows) (n place : ℕ) (row counts : Counts) (rows : AreRowsTo p old n) (at : place ≡ slot_of old.schedule.now (n + 1) * old.columns.width) (width : length (counts_of row) ≡ old.columns.width)
+    (put : AreWritten place row old.counts counts) (made : AreCounts p old.columns (next_action old.schedule.now n).agent (next_action old.schedule.now n).number (slice_index (counts_of row))) where
   abbrev new : SlotRows
   new = record { schedule = old.schedule; columns = old.columns; counts = counts }
 
   newest : AreRowCounts p old.schedule.now old.columns (n + 1) (count_in_slot new (n + 1))
   newest i b s =
-      counts_same p old.columns i b (slice_index row) (count_in_slot new (n + 1)) (λ j k has. ap (λ (x : ℕ). count_from counts x k) (sym at) ∙ put k (let l = rows.columns.within j k has in omega (arith, l, width)))
-      (made_counts p old.schedule.now old.columns n (slice_index row) made i b s)
+      counts_same p old.columns i b (slice_index (counts_of row)) (count_in_slot new (n + 1)) (λ j k has. ap (λ (x : ℕ). count_from counts x k) (sym at) ∙ put.row k (let l = rows.columns.within j k has in omega (arith, l, width)))
+      (made_counts p old.schedule.now old.columns n (slice_index (counts_of row)) made i b s)
 
   kept : (r : ℕ) → slot_of old.schedule.now r ≢ slot_of old.schedule.now (n + 1) → (k : ℕ) → k < old.columns.width → count_in_slot new r k ≡ count_in_slot old r k
   kept r ne k l = elim (outside old.columns.width (slot_of old.schedule.now r) (slot_of old.schedule.now (n + 1)) k ne l) [
-    | inl below ↦ before _ (omega (arith, at, below))
-    | inr above ↦ after _ (omega (arith, at, above, width))
+    | inl below ↦ put.before _ (omega (arith, at, below))
+    | inr above ↦ put.after _ (omega (arith, at, above, width))
   ]
 
   pub rows_more : AreRowsTo p new (n + 1)
   rows_more = record {
     schedule = rows.schedule;
     columns = rows.columns;
-    room = alike.all ∙ rows.room;
-    narrow = alike.narrow ∙ rows.narrow;
+    room = put.alike.all ∙ rows.room;
+    narrow = put.alike.narrow ∙ rows.narrow;
     right = λ r upto still. elim (cases_lt n r) [
       | inl last ↦ (let e : n + 1 ≡ r = omega arith in subst (λ (x : ℕ). AreRowCounts p old.schedule.now old.columns x (count_in_slot new x)) e newest)
       | inr sooner ↦ λ i b s. counts_same p old.columns i b (count_in_slot old r) (count_in_slot new r) (λ j k has. kept r (λ e. still (n + 1) (omega arith) (omega arith) (sym e)) k (rows.columns.within j k has))

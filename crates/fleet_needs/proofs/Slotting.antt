@@ -20,11 +20,11 @@ none_last (o ∷ owners) zero = refl
 none_last (o ∷ owners) (suc x) = none_last owners x
 
 -- so a new slot is free
-pub free_new : (old new : Slots) (slot : ℕ) → slot ≡ slots_in old → new.owners.items ≡ old.owners.items ++ None ∷ [] → IsFree slot old new
-free_new old new slot is put =
+pub free_new : (old new : Slots) (slot : ℕ) → slot ≡ slots_in old → new.owners.items ≡ old.owners.items ++ None ∷ [] → new.outs ≡ old.outs → IsFree slot old new
+free_new old new slot is put outs =
     let long : slots_in new ≡ slots_in old + 1 = ap (λ (xs : List (Option ℕ)). length xs) put ∙ length_push old.owners.items None in
     let same : (x : ℕ) → owner_of new x ≡ owner_of old x = λ x. ap (λ (xs : List (Option ℕ)). get_or xs x None) put ∙ none_last old.owners.items x in
-    record { within = omega (arith, is, long); none = same slot ∙ get_or_past old.owners.items slot None (omega (arith, is)); more = omega (arith, long); same = same }
+    record { within = omega (arith, is, long); none = same slot ∙ get_or_past old.owners.items slot None (omega (arith, is)); more = omega (arith, long); same = same; outs = outs }
 
 module _ (Takes : ℕ → ℕ → Type 0) (from n : ℕ) where
   -- a row that is taken, or the last one that is left

@@ -51,7 +51,12 @@ pub record AreListed (p : Program) (joins : List ActionId) (m : Answering) : Typ
   pub sorted : IsNonDecreasingBy (λ x. x.row) m.rows.items
   pub flags : length m.flags.items ≡ length (questions_in m)
 
--- .. and each that is listed is answered, or left
+-- .. and these are the questions
+pub record AreListedFor (p : Program) (joins : List ActionId) (these : List Question) (m : Answering) : Type 0 where
+  pub questions : questions_in m ≡ these
+  pub listed : AreListed p joins m
+
+-- each that is listed is answered, or left
 pub record AreAnsweredBut (p : Program) (s : Schedule) (Left : ℕ → Question → Type 0) (m : Answering) : Type 0 where
   pub questions : All (IsQuestion p) (questions_in m)
   pub listed : AreListed p (joins_of s) m

@@ -24,6 +24,7 @@ AreAnswersIn p questions flags = AreAnswers p questions flags.items
 abbrev pub IsAskedFor : List Bool → Question → Type 0
 IsAskedFor asked q = get_or asked q.first.agent false ≡ true
 
--- .. of each of these questions
-abbrev pub AreAskedFor : Vec Bool Global → List Question → Type 0
-AreAskedFor asked questions = All (IsAskedFor asked.items) questions
+-- .. of each of these questions, by a flag for each agent of the program
+pub record AreAskedFor (p : Program) (questions : List Question) (asked : Vec Bool Global) : Type 0 where
+  pub agents : length asked.items ≡ length p
+  pub each : All (IsAskedFor asked.items) questions

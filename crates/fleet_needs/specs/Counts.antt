@@ -1,5 +1,5 @@
 -- The counts of rows, as they are kept.
-use Rattle.std.specs.Prelude.{◌≡◌, ℕ, ◌≤◌, Bool, true, false, List, length, slice_index, ◌+◌}
+use Rattle.std.specs.Prelude.{◌≡◌, ◌≢◌, ℕ, ◌<◌, ◌≤◌, Bool, true, false, List, length, max, slice_index, ◌+◌}
 use Rattle.fleet_needs.specs.declared.counts.Counts.{Counts}
 
 -- the counts, one after another
@@ -24,3 +24,27 @@ CanHold m n = are_narrow m ≡ true → n ≤ 65535
 pub record AreAlike (m n : Counts) : Type 0 where
   pub all : length (counts_of n) ≡ length (counts_of m)
   pub narrow : are_narrow n ≡ are_narrow m
+
+-- zeros, so many, of two bytes each or of four
+pub record AreZeros (len : ℕ) (is_narrow : Bool) (m : Counts) : Type 0 where
+  pub all : length (counts_of m) ≡ len
+  pub narrow : are_narrow m ≡ is_narrow
+  pub zeros : (k : ℕ) → slice_index (counts_of m) k ≡ 0
+
+-- the count at a place is now this one, and all others are as they were
+pub record IsSet (k count : ℕ) (old new : Counts) : Type 0 where
+  pub alike : AreAlike old new
+  pub here : slice_index (counts_of new) k ≡ count
+  pub others : (n : ℕ) → n ≢ k → slice_index (counts_of new) n ≡ slice_index (counts_of old) n
+
+-- each count is now the greater one of these two
+pub record AreGreater (one other : ℕ → ℕ) (old new : Counts) : Type 0 where
+  pub alike : AreAlike old new
+  pub counts : (k : ℕ) → k < length (counts_of old) → slice_index (counts_of new) k ≡ max (one k) (other k)
+
+-- the counts from a place on are now these, and all others are as they were
+pub record AreWritten (from : ℕ) (these old new : Counts) : Type 0 where
+  pub alike : AreAlike old new
+  pub row : (k : ℕ) → k < length (counts_of these) → count_from new from k ≡ slice_index (counts_of these) k
+  pub before : (n : ℕ) → n < from → slice_index (counts_of new) n ≡ slice_index (counts_of old) n
+  pub after : (n : ℕ) → from + length (counts_of these) ≤ n → slice_index (counts_of new) n ≡ slice_index (counts_of old) n

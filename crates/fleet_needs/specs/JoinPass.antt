@@ -4,7 +4,7 @@ use Rattle.fleet_needs.specs.Words.{ActionId, Program, awaits_of}
 use Rattle.fleet_needs.specs.Block.{HasColumn}
 use Rattle.fleet_needs.specs.Rows.{IsJoined, OfOthers}
 use Rattle.fleet_needs.specs.Counts.{counts_of, AreAlike}
-use Rattle.fleet_needs.specs.Schedule.{joins_in, AreCounts, IsSchedule, AreColumnsOf, AreRowsTo, IsRowFor}
+use Rattle.fleet_needs.specs.Schedule.{joins_in, next_action, AreCounts, IsSchedule, AreColumnsOf, AreRowsTo, IsRowFor}
 use Rattle.fleet_needs.specs.declared.schedule.Columns.{Columns}
 use Rattle.fleet_needs.specs.declared.counts.Counts.{Counts}
 use Rattle.fleet_needs.specs.declared.schedule.Schedule.{Schedule}
@@ -33,9 +33,25 @@ pub record IsJoinRow (p : Program) (m : SlotRows) (n : ℕ) (row : Counts) : Typ
   pub next : n < joins_in m.schedule.now
   pub width : length (counts_of row) ≡ m.columns.width
 
+-- .. half made: of all that its action directly needs, but for the count of each awaited action's own agent
+pub record IsHalfMade (p : Program) (m : SlotRows) (n : ℕ) (row : Counts) : Type 0 where
+  pub fits : IsRowFor m row
+  pub join : IsJoinRow p m n row
+  pub others : AreOthers p m.columns (next_action m.schedule.now n) (counts_of row)
+
+-- .. or made, with these counts too
+pub record IsMade (p : Program) (m : SlotRows) (n : ℕ) (row : Counts) : Type 0 where
+  pub join : IsJoinRow p m n row
+  pub whole : AreWhole p m.columns (next_action m.schedule.now n) (counts_of row)
+
 -- the rows are of this schedule and these columns, the first n of them are made, and the row can be one of them
 pub record IsPass (p : Program) (s : Schedule) (block : Columns) (m : SlotRows) (n : ℕ) (counts : Counts) : Type 0 where
   pub schedule : m.schedule.now ≡ s
   pub columns : m.columns ≡ block
   pub row : IsRowFor m counts
   pub rows : AreRowsTo p m n
+
+-- none is made yet, and the row has zeros
+pub record IsBegun (p : Program) (s : Schedule) (block : Columns) (m : SlotRows) (counts : Counts) : Type 0 where
+  pub pass : IsPass p s block m 0 counts
+  pub zeros : (k : ℕ) → slice_index (counts_of counts) k ≡ 0

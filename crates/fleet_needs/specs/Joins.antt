@@ -1,9 +1,9 @@
 -- Rows that are made, one for each of these actions in turn, and the rows that stand for actions.
-use Rattle.std.specs.Prelude.{◌≡◌, ◌≢◌, ℕ, ◌+◌, ◌-◌, ◌<◌, ◌≤◌, ◌⊎◌, List, length, get_or, map, slice_index, take, Vec}
+use Rattle.std.specs.Prelude.{◌≡◌, ◌≢◌, ℕ, ◌+◌, ◌-◌, ◌<◌, ◌≤◌, ◌⊎◌, Bool, List, length, get_or, map, slice_index, take, Vec}
 use Rattle.std.specs.List.{flat_map}
 use Rattle.std.specs.declared.alloc.Global.{Global}
 use Rattle.fleet_needs.specs.Words.{ActionId, Await, Program, awaits_of, moves, total_awaits, IsAction, Reaches, awaited}
-use Rattle.fleet_needs.specs.Implied.{AreAwaitPlaces}
+use Rattle.fleet_needs.specs.Implied.{AreAwaitPlaces, AreSet}
 use Rattle.fleet_needs.specs.Keys.{action_of_key, need_of_key, value_of_key}
 use Rattle.fleet_needs.specs.Places.{row_first, row_place}
 use Rattle.fleet_needs.specs.Rows.{action_before}
@@ -51,6 +51,10 @@ HasRowOr Else p rows These = (a : ActionId) → IsAction p a → These a → ((r
 -- those that add a chain have rows
 abbrev pub HasAllRows : Program → List ActionId → (ActionId → Type 0) → Type 0
 HasAllRows p rows These = HasRowOr (λ a. AddsNone p a.agent a.number) p rows These
+
+-- .. or else flags for all their awaits, which are set
+abbrev pub HasRowUnlessSet : Program → List Bool → List ActionId → Type 0
+HasRowUnlessSet p flags rows = HasRowOr (AreSet p flags) p rows (IsAction p)
 
 -- no action needs a later one of its agent
 abbrev pub AreOwn : Program → Type 0

@@ -1,19 +1,20 @@
 -- A schedule of rows, and the counts of rows in their slots.
-use Rattle.std.specs.Prelude.{◌≡◌, ◌≢◌, true, ℕ, ◌+◌, ◌-◌, ◌*◌, ◌^◌, ◌<◌, ◌≤◌, ◌⊎◌, List, length, slice_index, slice_get, Some}
+use Rattle.std.specs.Prelude.{◌≡◌, ◌≢◌, true, ℕ, ◌+◌, ◌-◌, ◌*◌, ◌^◌, ◌<◌, ◌≤◌, ◌⊎◌, Bool, List, length, slice_index, slice_get, Some}
 use Rattle.fleet_needs.specs.Words.{ActionId, Await, Program, awaits_of, moves, IsAction, awaited}
 use Rattle.fleet_needs.specs.Block.{HasColumn}
 use Rattle.fleet_needs.specs.Columns.{agents_in}
 use Rattle.fleet_needs.specs.Counts.{counts_of, count_from, are_narrow}
-use Rattle.fleet_needs.specs.Joins.{AreOwn, AreRising, HasAllRows, StandsFor, action_at, base_of, end_of, need_at, rows_of}
+use Rattle.fleet_needs.specs.Joins.{AreOwn, AreRising, AreStanding, HasAllRows, HasRowUnlessSet, RowTable, StandsFor, action_at, base_of, end_of, need_at, rows_of}
 use Rattle.fleet_needs.specs.Order.{IsAwaiting}
 use Rattle.fleet_needs.specs.Rows.{IsColumn}
-use Rattle.fleet_needs.specs.Slots.{IsStill}
+use Rattle.fleet_needs.specs.Slots.{AreSlotted, IsStill, rows_in}
 use Rattle.fleet_needs.specs.declared.counts.Counts.{Counts}
 use Rattle.fleet_needs.specs.declared.schedule.Columns.{Columns}
 use Rattle.fleet_needs.specs.declared.schedule.Join.{Join}
 use Rattle.fleet_needs.specs.declared.schedule.Joins.{Joins}
 use Rattle.fleet_needs.specs.declared.schedule.Need.{Need}
 use Rattle.fleet_needs.specs.declared.schedule.Schedule.{Schedule}
+use Rattle.fleet_needs.specs.declared.schedule.Slots.{Slots}
 use Rattle.fleet_needs.specs.declared.join_pass.SlotRows.{SlotRows}
 
 -- the actions whose rows it has, in their order
@@ -59,13 +60,34 @@ pub record AreRows (p : Program) (x : Joins) : Type 0 where
   pub rising : AreRising (rows_of x)
   pub own : AreOwn p
 
--- .. and each row is still in its slot whenever it is taken
+-- each action has a row there, or flags that are set for all its awaits; and rows stand for all actions
+pub record AreRowsBut (p : Program) (flags : List Bool) (x : Joins) (m : RowTable) : Type 0 where
+  pub rows : AreRows p x
+  pub standing : AreStanding p (rows_of x) m
+  pub passed : HasRowUnlessSet p flags (rows_of x)
+
+-- each row is joined so, and still in its slot whenever it is taken
 pub record IsSchedule (p : Program) (s : Schedule) : Type 0 where
   pub made : AreRows p s.joins
   pub all : length s.outs.items ≡ joins_in s + 1
   pub within : (r : ℕ) → r ≤ joins_in s → slice_index s.outs.items r < s.slots
   pub still : (n r : ℕ) → TakesIn s.joins n r → IsStill s.outs.items r n
   pub narrow : s.is_narrow ≡ true → (i : ℕ) → i < length p → moves p i ≤ 65535
+
+-- it is that of these rows
+pub record IsScheduleOf (p : Program) (x : Joins) (s : Schedule) : Type 0 where
+  pub schedule : IsSchedule p s
+  pub joins : s.joins ≡ x
+
+-- .. in which each action has a row, or flags that are set for all its awaits
+pub record IsScheduleBut (p : Program) (flags : List Bool) (s : Schedule) : Type 0 where
+  pub schedule : IsSchedule p s
+  pub passed : HasRowUnlessSet p flags (joins_of s)
+
+-- of these rows, those after the first n have slots, and what their joins take
+pub record AreSlottedFrom (x : Joins) (n : ℕ) (m : Slots) : Type 0 where
+  pub rows : rows_in m ≡ length (rows_of x) + 1
+  pub slotted : AreSlotted (TakesIn x) n n m
 
 -- the slot of row r
 abbrev pub slot_of : Schedule → ℕ → ℕ

@@ -1,5 +1,5 @@
 -- Awaits for which a few steps back show whether others imply them.
-use Rattle.std.specs.Prelude.{◌≡◌, ◌≢◌, ℕ, ◌<◌, ◌⊎◌, Bool, List, true, false, get_or, slice_get, Some, Vec}
+use Rattle.std.specs.Prelude.{◌≡◌, ◌≢◌, ℕ, ◌<◌, ◌⊎◌, Bool, List, true, false, get_or, slice_get, Some, Vec, vec_len}
 use Rattle.std.specs.declared.alloc.Global.{Global}
 use Rattle.fleet_needs.specs.Words.{Await, ActionId, Program, IsAction, awaits_of, awaited}
 use Rattle.fleet_needs.specs.Rows.{action_before, ByBeforeOr}
@@ -9,6 +9,14 @@ use Rattle.fleet_needs.specs.declared.settled.Start.{Start}
 -- agent j is asked for
 abbrev pub IsAsked : Vec Bool Global → ℕ → Type 0
 IsAsked asked j = get_or asked.items j false ≡ true
+
+-- the agent is flagged if that is so, and nothing else has changed
+pub record IsAskedIf (is_open : Bool) (agent : ℕ) (old new : Vec Bool Global) : Type 0 where
+  pub all : vec_len new ≡ vec_len old
+  pub more : (j : ℕ) → IsAsked old j → IsAsked new j
+  pub asks : is_open ≡ true → IsAsked new agent
+  pub others : (j : ℕ) → j ≢ agent → get_or new.items j false ≡ get_or old.items j false
+  pub closed : is_open ≡ false → new ≡ old
 
 -- what a look back goes by: the levels of the program, and an action of it with its level
 pub record IsLook (p : Program) (costs : List Finished) (first : Start) : Type 0 where

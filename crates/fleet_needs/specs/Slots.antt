@@ -39,6 +39,7 @@ pub record IsFree (slot : ℕ) (old new : Slots) : Type 0 where
   pub none : owner_of new slot ≡ None
   pub more : slots_in old ≤ slots_in new
   pub same : (x : ℕ) → owner_of new x ≡ owner_of old x
+  pub outs : new.outs ≡ old.outs
 
 -- row r has a slot, and each that had one has kept it
 pub record IsHeld (r : ℕ) (old new : Slots) : Type 0 where

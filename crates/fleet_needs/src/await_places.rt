@@ -1,7 +1,7 @@
 //! Where awaits and the rows that stand for actions are found in lists of all of a program, which go agent by agent,
 //! action by action. Places count from 0.
 
-ghost use Rattle.std.specs.Prelude.{◌≡◌, ◌+◌, ◌<◌, ◌≤◌, length, slice_index, IfOk};
+ghost use Rattle.std.specs.Prelude.{◌≡◌, ◌+◌, ◌<◌, ◌≤◌, length, IfOk};
 ghost use Rattle.fleet_model.specs.{Program.awaits_of, Program.moves, Program.total_awaits, Chain.IsAction};
 ghost use Rattle.fleet_needs.specs.{Implied.AreAwaitPlaces, Implied.first_await, Places.row_place};
 

@@ -2,8 +2,8 @@
 //! are joined in a plain loop, and those of four lane by lane, eight at a time, and then those that are left, one by
 //! one. A lane is a vector of `std::simd`, in a small function of its own, whose proof alone speaks of lanes.
 
-ghost use Rattle.std.specs.Prelude.{◌≡◌, ◌≢◌, ◌+◌, ◌<◌, ◌≤◌, ℕ, length, max, slice_index, IfOk, get_or};
-ghost use Rattle.fleet_needs.specs.{Counts.counts_of, Counts.are_narrow, Counts.CanHold, Counts.AreAlike, Kernels.AreJoined};
+ghost use Rattle.std.specs.Prelude.{◌≡◌, ◌+◌, ◌<◌, ◌≤◌, ℕ, length, max, slice_index, IfOk, get_or};
+ghost use Rattle.fleet_needs.specs.{Counts.AreGreater, Counts.AreWritten, Counts.AreZeros, Counts.CanHold, Counts.IsSet, Counts.are_narrow, Counts.count_from, Counts.counts_of, Kernels.AreJoined};
 
 use fleet_model::OutOfMemory;
 use std::alloc::Global;
@@ -19,9 +19,7 @@ pub(crate) enum Counts {
 impl Counts {
     /// So many zeros.
     pub(crate) fn zeros(alloc: Global, len: usize, is_narrow: bool) -> Result<Counts, OutOfMemory>
-        ensures all { IfOk result (λ m. length (counts_of m) ≡ len) }
-        ensures narrow { IfOk result (λ m. are_narrow m ≡ is_narrow) }
-        ensures zeros { IfOk result (λ m. (k : ℕ) → slice_index (counts_of m) k ≡ 0) }
+        ensures { IfOk result (AreZeros len is_narrow) }
     {
         if is_narrow {
             return Ok(Counts::Narrow(vec![in alloc; 0; len]?));
@@ -44,10 +42,7 @@ impl Counts {
     pub(crate) fn set(&mut self, k: usize, count: u32)
         requires within { k < length (counts_of self.old) }
         requires hold { CanHold self.old count }
-        ensures alike { AreAlike self.old self.new }
-        ensures here { slice_index (counts_of self.new) k ≡ count }
-        ensures others { (n : ℕ) → n ≢ k
-            → slice_index (counts_of self.new) n ≡ slice_index (counts_of self.old) n }
+        ensures { IsSet k count self.old self.new }
     {
         match self {
             Counts::Narrow(counts) => counts[k] = count as u16,
@@ -60,11 +55,8 @@ impl Counts {
         requires first { first + length (counts_of self.old) ≤ length (counts_of other.now) }
         requires second { second + length (counts_of self.old) ≤ length (counts_of other.now) }
         requires alike { are_narrow other.now ≡ are_narrow self.old }
-        ensures alike { AreAlike self.old self.new }
-        ensures counts { (k : ℕ) → k < length (counts_of self.old)
-            → slice_index (counts_of self.new) k
-            ≡ max (slice_index (counts_of other.now) (first + k))
-            (slice_index (counts_of other.now) (second + k)) }
+        ensures { AreGreater (count_from other.now first) (count_from other.now second)
+            self.old self.new }
     {
         match (self, other) {
             (Counts::Narrow(row), Counts::Narrow(counts)) => {
@@ -85,10 +77,8 @@ impl Counts {
     pub(crate) fn join(&mut self, other: &Counts, from: usize)
         requires within { from + length (counts_of self.old) ≤ length (counts_of other.now) }
         requires alike { are_narrow other.now ≡ are_narrow self.old }
-        ensures alike { AreAlike self.old self.new }
-        ensures counts { (k : ℕ) → k < length (counts_of self.old)
-            → slice_index (counts_of self.new) k ≡ max (slice_index (counts_of self.old) k)
-            (slice_index (counts_of other.now) (from + k)) }
+        ensures { AreGreater (slice_index (counts_of self.old)) (count_from other.now from)
+            self.old self.new }
     {
         match (self, other) {
             (Counts::Narrow(row), Counts::Narrow(counts)) => {
@@ -107,13 +97,7 @@ impl Counts {
     pub(crate) fn write(&mut self, from: usize, row: &Counts)
         requires within { from + length (counts_of row.now) ≤ length (counts_of self.old) }
         requires alike { are_narrow self.old ≡ are_narrow row.now }
-        ensures alike { AreAlike self.old self.new }
-        ensures row { (k : ℕ) → k < length (counts_of row.now)
-            → slice_index (counts_of self.new) (from + k) ≡ slice_index (counts_of row.now) k }
-        ensures before { (n : ℕ) → n < from
-            → slice_index (counts_of self.new) n ≡ slice_index (counts_of self.old) n }
-        ensures after { (n : ℕ) → from + length (counts_of row.now) ≤ n
-            → slice_index (counts_of self.new) n ≡ slice_index (counts_of self.old) n }
+        ensures { AreWritten from row.now self.old self.new }
     {
         match (self, row) {
             (Counts::Narrow(counts), Counts::Narrow(row)) => {

@@ -2,7 +2,7 @@
 //! action costs may be the time that it takes (Kelley and Walker 1959), or one if it matters and nothing if not. If
 //! each costs one, that is its level.
 
-ghost use Rattle.std.specs.Prelude.{◌≡◌, ℕ, ◌<◌, ◌≤◌, ◌-◌, ◌++◌, ◌∷◌, [], IfOk, IfNone, IfSome, OnOk, length, set, slice_index};
+ghost use Rattle.std.specs.Prelude.{◌≡◌, ℕ, ◌<◌, ◌≤◌, ◌-◌, ◌++◌, ◌∷◌, [], IfOk, IfNone, IfSome, OnOk, length, set};
 ghost use Rattle.fleet_model.specs.{declared.program.ActionId.ActionId, Chain.IsAction, Chain.awaited};
 ghost use Rattle.fleet_needs.specs.{Critical.IsNumberedTo, Critical.HasEntries, Critical.AreCriticalCosts, Critical.AreLevels, Critical.critical_cost, Critical.noted_in, Critical.row_in, CostWalk.IsCostWalk, CostWalk.IsOpen};
 
@@ -226,6 +226,6 @@ impl OrderSource for LevelsTo {
 
     fn order<P: ProgramView>(self, alloc: Global, program: &P) -> Result<LevelOrder, OutOfMemory> {
         let levels = CriticalCosts::levels(alloc, program, self.most)?;
-        LevelOrder::by_levels(alloc, program, &levels, &[])
+        LevelOrder::by_levels(alloc, program, levels, &[])
     }
 }

@@ -3,16 +3,16 @@
 
 ghost use Rattle.std.specs.Prelude.{◌≡◌, ◌<◌, ◌+◌, Some, length, slice_get, IfOk, OnOk};
 ghost use Rattle.fleet_model.specs.{declared.program.Await.Await, Program.AreInRange, Program.awaits_of, Chain.IsAction};
-ghost use Rattle.fleet_needs.specs.{Critical.IsNumberedTo, Implied.AreSet, Implied.IsImpliedFlag, Joins.HasRowOr, Schedule.AreColumnsOf, Schedule.IsSchedule, Schedule.joins_of, Schedule.next_action, Counts.counts_of, Columns.AreColumns, Flags.AreImplied, Flags.AreSettled, Flags.flags_of, Flags.AreFlaggedIn, Flags.AreFlaggedTo, JoinPass.AreOthers, JoinPass.IsJoinRow};
+ghost use Rattle.fleet_needs.specs.{Critical.IsNumberedTo, Implied.IsImpliedFlag, Joins.HasRowUnlessSet, Schedule.AreColumnsOf, Schedule.IsSchedule, Schedule.joins_of, Columns.AreColumns, Flags.AreImplied, Flags.AreSettled, Flags.flags_of, Flags.AreFlaggedIn, Flags.AreFlaggedTo, JoinPass.IsHalfMade};
 
 use crate::await_places::AwaitPlaces;
 use crate::counts::Counts;
 use crate::critical::CriticalCosts;
 use crate::join_pass::SlotRows;
 use crate::level_order::LevelOrder;
-use crate::schedule::{Blocks, Columns, Joins, Schedule};
+use crate::schedule::{Blocks, Columns, Schedule};
 use crate::settled::{is_any, settle_all};
-use fleet_model::{ActionId, OutOfMemory, ProgramView, total_awaits};
+use fleet_model::{ActionId, OutOfMemory, ProgramView};
 use std::alloc::Global;
 
 /// Which awaits of a program others imply.
@@ -49,20 +49,12 @@ pub fn implied_awaits<P: ProgramView>(
     ensures { IfOk result (AreImplied (P.program program.now)) }
 {
     let levels = CriticalCosts::levels(alloc, program, most)?;
-    let mut implied = ImpliedAwaits {
-        places: AwaitPlaces::of(alloc, program)?,
-        flags: vec![in alloc; false; total_awaits(program) as usize]?,
-    };
-    let asked = settle_all(alloc, program, &levels, &mut implied)?;
+    let (mut implied, asked) = settle_all(alloc, program, &levels)?;
     if !is_any(&asked) {
         return Ok(implied);
     }
-    let order = LevelOrder::by_levels(alloc, program, &levels, &implied.flags)?;
-    // The rows need its room.
-    drop(levels);
-    let (joins, standing) = Joins::of(alloc, program, order, &implied.flags)?;
-    drop(standing);
-    let schedule = Schedule::of(alloc, program, joins)?;
+    let order = LevelOrder::by_levels(alloc, program, levels, &implied.flags)?;
+    let schedule = Schedule::by_order(alloc, program, order, &implied.flags)?;
     flag_all(alloc, program, &schedule, &asked, &mut implied)?;
     Ok(implied)
 }
@@ -80,8 +72,8 @@ fn flag_all<P: ProgramView>(
     requires schedule { IsSchedule (P.program program.now) schedule.now }
     requires asked { length asked.now ≡ length (P.program program.now) }
     requires settled { AreSettled (P.program program.now) asked.now implied.old }
-    requires passed { HasRowOr (AreSet (P.program program.now) (flags_of implied.old))
-        (P.program program.now) (joins_of schedule.now) (IsAction (P.program program.now)) }
+    requires passed { HasRowUnlessSet (P.program program.now)
+        (flags_of implied.old) (joins_of schedule.now) }
     ensures { OnOk result (AreImplied (P.program program.now) implied.new) }
 {
     let mut blocks = Blocks::of(program, schedule, asked);
@@ -109,8 +101,7 @@ fn flag_block<P: ProgramView>(
     ensures { OnOk result (AreFlaggedTo (P.program program.now)
         schedule.now asked.now columns.end implied.new) }
 {
-    let mut row = Counts::zeros(alloc, usize::from(columns.width), schedule.is_narrow)?;
-    let mut rows = SlotRows::new(alloc, program, schedule, columns)?;
+    let (mut rows, mut row) = SlotRows::begin(alloc, program, schedule, columns)?;
     for n in 0..schedule.rows() {
         rows.join_others(program, n, &mut row);
         flag_row(program, &rows, n, &row, asked, implied);
@@ -129,9 +120,7 @@ fn flag_row<P: ProgramView>(
     implied: &mut ImpliedAwaits,
 )
     requires range { AreInRange (P.program program.now) }
-    requires row { IsJoinRow (P.program program.now) rows.now n row.now }
-    requires others { AreOthers (P.program program.now) rows.now.columns
-        (next_action rows.now.schedule.now n) (counts_of row.now) }
+    requires joined { IsHalfMade (P.program program.now) rows.now n row.now }
     requires block { AreColumns asked.now rows.now.columns.first rows.now.columns }
     requires flags { AreFlaggedIn (P.program program.now)
         rows.now.schedule.now asked.now rows.now.columns n 0 implied.old }

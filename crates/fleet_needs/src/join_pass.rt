@@ -1,8 +1,8 @@
 //! A pass over the rows of a schedule, in the columns of one block: each is made of rows whose counts are still in
 //! their slots, and kept in its own slot.
 
-ghost use Rattle.std.specs.Prelude.{◌≡◌, ◌≢◌, ◌+◌, ◌<◌, ℕ, length, max, slice_index, IfOk, ◌-◌, ◌*◌, ◌≤◌, Some};
-ghost use Rattle.fleet_needs.specs.{Columns.agents_in, Block.HasColumn, Counts.counts_of, Counts.CanHold, Schedule.IsSchedule, Schedule.AreColumnsOf, Schedule.AreRowsTo, Schedule.IsRowFor, Schedule.joins_in, Schedule.slot_of, Schedule.next_action, JoinPass.AreOthers, JoinPass.AreWhole, JoinPass.HasOwnSet, JoinPass.IsPass};
+ghost use Rattle.std.specs.Prelude.{◌≡◌, ◌+◌, ◌<◌, ℕ, length, max, IfOk, ◌-◌, ◌*◌, ◌≤◌, Some};
+ghost use Rattle.fleet_needs.specs.{Columns.agents_in, Block.HasColumn, Counts.counts_of, Counts.CanHold, Schedule.IsSchedule, Schedule.AreColumnsOf, Schedule.AreRowsTo, Schedule.IsRowFor, Schedule.joins_in, Schedule.slot_of, JoinPass.HasOwnSet, JoinPass.IsBegun, JoinPass.IsHalfMade, JoinPass.IsMade, JoinPass.IsPass};
 ghost use Rattle.fleet_model.specs.Program.{AreInRange};
 
 use crate::counts::Counts;
@@ -48,27 +48,30 @@ pub struct SlotRows<'a> {
 }
 
 impl<'a> SlotRows<'a> {
-    /// The rows of a schedule in these columns, none of which is made yet.
-    pub(crate) fn new<P: ProgramView>(
+    /// The rows of a schedule in these columns, none of which is made yet, and a row of zeros, which can be one of them.
+    pub(crate) fn begin<P: ProgramView>(
         alloc: Global,
         program: &P,
         schedule: &'a Schedule,
         columns: Columns,
-    ) -> Result<SlotRows<'a>, OutOfMemory>
+    ) -> Result<(SlotRows<'a>, Counts), OutOfMemory>
         requires schedule { IsSchedule (P.program program.now) schedule.now }
         requires columns { AreColumnsOf (P.program program.now) columns }
-        ensures schedule { IfOk result (λ m. m.schedule.now ≡ schedule.now) }
-        ensures columns { IfOk result (λ m. m.columns ≡ columns) }
-        ensures rows { IfOk result (λ m. AreRowsTo (P.program program.now) m 0) }
+        ensures { IfOk result (λ m.
+            IsBegun (P.program program.now) schedule.now columns m.0 m.1) }
     {
         // Of the program the contract alone speaks.
         let _ = program;
-        let room = schedule.slots as usize * usize::from(columns.width);
-        Ok(SlotRows {
+        let width = usize::from(columns.width);
+        let room = schedule.slots as usize * width;
+        let counts = Counts::zeros(alloc, room, schedule.is_narrow)?;
+        let row = Counts::zeros(alloc, width, schedule.is_narrow)?;
+        let rows = SlotRows {
             schedule,
             columns,
-            counts: Counts::zeros(alloc, room, schedule.is_narrow)?,
-        })
+            counts,
+        };
+        Ok((rows, row))
     }
 
     /// Where the counts of a row that is made, or is the next, stand in its slot.
@@ -92,9 +95,7 @@ impl<'a> SlotRows<'a> {
         requires rows { AreRowsTo (P.program program.now) self.now n }
         requires next { n < joins_in self.now.schedule.now }
         requires row { IsRowFor self.now row.old }
-        ensures row { IsRowFor self.now row.new }
-        ensures others { AreOthers (P.program program.now) self.now.columns
-            (next_action self.now.schedule.now n) (counts_of row.new) }
+        ensures { IsHalfMade (P.program program.now) self.now n row.new }
     {
         let join = self.schedule.join_after(program, n);
         let first = self.schedule.need(program, n, &join, 0);
@@ -115,13 +116,10 @@ impl<'a> SlotRows<'a> {
         requires range { AreInRange (P.program program.now) }
         requires pass { IsPass (P.program program.now)
             self.old.schedule.now self.old.columns self.old n row.old }
-        requires next { n < joins_in self.old.schedule.now }
-        requires others { AreOthers (P.program program.now) self.old.columns
-            (next_action self.old.schedule.now n) (counts_of row.old) }
+        requires joined { IsHalfMade (P.program program.now) self.old n row.old }
         ensures pass { IsPass (P.program program.now)
             self.old.schedule.now self.old.columns self.new (n + 1) row.new }
-        ensures made { AreWhole (P.program program.now) self.old.columns
-            (next_action self.old.schedule.now n) (counts_of row.new) }
+        ensures made { IsMade (P.program program.now) self.new n row.new }
     {
         let join = self.schedule.join_after(program, n);
         for k in 0..join.count {

@@ -1,8 +1,8 @@
 //! Questions for chains, answered agent by agent, by the rows of a block.
 
-ghost use Rattle.std.specs.Prelude.{◌≡◌, ◌≢◌, ◌+◌, ◌<◌, ◌≤◌, ℕ, length, vec_len, slice_index, All, IfOk, OnOk};
+ghost use Rattle.std.specs.Prelude.{◌≡◌, ◌≢◌, ◌+◌, ◌<◌, length, slice_index, All, IfOk, OnOk};
 ghost use Rattle.fleet_model.specs.Program.{AreInRange};
-ghost use Rattle.fleet_needs.specs.{Asked.AreAnswersIn, Asked.AreAskedFor, Asked.IsAskedFor, Asked.IsQuestion, Schedule.IsSchedule, Schedule.AreColumnsOf, Schedule.joins_in, Block.HasItsColumn, Answering.AreAnsweredFrom, Answering.HasAnswered, Answering.IsAnswering, Answering.IsRowAt, Answering.AreListed, Answering.questions_in, Counts.counts_of, Joins.AreOwn, Joins.AreStanding, Joins.rows_of};
+ghost use Rattle.fleet_needs.specs.{Asked.AreAnswersIn, Asked.AreAskedFor, Asked.IsQuestion, Schedule.IsSchedule, Schedule.AreColumnsOf, Block.HasItsColumn, Answering.AreAnsweredFrom, Answering.HasAnswered, Answering.IsAnswering, Answering.IsRowAt, Answering.AreListedFor, Answering.questions_in, Counts.counts_of, Joins.AreOwn, Joins.AreStanding, Joins.rows_of};
 
 use crate::counts::Counts;
 use crate::join_pass::SlotRows;
@@ -36,13 +36,12 @@ pub fn answer_questions<P: ProgramView, S: OrderSource + Drop>(
     if questions.is_empty() {
         return Ok(Vec::new(alloc));
     }
-    let asked = asked_agents(alloc, program, questions)?;
     let order = source.order(alloc, program)?;
     let (joins, standing) = Joins::of(alloc, program, order, &[])?;
     let answering = Answering::of(alloc, program, &joins, &standing, questions)?;
     drop(standing);
     let schedule = Schedule::of(alloc, program, joins)?;
-    answer_all(alloc, program, &schedule, &asked, answering)
+    answer_all(alloc, program, &schedule, answering)
 }
 
 /// The answers to the questions, block by block, each with as many columns as there is room for.
@@ -51,18 +50,16 @@ fn answer_all<P: ProgramView>(
     alloc: Global,
     program: &P,
     schedule: &Schedule,
-    asked: &[bool],
     answering: Answering<'_>,
 ) -> Result<Vec<bool>, OutOfMemory>
     requires range { AreInRange (P.program program.now) }
     requires schedule { IsSchedule (P.program program.now) schedule.now }
-    requires agents { length asked.now ≡ length (P.program program.now) }
-    requires asked { All (IsAskedFor asked.now) (questions_in answering) }
     requires answers { AreAnsweredFrom (P.program program.now) schedule.now 0 answering }
     ensures { IfOk result (AreAnswersIn (P.program program.now) (questions_in answering.entry)) }
 {
     let mut answering = answering;
-    let mut blocks = Blocks::of(program, schedule, asked);
+    let asked = asked_agents(alloc, program, answering.questions)?;
+    let mut blocks = Blocks::of(program, schedule, &asked);
     while let Some(columns) = blocks.next_block(alloc)? {
         answer_block(alloc, program, schedule, columns, &mut answering)?;
     }
@@ -86,10 +83,9 @@ fn answer_block<P: ProgramView>(
     ensures { OnOk result (HasAnswered (P.program program.now)
         schedule.now columns.end answering.old answering.new) }
 {
-    let mut row = Counts::zeros(alloc, usize::from(columns.width), schedule.is_narrow)?;
+    let (mut rows, mut row) = SlotRows::begin(alloc, program, schedule, columns)?;
     answering.next = 0;
-    answering.answer_row(program, schedule, &columns, &row, 0);
-    let mut rows = SlotRows::new(alloc, program, schedule, columns)?;
+    answering.answer_row(program, schedule, &rows.columns, &row, 0);
     for n in 0..schedule.rows() {
         rows.join_others(program, n, &mut row);
         rows.finish_row(program, n, &mut row);
@@ -105,8 +101,7 @@ fn asked_agents<P: ProgramView>(
     questions: &[Question],
 ) -> Result<Vec<bool>, OutOfMemory>
     requires { All (IsQuestion (P.program program.now)) questions.now }
-    ensures agents { IfOk result (λ asked. vec_len asked ≡ length (P.program program.now)) }
-    ensures asked { IfOk result (λ asked. AreAskedFor asked questions.now) }
+    ensures { IfOk result (AreAskedFor (P.program program.now) questions.now) }
 {
     let mut asked = vec![in alloc; false; usize::from(program.agents())]?;
     for question in questions {
@@ -143,8 +138,8 @@ impl<'a> Answering<'a> {
     ) -> Result<Answering<'a>, OutOfMemory>
         requires standing { AreStanding (P.program program.now) (rows_of joins.now) standing.now }
         requires questions { All (IsQuestion (P.program program.now)) questions.now }
-        ensures questions { IfOk result (λ m. questions_in m ≡ questions.now) }
-        ensures listed { IfOk result (AreListed (P.program program.now) (rows_of joins.now)) }
+        ensures { IfOk result (AreListedFor
+            (P.program program.now) (rows_of joins.now) questions.now) }
     {
         // Of the rows the contract alone speaks.
         let _ = joins;

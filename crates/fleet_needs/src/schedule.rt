@@ -1,9 +1,9 @@
 //! A schedule of rows, made once for all blocks of columns: which rows are made, in which order, which stand for other
 //! actions, of which rows each is joined, the slot in which it is kept, and the columns of the blocks, one after another.
 
-ghost use Rattle.std.specs.Prelude.{◌≡◌, ◌↔◌, ◌+◌, ◌++◌, ◌<◌, ◌≤◌, All, List, ℕ, true, length, vec_len, IfOk, OnOk, MatchOption};
+ghost use Rattle.std.specs.Prelude.{◌≡◌, ◌+◌, ◌++◌, ◌<◌, ◌≤◌, All, ℕ, true, length, vec_len, IfOk, OnOk, MatchOption};
 ghost use Rattle.fleet_model.specs.{declared.limits.TheConstants.MAX_AGENTS, declared.program.ActionId.ActionId, Program.AreInRange, Program.moves, Chain.IsAction, Chain.awaited};
-ghost use Rattle.fleet_needs.specs.{Implied.AreAwaitPlaces, Implied.AreSet, Joins.AreAllListed, Joins.AreListedTo, Joins.AreStanding, Joins.HasAllRows, Joins.HasRoom, Joins.HasRowOr, Joins.IsFilled, Joins.IsUpToLast, Joins.action_at, Joins.base_of, Joins.end_of, Joins.need_at, Joins.need_for, Joins.needs_in, Joins.needs_of, Joins.row_of, Joins.rows_of, Keys.need_of_key, Order.AreKeys, Order.IsAwaiting, Order.IsLevelOrder, Order.named_in, Schedule.AreInOrder, Schedule.AreRows, Schedule.IsSchedule, Schedule.IsNextJoin, Schedule.IsNextNeed, Schedule.TakesIn, Schedule.joins_in, Schedule.next_action, Slots.AreSlotted, Slots.IsFree, Slots.IsHeld, Slots.rows_in, Columns.AreColumns, Columns.IsNextBlock, Columns.agents_in, Columns.column_of};
+ghost use Rattle.fleet_needs.specs.{Implied.AreAwaitPlaces, Joins.AreAllListed, Joins.AreListedTo, Joins.AreStanding, Joins.HasAllRows, Joins.HasRoom, Joins.IsFilled, Joins.IsUpToLast, Joins.action_at, Joins.base_of, Joins.end_of, Joins.need_at, Joins.need_for, Joins.needs_in, Joins.needs_of, Joins.row_of, Joins.rows_of, Keys.need_of_key, Order.AreKeys, Order.IsAwaiting, Order.IsLevelOrder, Order.named_in, Schedule.AreInOrder, Schedule.AreRows, Schedule.AreRowsBut, Schedule.IsSchedule, Schedule.IsScheduleBut, Schedule.IsScheduleOf, Schedule.IsNextJoin, Schedule.IsNextNeed, Schedule.joins_in, Schedule.next_action, Schedule.AreSlottedFrom, Slots.IsFree, Slots.IsHeld, Slots.rows_in, Columns.AreColumns, Columns.IsNextBlock, Columns.agents_in, Columns.column_of};
 
 use crate::await_places::AwaitPlaces;
 use crate::level_order::{LevelOrder, action_in, key_of, value_in};
@@ -78,11 +78,8 @@ impl Joins {
     ) -> Result<(Joins, Standing), OutOfMemory>
         requires range { AreInRange (P.program program.now) }
         requires order { IsLevelOrder (P.program program.now) implied.now order }
-        ensures rows { IfOk result (λ made. AreRows (P.program program.now) made.0) }
-        ensures standing { IfOk result (λ made.
-            AreStanding (P.program program.now) (rows_of made.0) made.1) }
-        ensures passed { IfOk result (λ made. HasRowOr (AreSet (P.program program.now) implied.now)
-            (P.program program.now) (rows_of made.0) (IsAction (P.program program.now))) }
+        ensures { IfOk result (λ made.
+            AreRowsBut (P.program program.now) implied.now made.0 made.1) }
     {
         // Of what is flagged the contract alone speaks.
         let _ = implied;
@@ -192,7 +189,6 @@ fn named<P: ProgramView>(program: &P, keys: &Vec<u64>, n: usize) -> ActionId
 }
 
 /// The rows of a program, with the slots in which they are kept.
-#[derive(Drop)]
 pub struct Schedule {
     joins: Joins,
     /// For each row, from row 0 on, its slot.
@@ -203,7 +199,37 @@ pub struct Schedule {
     pub(crate) is_narrow: bool,
 }
 
+impl Drop for Schedule {
+    fn drop(self) {
+        let Schedule {
+            joins,
+            outs,
+            slots: _,
+            is_narrow: _,
+        } = self;
+        drop(joins);
+        drop(outs);
+    }
+}
+
 impl Schedule {
+    /// The schedule of a program whose actions have this order. Those may have no rows whose awaits are flagged in
+    /// `implied`.
+    pub(crate) fn by_order<P: ProgramView>(
+        alloc: Global,
+        program: &P,
+        order: LevelOrder,
+        implied: &[bool],
+    ) -> Result<Schedule, OutOfMemory>
+        requires range { AreInRange (P.program program.now) }
+        requires order { IsLevelOrder (P.program program.now) implied.now order }
+        ensures { IfOk result (IsScheduleBut (P.program program.now) implied.now) }
+    {
+        let (joins, standing) = Joins::of(alloc, program, order, implied)?;
+        drop(standing);
+        Schedule::of(alloc, program, joins)
+    }
+
     /// The schedule of these rows.
     pub(crate) fn of<P: ProgramView>(
         alloc: Global,
@@ -211,8 +237,7 @@ impl Schedule {
         joins: Joins,
     ) -> Result<Schedule, OutOfMemory>
         requires { AreRows (P.program program.now) joins }
-        ensures schedule { IfOk result (IsSchedule (P.program program.now)) }
-        ensures joins { IfOk result (λ s. s.joins ≡ joins) }
+        ensures { IfOk result (IsScheduleOf (P.program program.now) joins) }
     {
         let rows = joins.keys.len();
         let mut slots = Slots {
@@ -438,10 +463,8 @@ impl Slots {
     fn settle(&mut self, joins: &Joins, n: usize) -> Result<(), OutOfMemory>
         requires order { AreInOrder joins.now }
         requires within { n < length (rows_of joins.now) }
-        requires rows { rows_in self.old ≡ length (rows_of joins.now) + 1 }
-        requires slotted { AreSlotted (TakesIn joins.now) (n + 1) (n + 1) self.old }
-        ensures rows { OnOk result (rows_in self.new ≡ rows_in self.old) }
-        ensures slotted { OnOk result (AreSlotted (TakesIn joins.now) n n self.new) }
+        requires slotted { AreSlottedFrom joins.now (n + 1) self.old }
+        ensures { OnOk result (AreSlottedFrom joins.now n self.new) }
     {
         self.hold(n as u32 + 1)?;
         let slot = self.outs[n + 1];
@@ -473,8 +496,7 @@ impl Slots {
 
     /// A slot that no row has, which is new if no free one is left.
     fn take_free(&mut self) -> Result<u32, OutOfMemory>
-        ensures outs { IfOk result (λ slot. self.new.outs ≡ self.old.outs) }
-        ensures free { IfOk result (λ slot. IsFree slot self.old self.new) }
+        ensures { IfOk result (λ slot. IsFree slot self.old self.new) }
     {
         if let Some(slot) = self.free.pop() {
             if (slot as usize) < self.owners.len() && self.owners[slot as usize].is_none() {

@@ -2,13 +2,14 @@
 //! what is settled, and so how much is left to rows, but not what is answered: the agents of awaits that are left are
 //! asked for, and once most agents are, it is looked back less, the less the shorter rows are.
 
-ghost use Rattle.std.specs.Prelude.{◌≡◌, ◌↔◌, ◌+◌, ◌<◌, ◌≤◌, ℕ, true, false, [], length, vec_len, take, get_or, slice_get, Some, IfOk, ◌⊎◌, None, IsTrue};
+ghost use Rattle.std.specs.Prelude.{◌≡◌, ◌↔◌, ◌+◌, ◌<◌, ◌≤◌, ℕ, true, false, length, vec_len, take, get_or, slice_get, Some, IfOk, None, IsTrue};
 ghost use Rattle.fleet_model.specs.{Program.AreInRange, Program.awaits_of, Program.total_awaits, Chain.IsAction, Chain.Reaches};
-ghost use Rattle.fleet_needs.specs.{Flags.AreSettledBy, Flags.AreSettledTo, Implied.first_await, Critical.AreLevels, Critical.critical_cost, Settled.IsAsked, Settled.IsLook, Settled.ReachesNeed, Settled.IsOpenTo, Settled.HasOpenNeed};
+ghost use Rattle.fleet_needs.specs.{Flags.AreSettledBy, Implied.first_await, Critical.AreLevels, Critical.critical_cost, Settled.IsAskedIf, Settled.IsLook, Settled.ReachesNeed, Settled.IsOpenTo, Settled.HasOpenNeed};
 
+use crate::await_places::AwaitPlaces;
 use crate::critical::CriticalCosts;
 use crate::implied::ImpliedAwaits;
-use fleet_model::{ActionId, OutOfMemory, ProgramView};
+use fleet_model::{ActionId, OutOfMemory, ProgramView, total_awaits};
 use std::alloc::Global;
 
 /// No step goes back from an action with more awaits.
@@ -23,26 +24,28 @@ const LESS_LOOKS: usize = 4;
 /// To look at one action costs about as much as to join so many counts.
 const COUNTS_A_LOOK: usize = 128;
 
-/// Flags the awaits that others imply, as far as a few steps back show it, and answers a flag for each agent: whether
-/// an await of one of its actions is left open.
+/// Which awaits others imply, as far as a few steps back show it, and a flag for each agent: whether an await of one of
+/// its actions is left open.
 pub fn settle_all<P: ProgramView>(
     alloc: Global,
     program: &P,
     levels: &CriticalCosts,
-    implied: &mut ImpliedAwaits,
-) -> Result<Vec<bool>, OutOfMemory>
-    requires levels { AreLevels (P.program program.now) levels.now }
-    requires flags { AreSettledTo (P.program program.now) [] 0 implied.old }
-    ensures { IfOk result (λ asked. AreSettledBy (P.program program.now)
-        asked (total_awaits (P.program program.now)) implied.new) }
+) -> Result<(ImpliedAwaits, Vec<bool>), OutOfMemory>
+    requires { AreLevels (P.program program.now) levels.now }
+    ensures { IfOk result (λ made. AreSettledBy (P.program program.now)
+        made.1 (total_awaits (P.program program.now)) made.0) }
 {
     let agents = program.agents();
+    let mut implied = ImpliedAwaits {
+        places: AwaitPlaces::of(alloc, program)?,
+        flags: vec![in alloc; false; total_awaits(program) as usize]?,
+    };
     let mut asked = vec![in alloc; false; usize::from(agents)]?;
     for agent in 0..agents {
         let looks = looks_for(&asked);
-        settle_agent(program, levels, looks, agent, implied, &mut asked);
+        settle_agent(program, levels, looks, agent, &mut implied, &mut asked);
     }
-    Ok(asked)
+    Ok((implied, asked))
 }
 
 /// Whether some agent is flagged.
@@ -180,10 +183,7 @@ fn is_needed<P: ProgramView>(program: &P, first: ActionId, action: ActionId, fro
 /// Flags an agent, if that is so.
 fn ask_if(is_open: bool, agent: u16, asked: &mut Vec<bool>)
     requires { agent < vec_len asked.old }
-    ensures all { vec_len asked.new ≡ vec_len asked.old }
-    ensures more { (j : ℕ) → IsAsked asked.old j → IsAsked asked.new j }
-    ensures open { is_open ≡ true → IsAsked asked.new agent }
-    ensures closed { is_open ≡ false → asked.new ≡ asked.old }
+    ensures { IsAskedIf is_open agent asked.old asked.new }
 {
     if is_open {
         asked[usize::from(agent)] = true;

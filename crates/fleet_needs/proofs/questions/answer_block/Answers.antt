@@ -1,18 +1,19 @@
-use Rattle.fleet_needs.proofs.Words.{slice_index, refl, ap, ◌∙◌, arith, counts_of, inl, inr, Columns}
+use Rattle.fleet_needs.proofs.Words.{slice_index, refl, ◌∙◌, arith, counts_of, inl, inr}
 use Rattle.fleet_needs.proofs.{Answered.answered_after, RowsMade.counts_none, RowsMade.made_counts}
 use Rattle.fleet_needs.proofs.questions.answer_block.Goals as goal
 
 pub answer_row-requires-clause-row : goal.answer_row-requires-clause-row
 answer_row-requires-clause-row g c = record {
-  width = c.in_ok-row.ensures.all ∙ c.from.ensures;
-  counts = λ i n stands. counts_none (g.P.ProgramView.program c.args.program.now) c.args.schedule.now c.args.columns 0 i n stands (slice_index (counts_of c.in_ok-row.row)) refl c.in_ok-row.ensures.zeros;
+  width = c.in_ok-rows.ensures.pass.row.width;
+  counts = λ i n stands. counts_none (g.P.ProgramView.program c.args.program.now) c.args.schedule.now c.in_ok-rows.rows.columns 0 i n stands (slice_index (counts_of c.in_ok-rows.row)) refl c.in_ok-rows.ensures.zeros;
 }
 
 pub answer_row-requires-in-loop-n-clause-row : goal.answer_row-requires-in-loop-n-clause-row
-answer_row-requires-in-loop-n-clause-row g c = rw c.finish_row.ensures.pass.columns (record {
-  width = c.finish_row.ensures.pass.row.width ∙ ap (λ (x : Columns). x.width) c.finish_row.ensures.pass.columns;
-  counts = made_counts (g.P.ProgramView.program c.args.program.now) c.args.schedule.now c.loop-n.rows.columns c.loop-n.n (slice_index (counts_of c.finish_row.new.row)) (rw (← c.loop-n.invariant.pass.schedule) c.finish_row.ensures.made);
-})
+answer_row-requires-in-loop-n-clause-row g c = record {
+  width = c.finish_row.ensures.made.join.width;
+  counts = made_counts (g.P.ProgramView.program c.args.program.now) c.args.schedule.now c.finish_row.new.self.columns c.loop-n.n (slice_index (counts_of c.finish_row.new.row))
+      (rw (← (c.finish_row.ensures.pass.schedule ∙ c.loop-n.invariant.pass.schedule)) c.finish_row.ensures.made.whole);
+}
 
 pub returns : goal.returns
 returns g c = record {
@@ -24,7 +25,7 @@ pub answer_row-requires-clause-answers : goal.answer_row-requires-clause-answers
 answer_row-requires-clause-answers g c =
     let was = c.requires.answers in
     let listed = was.listed in
-    record {
+    rw c.in_ok-rows.ensures.pass.columns (record {
       block = c.requires.block;
       answers = record {
         questions = was.questions;
@@ -32,4 +33,4 @@ answer_row-requires-clause-answers g c =
         told = λ n l. elim (was.told n l) [ inl from ↦ inl (from, inr (omega arith)) | inr it ↦ inr it ];
       };
       due = λ n from l. omega arith;
-    }
+    })

@@ -31,7 +31,7 @@ loop-k-preserved g c =
       settled = known_put p _ _ a c.requires.action k (await_of c.awaited_at-awaited.result) c.awaited_at-awaited.ensures.awaited c.loop-k.implied _ flag refl (ap (λ (n : ℕ). set (flags_of c.loop-k.implied) n flag) place)
           (λ b j v there ne left. elim left [ inl past ↦ inl (omega (arith, past, ne)) | inr set ↦ inr (c.ask_if.ensures.more v.agent set) ])
           (rw c.unwrap_or.ensures (settled_by p c.agents.ensures.well_formed c.requires.levels.range a c.requires.action.first k c.awaited_at-awaited.result c.awaited_at-awaited.ensures.awaited c.ask_if.new.asked.items (first_await p a + (k + 1)) c.if-is_passed.known
-          (λ e. c.ask_if.ensures.open (not-false c.is_none.result (sym c.is_none.ensures ∙ ap is_some e))) so not_so)) c.loop-k.invariant.settled;
+          (λ e. c.ask_if.ensures.asks (not-false c.is_none.result (sym c.is_none.ensures ∙ ap is_some e))) so not_so)) c.loop-k.invariant.settled;
     }
 
 pub returns : goal.returns

@@ -1,11 +1,11 @@
-use Rattle.fleet_needs.proofs.Words.{ap, arith, inl, take_all, Program, total_awaits}
-use Rattle.fleet_needs.proofs.{AwaitOrder.known_on, Settling.settled_on}
+use Rattle.fleet_needs.proofs.Words.{ap, arith, take_all, Program, total_awaits}
+use Rattle.fleet_needs.proofs.{Flagged.none_flagged, Settling.settled_on}
 use Rattle.fleet_needs.proofs.settled.settle_all.Goals as goal
 
 pub loop-agent-init : goal.loop-agent-init
 loop-agent-init g c = record {
   agents = omega (arith, c.in_ok-asked.ensures.len, c.from.ensures, c.agents-agents.ensures.count);
-  settled = known_on (g.P.ProgramView.program c.args.program.now) _ _ c.args.implied.now (λ a is k w at left. inl (omega arith)) c.requires.flags;
+  settled = none_flagged (g.P.ProgramView.program c.args.program.now) _ _ _ c.in_ok-of.ensures (c.in_ok-vec.ensures.items_if_clones_equal (λ y same. same)) c.total_awaits.ensures;
 }
 
 pub returns : goal.returns

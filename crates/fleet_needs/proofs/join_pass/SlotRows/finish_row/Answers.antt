@@ -5,7 +5,7 @@ use Rattle.fleet_needs.proofs.join_pass.SlotRows.finish_row.Goals as goal
 pub loop-k-init : goal.loop-k-init
 loop-k-init g c =
     let m = c.args.self.now in
-    record { row = c.requires.pass.row; own = own_first (g.P.ProgramView.program c.args.program.now) m.columns (next_action m.schedule.now c.args.n) (counts_of c.args.row.now) c.requires.others }
+    record { row = c.requires.pass.row; own = own_first (g.P.ProgramView.program c.args.program.now) m.columns (next_action m.schedule.now c.args.n) (counts_of c.args.row.now) c.requires.joined.others }
 
 pub loop-k-preserved : goal.loop-k-preserved
 loop-k-preserved g c =
@@ -37,7 +37,7 @@ returns g c =
         schedule = refl;
         columns = refl;
         row = record { width = row.width; narrow = row.narrow };
-        rows = rows_more p m c.args.n c.place-place.result c.write.new.self (counts_of c.clear_own.new.row) c.requires.pass.rows c.place-place.ensures.is row.width c.write.ensures.alike c.write.ensures.row c.write.ensures.before c.write.ensures.after made;
+        rows = rows_more p m c.args.n c.place-place.result c.clear_own.new.row c.write.new.self c.requires.pass.rows c.place-place.ensures.is row.width c.write.ensures made;
       };
-      made = made;
+      made = record { join = record { schedule = c.requires.pass.rows.schedule; columns = c.requires.pass.rows.columns; next = c.requires.joined.join.next; width = row.width }; whole = made };
     }

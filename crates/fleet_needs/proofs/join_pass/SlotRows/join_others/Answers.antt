@@ -34,11 +34,15 @@ loop-k-preserved g c =
           (λ j k has. c.join.ensures.counts k (let l = c.requires.rows.columns.within j k has in omega (arith, l, was.row.width))) was.others;
     }
 
-pub returns-clause-others : goal.returns-clause-others
-returns-clause-others g c =
+pub returns : goal.returns
+returns g c =
     let p = g.P.ProgramView.program c.args.program.now in
     let m = c.args.self.now in
     let a = next_action m.schedule.now c.args.n in
     let join = c.join_after-join.ensures in
     let whole : c.loop-k.k ≡ length (awaits_of p a.agent a.number) = omega (arith, c.loop-k-test.false, join.count, join.some, c.loop-k.auto.k-end) in
-    subst (λ (n : ℕ). AreOthersTo p m.columns a n (slice_index (counts_of c.loop-k.row))) whole c.loop-k.invariant.others
+    record {
+      fits = c.loop-k.invariant.row;
+      join = record { schedule = c.requires.rows.schedule; columns = c.requires.rows.columns; next = c.requires.next; width = c.loop-k.invariant.row.width };
+      others = subst (λ (n : ℕ). AreOthersTo p m.columns a n (slice_index (counts_of c.loop-k.row))) whole c.loop-k.invariant.others;
+    }

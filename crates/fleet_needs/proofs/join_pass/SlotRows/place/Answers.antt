@@ -1,5 +1,5 @@
 use Rattle.fleet_needs.proofs.Words.{◌≡◌, ◌*◌, ◌<◌, refl, arith, length, slot_of}
-use Rattle.fleet_needs.proofs.{Counting.count_read, Placed.row_ends}
+use Rattle.fleet_needs.proofs.{Counting.count_read, Counting.row_ends}
 use Rattle.fleet_needs.proofs.join_pass.SlotRows.place.Goals as goal
 
 pub returns : goal.returns

@@ -3,18 +3,18 @@ use Rattle.fleet_needs.proofs.{Counting.count_read, Slotting.held_on, Slotting.j
 use Rattle.fleet_needs.proofs.schedule.Slots.settle.Goals as goal
 
 pub hold-requires-2 : goal.hold-requires-2
-hold-requires-2 c = omega (arith, c.base.ensures, c.requires.order.sooner c.args.n _ (c.requires.within, inl refl), c.in_ok-hold.ensures.rows, c.requires.rows, c.requires.within)
+hold-requires-2 c = omega (arith, c.base.ensures, c.requires.order.sooner c.args.n _ (c.requires.within, inl refl), c.in_ok-hold.ensures.rows, c.requires.slotted.rows, c.requires.within)
 
 pub loop-x-init : goal.loop-x-init
 loop-x-init c =
     let s = c.args.joins.now in
     let n = c.args.n in
     let mid = c.hold.new.self in
-    let slot = count_read mid.outs.items (n + 1) (n + 1) c.index-slot.result.now refl (omega (arith, c.requires.within, c.requires.rows, c.in_ok-hold.ensures.rows)) c.index-slot.ensures in
+    let slot = count_read mid.outs.items (n + 1) (n + 1) c.index-slot.result.now refl (omega (arith, c.requires.within, c.requires.slotted.rows, c.in_ok-hold.ensures.rows)) c.index-slot.ensures in
     let h = c.in_ok-hold-2.ensures in
     record {
       rows = h.rows ∙ c.in_ok-hold.ensures.rows;
-      slotted = held_on (TakesIn s) (n + 1) n c.base.result _ c.hold-2.new.self (omega (arith, c.base.ensures, c.requires.order.sooner n _ (c.requires.within, inl refl))) h (row_ended (TakesIn s) n c.args.self.now mid c.in_ok-hold.ensures c.push.new.self c.index-slot.result.now slot c.requires.slotted);
+      slotted = held_on (TakesIn s) (n + 1) n c.base.result _ c.hold-2.new.self (omega (arith, c.base.ensures, c.requires.order.sooner n _ (c.requires.within, inl refl))) h (row_ended (TakesIn s) n c.args.self.now mid c.in_ok-hold.ensures c.push.new.self c.index-slot.result.now slot c.requires.slotted.slotted);
       base = subst (HasSlotNow c.hold-2.new.self) c.base.ensures h.here;
       each = λ y from less. absurd (omega (arith, from, less, c.end-first.ensures));
     }
@@ -22,7 +22,7 @@ loop-x-init c =
 pub hold-requires-in-loop-x : goal.hold-requires-in-loop-x
 hold-requires-in-loop-x c =
     let low = c.requires.order.sooner c.args.n _ (c.requires.within, inr (c.loop-x.x, omega (arith, c.loop-x.auto.x, c.end-first.ensures), omega (arith, c.loop-x-test.true, c.end-end.ensures), refl)) in
-    omega (arith, ap (λ (y : Need). y.row) c.need.ensures, low, c.loop-x.invariant.rows, c.requires.rows, c.requires.within)
+    omega (arith, ap (λ (y : Need). y.row) c.need.ensures, low, c.loop-x.invariant.rows, c.requires.slotted.rows, c.requires.within)
 
 pub loop-x-preserved : goal.loop-x-preserved
 loop-x-preserved c =
@@ -44,7 +44,10 @@ loop-x-preserved c =
       ];
     }
 
-pub returns-clause-slotted : goal.returns-clause-slotted
-returns-clause-slotted c =
+pub returns : goal.returns
+returns c =
     let was = c.loop-x.invariant in
-    join_settled c.args.joins.now c.args.n c.loop-x.self was.base (λ y from less. was.each y from (omega (arith, less, c.loop-x-test.false, c.end-end.ensures))) was.slotted
+    record {
+      rows = was.rows ∙ c.requires.slotted.rows;
+      slotted = join_settled c.args.joins.now c.args.n c.loop-x.self was.base (λ y from less. was.each y from (omega (arith, less, c.loop-x-test.false, c.end-end.ensures))) was.slotted;
+    }

@@ -1,7 +1,8 @@
 -- Open pairs asked for.
-use Rattle.fleet_verify.proofs.Words.{◌≡◌, ℕ, ◌+◌, ◌<◌, ◌≤◌, Bool, true, false, List, [], ◌∷◌, ◌++◌, length, get_or, Option, Some, None, IfSome, slice_get, refl, sym, ap, ◌∙◌, subst, arith, inl, inr, All, cases_lt, cases_eq, cases_order, cases_Bool, ne_eqb, get_or_append_left, get_or_push, slice_get-get_or, slice_get_within, get_or_from_slice_get, same_Some, ActionId, Await, Visit, Program, AreInRange, IsAction, Reaches, Reaches-last, Reaches-need, Reaches-trans, awaited, awaits_of, own_reach, entering, leaving, eqb, Result, Ok, Err, IfOk, Question, AreAnswers, AreCountedUp, level_in, AreKnown, IsChained, IsAskedOf, AreAsked, BeginsLater, IsFlagOf, EndApart, EnterApart, AreAmong, key_of, HasLevels, AreVisits, question_of, OpenPair}
+use Rattle.fleet_verify.proofs.Words.{◌≡◌, ℕ, ◌+◌, ◌<◌, ◌≤◌, Bool, true, false, List, [], ◌∷◌, ◌++◌, length, get_or, Option, Some, None, IfSome, slice_get, refl, sym, ap, ◌∙◌, subst, arith, inl, inr, All, cases_lt, cases_eq, cases_order, cases_Bool, ne_eqb, get_or_append_left, get_or_push, slice_get-get_or, slice_get_within, get_or_from_slice_get, same_Some, ActionId, Await, Visit, Program, AreInRange, IsAction, Reaches, Reaches-last, Reaches-need, Reaches-trans, awaited, awaits_of, entering, leaving, eqb, Result, Ok, Err, IfOk, Question, AreAnswers, AreCountedUp, level_in, AreKnown, IsChained, IsAskedOf, AreAsked, BeginsLater, IsFlagOf, EndApart, EnterApart, AreAmong, key_of, HasLevels, AreVisits, question_of, OpenPair}
 use Rattle.fleet_verify.specs.declared.chained.Answers.{Answers}
 use Rattle.fleet_verify.specs.declared.chained.TheConstants.{NUMBERS}
+use Rattle.fleet_needs.proofs.Joining.{awaited_action, own_first}
 use Rattle.fleet_verify.proofs.Decide.{Reaches-dec}
 use Rattle.fleet_verify.proofs.Levels.{counted_numbers}
 use Rattle.fleet_verify.proofs.Listing.{levels_number, rank_rises}
@@ -152,12 +153,6 @@ flag_there known questions k q place at places none apart all among =
 
 -- ---- short chains
 
--- an awaited action is one of the program
-pub in_range : (p : Program) → AreInRange p → (a : ActionId) (k : ℕ) (w : Await) → slice_get (awaits_of p a.agent a.number) k ≡ Some w → IsAction p (awaited w)
-in_range p range a k w at =
-    let known = range a.agent a.number w (k, slice_get_within (awaits_of p a.agent a.number) k w at, get_or_from_slice_get (awaits_of p a.agent a.number) k w w at) in
-    record { agent = known.agent; first = known.first; last = known.last }
-
 -- what reaches an awaited action reaches the one that awaits it
 pub reached_on : (p : Program) → AreInRange p → (x a : ActionId) (k : ℕ) (w : Await) → IsAction p a → slice_get (awaits_of p a.agent a.number) k ≡ Some w → Reaches p x (awaited w) → Reaches p x a
 reached_on p range x a k w is at r =
@@ -166,5 +161,4 @@ reached_on p range x a k w is at r =
 -- so does an action that it awaits, or an earlier one of that one's agent
 pub awaited_reaches : (p : Program) → AreInRange p → (x a : ActionId) (k : ℕ) (w : Await) → IsAction p a → slice_get (awaits_of p a.agent a.number) k ≡ Some w → 1 ≤ x.number → w.agent ≡ x.agent → x.number ≤ w.count → Reaches p x a
 awaited_reaches p range x a k w is at some same l =
-    let known = in_range p range a k w at in
-    reached_on p range x a k w is at (subst (λ i. Reaches p (record { agent = i; number = x.number }) (awaited w)) same (own_reach p w.agent x.number w.count known.agent some l known.last))
+    reached_on p range x a k w is at (own_first p x (awaited w) some (awaited_action p range a.agent a.number k w at) same l)

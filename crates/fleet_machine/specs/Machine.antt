@@ -1,8 +1,9 @@
 -- The state of a machine as contracts see it, and the program that it runs.
-use Rattle.std.specs.Prelude.{◌≡◌, ℕ, ◌+◌, ◌*◌, ◌/◌, ◌%◌, ◌<◌, ◌≤◌, ◌==◌, ◌&&◌, Bool, false, nat_lt, nat_le, List, length, map, set, min, get_or, take, Option, Some, None, true, slice_get, if◌then◌else◌}
+use Rattle.std.specs.Prelude.{◌≡◌, ℕ, ◌+◌, ◌*◌, ◌/◌, ◌%◌, ◌<◌, ◌≤◌, ◌==◌, ◌&&◌, Bool, false, nat_lt, nat_le, List, length, map, set, min, get_or, take, Option, Some, None, is_none, IfSome, true, slice_get, if◌then◌else◌}
 use Rattle.std.specs.List.{list_all}
 use Rattle.fleet_model.specs.Program.{Program, IsWellFormed, moves, step_of, awaits_of, awaits_before}
 use Rattle.fleet_model.specs.declared.geometry.Step.TheVariants.{Dwell}
+use Rattle.fleet_model.specs.declared.limits.TheConstants.{MAX_AGENTS}
 use Rattle.fleet_model.specs.declared.program.Await.{Await}
 use Rattle.fleet_model.specs.declared.standing.Standing.{Standing}
 use Rattle.fleet_model.specs.Machine.{Configuration, standing_at, count_at, next_action, finished_one, is_met, is_ready, is_moving, indices}
@@ -108,6 +109,24 @@ pub record IsReadToStep (p : Program) (c : Configuration) (i : ℕ) (mark : Mark
 abbrev pub HasReadAll : Program → Configuration → ℕ → Mark → Type 0
 HasReadAll p c i mark = is_ready p c i ≡ true → IsReadThrough p i (count_at c i + 1) mark
 
+-- agent i of the program, which is well-formed, has its place and its mark in the machine, and an action left
+pub record HasNext (p : Program) (m : MachineState) (i : ℕ) : Type 0 where
+  pub well_formed : IsWellFormed p
+  pub agent : i < length p
+  pub standing : i < length m.configuration
+  pub marks : i < length m.marks
+  pub left : count_at m.configuration i < moves p i
+
+-- agent i has read on so far: up to the first await that is not met, which was found, or through the step
+pub record HasReadOn (p : Program) (m : MachineState) (i : ℕ) (mark : Mark) (found : Option Await) : Type 0 where
+  pub read : IsRead p m.configuration i mark
+  pub all : HasReadAll p m.configuration i mark
+  pub lacked : IsLacked p m.configuration i found
+  pub kept : IfSome found (λ _. mark ≡ record (mark_of m.marks i) { met = mark.met })
+  pub agent : IfSome found (λ w. w.agent < MAX_AGENTS)
+  pub list : IfSome found (λ w. list_of w < length p * LISTS_EACH)
+  pub ready : is_ready p m.configuration i ≡ (is_left p m.configuration i && is_none found)
+
 -- agent i is flagged as it is, has read what it is to have read, and stands in the list in which it belongs
 pub record IsJudged (p : Program) (m : MachineState) (i : ℕ) : Type 0 where
   pub read : IsRead p m.configuration i (mark_of m.marks i)
@@ -125,6 +144,26 @@ pub record HasRows (n : ℕ) (m : MachineState) : Type 0 where
   pub lists : m.waiting.lists ≡ n * LISTS_EACH
   pub homes : length m.waiting.homes ≡ n
   pub least : length m.least ≡ n * LISTS_EACH
+
+-- the program is well-formed, and each of its agents has its places in the machine
+pub record Fits (p : Program) (m : MachineState) : Type 0 where
+  pub well_formed : IsWellFormed p
+  pub agents : length m.configuration ≡ length p
+  pub rows : HasRows (length p) m
+
+-- agent i stands in no list, and the list of those that wait for this is one of the machine's
+pub record CanWait (m : MachineState) (i : ℕ) (awaited : Await) : Type 0 where
+  pub home : i < length m.waiting.homes
+  pub nowhere : home_of m.waiting.homes i ≡ None
+  pub agent : awaited.agent < MAX_AGENTS
+  pub list : list_of awaited < m.waiting.lists
+  pub least : list_of awaited < length m.least
+
+-- the lists of agent j are among the machine's, and who stands in a list can be flagged as due
+pub record CanWake (m : MachineState) (j : ℕ) : Type 0 where
+  pub list : j * LISTS_EACH + LISTS_EACH ≤ m.waiting.lists
+  pub least : j * LISTS_EACH + LISTS_EACH ≤ length m.least
+  pub due : length m.due ≡ length m.waiting.homes
 
 -- the machine runs this program
 pub record Runs (p : Program) (m : MachineState) : Type 0 where

@@ -1,12 +1,13 @@
 -- Steps of a tick.
-use Rattle.std.specs.Prelude.{◌≡◌, ℕ, ◌+◌, ◌<◌, ◌≤◌, Bool, true, false, ◌||◌, ◌&&◌, length, filter, set, option_map, Option, Some, None, if◌then◌else◌}
+use Rattle.std.specs.Prelude.{◌≡◌, ℕ, ◌+◌, ◌<◌, ◌≤◌, Bool, true, false, ◌||◌, ◌&&◌, List, length, filter, set, option_map, Option, Some, None, if◌then◌else◌}
 use Rattle.fleet_model.specs.declared.program.Await.{Await}
 use Rattle.fleet_model.specs.Program.{Program, IsWellFormed}
-use Rattle.fleet_model.specs.Machine.{is_ready, tick, moved_in, indices}
+use Rattle.fleet_model.specs.Machine.{is_ready, tick, moved_in, is_ready_held, indices}
 use Rattle.fleet_machine.specs.WaitLists.{home_of}
 use Rattle.fleet_machine.specs.declared.steps.Mark.{Mark}
+use Rattle.fleet_machine.specs.declared.machine.Tick.{Tick}
 use Rattle.fleet_machine.specs.Machine.{MachineState, Runs, HasRows, IsJudged, flag_of, mark_of, is_left, IsLacked, IsRead, HasReadAll, is_reached, least_of, list_of, agent_of, lowered, passed, after_next, marks_after, moving_flags}
-use Rattle.fleet_machine.specs.Looked.{awaiting_in}
+use Rattle.fleet_machine.specs.Looked.{ready_in, awaiting_in, LooksAt}
 use Rattle.fleet_machine.specs.Confirmed.{all_but}
 
 -- the list is one of these
@@ -116,6 +117,14 @@ pub record CanJudge (p : Program) (m : MachineState) : Type 0 where
   pub flagged : (i : ℕ) → i < length p → is_left p m.configuration i ≡ true → flag_of m.left i ≡ true
   pub nowhere : (i : ℕ) → flag_of m.due i ≡ true → home_of m.waiting.homes i ≡ None
 
+-- agent i, which is to be judged, has read what it is to have read, is flagged as one with an action left if it has one,
+-- is supposed to be ready, and stands in no list
+pub record IsSupposed (p : Program) (m : MachineState) (i : ℕ) : Type 0 where
+  pub read : IsRead p m.configuration i (mark_of m.marks i)
+  pub flagged : is_left p m.configuration i ≡ true → flag_of m.left i ≡ true
+  pub ready : flag_of m.ready i ≡ true
+  pub nowhere : home_of m.waiting.homes i ≡ None
+
 -- the agents that were due are judged, so many, and each other agent is as before
 pub record HasJudged (p : Program) (before after : MachineState) (number : ℕ) : Type 0 where
   pub same : after ≡ record before {
@@ -129,3 +138,19 @@ pub record HasJudged (p : Program) (before after : MachineState) (number : ℕ) 
   pub judged : (i : ℕ) → i < length p → flag_of before.due i ≡ true → IsJudged p after i
   pub others : (i : ℕ) → flag_of before.due i ≡ false → IsAsBefore before after i
   pub count : number ≡ length (filter (flag_of before.due) (indices (length p)))
+
+-- one tick in which these agents are held, with this outcome
+pub record Ticks (p : Program) (holds : ℕ → Bool) (old new : MachineState) (outcome : Tick) : Type 0 where
+  pub runs : Runs p new
+  pub after : new.configuration ≡ tick p holds old.configuration
+  pub moving : new.moving ≡ moving_flags p holds old.configuration
+  pub moved : outcome.moved ≡ moved_in p holds old.configuration
+  pub held : outcome.ready_held ≡ is_ready_held p holds old.configuration
+  pub looked : LooksAt (ready_in p old.configuration) (awaiting_in p holds old.configuration) old.looked new.looked
+
+-- one tick in which the flagged agents move, and all others are held
+pub record TicksWith (p : Program) (flags : List Bool) (old new : MachineState) : Type 0 where
+  pub runs : Runs p new
+  pub after : new.configuration ≡ tick p (all_but (flag_of flags)) old.configuration
+  pub moving : new.moving ≡ flags
+  pub looked : LooksAt (moved_in p (all_but (flag_of flags)) old.configuration) (awaiting_in p (all_but (flag_of flags)) old.configuration) old.looked new.looked

@@ -1,15 +1,14 @@
 //! The agents of a program on their way, and one tick of all of them.
 
-ghost use Rattle.std.specs.Prelude.{◌≡◌, ◌≢◌, ◌+◌, ◌-◌, ◌*◌, ◌<◌, ◌≤◌, ◌^◌, ◌&&◌, ◌||◌, ◌==◌, ℕ, Bool, true, false, length, set, replicate, Some, None, is_none, option_map, IfOk, IfSome, IfNone, MatchOption};
+ghost use Rattle.std.specs.Prelude.{◌≡◌, ◌≢◌, ◌+◌, ◌-◌, ◌<◌, ◌≤◌, ◌^◌, ◌&&◌, ◌||◌, ◌==◌, ℕ, Bool, true, false, length, set, replicate, Some, None, option_map, IfOk, IfSome, IfNone, MatchOption};
 ghost use Rattle.std.specs.List.{list_any};
-ghost use Rattle.fleet_model.specs.Program.{moves, IsWellFormed};
-ghost use Rattle.fleet_model.specs.Machine.{opening, is_finished, next_action, is_ready, is_met, tick, moved_in, is_ready_held, standing_at, count_at, indices};
+ghost use Rattle.fleet_model.specs.Machine.{opening, is_finished, next_action, is_ready, is_met, moved_in, is_ready_held, standing_at, count_at, indices};
 ghost use Rattle.fleet_model.specs.Claims.{order_of};
-ghost use Rattle.fleet_machine.specs.Confirmed.{all_but, AreAllReady, IsFirstUnready};
-ghost use Rattle.fleet_machine.specs.Looked.{ready_in, awaiting_in, LooksAt};
+ghost use Rattle.fleet_machine.specs.Confirmed.{AreAllReady, IsFirstUnready};
+ghost use Rattle.fleet_machine.specs.Looked.{ready_in, LooksAt};
 ghost use Rattle.fleet_machine.specs.Near.{IsNear, AreNear};
-ghost use Rattle.fleet_machine.specs.Machine.{MachineState, Runs, HasRows, HasReadAll, IsLacked, IsRead, IsReadToStep, is_left, is_reached, list_of, agent_of, least_of, lowered, passed, after_next, mark_of, moving_flags, flag_of};
-ghost use Rattle.fleet_machine.specs.Waking.{IsWoken, is_woken_by, advanced_one, held_back, carried_all, HasWoken, IsCarriedOut, IsPlaced, CanJudge, HasJudged};
+ghost use Rattle.fleet_machine.specs.Machine.{MachineState, Runs, Fits, HasNext, HasReadOn, CanWait, CanWake, IsRead, IsReadToStep, is_reached, list_of, agent_of, least_of, lowered, passed, after_next, mark_of, flag_of};
+ghost use Rattle.fleet_machine.specs.Waking.{IsWoken, is_woken_by, advanced_one, held_back, carried_all, HasWoken, IsCarriedOut, IsPlaced, IsSupposed, CanJudge, HasJudged, Ticks, TicksWith};
 ghost use Rattle.fleet_machine.specs.WaitLists.{home_of};
 
 use crate::agent_set::{AgentSet, LISTS_EACH, WaitLists, list_of, next_flag};
@@ -198,22 +197,10 @@ impl Machine {
     /// one that is not met, which it answers too, or through the step.
     #[inline(always)]
     fn read_on<P: ProgramView>(&self, program: &P, i: u16) -> (Mark, Option<Await>)
-        requires well_formed { IsWellFormed (P.program program.now) }
+        requires next { HasNext (P.program program.now) self.now i }
         requires agents { length self.now.configuration ≡ length (P.program program.now) }
-        requires marks { length self.now.marks ≡ length (P.program program.now) }
-        requires agent { i < length (P.program program.now) }
-        requires left { count_at self.now.configuration i < moves (P.program program.now) i }
         requires read { IsRead (P.program program.now) self.now.configuration i (mark_of self.now.marks i) }
-        ensures read { IsRead (P.program program.now) self.now.configuration i result.0 }
-        ensures all { HasReadAll (P.program program.now) self.now.configuration i result.0 }
-        ensures lacked { IsLacked (P.program program.now) self.now.configuration i result.1 }
-        ensures kept { IfSome result.1
-            (λ _. result.0 ≡ record (mark_of self.now.marks i) { met = result.0.met }) }
-        ensures agent { IfSome result.1 (λ w. w.agent < MAX_AGENTS) }
-        ensures list { IfSome result.1 (λ w. list_of w
-            < length (P.program program.now) * LISTS_EACH) }
-        ensures ready { is_ready (P.program program.now) self.now.configuration i
-            ≡ (is_left (P.program program.now) self.now.configuration i && is_none result.1) }
+        ensures { HasReadOn (P.program program.now) self.now i result.0 result.1 }
     {
         let finished = self.agent(i).count;
         let mark = self.mark(i);
@@ -250,11 +237,7 @@ impl Machine {
 
     /// The step of the next action of agent `i`, which has one and has read up to it.
     fn next_step<P: ProgramView>(&self, program: &P, i: u16) -> Step
-        requires well_formed { IsWellFormed (P.program program.now) }
-        requires agent { i < length (P.program program.now) }
-        requires standing { i < length self.now.configuration }
-        requires marks { i < length self.now.marks }
-        requires left { count_at self.now.configuration i < moves (P.program program.now) i }
+        requires next { HasNext (P.program program.now) self.now i }
         requires read { IsReadToStep (P.program program.now) self.now.configuration i
             (mark_of self.now.marks i) }
         ensures { option_map (λ a. a.step)
@@ -299,11 +282,7 @@ impl Machine {
 
     /// Agent `i`, which stands in no list, waits for what is awaited.
     fn wait_for(&mut self, i: u16, awaited: Await)
-        requires home { i < length self.old.waiting.homes }
-        requires nowhere { home_of self.old.waiting.homes i ≡ None }
-        requires agent { awaited.agent < MAX_AGENTS }
-        requires list { list_of awaited < self.old.waiting.lists }
-        requires least { list_of awaited < length self.old.least }
+        requires { CanWait self.old i awaited }
         ensures { self.new ≡ record self.old {
           waiting = record self.old.waiting {
             homes = set self.old.waiting.homes i (Some (list_of awaited));
@@ -322,11 +301,7 @@ impl Machine {
     fn wait(&mut self, i: u16, met: u16, awaited: Await)
         requires marks { i < length self.old.marks }
         requires ready { i < length self.old.ready }
-        requires home { i < length self.old.waiting.homes }
-        requires nowhere { home_of self.old.waiting.homes i ≡ None }
-        requires agent { awaited.agent < MAX_AGENTS }
-        requires list { list_of awaited < self.old.waiting.lists }
-        requires least { list_of awaited < length self.old.least }
+        requires can { CanWait self.old i awaited }
         ensures { self.new ≡ record self.old {
           marks = set self.old.marks i (record (mark_of self.old.marks i) { met = met });
           ready = set self.old.ready i false;
@@ -367,15 +342,9 @@ impl Machine {
     /// belongs.
     #[inline(always)]
     fn judge<P: ProgramView>(&mut self, program: &P, i: u16)
-        requires well_formed { IsWellFormed (P.program program.now) }
-        requires agents { length self.old.configuration ≡ length (P.program program.now) }
-        requires rows { HasRows (length (P.program program.now)) self.old }
+        requires fits { Fits (P.program program.now) self.old }
         requires agent { i < length (P.program program.now) }
-        requires read { IsRead (P.program program.now) self.old.configuration i (mark_of self.old.marks i) }
-        requires flagged { is_left (P.program program.now) self.old.configuration i ≡ true
-            → flag_of self.old.left i ≡ true }
-        requires ready { flag_of self.old.ready i ≡ true }
-        requires nowhere { home_of self.old.waiting.homes i ≡ None }
+        requires supposed { IsSupposed (P.program program.now) self.old i }
         ensures { IsPlaced (P.program program.now) self.old self.new i }
     {
         let has_finished = self.agent(i).count >= program.moves(i);
@@ -475,10 +444,8 @@ impl Machine {
     fn wake_if_reached(&mut self, j: u16, count: u32)
         requires count { count ≡ count_at self.old.configuration j }
         requires few { j < MAX_AGENTS }
-        requires list { j * LISTS_EACH + LISTS_EACH ≤ self.old.waiting.lists }
-        requires least { j * LISTS_EACH + LISTS_EACH ≤ length self.old.least }
         requires agent { j < length self.old.configuration }
-        requires due { length self.old.due ≡ length self.old.waiting.homes }
+        requires lists { CanWake self.old j }
         ensures { IsWoken (λ k. (agent_of k == j) && is_reached self.old k) self.old self.new }
     {
         let list = list_of(Await { agent: j, count });
@@ -520,11 +487,7 @@ impl Machine {
     /// Agent `i` finishes its next action, up to whose step it has read. Answers how many it has finished then.
     #[inline(always)]
     fn finish_action<P: ProgramView>(&mut self, program: &P, i: u16) -> u32
-        requires well_formed { IsWellFormed (P.program program.now) }
-        requires agent { i < length (P.program program.now) }
-        requires standing { i < length self.old.configuration }
-        requires marks { i < length self.old.marks }
-        requires left { count_at self.old.configuration i < moves (P.program program.now) i }
+        requires next { HasNext (P.program program.now) self.old i }
         requires read { IsReadToStep (P.program program.now) self.old.configuration i
             (mark_of self.old.marks i) }
         ensures count { result ≡ count_at self.new.configuration i }
@@ -566,16 +529,10 @@ impl Machine {
     /// stand that wait for its count, if the list's least count is reached. They are due.
     #[inline(always)]
     fn advance_one<P: ProgramView>(&mut self, program: &P, i: u16)
-        requires well_formed { IsWellFormed (P.program program.now) }
-        requires agent { i < length (P.program program.now) }
-        requires standing { i < length self.old.configuration }
-        requires marks { i < length self.old.marks }
-        requires left { count_at self.old.configuration i < moves (P.program program.now) i }
+        requires next { HasNext (P.program program.now) self.old i }
         requires read { IsReadToStep (P.program program.now) self.old.configuration i
             (mark_of self.old.marks i) }
-        requires list { i * LISTS_EACH + LISTS_EACH ≤ self.old.waiting.lists }
-        requires least { i * LISTS_EACH + LISTS_EACH ≤ length self.old.least }
-        requires due { length self.old.due ≡ length self.old.waiting.homes }
+        requires lists { CanWake self.old i }
         ensures { IsWoken
             (λ k. (agent_of k == i) && is_reached (advanced_one (P.program program.now) self.old i) k)
             (advanced_one (P.program program.now) self.old i) self.new }
@@ -640,18 +597,7 @@ impl Machine {
     pub fn tick<P: ProgramView>(&mut self, program: &P, held: &[bool]) -> Tick
         requires runs { Runs (P.program program.now) self.old }
         requires held { length held.now ≡ length (P.program program.now) }
-        ensures runs { Runs (P.program program.now) self.new }
-        ensures after { self.new.configuration
-            ≡ tick (P.program program.now) (flag_of held.now) self.old.configuration }
-        ensures moving { self.new.moving
-            ≡ moving_flags (P.program program.now) (flag_of held.now) self.old.configuration }
-        ensures moved { result.moved
-            ≡ moved_in (P.program program.now) (flag_of held.now) self.old.configuration }
-        ensures held { result.ready_held
-            ≡ is_ready_held (P.program program.now) (flag_of held.now) self.old.configuration }
-        ensures looked { LooksAt (ready_in (P.program program.now) self.old.configuration)
-            (awaiting_in (P.program program.now) (flag_of held.now) self.old.configuration)
-            self.old.looked self.new.looked }
+        ensures { Ticks (P.program program.now) (flag_of held.now) self.old self.new result }
     {
         let (tick, ready) = self.advance(program, held);
         let judged = self.judge_woken(program);
@@ -672,9 +618,7 @@ impl Machine {
 
     /// The agents that move, all of which are ready, finish their next actions, and those that they wake are due.
     fn move_all<P: ProgramView>(&mut self, program: &P)
-        requires well_formed { IsWellFormed (P.program program.now) }
-        requires agents { length self.old.configuration ≡ length (P.program program.now) }
-        requires rows { HasRows (length (P.program program.now)) self.old }
+        requires fits { Fits (P.program program.now) self.old }
         requires moving { length self.old.moving ≡ length (P.program program.now) }
         requires due { self.old.due ≡ self.old.moving }
         requires sent { AreAllReady (P.program program.now) self.old.configuration
@@ -699,15 +643,7 @@ impl Machine {
         requires done { length done.now ≡ length (P.program program.now) }
         requires sent { AreAllReady (P.program program.now) self.old.configuration
             (flag_of done.now) }
-        ensures runs { Runs (P.program program.now) self.new }
-        ensures after { self.new.configuration
-            ≡ tick (P.program program.now) (all_but (flag_of done.now)) self.old.configuration }
-        ensures moving { self.new.moving ≡ done.now }
-        ensures looked { LooksAt (moved_in (P.program program.now)
-            (all_but (flag_of done.now)) self.old.configuration)
-            (awaiting_in (P.program program.now)
-            (all_but (flag_of done.now)) self.old.configuration)
-            self.old.looked self.new.looked }
+        ensures { TicksWith (P.program program.now) done.now self.old self.new }
     {
         self.choose(done);
         self.move_all(program);

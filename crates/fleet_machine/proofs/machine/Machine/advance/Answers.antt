@@ -27,8 +27,8 @@ overflow_add-result g c =
     let few = few_ready p (flag_of c.args.held.now) c.args.self.now c.requires.runs shadow now.cursor.from now.moved now.ready_held (now.moved + now.kept) now.invariant.advanced in
     omega (arith, few, now.invariant.advanced.within, c.requires.runs.well_formed.few_agents)
 
-pub advance_one-requires-clause-left : goal.advance_one-requires-clause-left
-advance_one-requires-clause-left g c =
+pub advance_one-requires-clause-next : goal.advance_one-requires-clause-next
+advance_one-requires-clause-next g c =
     let p = g.P.ProgramView.program c.args.program.now in
     let old = c.args.self.now in
     let now = c.loop-i in
@@ -38,7 +38,14 @@ advance_one-requires-clause-left g c =
     let next : IsNextFrom shadow.ready now.cursor.from i = c.in-Some.ensures.next in
     let ready = next_is_ready p (flag_of c.args.held.now) old c.requires.runs shadow now.cursor.from now.moved now.ready_held (now.moved + now.kept) before i next in
     let same : count_at now.self.configuration i ≡ count_at old.configuration i = ap (λ (s : Standing). s.count) (before.done.rest i next.later) in
-    omega (arith, same, ready_left p old.configuration i ready)
+    let agent = ready_agent p (flag_of c.args.held.now) old c.requires.runs shadow now.cursor.from now.moved now.ready_held (now.moved + now.kept) before i next in
+    record {
+      well_formed = c.requires.runs.well_formed;
+      agent = agent;
+      standing = omega (arith, agent, before.done.long);
+      marks = omega (arith, agent, before.passes.long);
+      left = omega (arith, same, ready_left p old.configuration i ready);
+    }
 
 pub loop-i-preserved-then-held-i : goal.loop-i-preserved-then-held-i
 loop-i-preserved-then-held-i g c =

@@ -39,20 +39,17 @@ loop-i-init g c =
       within = omega (arith, from);
     }
 
-pub judge-requires-clause-read : goal.judge-requires-clause-read
-judge-requires-clause-read g c =
-    let p = g.P.ProgramView.program c.args.program.now in
-    let old = c.args.self.now in
-    let due = flag_of old.due in
+pub judge-requires-clause-fits : goal.judge-requires-clause-fits
+judge-requires-clause-fits g c =
     let before = c.loop-i.invariant in
-    let i = c.in-Some.i in
-    let next : IsNextFrom old.due c.loop-i.cursor.from i = rw (ap (λ (m : MachineState). m.due) before.judged.same) at c.in-Some.ensures.next in
-    let agent : i < length p = omega (arith, next.agent, c.requires.can.rows.due) in
-    let here = some_passed p due old c.loop-i.self c.loop-i.cursor.from i next.later next.between before.judged in
-    read_so_far p due old c.loop-i.self i here (c.requires.can.read i agent)
+    record {
+      well_formed = c.requires.can.well_formed;
+      agents = ap (λ (m : MachineState). length m.configuration) before.judged.same ∙ c.requires.can.agents;
+      rows = before.judged.rows;
+    }
 
-pub judge-requires-clause-flagged : goal.judge-requires-clause-flagged
-judge-requires-clause-flagged g c =
+pub judge-requires-clause-supposed : goal.judge-requires-clause-supposed
+judge-requires-clause-supposed g c =
     let p = g.P.ProgramView.program c.args.program.now in
     let old = c.args.self.now in
     let due = flag_of old.due in
@@ -62,26 +59,12 @@ judge-requires-clause-flagged g c =
     let agent : i < length p = omega (arith, next.agent, c.requires.can.rows.due) in
     let here = some_passed p due old c.loop-i.self c.loop-i.cursor.from i next.later next.between before.judged in
     let config = ap (λ (m : MachineState). m.configuration) before.judged.same in
-    left_so_far p due old c.loop-i.self i here _ (λ is. c.requires.can.flagged i agent (sym (ap (λ rows. is_left p rows i) config) ∙ is))
-
-pub judge-requires-clause-nowhere : goal.judge-requires-clause-nowhere
-judge-requires-clause-nowhere g c =
-    let old = c.args.self.now in
-    let before = c.loop-i.invariant in
-    let i = c.in-Some.i in
-    let next : IsNextFrom old.due c.loop-i.cursor.from i = rw (ap (λ (m : MachineState). m.due) before.judged.same) at c.in-Some.ensures.next in
-    (before.judged.later i next.later).home ∙ c.requires.can.nowhere i next.member
-
-pub judge-requires-clause-ready : goal.judge-requires-clause-ready
-judge-requires-clause-ready g c =
-    let p = g.P.ProgramView.program c.args.program.now in
-    let old = c.args.self.now in
-    let due = flag_of old.due in
-    let before = c.loop-i.invariant in
-    let i = c.in-Some.i in
-    let next : IsNextFrom old.due c.loop-i.cursor.from i = rw (ap (λ (m : MachineState). m.due) before.judged.same) at c.in-Some.ensures.next in
-    let here = some_passed p due old c.loop-i.self c.loop-i.cursor.from i next.later next.between before.judged in
-    ready_so_far p due old c.loop-i.self i here ∙ c.requires.ready i next.member
+    record {
+      read = read_so_far p due old c.loop-i.self i here (c.requires.can.read i agent);
+      flagged = left_so_far p due old c.loop-i.self i here _ (λ is. c.requires.can.flagged i agent (sym (ap (λ rows. is_left p rows i) config) ∙ is));
+      ready = ready_so_far p due old c.loop-i.self i here ∙ c.requires.ready i next.member;
+      nowhere = (before.judged.later i next.later).home ∙ c.requires.can.nowhere i next.member;
+    }
 
 pub returns : goal.returns
 returns g c =

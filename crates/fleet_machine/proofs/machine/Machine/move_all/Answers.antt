@@ -15,19 +15,25 @@ loop-i-init g c =
     let from = c.moved_cursor-cursor.ensures.from in
     record {
       cursor = c.moved_cursor-cursor.ensures.cursor;
-      carried = rw from (subst (λ (m : MachineState). IsCarriedTo p old m 0) (sym same) (none_carried_yet p old c.requires.agents c.requires.rows.marks));
+      carried = rw from (subst (λ (m : MachineState). IsCarriedTo p old m 0) (sym same) (none_carried_yet p old c.requires.fits.agents c.requires.fits.rows.marks));
       woken = rw from (none_woken_at_first old (unwoken old old) same);
     }
 
-pub advance_one-requires-clause-left : goal.advance_one-requires-clause-left
-advance_one-requires-clause-left g c =
+pub advance_one-requires-clause-next : goal.advance_one-requires-clause-next
+advance_one-requires-clause-next g c =
     let p = g.P.ProgramView.program c.args.program.now in
     let old = c.args.self.now in
     let before = c.loop-i.invariant.carried in
     let i = c.in-Some.i in
     let next : IsNextFrom old.moving c.loop-i.cursor.from i = rw (ap (λ (m : MachineState). m.moving) before.same) at c.in-Some.ensures.next in
     let agent : i < length p = omega (arith, next.agent, c.requires.moving) in
-    left_if_next p old.moving old.configuration c.requires.sent c.loop-i.self.configuration c.loop-i.cursor.from before.carried i agent next
+    record {
+      well_formed = c.requires.fits.well_formed;
+      agent = agent;
+      standing = omega (arith, agent, before.carried.long);
+      marks = omega (arith, agent, before.passes.long);
+      left = left_if_next p old.moving old.configuration c.requires.sent c.loop-i.self.configuration c.loop-i.cursor.from before.carried i agent next;
+    }
 
 pub loop-i-preserved : goal.loop-i-preserved
 loop-i-preserved g c =

@@ -117,8 +117,7 @@ pub record CanJudge (p : Program) (m : MachineState) : Type 0 where
   pub flagged : (i : ℕ) → i < length p → is_left p m.configuration i ≡ true → flag_of m.left i ≡ true
   pub nowhere : (i : ℕ) → flag_of m.due i ≡ true → home_of m.waiting.homes i ≡ None
 
--- agent i, which is to be judged, has read what it is to have read, is flagged as one with an action left if it has one,
--- is supposed to be ready, and stands in no list
+-- agent i is supposed to be ready until it is judged, has read so far, is flagged if it is left, and stands in no list
 pub record IsSupposed (p : Program) (m : MachineState) (i : ℕ) : Type 0 where
   pub read : IsRead p m.configuration i (mark_of m.marks i)
   pub flagged : is_left p m.configuration i ≡ true → flag_of m.left i ≡ true

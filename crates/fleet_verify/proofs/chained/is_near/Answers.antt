@@ -1,11 +1,12 @@
 use Rattle.fleet_verify.proofs.Words.{arith, subst, ActionId, IsAction, Reaches, awaited, entering, leaving}
-use Rattle.fleet_verify.proofs.Asked.{reached_on, in_range}
+use Rattle.fleet_needs.proofs.Joining.{awaited_action}
+use Rattle.fleet_verify.proofs.Asked.{reached_on}
 use Rattle.fleet_verify.proofs.chained.is_near.Goals as goal
 
 pub awaits-requires-clause-action : goal.awaits-requires-clause-action
 awaits-requires-clause-action g c =
-    let p = g.P.ProgramView.program c.args.program.now in
-    in_range p c.requires.range (entering c.args.pair.second) c.loop-k.k c.await_at-awaited.result c.await_at-awaited.ensures
+    let a = entering c.args.pair.second in
+    awaited_action (g.P.ProgramView.program c.args.program.now) c.requires.range a.agent a.number c.loop-k.k c.await_at-awaited.result c.await_at-awaited.ensures
 
 pub returns-then-awaits : goal.returns-then-awaits
 returns-then-awaits g c = λ _.

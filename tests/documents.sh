@@ -69,3 +69,22 @@ for edit in "$root"/crates/*/must-fail/*.edit "$root"/tests/edits/*/*.edit "$roo
 done > "$work/out"
 : > "$work/want.out"
 alike 'each edit changes a text that stands once' 'edits of crates/*/must-fail, tests/edits and tests/neutral' none
+
+# A neutral edit says the function in which its text stands, by the path that the check prints.
+for edit in "$root"/tests/neutral/*/*.edit; do
+    awk -v at="$root/crates/$(basename "${edit%/*}")" '
+        sub(/^check: /, "") { named = name = $0; sub(/.*::/, "", name) }
+        sub(/^file: /, "") {
+            found = 0
+            path = at "/" $0
+            while ((getline line < path) > 0)
+                found = found || line ~ ("fn " name "[(<]")
+            close(path)
+            gsub(/^src\/|\.rt$/, "")
+            gsub("/", "::")
+            if (!found || ($0 != "main" && $0 != "lib" && index(named, $0 "::") != 1))
+                print FILENAME ": " named
+        }' "$edit"
+done > "$work/out"
+: > "$work/want.out"
+alike 'each edit of tests/neutral names a function of its file' 'edits of tests/neutral against crates/*/src' none

@@ -38,12 +38,12 @@ pub use Rattle.fleet_dispatch.specs.Lead.{none_done, counts_at, LeadsWell, mover
 unfoldable pub use Rattle.fleet_dispatch.specs.Lead.{dispatch_of, orders_in_run, schedule_of}
 pub use Rattle.fleet_dispatch.specs.Orders.{agent_orders, order_text, name_text}
 unfoldable pub use Rattle.fleet_dispatch.specs.Orders.{new_orders, order_line, closing}
-pub use Rattle.fleet_dispatch.specs.Progress.{AreDone, MayBeTold, ProgressState, HasRows, AreCounts, LeadsBut, Leads, is_woken, back, IsSettled, AreTold, IsWoken}
+pub use Rattle.fleet_dispatch.specs.Progress.{AreDone, MayBeTold, ProgressState, HasRows, AreCounts, LeadsBut, Leads, is_woken, back, IsSettled, AreTold, IsWoken, CarriesOut}
 pub use Rattle.fleet_dispatch.specs.Replay.{IsReplayed, ReplaysTurns, DispatchesAfter, LeadsOn, IsReplay, Replays, logged_in, AreRead, course_from, GoesOn, ReplaysTurn, replay_end}
 pub use Rattle.fleet_dispatch.specs.ReplayTalk.{replays_more}
 pub use Rattle.fleet_dispatch.specs.Report.{Words, count_of, Counts, counts_after, Line, said_of, words_in, is_repeat, is_taken, Reports, Asks, IsRising, raised, IsBehind}
 pub use Rattle.fleet_dispatch.specs.ReportText.{line_of, log_line, words_of, long_number, word_of, word_text, heard_line, report_line, is_colon, report_of, is_question}
-pub use Rattle.fleet_dispatch.specs.Session.{left_in, first_course, course_in, TakesLine, IsReady, IsOpened, Concludes, IsLineTaken, TakesReport, LogsReport}
+pub use Rattle.fleet_dispatch.specs.Session.{left_in, first_course, course_in, TellsOrders, TellsStandings, TakesLine, IsReady, IsOpened, Concludes, IsLineTaken, TakesReport, LogsReport}
 pub use Rattle.fleet_dispatch.specs.Standing.{log_course}
 pub use Rattle.fleet_dispatch.specs.Standings.{left_line, await_text}
 unfoldable pub use Rattle.fleet_dispatch.specs.Standings.{standings_text}

@@ -1,5 +1,5 @@
 -- How a dispatch goes on, and how it ends.
-use Rattle.fleet_dispatch.proofs.Cited.{◌≡◌, ℕ, ◌+◌, ◌≤◌, ◌++◌, ◌∷◌, [], true, false, cond, List, length, take, Result, Ok, Err, refl, ap, sym, ◌∙◌, arith, subst, ◌⊎◌, inl, inr, append_assoc, is_err, Program, total_moves, DispatchFault, DispatchReport, Session, Pace, MAX_REPORTS, Words, IsRising, Counts, counts_after, is_repeat, Line, words_in, is_taken, standings_text, told_at, AreOrdered, IsFirstUnordered, is_all_done, Talk, Told, Cut, Asked, Tells, new_orders, closing, Course, left_by, Dispatches, MayBeTaken, AreHeard, told_by, reports_in, turns_of, counts_now, said_before, said_by, taken_now, Concludes, TakesLine, IsLineTaken, left_in}
+use Rattle.fleet_dispatch.proofs.Cited.{◌≡◌, ℕ, ◌+◌, ◌≤◌, ◌++◌, ◌∷◌, [], true, false, cond, List, length, take, Result, Ok, Err, refl, ap, sym, ◌∙◌, arith, subst, ◌⊎◌, inl, inr, append_assoc, is_err, Program, total_moves, DispatchFault, DispatchReport, Session, Pace, MAX_REPORTS, Words, IsRising, Counts, counts_after, is_repeat, Line, words_in, is_taken, standings_text, told_at, AreOrdered, IsFirstUnordered, is_all_done, Talk, Told, Cut, Asked, new_orders, closing, Course, left_by, Dispatches, MayBeTaken, AreHeard, told_by, reports_in, turns_of, counts_now, said_before, said_by, taken_now, Concludes, TellsOrders, TakesLine, IsLineTaken, left_in}
 use Rattle.fleet_dispatch.specs.declared.fault.DispatchFault.TheVariants as f
 use Rattle.fleet_dispatch.specs.Dispatch.{due_orders}
 use Rattle.fleet_dispatch.specs.Session.{course_in as course_of}
@@ -59,31 +59,32 @@ at_start p pace talks s silent fresh = record {
 }
 
 module _ (d : Course) (first then both : Talk → Type 0) (j : Joins first then both) (s s' : Session) (lines : ℕ) (reports : List Line) where
-  module _ (way : IsUnderWay d first s lines reports) (done : s'.progress.done ≡ s.progress.done) (told : s'.progress.told ≡ told_at d.program d.ahead s.progress.done) where
-    due : new_orders d.program d.form s.progress.told s'.progress.told ≡ due_orders d reports
-    due = ap (λ (x : Counts). new_orders d.program d.form x s'.progress.told) way.told
-        ∙ ap (new_orders d.program d.form (told_by d.program d.ahead d.start d.start (reports_in reports))) (told ∙ ap (told_at d.program d.ahead) way.done)
+  module _ (way : IsUnderWay d first s lines reports) {T E : Type 0} (works : Type 0) where
+    abbrev Tell : Result T E → Type 0
+    Tell = TellsOrders d.program (record { form = d.form; ahead = d.ahead }) then works s s'
 
-    pub write_stops : {T E : Type 0} (works : Type 0) (r : Result T E) → Tells then works r (new_orders d.program d.form s.progress.told s'.progress.told) → is_err r ≡ true
-        → s'.taken ≡ s.taken → Dispatches d both (left_in s') (Err f.Write)
-    write_stops works (Ok x) h e number = absurd cc
-    write_stops works (Err x) h e number =
+    due : (r : Result T E) → Tell r → new_orders d.program d.form s.progress.told s'.progress.told ≡ due_orders d reports
+    due r h = ap (λ (x : Counts). new_orders d.program d.form x s'.progress.told) way.told
+        ∙ ap (new_orders d.program d.form (told_by d.program d.ahead d.start d.start (reports_in reports))) (h.told ∙ ap (told_at d.program d.ahead) way.done)
+
+    pub write_stops : (r : Result T E) → Tell r → is_err r ≡ true → Dispatches d both (left_in s') (Err f.Write)
+    write_stops (Ok x) h e = absurd cc
+    write_stops (Err x) h e =
         let P : List ℕ → Type 0 = λ bytes. (m : ℕ) × (m ≤ length bytes) × then (Cut (take m bytes) ∷ []) in
-        let cut : P (due_orders d reports) = subst P due h in
-        (reports, record { taken = way.taken; told = inl (cut.0, cut.1, j.join _ _ way.talk cut.2) }, left_is d s' reports (done ∙ way.done) (number ∙ way.number))
+        let cut : P (due_orders d reports) = subst P (due (Err x) h) h.said in
+        (reports, record { taken = way.taken; told = inl (cut.0, cut.1, j.join _ _ way.talk cut.2) }, left_is d s' reports (h.done ∙ way.done) (h.taken ∙ way.number))
 
-    pub now_told : {T E : Type 0} (works : Type 0) (r : Result T E) → Tells then works r (new_orders d.program d.form s.progress.told s'.progress.told) → is_err r ≡ false
-        → s'.taken ≡ s.taken → AreOrdersTold d both s' lines reports × works
-    now_told works (Err x) h e number = absurd cc
-    now_told works (Ok x) h e number =
+    pub now_told : (r : Result T E) → Tell r → is_err r ≡ false → AreOrdersTold d both s' lines reports × works
+    now_told (Err x) h e = absurd cc
+    now_told (Ok x) h e =
         let P : List ℕ → Type 0 = λ bytes. then (Told bytes ∷ []) × works in
-        let all : P (due_orders d reports) = subst P due h in (
+        let all : P (due_orders d reports) = subst P (due (Ok x) h) h.said in (
           record {
             taken = way.taken;
             count = way.count;
-            done = done ∙ way.done;
-            told = told ∙ ap (told_at d.program d.ahead) way.done;
-            number = number ∙ way.number;
+            done = h.done ∙ way.done;
+            told = h.told ∙ ap (told_at d.program d.ahead) way.done;
+            number = h.taken ∙ way.number;
             talk = j.join _ _ way.talk all.0;
           },
           all.1,

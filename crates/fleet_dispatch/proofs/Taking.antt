@@ -1,5 +1,5 @@
 -- A line that was heard, and what followed from it.
-use Rattle.fleet_dispatch.proofs.Cited.{◌≡◌, ℕ, ◌+◌, ◌++◌, ◌∷◌, [], Bool, true, false, not, cond, Option, Some, None, Result, Ok, Err, refl, ap, sym, ◌∙◌, subst, arith, is_err, All-nil, Program, DispatchFault, LineKind, Pace, Session, Words, Counts, is_repeat, Reports, Asks, standings_text, IsOrdered, Talk, Heard, Asked, Tells, Hears, log_turns, IsReady, TakesLine, TakesReport, LogsReport}
+use Rattle.fleet_dispatch.proofs.Cited.{◌≡◌, ℕ, ◌+◌, ◌++◌, ◌∷◌, [], Bool, true, false, not, cond, Option, Some, None, Result, Ok, Err, refl, ap, sym, ◌∙◌, subst, arith, is_err, All-nil, Program, DispatchFault, LineKind, Pace, Session, Words, Counts, is_repeat, Reports, Asks, IsOrdered, Talk, Heard, Asked, Hears, log_turns, TellsStandings, TakesLine, TakesReport, LogsReport}
 use Rattle.fleet_dispatch.specs.declared.fault.DispatchFault.TheVariants as f
 use Rattle.fleet_dispatch.specs.declared.report_text.LineKind.TheVariants as k
 use Rattle.fleet_dispatch.proofs.Outcomes.{Joins}
@@ -66,23 +66,23 @@ module _ (first then both : Talk → Type 0) (j : Joins first then both) (p : Pr
   report_ends T words (Err e) h t = report_refused T T words e h t
 
   -- the question, and its answer
-  module _ (ready : IsReady p pace s') (done : s'.progress ≡ s.progress) (taken : s'.taken ≡ s.taken) (h : first (Asked ∷ [])) where
-    pub answered : (U : Type 0) {T E : Type 0} (r : Result T E) (x : U) → is_err r ≡ false → Tells then works r (standings_text p s.progress.done) → TakesLine {T = U} p pace both works s s' n (Ok x)
-    answered U (Err e) x ok told = absurd cc
-    answered U (Ok y) x ok told = (
+  module _ (words : Words) (h : first (Asked ∷ [])) where
+    pub answered : (U : Type 0) {T E : Type 0} (r : Result T E) (x : U) → is_err r ≡ false → TellsStandings p pace then works (record s { report = words }) s' r → TakesLine {T = U} p pace both works s s' n (Ok x)
+    answered U (Err e) x ok t = absurd cc
+    answered U (Ok y) x ok t = (
       Asks,
       record {
-        said = j.join _ _ h told.0;
-        still = told.1;
+        said = j.join _ _ h t.said.0;
+        still = t.said.1;
         rising = λ k l. absurd (omega arith);
         ordered = All-nil (IsOrdered p pace.ahead s.progress.done);
-        ready = ready;
-        done = rw done refl;
-        told = rw done refl;
-        taken = omega (arith, taken);
+        ready = t.ready;
+        done = rw t.done refl;
+        told = rw t.done refl;
+        taken = omega (arith, t.taken);
       },
     )
 
-    pub unanswered : (U : Type 0) {T E : Type 0} (r : Result T E) → is_err r ≡ true → Tells then works r (standings_text p s.progress.done) → TakesLine {T = U} p pace both works s s' n (Err f.Write)
-    unanswered U (Ok x) failed cut = absurd cc
-    unanswered U (Err e) failed cut = ((cut.0, cut.1, j.join _ _ h cut.2), record { done = rw done refl; taken = taken })
+    pub unanswered : (U : Type 0) {T E : Type 0} (r : Result T E) → is_err r ≡ true → TellsStandings p pace then works (record s { report = words }) s' r → TakesLine {T = U} p pace both works s s' n (Err f.Write)
+    unanswered U (Ok x) failed t = absurd cc
+    unanswered U (Err e) failed t = ((t.said.0, t.said.1, j.join _ _ h t.said.2), record { done = rw t.done refl; taken = t.taken })

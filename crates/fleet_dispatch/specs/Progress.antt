@@ -1,5 +1,6 @@
 -- What is carried out and told, and who is to be looked at next.
-use Rattle.std.specs.Prelude.{◌≡◌, ◌≢◌, ℕ, ◌+◌, ◌<◌, ◌≤◌, ◌⊎◌, Bool, true, false, nat_lt, ◌==◌, List, length, get_or, set, All, Contains, Option, Some, None}
+use Rattle.std.specs.Prelude.{◌≡◌, ◌≢◌, ℕ, ◌+◌, ◌*◌, ◌<◌, ◌≤◌, ◌⊎◌, Bool, true, false, not, nat_lt, ◌==◌, List, ◌++◌, length, get_or, set, take, All, Contains, Option, Some, None, MatchOption}
+use Rattle.std.specs.List.{find}
 use Rattle.std.specs.Option.{option_map_or}
 use Rattle.fleet_model.specs.declared.geometry.Dir.TheVariants.{North, East, South, West}
 use Rattle.fleet_model.specs.declared.geometry.Place.{Place}
@@ -9,7 +10,12 @@ use Rattle.fleet_model.specs.declared.program.Await.{Await}
 use Rattle.fleet_model.specs.Program.{Program, moves, path, awaits_of}
 use Rattle.fleet_machine.specs.Machine.{flag_of}
 use Rattle.fleet_machine.specs.WaitLists.{WaitState, home_of}
+use Rattle.fleet_dispatch.specs.declared.form.ReportForm.{ReportForm}
+use Rattle.fleet_dispatch.specs.declared.orders.TheConstants.{ORDER}
+use Rattle.fleet_dispatch.specs.declared.pace.Pace.{Pace}
 use Rattle.fleet_dispatch.specs.Report.{Words, Counts, count_of, said_of}
+use Rattle.fleet_dispatch.specs.Ahead.{is_done, told_at}
+use Rattle.fleet_dispatch.specs.Orders.{order_line, agent_orders, new_orders}
 
 -- How many of its actions each agent has carried out, and how many it is told; where those that it is told lead it; in
 -- whose list it stands that waits; whether it is to be looked at; and whether an action is left to it
@@ -83,12 +89,65 @@ pub record LeadsBut (free : ℕ → Bool) (p : Program) (k : ℕ) (s : ProgressS
 abbrev pub Leads : Program → ℕ → ProgressState → Type 0
 Leads = LeadsBut (λ i. false)
 
+-- of each agent the place to which so many of its actions lead it
+pub record ArePlacesAfter (p : Program) (counts : Counts) (found : List Place) : Type 0 where
+  pub agents : length found ≡ length p
+  pub places : (i : ℕ) (q : Place) → i < length p → get_or found i q ≡ path p i (count_of counts i)
+
+-- so much is carried out, no more is told, and that may be told at every pace
+pub record HasBegun (p : Program) (counts : Counts) (s : ProgressState) : Type 0 where
+  pub leads : (k : ℕ) → Leads p k s
+  pub done : s.done ≡ counts
+  pub told : s.told ≡ counts
+
+-- the first await of action n of agent i that is not carried out, if it has one
+pub record IsFirstMissing (p : Program) (counts : Counts) (i n : ℕ) (found : Option Await) : Type 0 where
+  pub missing : MatchOption found (AreDone p counts i n) (IsMissing p counts i n)
+  pub first : found ≡ find (λ w. not (is_done counts w)) (awaits_of p i n)
+
+-- agent i of the program has an action that it is not told, and its place is where those lead it that it is told
+pub record HasUntold (p : Program) (s : ProgressState) (i : ℕ) : Type 0 where
+  pub agent : i < length p
+  pub left : count_of s.told i < moves p i
+  pub place : (q : Place) → get_or s.places i q ≡ path p i (count_of s.told i)
+
+-- agent i is told its next action, and the order stands in the row behind those that end at `at`
+pub record TellsNext (p : Program) (form : ReportForm) (s s' : ProgressState) (i : ℕ) (row row' : List ℕ) (at end : ℕ) : Type 0 where
+  pub told : s' ≡ record s {
+    told = set s.told i (count_of s.told i + 1);
+    places = set s.places i (path p i (count_of s.told i + 1));
+  }
+  pub high : end ≤ at + ORDER
+  pub written : take end row' ≡ take at row ++ order_line p form i (count_of s.told i)
+
 -- agent i is told more, and nobody else; nothing more is carried out
 pub record TellsMore (s s' : ProgressState) (i : ℕ) : Type 0 where
   pub done : s'.done ≡ s.done
   pub left : s'.left ≡ s.left
   pub rises : count_of s.told i ≤ count_of s'.told i
   pub others : (j : ℕ) → j ≢ i → count_of s'.told j ≡ count_of s.told j
+
+-- agent i was looked at and is told all that it can be, and its orders stand in the row behind those that end at `at`
+pub record TellsAgent (p : Program) (pace : Pace) (s s' : ProgressState) (i : ℕ) (row row' : List ℕ) (at end : ℕ) : Type 0 where
+  pub leads : Leads p pace.ahead s'
+  pub told : TellsMore s s' i
+  pub due : s'.due ≡ set s.due i false
+  pub high : end ≤ at + ORDER * pace.ahead
+  pub written : take end row' ≡ take at row ++ agent_orders p pace.form i (count_of s.told i) (count_of s'.told i)
+
+-- all agents are told all that they can be, and the orders stand at the front of the row
+pub record TellsAll (p : Program) (pace : Pace) (s s' : ProgressState) (row' : List ℕ) (end : ℕ) : Type 0 where
+  pub leads : Leads p pace.ahead s'
+  pub done : s'.done ≡ s.done
+  pub told : s'.told ≡ told_at p pace.ahead s.done
+  pub within : end ≤ length row'
+  pub written : take end row' ≡ new_orders p pace.form s.told s'.told
+
+-- so much is carried out now, no more is told, and what may be told at a pace may be still
+pub record CarriesOut (p : Program) (s s' : ProgressState) (counts : Counts) : Type 0 where
+  pub leads : (k : ℕ) → Leads p k s → Leads p k s'
+  pub done : s'.done ≡ counts
+  pub told : s'.told ≡ s.told
 
 -- so many agents carry out no more than they are to, in a program of as many
 pub record AreCounts (p : Program) (counts : Counts) : Type 0 where

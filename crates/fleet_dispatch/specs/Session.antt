@@ -12,11 +12,11 @@ use Rattle.fleet_dispatch.specs.declared.run.DispatchReport.{DispatchReport}
 use Rattle.fleet_dispatch.specs.Report.{Words, IsRising, Counts, counts_after, is_repeat, Line, words_in, is_taken}
 use Rattle.fleet_dispatch.specs.ReportText.{log_line}
 use Rattle.fleet_dispatch.specs.Standings.{standings_text}
-use Rattle.fleet_dispatch.specs.Ahead.{AreOrdered, IsFirstUnordered}
+use Rattle.fleet_dispatch.specs.Ahead.{told_at, AreOrdered, IsFirstUnordered}
 use Rattle.fleet_dispatch.specs.Progress.{Leads}
-use Rattle.fleet_dispatch.specs.Dispatch.{Course, Left, IsCut, log_turns, turns_of}
-use Rattle.fleet_dispatch.specs.Orders.{closing}
-use Rattle.fleet_dispatch.specs.Talk.{Talk, Logs, Told, Cut, Heard, Asked, Unlogged, Misheard, NoMore, Unheard}
+use Rattle.fleet_dispatch.specs.Dispatch.{Course, Left, Dispatches, IsCut, log_turns, turns_of}
+use Rattle.fleet_dispatch.specs.Orders.{new_orders, closing}
+use Rattle.fleet_dispatch.specs.Talk.{Talk, Tells, Logs, Told, Cut, Heard, Asked, Unlogged, Misheard, NoMore, Unheard}
 
 -- what is told may be told at this pace, and there is room for all orders of one time, for a line of the log, and for
 -- where all agents are
@@ -41,6 +41,21 @@ left_in s = record { done = s.progress.done; number = s.taken }
 pub record Stays (s s' : Session) : Type 0 where
   pub done : s'.progress.done ≡ s.progress.done
   pub taken : s'.taken ≡ s.taken
+
+-- the orders that are due were told, or a front of them was, and nothing is carried out by that
+pub record TellsOrders {T E : Type 0} (p : Program) (pace : Pace) (talks : Talk → Type 0) (works : Type 0) (s s' : Session) (result : Result T E) : Type 0 where
+  pub ready : IsReady p pace s'
+  pub done : s'.progress.done ≡ s.progress.done
+  pub told : s'.progress.told ≡ told_at p pace.ahead s.progress.done
+  pub taken : s'.taken ≡ s.taken
+  pub said : Tells talks works result (new_orders p pace.form s.progress.told s'.progress.told)
+
+-- where the agents are that have not arrived was told, or a front of that, and all is carried out and told as before
+pub record TellsStandings {T E : Type 0} (p : Program) (pace : Pace) (talks : Talk → Type 0) (works : Type 0) (s s' : Session) (result : Result T E) : Type 0 where
+  pub ready : IsReady p pace s'
+  pub done : s'.progress ≡ s.progress
+  pub taken : s'.taken ≡ s.taken
+  pub said : Tells talks works result (standings_text p s.progress.done)
 
 -- the line says only what is ordered, and it and what follows from it were said and heard; by a report its actions are
 -- carried out
@@ -116,3 +131,8 @@ course_in p pace s = record { program = p; form = pace.form; ahead = pace.ahead;
 -- a dispatch from its start, when nothing is carried out
 abbrev pub first_course : Program → Pace → Course
 first_course p pace = record { program = p; form = pace.form; ahead = pace.ahead; start = replicate (length p) 0; before = 0 }
+
+-- a dispatch had this outcome, and its log is the same one still
+pub record DispatchesOver (d : Course) (talks : Talk → Type 0) (same : Type 0) (left : Left) (result : Result DispatchReport DispatchFault) : Type 0 where
+  pub outcome : Dispatches d talks left result
+  pub stays : same

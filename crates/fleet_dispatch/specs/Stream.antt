@@ -1,13 +1,16 @@
 -- What is told over an output, heard from the lines of an input and kept in a log, turn after turn.
 use Rattle.std.specs.Prelude.{◌≡◌, ℕ, ◌+◌, ◌<◌, ◌≤◌, ◌⊎◌, false, get_or, List, [], ◌∷◌, length, take, drop, position, Option, None, Some, IfSome, ⊤}
+use Rattle.std.specs.Borrow.{MutBor}
 use Rattle.std.specs.Io.KnownBytes.{Appends}
 use Rattle.std.specs.Str.Lines.{strip_carriage_return}
 use Rattle.fleet_text.specs.Text.{is_lf}
 use Rattle.fleet_text.specs.Sink.{SinkState, IsDelivered, HasFailed}
 use Rattle.fleet_dispatch.specs.declared.form.ReportForm.{ReportForm}
+use Rattle.fleet_dispatch.specs.declared.stream_floor.StreamFloor.{StreamFloor}
 use Rattle.fleet_dispatch.specs.declared.window.TheConstants.{LINE_ROOM}
 use Rattle.fleet_dispatch.specs.Report.{Line, Reports, Asks}
 use Rattle.fleet_dispatch.specs.ReportText.{line_of}
+use Rattle.fleet_dispatch.specs.Window.{window_rest}
 use Rattle.fleet_dispatch.specs.Talk.{Turn, Talk, Told, Cut, Heard, Asked, Logged, Unlogged, Misheard, NoMore, Unheard}
 
 -- an output, the bytes that an input will still give, if it says them, and a log
@@ -56,3 +59,14 @@ TakesTurn form ends ends' Unheard = (ends'.out ≡ ends.out) × (ends'.log ≡ e
 abbrev pub TakesTurns : ReportForm → (ends ends' : Ends) → Talk → Type 0
 TakesTurns form ends ends' [] = ends' ≡ ends
 TakesTurns form ends ends' (turn ∷ talk) = (next : Ends) × TakesTurn form ends next turn × TakesTurns form next ends' talk
+
+-- the floor is over this input, output and log as they were handed to it, and nothing is read ahead
+pub record IsOver {R O L : Type 0} (how : ReportForm) (lines : MutBor R) (out : MutBor O) (reports : MutBor L) (f : StreamFloor R O L) : Type 0 where
+  pub form : f.form ≡ how
+  pub input : f.input.ghost_name ≡ lines.ghost_name
+  pub orders : f.orders.ghost_name ≡ out.ghost_name
+  pub log : f.log.ghost_name ≡ reports.ghost_name
+  pub heard : f.input.now ≡ lines.now
+  pub ahead : window_rest f.window ≡ []
+  pub told : f.orders.now ≡ out.now
+  pub logged : f.log.now ≡ reports.now

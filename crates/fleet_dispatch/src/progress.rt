@@ -1,17 +1,14 @@
 //! How far each agent has come: what it has carried out, and what it is told.
 
-ghost use Rattle.std.specs.Prelude.{◌≡◌, ◌≢◌, ◌<◌, ◌≤◌, ◌+◌, ◌*◌, ◌++◌, ℕ, length, take, set, get_or, min, true, false, not, nat_lt, Some, None, is_some, IfOk, IfSome, IfNone, MatchOption, MatchBool};
-ghost use Rattle.fleet_model.specs.declared.geometry.Place.{Place};
-ghost use Rattle.std.specs.List.{find};
-ghost use Rattle.fleet_model.specs.Program.{IsWellFormed, moves, path, awaits_of};
+ghost use Rattle.std.specs.Prelude.{◌≡◌, ◌≢◌, ◌<◌, ◌≤◌, ◌+◌, ◌*◌, ◌++◌, ℕ, length, take, set, get_or, min, true, nat_lt, Some, None, is_some, IfOk, IfSome, IfNone, MatchOption, MatchBool};
+ghost use Rattle.fleet_model.specs.Program.{IsWellFormed, moves, path};
 ghost use Rattle.fleet_machine.specs.AgentSet.{AreNoneFrom, IsNextFrom};
 ghost use Rattle.fleet_machine.specs.Machine.{flag_of};
 ghost use Rattle.fleet_machine.specs.WaitLists.{home_of};
 ghost use Rattle.fleet_dispatch.specs.Report.{IsRising, count_of, said_of, counts_after, raised, is_repeat};
-ghost use Rattle.fleet_dispatch.specs.Ahead.{is_done, told_at, IsOrdered, AreOrdered, IsFirstUnordered, is_all_done};
-ghost use Rattle.fleet_dispatch.specs.Orders.{agent_orders, new_orders, order_line};
+ghost use Rattle.fleet_dispatch.specs.Ahead.{told_at, IsOrdered, AreOrdered, IsFirstUnordered, is_all_done};
 ghost use Rattle.fleet_dispatch.specs.Standings.{next_wait, left_line, standings_text};
-ghost use Rattle.fleet_dispatch.specs.Progress.{AreDone, IsMissing, HasRows, Leads, LeadsBut, TellsMore, AreCounts, AreAgents, AreTold, IsWoken, back, is_woken};
+ghost use Rattle.fleet_dispatch.specs.Progress.{ArePlacesAfter, HasBegun, IsFirstMissing, HasRows, HasUntold, Leads, LeadsBut, TellsNext, TellsAgent, TellsAll, CarriesOut, AreCounts, AreAgents, AreTold, IsWoken, back, is_woken};
 
 use crate::form::ReportForm;
 use crate::orders::{ORDER, Order, add_order};
@@ -108,9 +105,7 @@ fn places_after<P: ProgramView>(
     done: &[u32],
 ) -> Result<Vec<Place>, AllocError>
     requires counts { AreCounts (P.program program.now) done.now }
-    ensures agents { IfOk result (λ places. length places.items ≡ length (P.program program.now)) }
-    ensures places { IfOk result (λ places. (i : ℕ) (q : Place) → i < length (P.program program.now)
-        → get_or places.items i q ≡ path (P.program program.now) i (count_of done.now i)) }
+    ensures { IfOk result (λ places. ArePlacesAfter (P.program program.now) done.now places.items) }
 {
     let count = program.agents();
     let mut places = Vec::with_capacity(alloc, count as usize)?;
@@ -135,9 +130,7 @@ impl Progress {
         done: &[u32],
     ) -> Result<Progress, AllocError>
         requires counts { AreCounts (P.program program.now) done.now }
-        ensures leads { IfOk result (λ s. (k : ℕ) → Leads (P.program program.now) k s) }
-        ensures done { IfOk result (λ s. s.done ≡ done.now) }
-        ensures told { IfOk result (λ s. s.told ≡ done.now) }
+        ensures { IfOk result (HasBegun (P.program program.now) done.now) }
     {
         let agents = program.agents();
         let places = places_after(alloc, program, done)?;
@@ -329,10 +322,7 @@ impl Progress {
         requires agent { i < length (P.program program.now) }
         requires first { 1 ≤ n }
         requires last { n ≤ moves (P.program program.now) i }
-        ensures missing { MatchOption result (AreDone (P.program program.now) self.now.done i n)
-            (IsMissing (P.program program.now) self.now.done i n) }
-        ensures first { result ≡ find (λ w. not (is_done self.now.done w))
-            (awaits_of (P.program program.now) i n) }
+        ensures { IsFirstMissing (P.program program.now) self.now.done i n result }
     {
         for k in 0..program.await_count(i, n) {
             let awaited = program.await_at(i, n, k);
@@ -355,19 +345,10 @@ impl Progress {
     ) -> usize
         requires well_formed { IsWellFormed (P.program program.now) }
         requires rows { HasRows (P.program program.now) self.old }
-        requires agent { i < length (P.program program.now) }
-        requires left { count_of self.old.told i < moves (P.program program.now) i }
-        requires place { (q : Place) → get_or self.old.places i q
-            ≡ path (P.program program.now) i (count_of self.old.told i) }
+        requires untold { HasUntold (P.program program.now) self.old i }
         requires room { at + ORDER ≤ length row.old }
-        ensures told { self.new ≡ record self.old {
-          told = set self.old.told i (count_of self.old.told i + 1);
-          places = set self.old.places i
-              (path (P.program program.now) i (count_of self.old.told i + 1));
-        } }
-        ensures high { result ≤ at + ORDER }
-        ensures written { take result row.new ≡ take at row.old
-            ++ order_line (P.program program.now) form i (count_of self.old.told i) }
+        ensures { TellsNext (P.program program.now) form self.old self.new i
+            row.old row.new at result }
     {
         let number = self.next_of(i);
         let from = self.place_of(i);
@@ -410,13 +391,8 @@ impl Progress {
         requires agent { i < length (P.program program.now) }
         requires due { flag_of self.old.due i ≡ true }
         requires room { at + ORDER * pace.ahead ≤ length row.old }
-        ensures leads { Leads (P.program program.now) pace.ahead self.new }
-        ensures told { TellsMore self.old self.new i }
-        ensures due { self.new.due ≡ set self.old.due i false }
-        ensures high { result ≤ at + ORDER * pace.ahead }
-        ensures written { take result row.new ≡ take at row.old
-            ++ agent_orders (P.program program.now) pace.form i
-            (count_of self.old.told i) (count_of self.new.told i) }
+        ensures { TellsAgent (P.program program.now) pace self.old self.new i
+            row.old row.new at result }
     {
         self.set_due(i, false);
         let last = self.last_told(program, pace.ahead, i);
@@ -439,13 +415,7 @@ impl Progress {
         requires leads { Leads (P.program program.now) pace.ahead self.old }
         requires room { length row.old
             ≡ ORDER * pace.ahead * length (P.program program.now) }
-        ensures leads { Leads (P.program program.now) pace.ahead self.new }
-        ensures done { self.new.done ≡ self.old.done }
-        ensures told { self.new.told
-            ≡ told_at (P.program program.now) pace.ahead self.old.done }
-        ensures within { result ≤ length row.new }
-        ensures written { take result row.new ≡ new_orders
-            (P.program program.now) pace.form self.old.told self.new.told }
+        ensures { TellsAll (P.program program.now) pace self.old self.new row.new result }
     {
         let mut at = 0;
         let mut from = 0;
@@ -554,10 +524,8 @@ impl Progress {
         requires agent { i < length (P.program program.now) }
         requires told { n ≤ count_of self.old.told i }
         requires leads { (k : ℕ) × Leads (P.program program.now) k self.old }
-        ensures leads { (k : ℕ) → Leads (P.program program.now) k self.old
-            → Leads (P.program program.now) k self.new }
-        ensures done { self.new.done ≡ raised self.old.done i n }
-        ensures told { self.new.told ≡ self.old.told }
+        ensures { CarriesOut (P.program program.now) self.old self.new
+            (raised self.old.done i n) }
     {
         let is_old = n <= self.done_of(i);
         if is_old {
@@ -573,10 +541,8 @@ impl Progress {
         requires well_formed { IsWellFormed (P.program program.now) }
         requires leads { (k : ℕ) × Leads (P.program program.now) k self.old }
         requires ordered { AreTold (P.program program.now) self.old report.now }
-        ensures leads { (k : ℕ) → Leads (P.program program.now) k self.old
-            → Leads (P.program program.now) k self.new }
-        ensures done { self.new.done ≡ counts_after self.old.done report.now }
-        ensures told { self.new.told ≡ self.old.told }
+        ensures { CarriesOut (P.program program.now) self.old self.new
+            (counts_after self.old.done report.now) }
     {
         for word in report.words() {
             let said = self.said(program, *word);

@@ -3,12 +3,9 @@
 ghost use Rattle.std.specs.Prelude.{◌≡◌, ◌<◌, ◌+◌, length, IfOk, if◌then◌else◌};
 ghost use Rattle.fleet_model.specs.Program.{IsWellFormed};
 ghost use Rattle.fleet_dispatch.specs.Dispatch.{Dispatches};
-ghost use Rattle.fleet_dispatch.specs.Session.{IsReady, IsOpened, TakesLine, TakesReport, LogsReport, Concludes, left_in, course_in};
-ghost use Rattle.fleet_dispatch.specs.Orders.{new_orders};
+ghost use Rattle.fleet_dispatch.specs.Session.{IsReady, IsOpened, TellsOrders, TellsStandings, TakesLine, TakesReport, LogsReport, Concludes, left_in, course_in};
 ghost use Rattle.fleet_dispatch.specs.Ahead.{told_at};
 ghost use Rattle.fleet_dispatch.specs.Progress.{AreCounts};
-ghost use Rattle.fleet_dispatch.specs.Standings.{standings_text};
-ghost use Rattle.fleet_dispatch.specs.Talk.{Tells};
 
 use crate::fault::DispatchFault;
 use crate::floor::{Floor, HearFault};
@@ -101,14 +98,8 @@ fn tell_orders<P: ProgramView, F: Floor>(
     requires well_formed { IsWellFormed (P.program program.now) }
     requires ready { IsReady (P.program program.now) pace session.old }
     requires floor { F.works floor.old }
-    ensures ready { IsReady (P.program program.now) pace session.new }
-    ensures done { session.new.progress.done ≡ session.old.progress.done }
-    ensures told { session.new.progress.told
-        ≡ told_at (P.program program.now) pace.ahead session.old.progress.done }
-    ensures taken { session.new.taken ≡ session.old.taken }
-    ensures said { Tells (F.talks floor.old floor.new) (F.works floor.new) result
-        (new_orders (P.program program.now) pace.form
-        session.old.progress.told session.new.progress.told) }
+    ensures { TellsOrders (P.program program.now) pace (F.talks floor.old floor.new)
+        (F.works floor.new) session.old session.new result }
 {
     let end = session.progress.tell(program, pace, &mut session.row);
     floor.tell(&session.row[..end])
@@ -181,11 +172,8 @@ fn answer_question<P: ProgramView, F: Floor>(
     requires well_formed { IsWellFormed (P.program program.now) }
     requires ready { IsReady (P.program program.now) _pace session.old }
     requires floor { F.works floor.old }
-    ensures ready { IsReady (P.program program.now) _pace session.new }
-    ensures done { session.new.progress ≡ session.old.progress }
-    ensures taken { session.new.taken ≡ session.old.taken }
-    ensures said { Tells (F.talks floor.old floor.new) (F.works floor.new) result
-        (standings_text (P.program program.now) session.old.progress.done) }
+    ensures { TellsStandings (P.program program.now) _pace (F.talks floor.old floor.new)
+        (F.works floor.new) session.old session.new result }
 {
     let end = session
         .progress

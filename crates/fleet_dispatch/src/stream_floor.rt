@@ -1,13 +1,12 @@
 //! A floor whose robots report in the lines of an input, are told their orders over an output, and are logged.
 
-ghost use Rattle.std.specs.Prelude.{◌≡◌, []};
+ghost use Rattle.std.specs.Prelude.{◌≡◌};
 ghost use Rattle.fleet_text.specs.Sink.{IsWorking};
 ghost use Rattle.fleet_model.specs.Program.{IsWellFormed};
 ghost use Rattle.fleet_dispatch.specs.Replay.{DispatchesAfter};
-ghost use Rattle.fleet_dispatch.specs.Dispatch.{Dispatches};
-ghost use Rattle.fleet_dispatch.specs.Session.{IsReady, first_course, course_in, left_in};
+ghost use Rattle.fleet_dispatch.specs.Session.{IsReady, DispatchesOver, first_course, course_in, left_in};
+ghost use Rattle.fleet_dispatch.specs.Stream.{IsOver};
 ghost use Rattle.fleet_dispatch.specs.Talk.{IsLogged, IsSaid};
-ghost use Rattle.fleet_dispatch.specs.Window.{window_rest};
 
 use crate::fault::DispatchFault;
 use crate::floor::{Floor, HearFault};
@@ -46,14 +45,7 @@ impl<'a, R: ReportsTo<O>, O: Flush, L: ReportLog> StreamFloor<'a, R, O, L> {
         orders: &'a mut O,
         log: &'a mut L,
     ) -> StreamFloor<'a, R, O, L>
-        ensures form { result.form ≡ form }
-        ensures input { result.input.ghost_name ≡ input.entry.ghost_name }
-        ensures orders { result.orders.ghost_name ≡ orders.entry.ghost_name }
-        ensures log { result.log.ghost_name ≡ log.entry.ghost_name }
-        ensures heard { result.input.now ≡ input.old }
-        ensures ahead { window_rest result.window ≡ [] }
-        ensures told { result.orders.now ≡ orders.old }
-        ensures logged { result.log.now ≡ log.old }
+        ensures { IsOver form input.entry orders.entry log.entry result }
     {
         StreamFloor {
             form,
@@ -164,10 +156,9 @@ pub fn dispatch_led<P: ProgramView, R: ReportsTo<O>, O: Flush, L: ReportLog>(
     requires fresh { session.old.progress.told ≡ session.old.progress.done }
     requires orders { IsWorking (O.state orders.old) }
     requires log { IsWorking (L.state log.old) }
-    ensures outcome { Dispatches (course_in (P.program program.now) pace session.old)
+    ensures { DispatchesOver (course_in (P.program program.now) pace session.old)
         (IsLogged R.talks input.old orders.old input.new orders.new (L.state log.old)
-        (L.state log.new) pace.form) (left_in session.new) result }
-    ensures stays { L.stays log.old log.new }
+        (L.state log.new) pace.form) (L.stays log.old log.new) (left_in session.new) result }
 {
     let mut floor = StreamFloor::new(pace.form, input, orders, log);
     run_session(session, program, pace, &mut floor)

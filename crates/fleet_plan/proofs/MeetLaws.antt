@@ -1,5 +1,6 @@
 -- Agents entered one after another in their places, and who is ahead of whom.
-use Rattle.fleet_plan.proofs.Words.{◌≡◌, ◌≢◌, ℕ, ◌+◌, ◌<◌, ◌≤◌, List, length, set, slice_index, Option, Some, None, IfSome, IfNone, ◌⊎◌, inl, inr, refl, sym, ap, ◌∙◌, subst, arith, cases_eq, cases_lt, get_or-set_same, get_or-set_other, Table, value_in, IsSet, IsPairUpTo, NamesAgents, ahead_of, IsAhead, AreAhead, IsEntered, Exchange, HasNone, HasNoMeeting, IsFirstIn, IsFreeIn, IsFirstAhead, IsFreeAhead, IsAgentSettled, Conflict, Vertex, Swapping, Cycle}
+use Rattle.fleet_plan.proofs.Words.{◌≡◌, ◌≢◌, ℕ, ◌+◌, ◌<◌, ◌≤◌, List, length, set, slice_index, Option, Some, None, IfSome, ◌⊎◌, inl, inr, refl, sym, ap, ◌∙◌, subst, arith, cases_eq, cases_lt, get_or-set_same, get_or-set_other, Table, value_in, IsSet, IsPairUpTo, NamesAgents, ahead_of, IsAhead, AreAhead, IsEntered, Exchange, HasNone, HasNoMeeting, IsFirstIn, IsFreeIn, IsFirstAhead, IsFreeAhead, IsAgentSettled, Conflict, Vertex, Swapping, Cycle}
+use Rattle.std.specs.Prelude.{MatchOption}
 use Rattle.fleet_plan.proofs.RingLaws.{ahead_within, some_is, none_is_not}
 use Rattle.fleet_plan.proofs.RowLaws.{IsSoBut, but_more}
 
@@ -20,12 +21,7 @@ pub record IsMeeting (table : Table ℕ) (places : List ℕ) (found : Option (�
   pub pair : IsLeastPair places n found
 
 abbrev pub IsPicked : Option (ℕ × ℕ) → ℕ → ℕ → ℕ × ℕ → Type 0
-IsPicked None i j p = p ≡ (i, j)
-IsPicked (Some q) i j p = ((q.0 ≤ i) × (p ≡ q)) ⊎ ((i < q.0) × (p ≡ (i, j)))
-
-pub picked : (found : Option (ℕ × ℕ)) (i j : ℕ) (p : ℕ × ℕ) → IfSome found (λ pair. ((pair.0 ≤ i) × (p ≡ pair)) ⊎ ((i < pair.0) × (p ≡ (i, j)))) → IfNone found (p ≡ (i, j)) → IsPicked found i j p
-picked None i j p h g = g
-picked (Some q) i j p h g = h
+IsPicked found i j p = MatchOption found (p ≡ (i, j)) (λ q. ((q.0 ≤ i) × (p ≡ q)) ⊎ ((i < q.0) × (p ≡ (i, j))))
 
 module _ (table : Table ℕ) (places : List ℕ) (found : Option (ℕ × ℕ)) (n : ℕ) (m : IsMeeting table places found n) where
   -- agent n stands where agent i does, which is entered there
@@ -210,15 +206,11 @@ entered_apart table places h i j m =
 
 -- ---- what who is ahead says of places
 
-pub first_in : (places next : List ℕ) (ahead : List (Option ℕ)) (t : ℕ) → HasNoMeeting places → AreAhead places next ahead → (o : Option Conflict) → IfSome o (IsFirstAhead ahead t) → IfSome o (IsFirstIn places next t)
-first_in places next ahead t apart a None h = tt
-first_in places next ahead t apart a (Some (Vertex x i j)) h = absurd h
-first_in places next ahead t apart a (Some (Swapping x i j)) h = (h.0, apart, (ahead, a, h.1))
-first_in places next ahead t apart a (Some (Cycle x least)) h = (h.0, (ahead, a, record { apart = apart; none = h.1 }, h.2))
-
-pub free_in : (places next : List ℕ) (ahead : List (Option ℕ)) → HasNoMeeting places → AreAhead places next ahead → (o : Option Conflict) → IfNone o (IsFreeAhead ahead) → IfNone o (IsFreeIn places next)
-free_in places next ahead apart a None h = record { ahead = ahead; are_ahead = a; none = record { apart = apart; none = h.none }; no_ring = h.no_ring }
-free_in places next ahead apart a (Some c) h = tt
+pub told_in : (places next : List ℕ) (ahead : List (Option ℕ)) (t : ℕ) → HasNoMeeting places → AreAhead places next ahead → (o : Option Conflict) → MatchOption o (IsFreeAhead ahead) (IsFirstAhead ahead t) → MatchOption o (IsFreeIn places next) (IsFirstIn places next t)
+told_in places next ahead t apart a None h = record { ahead = ahead; are_ahead = a; none = record { apart = apart; none = h.none }; no_ring = h.no_ring }
+told_in places next ahead t apart a (Some (Vertex x i j)) h = absurd h
+told_in places next ahead t apart a (Some (Swapping x i j)) h = (h.0, apart, (ahead, a, h.1))
+told_in places next ahead t apart a (Some (Cycle x least)) h = (h.0, (ahead, a, record { apart = apart; none = h.1 }, h.2))
 
 -- ---- rows filled at the agents of a row
 

@@ -1,6 +1,9 @@
 -- What the places of agents at two times say of the conflicts of their plan.
-use Rattle.fleet_plan.proofs.Words.{◌≡◌, ◌≢◌, ℕ, zero, suc, ◌+◌, ◌<◌, ◌≤◌, Bool, true, false, IsTrue, List, [], ◌∷◌, length, get_or, slice_index, All, Option, Some, None, IfSome, IfNone, inl, inr, refl, sym, ap, ◌∙◌, subst, arith, map, ◌==◌, EachIndex, range_with_len, cases_eq, cases_lt, cases_order, get_or_past, get_or_default, length-map-range_with_len, get_or-map-range_with_len, Cell, place_of, after_in, place_of-injective, Table, value_in, Ground, IsGround, is_passable, cell_index, Conflict, Vertex, Swapping, Cycle, Plan, cell_of, motion_of, steps, IsPath, GoesRight, path_of, HasConflict, HasNoConflict, time_of, IsKindUpTo, IsConflictUpTo, IsFirstConflict, NamesAgents, ahead_of, walk_of, Leads, IsOnRing, IsLeastOnRing, StandOnMap, StandOnPlaces, Meet, IsFirstMeeting, IsAhead, AreAhead, Exchange, IsFirstExchange, HasNoMeeting, HasNoExchange, IsFirstIn, IsFreeIn, IsEntered, IsAgentSettled, NamesMovers, IsSweep, IsSwept, SweepRows, AreFresh, HasComeTo, IsSoForOthers, MAX_HORIZON}
+use Rattle.fleet_plan.proofs.Words.{◌≡◌, ◌≢◌, ℕ, zero, suc, ◌+◌, ◌<◌, ◌≤◌, Bool, true, false, IsTrue, List, [], ◌∷◌, length, get_or, slice_index, All, Option, Some, None, inl, inr, refl, sym, ap, ◌∙◌, subst, arith, map, ◌==◌, EachIndex, range_with_len, cases_eq, cases_lt, cases_order, get_or_past, get_or_default, length-map-range_with_len, get_or-map-range_with_len, Cell, place_of, after_in, place_of-injective, Table, value_in, Ground, IsGround, is_passable, cell_index, Conflict, Vertex, Swapping, Cycle, Plan, cell_of, motion_of, steps, IsPath, GoesRight, path_of, HasConflict, HasNoConflict, time_of, IsKindUpTo, IsConflictUpTo, IsFirstConflict, NamesAgents, ahead_of, walk_of, Leads, IsOnRing, IsLeastOnRing, StandOnMap, StandOnPlaces, Meet, IsFirstMeeting, IsAhead, AreAhead, Exchange, IsFirstExchange, HasNoMeeting, HasNoExchange, IsFirstIn, IsFreeIn, IsEntered, IsAgentSettled, NamesMovers, IsSweep, IsSwept, SweepRows, AreFresh, HasComeTo, IsSoForOthers, MAX_HORIZON}
 use Rattle.std.specs.List.{IsDistinct}
+use Rattle.std.specs.Prelude.{MatchOption}
+use Rattle.fleet_plan.specs.Rings.{IsBlank}
+use Rattle.fleet_plan.specs.Sweep.{NamesLeavers}
 use Rattle.fleet_grid.specs.Ground.{is_ground_at as ground_at}
 use Rattle.fleet_plan.proofs.RingLaws.{some_is, none_is_not, shortened, each_ahead, each_reached, ends_with, each_on_ring, ring-reaches}
 use Rattle.fleet_plan.proofs.PathLaws.{at_past}
@@ -310,20 +313,9 @@ first_meets have g plan on t places s i j m =
     first_is have g plan on t places next.0 s.here next.1 s.earlier (Vertex t i j) (refl, m)
 
 -- what one step of the loop found
-module _ (have : HavePlaces) (g : Ground) (plan : Plan) (on : StandOnMap g plan) (t : ℕ) (places next : List ℕ) (s : IsSweep g plan places t) (then : StandOnPlaces g plan (t + 1) next) (found : Option Conflict) where
-  pub found_first : IfSome found (IsFirstIn places next t) → IfSome found (IsFirstConflict plan)
-  found_first h = go found h
-    where
-      go : (o : Option Conflict) → IfSome o (IsFirstIn places next t) → IfSome o (IsFirstConflict plan)
-      go None h = tt
-      go (Some c) h = first_is have g plan on t places next s.here then s.earlier c h
-
-  pub found_none : IfNone found (IsFreeIn places next) → IfNone found (IsSweep g plan next (t + 1))
-  found_none h = go found h
-    where
-      go : (o : Option Conflict) → IfNone o (IsFreeIn places next) → IfNone o (IsSweep g plan next (t + 1))
-      go None h = record { here = then; earlier = none_here have g plan on t places next s.here then s.earlier h }
-      go (Some c) h = tt
+pub found_is : HavePlaces → (g : Ground) (plan : Plan) → StandOnMap g plan → (t : ℕ) (places next : List ℕ) → IsSweep g plan places t → StandOnPlaces g plan (t + 1) next → (found : Option Conflict) → MatchOption found (IsFreeIn places next) (IsFirstIn places next t) → MatchOption found (IsSweep g plan next (t + 1)) (IsFirstConflict plan)
+found_is have g plan on t places next s then None h = record { here = then; earlier = none_here have g plan on t places next s.here then s.earlier h }
+found_is have g plan on t places next s then (Some c) h = first_is have g plan on t places next s.here then s.earlier c h
 
 -- ---- the rows of the loop
 
@@ -340,24 +332,28 @@ module _ (g : Ground) (plan : Plan) (table : Table ℕ) (places next : List ℕ)
     | inr e ↦ inr ((s.settled i (omega (arith, all))).same ∙ s.sweep.here.each i l ∙ stays_there g plan t i e)
   ]
 
-  pub nobody_yet : length ahead ≡ length plan → (i : ℕ) → ahead_of ahead i ≡ None
-  nobody_yet few i = elim (cases_lt i (length ahead)) [
-    | inl l ↦ (s.settled i (omega (arith, all))).nobody
-    | inr l ↦ get_or_past ahead i None l
-  ]
-
-  pub unwalked_yet : length walks ≡ length plan → (i : ℕ) → walk_of walks i ≡ None
-  unwalked_yet few i = elim (cases_lt i (length walks)) [
-    | inl l ↦ (s.settled i (omega (arith, all))).unwalked
-    | inr l ↦ get_or_past walks i None l
-  ]
+  pub nobody_yet : length ahead ≡ length plan → IsBlank (length places) ahead
+  nobody_yet few = record {
+    all = omega (arith, few, s.sweep.here.all);
+    none = λ i. elim (cases_lt i (length ahead)) [
+      | inl l ↦ (s.settled i (omega (arith, few, all))).nobody
+      | inr l ↦ get_or_past ahead i None l
+    ];
+  }
 
   module _ (next' : List ℕ) (then : StandOnPlaces g plan (t + 1) next') where
-    pub others_stay : IsSoForOthers row (length places) (λ i. slice_index next' i ≡ slice_index places i)
+    others_stay : IsSoForOthers row (length places) (λ i. slice_index next' i ≡ slice_index places i)
     others_stay i l = let b : i < length plan = omega (arith, s.sweep.here.all) in elim (s.covers.others i b) [
       | inl c ↦ inl c
       | inr e ↦ inr (then.each i b ∙ sym (stays_there g plan t i e) ∙ sym (s.sweep.here.each i b))
     ]
+
+    pub names_leavers : NamesLeavers places next' row
+    names_leavers = record {
+      all = omega (arith, then.all, s.sweep.here.all);
+      agents = λ k d l. let b = s.covers.agents k d l in omega (arith, b, s.sweep.here.all);
+      others = others_stay;
+    }
 
     pub others_entered : IsSoForOthers row (length next') (λ i. value_in table (slice_index next' i) ≡ i)
     others_entered i l = let b : i < length places = omega (arith, then.all, s.sweep.here.all) in elim (others_stay i b) [
@@ -374,9 +370,19 @@ module _ (g : Ground) (plan : Plan) (table : Table ℕ) (places next : List ℕ)
 
       pub names_movers : NamesMovers ahead' row
       names_movers = record {
+        names = ahead_agents places next' ahead' are;
         few = s.covers.few;
         agents = λ k d l. let b = s.covers.agents k d l in omega (arith, b, are.all, s.sweep.here.all);
         others = others_alone;
+      }
+
+      pub unwalked_yet : length walks ≡ length plan → IsBlank (length ahead') walks
+      unwalked_yet few = record {
+        all = omega (arith, few, are.all, s.sweep.here.all);
+        none = λ i. elim (cases_lt i (length walks)) [
+          | inl l ↦ (s.settled i (omega (arith, few, all))).unwalked
+          | inr l ↦ get_or_past walks i None l
+        ];
       }
 
       pub others_settled : (walks' : List (Option ℕ)) → ((i : ℕ) → ahead_of ahead' i ≡ None → walk_of walks' i ≡ None) → IsSoForOthers row (length next') (IsAgentSettled places next' ahead' walks')

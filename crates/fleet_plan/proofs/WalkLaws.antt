@@ -1,5 +1,7 @@
 -- A walk ahead from one agent after another.
-use Rattle.fleet_plan.proofs.Words.{◌≡◌, ◌≢◌, ℕ, ◌+◌, ◌<◌, ◌≤◌, List, [], ◌∷◌, length, get_or, slice_index, set, Option, Some, None, IfSome, IfNone, ◌⊎◌, inl, inr, refl, sym, ap, ◌∙◌, subst, arith, sum_by, cases_eq, get_or-set_same, get_or-set_other, length-set, sum_by-set, NamesAgents, ahead_of, Leads, LeadsTo, IsOnRing, IsLeastOnRing, walk_of, IsWalked, AreClosed, IsSoForOthers}
+use Rattle.fleet_plan.proofs.Words.{◌≡◌, ◌≢◌, ℕ, ◌+◌, ◌<◌, ◌≤◌, List, [], ◌∷◌, length, get_or, slice_index, set, Option, Some, None, IfSome, ◌⊎◌, inl, inr, refl, sym, ap, ◌∙◌, subst, arith, sum_by, cases_eq, get_or-set_same, get_or-set_other, length-set, sum_by-set, NamesAgents, ahead_of, Leads, LeadsTo, IsOnRing, IsLeastOnRing, walk_of, IsWalked, AreClosed, IsSoForOthers}
+use Rattle.std.specs.Prelude.{MatchOption}
+use Rattle.fleet_plan.specs.Rings.{IsBlank, HasWalked}
 use Rattle.fleet_plan.proofs.RowLaws.{IsSoBut, but_more, but_ends}
 use Rattle.fleet_plan.proofs.RingLaws.{some_is, none_is_not, ahead_within, reaches-on, reaches-next, ring-reaches}
 
@@ -36,13 +38,6 @@ walk_begins ahead old i first c l = record {
 }
 
 module _ (ahead old walks : List (Option ℕ)) (i first agent : ℕ) (w : IsWalk ahead old walks i first agent) where
-  -- somebody is ahead of each one that this walk has met, or that was met before
-  live_on : AreClosed ahead old i → (k : ℕ) → IsWalked walks k → (j : ℕ) × (ahead_of ahead k ≡ Some j)
-  live_on closed k h = elim (w.old_or_new k h.0 h.1) [
-    | inl g ↦ closed.live k (h.0, g)
-    | inr g ↦ let l = w.leads k (h.1 ∙ ap (λ (z : ℕ). Some z) g) in (l.0, l.1)
-  ]
-
   -- the agent is met
   module _ (new : walk_of walks agent ≡ None) where
     abbrev after : List (Option ℕ)
@@ -101,68 +96,68 @@ module _ (ahead old walks : List (Option ℕ)) (i first agent : ℕ) (w : IsWalk
       started = inr start;
     }
 
-  -- nobody is ahead of it
-  module _ (closed : AreClosed ahead old i) (ends : ahead_of ahead agent ≡ None) where
-    pub end-closed : AreClosed ahead walks (i + 1)
-    end-closed = record {
-      all = w.all;
-      live = live_on closed;
-      ahead_too = λ k j h f. go k j h f (w.old_or_new k h.0 h.1);
-      below = λ k v f. elim (w.old_or_new k v f) [ inl g ↦ let l : v < i = closed.below k v g in omega arith | inr g ↦ omega arith ];
-    }
-      where
-        go : (k j : ℕ) → (h : IsWalked walks k) → ahead_of ahead k ≡ Some j → (walk_of old k ≡ Some h.0) ⊎ (h.0 ≡ i) → IsWalked walks j ⊎ (ahead_of ahead j ≡ None)
-        go k j h f (inl g) = elim (closed.ahead_too k j (h.0, g) f) [ inl o ↦ inl (o.0, w.kept j o.0 o.1) | inr e ↦ inr e ]
-        go k j h f (inr g) = elim (w.ahead_too k j (h.1 ∙ ap (λ (z : ℕ). Some z) g) f) [
-          | inl o ↦ inl o
-          | inr s ↦ inr (ap (ahead_of ahead) s ∙ ends)
-        ]
-
-    pub end-walked : IsWalked walks first ⊎ (ahead_of ahead first ≡ None)
-    end-walked = elim w.started [ inl s ↦ inr (ap (ahead_of ahead) (sym s) ∙ ends) | inr h ↦ inl h ]
-
-    pub end-none : (k : ℕ) → IsWalked walks k → IsOnRing ahead k → IsWalked old k
-    end-none k h r = elim (w.old_or_new k h.0 h.1) [
-      | inl g ↦ (h.0, g)
-      | inr g ↦
-          let l = w.leads k (h.1 ∙ ap (λ (z : ℕ). Some z) g) in
-          let on = ring-reaches ahead k (l.0 ∷ l.2.0) agent r (l.1, l.2.1) in
-          none_is_not on.0.next (ahead_of ahead agent) on.0.ahead_is ends
+  -- the walk ends
+  module _ (closed : AreClosed ahead old i) where
+    -- somebody is ahead of each one that this walk has met, or that was met before
+    live_on : (k : ℕ) → IsWalked walks k → (j : ℕ) × (ahead_of ahead k ≡ Some j)
+    live_on k h = elim (w.old_or_new k h.0 h.1) [
+      | inl g ↦ closed.live k (h.0, g)
+      | inr g ↦ let l = w.leads k (h.1 ∙ ap (λ (z : ℕ). Some z) g) in (l.0, l.1)
     ]
 
-  -- the agent was met before
-  module _ (closed : AreClosed ahead old i) (before : IsWalked walks agent) where
-    pub stop-closed : AreClosed ahead walks (i + 1)
-    stop-closed = record {
-      all = w.all;
-      live = live_on closed;
-      ahead_too = λ k j h f. go k j h f (w.old_or_new k h.0 h.1);
-      below = λ k v f. elim (w.old_or_new k v f) [ inl g ↦ let l : v < i = closed.below k v g in omega arith | inr g ↦ omega arith ];
+    kept_now : (k : ℕ) → IsWalked old k → IsWalked walks k
+    kept_now k h = (h.0, w.kept k h.0 h.1)
+
+    -- at an agent that was met before, or that nobody is ahead of
+    module _ (here : IsWalked walks agent ⊎ (ahead_of ahead agent ≡ None)) where
+      closed_now : AreClosed ahead walks (i + 1)
+      closed_now = record {
+        all = w.all;
+        live = live_on;
+        ahead_too = λ k j h f. elim (w.old_or_new k h.0 h.1) [
+          | inl g ↦ elim (closed.ahead_too k j (h.0, g) f) [ inl o ↦ inl (kept_now j o) | inr e ↦ inr e ]
+          | inr g ↦ elim (w.ahead_too k j (h.1 ∙ ap (λ (z : ℕ). Some z) g) f) [
+            | inl o ↦ inl o
+            | inr s ↦ subst (λ z. IsWalked walks z ⊎ (ahead_of ahead z ≡ None)) (sym s) here
+          ]
+        ];
+        below = λ k v f. elim (w.old_or_new k v f) [ inl g ↦ let l : v < i = closed.below k v g in omega arith | inr g ↦ omega arith ];
+      }
+
+      walked_now : IsWalked walks first ⊎ (ahead_of ahead first ≡ None)
+      walked_now = elim w.started [ inl s ↦ subst (λ z. IsWalked walks z ⊎ (ahead_of ahead z ≡ None)) s here | inr h ↦ inl h ]
+
+    pub walk_ends : ahead_of ahead agent ≡ None → HasWalked ahead old walks i first None
+    walk_ends ends = record {
+      closed = closed_now (inr ends);
+      walked = walked_now (inr ends);
+      kept = kept_now;
+      rings = λ k h r. elim (w.old_or_new k h.0 h.1) [
+        | inl g ↦ (h.0, g)
+        | inr g ↦
+            let l = w.leads k (h.1 ∙ ap (λ (z : ℕ). Some z) g) in
+            let on = ring-reaches ahead k (l.0 ∷ l.2.0) agent r (l.1, l.2.1) in
+            none_is_not on.0.next (ahead_of ahead agent) on.0.ahead_is ends
+      ];
     }
-      where
-        go : (k j : ℕ) → (h : IsWalked walks k) → ahead_of ahead k ≡ Some j → (walk_of old k ≡ Some h.0) ⊎ (h.0 ≡ i) → IsWalked walks j ⊎ (ahead_of ahead j ≡ None)
-        go k j h f (inl g) = elim (closed.ahead_too k j (h.0, g) f) [ inl o ↦ inl (o.0, w.kept j o.0 o.1) | inr e ↦ inr e ]
-        go k j h f (inr g) = inl (elim (w.ahead_too k j (h.1 ∙ ap (λ (z : ℕ). Some z) g) f) [
-          | inl o ↦ o
-          | inr s ↦ subst (IsWalked walks) (sym s) before
-        ])
 
-    pub stop-walked : IsWalked walks first ⊎ (ahead_of ahead first ≡ None)
-    stop-walked = inl (elim w.started [ inl s ↦ subst (IsWalked walks) s before | inr h ↦ h ])
-
-    -- in this walk
-    pub stop-ring : walk_of walks agent ≡ Some i → IsOnRing ahead agent
-    stop-ring e = let l = w.leads agent e in record { next = l.0; ahead_is = l.1; back = l.2 }
-
-    pub stop-some : (k : ℕ) → IsWalked walks k → IsOnRing ahead k → IsWalked old k ⊎ LeadsTo ahead agent k
-    stop-some k h r = elim (w.old_or_new k h.0 h.1) [
+    old_or_there : (k : ℕ) → IsWalked walks k → IsOnRing ahead k → IsWalked old k ⊎ LeadsTo ahead agent k
+    old_or_there k h r = elim (w.old_or_new k h.0 h.1) [
       | inl g ↦ inl (h.0, g)
       | inr g ↦
           let l = w.leads k (h.1 ∙ ap (λ (z : ℕ). Some z) g) in
           inr ((ring-reaches ahead k (l.0 ∷ l.2.0) agent r (l.1, l.2.1)).1)
     ]
 
-    -- in an earlier one
+    pub walk_meets_itself : walk_of walks agent ≡ Some i → HasWalked ahead old walks i first (Some agent)
+    walk_meets_itself e = let l = w.leads agent e in record {
+      closed = closed_now (inl (i, e));
+      walked = walked_now (inl (i, e));
+      kept = kept_now;
+      rings = (record { next = l.0; ahead_is = l.1; back = l.2 }, old_or_there);
+    }
+
+    -- who is on a ring ahead of one that was met before was met before
     closed_on : (k : ℕ) (js : List ℕ) (e : ℕ) → IsOnRing ahead e → IsWalked old k → Leads ahead k js e → IsWalked old e
     closed_on k [] e r h f = subst (IsWalked old) f h
     closed_on k (j ∷ js) e r h f = elim (closed.ahead_too k j h f.0) [
@@ -174,11 +169,13 @@ module _ (ahead old walks : List (Option ℕ)) (i first agent : ℕ) (w : IsWalk
         ended [] g none = none_is_not r.next (ahead_of ahead e) r.ahead_is (ap (ahead_of ahead) (sym g) ∙ none)
         ended (m ∷ ms) g none = none_is_not m (ahead_of ahead j) g.0 none
 
-    pub stop-none : walk_of walks agent ≢ Some i → (k : ℕ) → IsWalked walks k → IsOnRing ahead k → IsWalked old k
-    stop-none ne k h r = elim (stop-some k h r) [
-      | inl o ↦ o
-      | inr f ↦ closed_on agent f.0 k r was f.1
-    ]
+    pub walk_meets_another : IsWalked walks agent → walk_of walks agent ≢ Some i → HasWalked ahead old walks i first None
+    walk_meets_another before ne = record {
+      closed = closed_now (inl before);
+      walked = walked_now (inl before);
+      kept = kept_now;
+      rings = λ k h r. elim (old_or_there k h r) [ inl o ↦ o | inr f ↦ closed_on agent f.0 k r was f.1 ];
+    }
       where
         was : IsWalked old agent
         was = elim (w.old_or_new agent before.0 before.1) [
@@ -199,16 +196,16 @@ pub record AreWalked (row : List ℕ) (ahead walks : List (Option ℕ)) (least :
   pub walked : IsSoBut row i (length ahead) (λ k. IsWalked walks k ⊎ (ahead_of ahead k ≡ None))
   pub least_met : IsLeastMet ahead walks least
 
-pub walked_begins : (row : List ℕ) (ahead walks : List (Option ℕ)) → length walks ≡ length ahead → ((k : ℕ) → walk_of walks k ≡ None) → IsSoForOthers row (length ahead) (λ k. ahead_of ahead k ≡ None) → AreWalked row ahead walks None 0
-walked_begins row ahead walks all none others = record {
+pub walked_begins : (row : List ℕ) (ahead walks : List (Option ℕ)) → IsBlank (length ahead) walks → IsSoForOthers row (length ahead) (λ k. ahead_of ahead k ≡ None) → AreWalked row ahead walks None 0
+walked_begins row ahead walks blank others = record {
   closed = record {
-    all = all;
-    live = λ k h. none_is_not h.0 (walk_of walks k) h.1 (none k);
-    ahead_too = λ k j h f. none_is_not h.0 (walk_of walks k) h.1 (none k);
-    below = λ k w h. none_is_not w (walk_of walks k) h (none k);
+    all = blank.all;
+    live = λ k h. none_is_not h.0 (walk_of walks k) h.1 (blank.none k);
+    ahead_too = λ k j h f. none_is_not h.0 (walk_of walks k) h.1 (blank.none k);
+    below = λ k w h. none_is_not w (walk_of walks k) h (blank.none k);
   };
   walked = record { each = λ k l. elim (others k l) [ inl c ↦ inl c | inr e ↦ inr (inr e) ] };
-  least_met = λ k h r. none_is_not h.0 (walk_of walks k) h.1 (none k);
+  least_met = λ k h r. none_is_not h.0 (walk_of walks k) h.1 (blank.none k);
 }
 
 -- who was not met, where nobody is ahead of it
@@ -219,27 +216,27 @@ walked_none row ahead walks least i a k e = go (walk_of walks k) refl
     go None h = h
     go (Some w) h = let j = a.closed.live k (w, h) in none_is_not j.0 (ahead_of ahead k) j.1 e
 
-module _ (row : List ℕ) (ahead old walks : List (Option ℕ)) (least : Option ℕ) (i : ℕ) (a : AreWalked row ahead old least i) (closed : AreClosed ahead walks (i + 1)) (here : IsWalked walks (slice_index row i) ⊎ (ahead_of ahead (slice_index row i) ≡ None)) (kept : (k : ℕ) → IsWalked old k → IsWalked walks k) where
-  walked_on : IsSoBut row (i + 1) (length ahead) (λ k. IsWalked walks k ⊎ (ahead_of ahead k ≡ None))
-  walked_on = but_more row i (length ahead) (λ k. IsWalked old k ⊎ (ahead_of ahead k ≡ None)) (λ k. IsWalked walks k ⊎ (ahead_of ahead k ≡ None)) a.walked here
-      (λ k l ne h. elim h [ inl o ↦ inl (kept k o) | inr e ↦ inr e ])
+module _ (row : List ℕ) (ahead old walks : List (Option ℕ)) (least : Option ℕ) (i : ℕ) (a : AreWalked row ahead old least i) where
+  walked_on : (own : Option ℕ) → HasWalked ahead old walks i (slice_index row i) own → IsSoBut row (i + 1) (length ahead) (λ k. IsWalked walks k ⊎ (ahead_of ahead k ≡ None))
+  walked_on own w = but_more row i (length ahead) (λ k. IsWalked old k ⊎ (ahead_of ahead k ≡ None)) (λ k. IsWalked walks k ⊎ (ahead_of ahead k ≡ None)) a.walked w.walked
+      (λ k l ne h. elim h [ inl o ↦ inl (w.kept k o) | inr e ↦ inr e ])
 
-  pub walked-more_none : ((k : ℕ) → IsWalked walks k → IsOnRing ahead k → IsWalked old k) → AreWalked row ahead walks least (i + 1)
-  walked-more_none none = record { closed = closed; walked = walked_on; least_met = go least a.least_met }
+  pub walked-more_none : HasWalked ahead old walks i (slice_index row i) None → AreWalked row ahead walks least (i + 1)
+  walked-more_none w = record { closed = w.closed; walked = walked_on None w; least_met = go least a.least_met }
     where
       go : (m : Option ℕ) → IsLeastMet ahead old m → IsLeastMet ahead walks m
-      go None h = λ k v r. h k (none k v r) r
-      go (Some m) h = (h.0, λ k v r. h.1 k (none k v r) r)
+      go None h = λ k v r. h k (w.rings k v r) r
+      go (Some m) h = (h.0, λ k v r. h.1 k (w.rings k v r) r)
 
-  pub walked-more_some : (agent m m' : ℕ) → IsOnRing ahead m → ((k : ℕ) → LeadsTo ahead agent k → m ≤ k) → m' ≤ m → IfSome least (λ b. m' ≤ b) → (m' ≡ m) ⊎ (Some m' ≡ least) → ((k : ℕ) → IsWalked walks k → IsOnRing ahead k → IsWalked old k ⊎ LeadsTo ahead agent k) → AreWalked row ahead walks (Some m') (i + 1)
-  walked-more_some agent m m' ring round le below which some = record { closed = closed; walked = walked_on; least_met = go least a.least_met below which }
+  pub walked-more_some : (agent m m' : ℕ) → HasWalked ahead old walks i (slice_index row i) (Some agent) → IsOnRing ahead m → ((k : ℕ) → LeadsTo ahead agent k → m ≤ k) → m' ≤ m → IfSome least (λ b. m' ≤ b) → (m' ≡ m) ⊎ (Some m' ≡ least) → AreWalked row ahead walks (Some m') (i + 1)
+  walked-more_some agent m m' w ring round le below which = record { closed = w.closed; walked = walked_on (Some agent) w; least_met = go least a.least_met below which }
     where
       go : (b : Option ℕ) → IsLeastMet ahead old b → IfSome b (λ b. m' ≤ b) → (m' ≡ m) ⊎ (Some m' ≡ b) → IsLeastMet ahead walks (Some m')
-      go None h l (inl e) = (subst (IsOnRing ahead) (sym e) ring, λ k v r. elim (some k v r) [ inl o ↦ absurd (h k o r) | inr f ↦ let g : m ≤ k = round k f in omega arith ])
+      go None h l (inl e) = (subst (IsOnRing ahead) (sym e) ring, λ k v r. elim (w.rings.1 k v r) [ inl o ↦ absurd (h k o r) | inr f ↦ let g : m ≤ k = round k f in omega arith ])
       go None h l (inr e) = absurd (cc)
       go (Some b) h l which = (
         elim which [ inl e ↦ subst (IsOnRing ahead) (sym e) ring | inr e ↦ subst (IsOnRing ahead) (let s : m' ≡ b = cc in sym s) h.0 ],
-        λ k v r. elim (some k v r) [ inl o ↦ let g : b ≤ k = h.1 k o r in omega arith | inr f ↦ let g : m ≤ k = round k f in omega arith ],
+        λ k v r. elim (w.rings.1 k v r) [ inl o ↦ let g : b ≤ k = h.1 k o r in omega arith | inr f ↦ let g : m ≤ k = round k f in omega arith ],
       )
 
 -- at the end each agent on a ring was met
@@ -250,10 +247,6 @@ module _ (row : List ℕ) (ahead walks : List (Option ℕ)) (i : ℕ) (l : lengt
     | inr e ↦ none_is_not r.next (ahead_of ahead k) r.ahead_is e
   ]
 
-  pub walked-some : (o : Option ℕ) → AreWalked row ahead walks o i → IfSome o (IsLeastOnRing ahead)
-  walked-some None a = tt
-  walked-some (Some m) a = record { ring = a.least_met.0; least = λ k r. a.least_met.1 k (all_met (Some m) a k r) r }
-
-  pub walked-nobody : (o : Option ℕ) → AreWalked row ahead walks o i → IfNone o ((k : ℕ) → IsOnRing ahead k → ⊥)
-  walked-nobody None a = λ k r. a.least_met k (all_met None a k r) r
-  walked-nobody (Some m) a = tt
+  pub walked_all : (o : Option ℕ) → AreWalked row ahead walks o i → MatchOption o ((k : ℕ) → IsOnRing ahead k → ⊥) (IsLeastOnRing ahead)
+  walked_all None a = λ k r. a.least_met k (all_met None a k r) r
+  walked_all (Some m) a = record { ring = a.least_met.0; least = λ k r. a.least_met.1 k (all_met (Some m) a k r) r }

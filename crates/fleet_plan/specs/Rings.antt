@@ -1,9 +1,14 @@
 -- Who is ahead of whom in one step, and rings of agents each of which is ahead of the one before it.
-use Rattle.std.specs.Prelude.{◌≡◌, ℕ, ◌<◌, ◌≤◌, List, [], ◌∷◌, length, get_or, Option, Some, None, ◌⊎◌}
+use Rattle.std.specs.Prelude.{◌≡◌, ℕ, ◌+◌, ◌<◌, ◌≤◌, List, [], ◌∷◌, length, get_or, Option, Some, None, ◌⊎◌, MatchOption}
 
 -- the agent ahead of agent i, if there is one
 abbrev pub ahead_of : List (Option ℕ) → ℕ → Option ℕ
 ahead_of ahead i = get_or ahead i None
+
+-- a row in which nothing is noted for any of n agents
+pub record IsBlank (n : ℕ) (row : List (Option ℕ)) : Type 0 where
+  pub all : length row ≡ n
+  pub none : (i : ℕ) → get_or row i None ≡ None
 
 -- whoever is ahead of an agent is one of the agents
 abbrev pub NamesAgents : List (Option ℕ) → Type 0
@@ -47,3 +52,11 @@ pub record AreClosed (ahead walks : List (Option ℕ)) (n : ℕ) : Type 0 where
   pub live : (i : ℕ) → IsWalked walks i → (j : ℕ) × (ahead_of ahead i ≡ Some j)
   pub ahead_too : (i j : ℕ) → IsWalked walks i → ahead_of ahead i ≡ Some j → IsWalked walks j ⊎ (ahead_of ahead j ≡ None)
   pub below : (i w : ℕ) → walk_of walks i ≡ Some w → w < n
+
+-- walk n was made from a first agent on, and met itself at an agent of the only new ring that it met, or met none
+pub record HasWalked (ahead old new : List (Option ℕ)) (n first : ℕ) (met : Option ℕ) : Type 0 where
+  pub closed : AreClosed ahead new (n + 1)
+  pub walked : IsWalked new first ⊎ (ahead_of ahead first ≡ None)
+  pub kept : (k : ℕ) → IsWalked old k → IsWalked new k
+  pub rings : MatchOption met ((k : ℕ) → IsWalked new k → IsOnRing ahead k → IsWalked old k)
+      (λ agent. IsOnRing ahead agent × ((k : ℕ) → IsWalked new k → IsOnRing ahead k → IsWalked old k ⊎ LeadsTo ahead agent k))

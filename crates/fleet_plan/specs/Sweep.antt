@@ -9,7 +9,7 @@ use Rattle.fleet_plan.specs.declared.plan_fault.Conflict.{Conflict}
 use Rattle.fleet_plan.specs.declared.plan_fault.Conflict.TheVariants.{Vertex, Swapping, Cycle}
 use Rattle.fleet_plan.specs.FirstFault.{IsPairUpTo, HasConflict, time_of}
 use Rattle.fleet_plan.specs.UnderWay.{IsSoForOthers, Covers}
-use Rattle.fleet_plan.specs.Rings.{ahead_of, walk_of, IsOnRing, IsLeastOnRing}
+use Rattle.fleet_plan.specs.Rings.{ahead_of, walk_of, NamesAgents, IsOnRing, IsLeastOnRing}
 
 -- every agent stands on a cell of the map, at every time
 abbrev pub StandOnMap : Ground → Plan → Type 0
@@ -47,6 +47,11 @@ HasIn table places i = value_in table (slice_index places i) ≡ i
 abbrev pub IsEntered : Table ℕ → List ℕ → Type 0
 IsEntered table places = (i : ℕ) → i < length places → HasIn table places i
 
+-- the table has agent i in its place now, and each agent that it had in its place before
+pub record EntersAgent (old new : Table ℕ) (places : List ℕ) (i : ℕ) : Type 0 where
+  pub here : HasIn new places i
+  pub others : (k : ℕ) → k < length places → HasIn old places k → HasIn new places k
+
 -- the agent goes to no other place
 abbrev pub Stays : List ℕ → List ℕ → ℕ → Type 0
 Stays places next i = slice_index next i ≡ slice_index places i
@@ -59,6 +64,12 @@ IsUnblocked ahead i = ahead_of ahead i ≡ None
 abbrev pub IsAhead : List ℕ → List ℕ → ℕ → Option ℕ → Type 0
 IsAhead places next i None = Stays places next i ⊎ ((j : ℕ) → j < length places → slice_index places j ≢ slice_index next i)
 IsAhead places next i (Some j) = (slice_index next i ≢ slice_index places i) × (j < length places) × (slice_index places j ≡ slice_index next i)
+
+-- the row is of agents, among them each that goes to another place
+pub record NamesLeavers (places next : List ℕ) (row : List ℕ) : Type 0 where
+  pub all : length next ≡ length places
+  pub agents : All (λ i. i < length places) row
+  pub others : IsSoForOthers row (length places) (Stays places next)
 
 -- who is ahead of each agent
 pub record AreAhead (places next : List ℕ) (ahead : List (Option ℕ)) : Type 0 where
@@ -101,8 +112,9 @@ pub record IsFreeIn (places next : List ℕ) : Type 0 where
   pub none : HasNoExchange places ahead
   pub no_ring : (i : ℕ) → IsOnRing ahead i → ⊥
 
--- the row is of agents, among them each that somebody is ahead of
+-- whoever is ahead of an agent is an agent, and the row is of agents, among them each that somebody is ahead of
 pub record NamesMovers (ahead : List (Option ℕ)) (row : List ℕ) : Type 0 where
+  pub names : NamesAgents ahead
   pub few : length row ≤ MAX_AGENTS
   pub agents : All (λ i. i < length ahead) row
   pub others : IsSoForOthers row (length ahead) (IsUnblocked ahead)

@@ -1,12 +1,12 @@
 //! The sweep over time for conflicts, with a table of cells in which each agent enters itself. Each step looks at the
 //! agents under way alone: one that has come to its last cell stays entered there, and is not visited again.
 
-ghost use Rattle.std.specs.Prelude.{◌≡◌, ◌≢◌, ℕ, ◌+◌, ◌<◌, ◌≤◌, ◌⊎◌, ◌↔◌, IfOk, IfSome, IfNone, length, slice_index, Some, None, All, IsTrue, false, EachIndex};
+ghost use Rattle.std.specs.Prelude.{◌≡◌, ◌≢◌, ℕ, ◌+◌, ◌<◌, ◌≤◌, ◌⊎◌, ◌↔◌, IfOk, IfSome, IfNone, MatchOption, length, slice_index, Some, None, All, IsTrue, false, EachIndex};
 ghost use Rattle.fleet_grid.specs.Ground.{is_passable};
 ghost use Rattle.fleet_model.specs.declared.limits.TheConstants.{MAX_AGENTS, MAX_HORIZON};
 ghost use Rattle.fleet_plan.specs.FirstFault.{GoesRight, IsFirstConflict, HasNoConflict};
-ghost use Rattle.fleet_plan.specs.Rings.{NamesAgents, ahead_of, walk_of, IsOnRing, IsLeastOnRing, LeadsTo, IsWalked, AreClosed};
-ghost use Rattle.fleet_plan.specs.Sweep.{StandOnMap, StandOnPlaces, IsFirstMeeting, IsEntered, IsAhead, AreAhead, Exchange, IsFirstExchange, HasNone, IsFirstAhead, IsFreeAhead, OthersStandAt, HasIn, Stays, NamesMovers, AreAgentsSettled, AreOtherAgentsSettled, AreFresh, IsSweep, HasComeTo, HasLookedAhead, HaveArrived};
+ghost use Rattle.fleet_plan.specs.Rings.{IsBlank, NamesAgents, ahead_of, walk_of, IsOnRing, IsLeastOnRing, LeadsTo, AreClosed, HasWalked};
+ghost use Rattle.fleet_plan.specs.Sweep.{StandOnMap, StandOnPlaces, IsFirstMeeting, IsEntered, IsAhead, AreAhead, Exchange, IsFirstExchange, HasNone, IsFirstAhead, IsFreeAhead, OthersStandAt, HasIn, EntersAgent, NamesLeavers, NamesMovers, AreAgentsSettled, AreOtherAgentsSettled, AreFresh, IsSweep, HasComeTo, HasLookedAhead, HaveArrived};
 ghost use Rattle.fleet_plan.specs.UnderWay.{IsSoForOthers, Covers};
 
 use crate::plan::Plan;
@@ -44,9 +44,8 @@ fn fill_next(plan: &Plan, grid: &Grid, time: u32, agents: &[u16], next: &mut [us
 /// table held before does not matter, since an entry counts only if that agent stands there.
 fn first_meeting(table: &mut Table<u16>, places: &[usize]) -> Result<Option<(u16, u16)>, AllocError>
     requires { length places.now ≤ MAX_AGENTS }
-    ensures some { IfOk result (λ found. IfSome found
+    ensures { IfOk result (λ found. MatchOption found (IsEntered table.new places.now)
         (λ pair. IsFirstMeeting places.now pair.0 pair.1)) }
-    ensures none { IfOk result (λ found. IfNone found (IsEntered table.new places.now)) }
 {
     let mut first = None;
     for (j, place) in places.iter().enumerate() {
@@ -62,9 +61,8 @@ fn first_meeting(table: &mut Table<u16>, places: &[usize]) -> Result<Option<(u16
 
 /// The first pair, unless `i` is below its first agent.
 fn first_pair(first: Option<(u16, u16)>, i: u16, j: u16) -> (u16, u16)
-    ensures kept { IfSome first (λ pair. ((pair.0 ≤ i) × (result ≡ pair))
+    ensures { MatchOption first (result ≡ (i, j)) (λ pair. ((pair.0 ≤ i) × (result ≡ pair))
         ⊎ ((i < pair.0) × (result ≡ (i, j)))) }
-    ensures new { IfNone first (result ≡ (i, j)) }
 {
     match first {
         Some(pair) if pair.0 <= i => pair,
@@ -122,11 +120,8 @@ fn fill_ahead(
     ahead: &mut [Option<u16>],
 ) -> bool
     requires entered { IsEntered table.now places.now }
-    requires agents { All (λ i. i < length places.now) agents.now }
-    requires next { length next.now ≡ length places.now }
-    requires all { length ahead.old ≡ length places.now }
-    requires nobody { (i : ℕ) → ahead_of ahead.old i ≡ None }
-    requires others { IsSoForOthers agents.now (length places.now) (Stays places.now next.now) }
+    requires agents { NamesLeavers places.now next.now agents.now }
+    requires ahead { IsBlank (length places.now) ahead.old }
     ensures ahead { AreAhead places.now next.now ahead.new }
     ensures apart { IsTrue result → HasNone (Exchange ahead.new) }
 {
@@ -156,8 +151,8 @@ fn is_behind(ahead: &[Option<u16>], other: Option<u16>, i: u16) -> bool
 fn first_exchange(ahead: &[Option<u16>]) -> Option<(u16, u16)>
     requires agents { NamesAgents ahead.now }
     requires few { length ahead.now ≤ MAX_AGENTS }
-    ensures some { IfSome result (λ pair. IsFirstExchange ahead.now pair.0 pair.1) }
-    ensures none { IfNone result (HasNone (Exchange ahead.now)) }
+    ensures { MatchOption result (HasNone (Exchange ahead.now))
+        (λ pair. IsFirstExchange ahead.now pair.0 pair.1) }
 {
     for (i, next) in ahead.iter().enumerate() {
         if let Some(j) = *next {
@@ -178,14 +173,11 @@ fn conflict_in(
     ahead: &[Option<u16>],
     walks: &mut [Option<u16>],
 ) -> Option<Conflict>
-    requires ahead { NamesAgents ahead.now }
     requires few { length ahead.now ≤ MAX_AGENTS }
     requires apart { IsTrue apart → HasNone (Exchange ahead.now) }
     requires agents { NamesMovers ahead.now agents.now }
-    requires walks { length walks.old ≡ length ahead.now }
-    requires unwalked { (i : ℕ) → walk_of walks.old i ≡ None }
-    ensures some { IfSome result (IsFirstAhead ahead.now time) }
-    ensures none { IfNone result (IsFreeAhead ahead.now) }
+    requires walks { IsBlank (length ahead.now) walks.old }
+    ensures found { MatchOption result (IsFreeAhead ahead.now) (IsFirstAhead ahead.now time) }
     ensures unwalked { (i : ℕ) → ahead_of ahead.now i ≡ None → walk_of walks.new i ≡ None }
 {
     if !apart {
@@ -244,9 +236,7 @@ fn enter_row(table: &mut Table<u16>, agents: &[u16], places: &[usize]) -> Result
 #[inline(always)]
 fn enter_one(table: &mut Table<u16>, i: u16, places: &[usize]) -> Result<bool, AllocError>
     requires { i < length places.now }
-    ensures here { IfOk result (λ alone. IsTrue alone → HasIn table.new places.now i) }
-    ensures others { IfOk result (λ alone. IsTrue alone → (k : ℕ) → k < length places.now
-        → HasIn table.old places.now k → HasIn table.new places.now k) }
+    ensures { IfOk result (λ alone. IsTrue alone → EntersAgent table.old table.new places.now i) }
 {
     let place = places[usize::from(i)];
     let other = table.replace(place, i)?;
@@ -263,9 +253,8 @@ fn meeting(
     requires few { length places.now ≤ MAX_AGENTS }
     requires agents { All (λ i. i < length places.now) agents.now }
     requires others { IsSoForOthers agents.now (length places.now) (HasIn table.old places.now) }
-    ensures some { IfOk result (λ found. IfSome found
+    ensures { IfOk result (λ found. MatchOption found (IsEntered table.new places.now)
         (λ pair. IsFirstMeeting places.now pair.0 pair.1)) }
-    ensures none { IfOk result (λ found. IfNone found (IsEntered table.new places.now)) }
 {
     if enter_row(table, agents, places)? {
         return Ok(None);
@@ -362,8 +351,8 @@ impl Sweep {
     fn run(&mut self, plan: &Plan, grid: &Grid) -> Result<Option<Conflict>, AllocError>
         requires on_map { StandOnMap grid.now plan.now }
         requires fresh { AreFresh plan.now self.old }
-        ensures some { IfOk result (λ found. IfSome found (IsFirstConflict plan.now)) }
-        ensures none { IfOk result (λ found. IfNone found (HasNoConflict plan.now)) }
+        ensures { IfOk result (λ found. MatchOption found (HasNoConflict plan.now)
+            (IsFirstConflict plan.now)) }
     {
         // Agents in one place are on one cell: a law of the map.
         cells_have_places_of_their_own();
@@ -390,9 +379,8 @@ impl Sweep {
         requires few { length plan.now ≤ MAX_AGENTS }
         requires time { time ≤ MAX_HORIZON }
         requires swept { HasComeTo grid.now plan.now time self.old }
-        ensures some { IfOk result (λ found. IfSome found (IsFirstConflict plan.now)) }
-        ensures none { IfOk result (λ found. IfNone found
-            (HasComeTo grid.now plan.now (time + 1) self.new)) }
+        ensures { IfOk result (λ found. MatchOption found
+            (HasComeTo grid.now plan.now (time + 1) self.new) (IsFirstConflict plan.now)) }
     {
         // Agents in one place are on one cell: a law of the map.
         cells_have_places_of_their_own();
@@ -413,8 +401,8 @@ impl Sweep {
         requires few { length plan.now ≤ MAX_AGENTS }
         requires time { time ≤ MAX_HORIZON }
         requires swept { HasComeTo grid.now plan.now time self.old }
-        ensures some { IfSome result (IsFirstConflict plan.now) }
-        ensures none { IfNone result (IsSweep grid.now plan.now self.new.next (time + 1)) }
+        ensures found { MatchOption result (IsSweep grid.now plan.now self.new.next (time + 1))
+            (IsFirstConflict plan.now) }
         ensures ahead { HasLookedAhead plan.now time self.new }
     {
         // Agents in one place are on one cell: a law of the map.
@@ -435,10 +423,9 @@ impl Sweep {
         requires few { length plan.now ≤ MAX_AGENTS }
         requires time { time ≤ MAX_HORIZON }
         requires ahead { HasLookedAhead plan.now time self.old }
-        ensures some { IfOk result (λ found. IfSome found
+        ensures { IfOk result (λ found. MatchOption found
+            (HaveArrived plan.now (time + 1) self.old self.new)
             (λ pair. IsFirstMeeting self.old.next pair.0 pair.1)) }
-        ensures none { IfOk result (λ found. IfNone found
-            (HaveArrived plan.now (time + 1) self.old self.new)) }
     {
         let agents = self.agents.as_slice();
         let next = self.next.as_slice();
@@ -470,8 +457,8 @@ pub(crate) fn first_conflict(
     grid: &Grid,
 ) -> Result<Option<Conflict>, AllocError>
     requires { EachIndex plan.now (GoesRight (is_passable grid.now) plan.now) }
-    ensures some { IfOk result (λ found. IfSome found (IsFirstConflict plan.now)) }
-    ensures none { IfOk result (λ found. IfNone found (HasNoConflict plan.now)) }
+    ensures { IfOk result (λ found. MatchOption found (HasNoConflict plan.now)
+        (IsFirstConflict plan.now)) }
 {
     // What is asked of a map gives its sizes.
     let _width = grid.width();
@@ -488,12 +475,10 @@ pub(crate) fn least_on_ring(
     ahead: &[Option<u16>],
     walks: &mut [Option<u16>],
 ) -> Option<u16>
-    requires agents { NamesAgents ahead.now }
     requires row { NamesMovers ahead.now row.now }
-    requires walks { length walks.old ≡ length ahead.now }
-    requires unwalked { (i : ℕ) → walk_of walks.old i ≡ None }
-    ensures some { IfSome result (IsLeastOnRing ahead.now) }
-    ensures none { IfNone result ((i : ℕ) → IsOnRing ahead.now i → ⊥) }
+    requires walks { IsBlank (length ahead.now) walks.old }
+    ensures found { MatchOption result ((i : ℕ) → IsOnRing ahead.now i → ⊥)
+        (IsLeastOnRing ahead.now) }
     ensures unwalked { (i : ℕ) → ahead_of ahead.now i ≡ None → walk_of walks.new i ≡ None }
 {
     let mut least = None;
@@ -521,17 +506,9 @@ fn lesser(least: Option<u16>, other: u16) -> u16
 /// which this walk met itself, if it did.
 fn walk(ahead: &[Option<u16>], walks: &mut [Option<u16>], number: u16, first: u16) -> Option<u16>
     requires agents { NamesAgents ahead.now }
-    requires walks { length walks.old ≡ length ahead.now }
     requires closed { AreClosed ahead.now walks.old number }
     requires agent { first < length ahead.now }
-    ensures closed { AreClosed ahead.now walks.new (number + 1) }
-    ensures walked { IsWalked walks.new first ⊎ (ahead_of ahead.now first ≡ None) }
-    ensures kept { (k : ℕ) → IsWalked walks.old k → IsWalked walks.new k }
-    ensures some { IfSome result (λ agent. IsOnRing ahead.now agent
-        × ((k : ℕ) → IsWalked walks.new k → IsOnRing ahead.now k
-        → IsWalked walks.old k ⊎ LeadsTo ahead.now agent k)) }
-    ensures none { IfNone result ((k : ℕ) → IsWalked walks.new k → IsOnRing ahead.now k
-        → IsWalked walks.old k) }
+    ensures { HasWalked ahead.now walks.old walks.new number first result }
 {
     let mut agent = first;
     loop {

@@ -1,5 +1,5 @@
 -- Rows of bytes that end with kept numerals.
-use Rattle.fleet_run.proofs.Words.{◌≡◌, ◌≢◌, ◌≤◌, ◌<◌, ◌+◌, ◌-◌, ◌*◌, ◌++◌, ◌∷◌, [], ◌⊎◌, get_or, zero, suc, inl, inr, refl, ℕ, List, length, take, drop, set, ap, sym, ◌∙◌, arith, length-append, subst, Bool, true, false, Option, None, Some, pos, if◌then◌else◌, add-one, append_assoc, drop-append-le, drop-drop, drop-set-lt, drop-take, drop_all, ext_get_or, get_or_past, get_or-map, map-set, get_or-set_other, get_or-set_same, length-drop, length-map, length-set, length-take, codes, flat_map, signed_decimal, drop-append-add, drop-append_seam, drop-cons, take-append-add, ints, cases_eq, cases_lt, Place, Action, Standing, Program, Configuration, standing_at, standing_after, next_action, finished_one, is_moving, tick, length-tick, standing_at_tick, MachineState, flag_of, moving_flags, place_text, numeral, numeral_text, numerals_of, numerals_text, HasNumerals, EndsWith, IsNumeralAt, IsLineKept, IsWrittenOver, WritesOver, AreClose, IsBeside, IsKeptBefore, places_of}
+use Rattle.fleet_run.proofs.Words.{◌≡◌, ◌≢◌, ◌≤◌, ◌<◌, ◌+◌, ◌-◌, ◌*◌, ◌++◌, ◌∷◌, [], ◌⊎◌, get_or, zero, suc, inl, inr, refl, ℕ, List, length, take, drop, set, ap, sym, ◌∙◌, arith, length-append, subst, Bool, true, false, Option, None, Some, pos, if◌then◌else◌, add-one, append_assoc, drop-append-le, drop-drop, drop-set-lt, drop-take, drop_all, ext_get_or, get_or_past, get_or-map, map-set, get_or-set_other, get_or-set_same, length-drop, length-map, length-set, length-take, codes, flat_map, signed_decimal, drop-append-add, drop-append_seam, drop-cons, take-append-add, ints, cases_eq, cases_lt, Place, Action, Standing, Program, Configuration, standing_at, standing_after, next_action, finished_one, is_moving, tick, length-tick, standing_at_tick, MachineState, flag_of, moving_flags, place_text, numeral, numeral_text, numerals_of, numerals_text, HasNumber, HasNumerals, EndsWith, IsNumeralAt, IsLineKept, IsWrittenOver, WritesOver, AreClose, ArePlacesKept, IsBeside, IsKeptBefore, places_of}
 use Rattle.std.proofs.lemmas.List.FromFn.{get_or-map-range_with_len}
 use Rattle.std.proofs.lemmas.List.Concat.{flat_map-cons}
 use Rattle.fleet_model.specs.declared.geometry.Dir.TheVariants.{North, East, South, West}
@@ -373,11 +373,8 @@ module _ (m : MachineState) (from : ℕ) (row begins : List ℕ) (places : List 
   all_rewritten : h.now ≡ m.configuration
   all_rewritten = ext_get_or _ h.now m.configuration h.agents (λ i l. h.same i (none i))
 
-  pub rewritten_all : IsLineKept m.configuration row begins
-  rewritten_all = subst (λ c. IsLineKept c row begins) all_rewritten h.kept
-
-  pub places_all : places ≡ places_of m.configuration
-  places_all = h.placed ∙ ap places_of all_rewritten
+  pub rewritten_all : ArePlacesKept m.configuration row begins places
+  rewritten_all = subst (λ c. ArePlacesKept c row begins places) all_rewritten (record { kept = h.kept; placed = h.placed })
 
 pub really_over : (b : Bool) (text : List ℕ) (at end : ℕ) (row row' : List ℕ) → WritesOver b text at end row row' → b ≡ true → IsWrittenOver text at end row row'
 really_over true text at end row row' h e = h
@@ -397,6 +394,12 @@ numeral_there ns k n row begins kept there =
 -- the begins of a numeral and of the next are in order
 pub in_order : (ns : List Numeral) (k : ℕ) (row begins : List ℕ) → HasNumerals ns row begins → k < length ns → get_or begins k 0 ≤ get_or begins (k + 1) 0
 in_order ns k row begins kept inside = begins_rise ns row begins (numeral 32 (pos 0)) kept k 1 (omega (arith, inside))
+
+-- the row has the numeral of this number
+pub has_number : (ns : List Numeral) (k : ℕ) (row begins : List ℕ) → HasNumerals ns row begins → k < length ns → HasNumber k row begins
+has_number ns k row begins kept inside =
+    let next = kept.within (k + 1) (omega (arith, inside)) in
+    record { room = kept.room; number = omega (arith, kept.begun, kept.few, inside); within = omega (arith, next) }
 
 -- the time is written before the numerals
 pub timed : (ns : List Numeral) (row row' begins digits : List ℕ) (at : ℕ) → HasNumerals ns row begins → drop at row' ≡ digits ++ (58 ∷ drop (get_or begins 0 0) row)
@@ -446,12 +449,12 @@ beside_tick p held c i agents = elim (cases_lt i (length p)) [
       rw (before, after) (beside_itself (standing_at [] i).place)
 ]
 
-pub kept_before : (p : Program) (held : ℕ → Bool) (c : Configuration) (m : MachineState) (row begins : List ℕ) (places : List Place) → length c ≡ length p → IsLineKept c row begins
-    → places ≡ places_of c → m.configuration ≡ tick p held c → m.moving ≡ moving_flags p held c → IsKeptBefore m row begins places
-kept_before p held c m row begins places agents kept placed after moving = record {
+pub kept_before : (p : Program) (held : ℕ → Bool) (c : Configuration) (m : MachineState) (row begins : List ℕ) (places : List Place) → length c ≡ length p → ArePlacesKept c row begins places
+    → m.configuration ≡ tick p held c → m.moving ≡ moving_flags p held c → IsKeptBefore m row begins places
+kept_before p held c m row begins places agents shown after moving = record {
   before = c;
-  kept = kept;
-  placed = placed;
+  kept = shown.kept;
+  placed = shown.placed;
   agents = agents ∙ sym (length-tick p held c) ∙ ap length (sym after);
   same = λ i still. unmoved p held c i agents (ap (λ flags. flag_of flags i) (sym moving) ∙ still) ∙ ap (λ d. standing_at d i) (sym after);
   beside = λ i. subst (λ d. IsBeside (standing_at c i).place (standing_at d i).place) (sym after) (beside_tick p held c i agents);

@@ -165,4 +165,4 @@ module _ (c : List Numeral) (row row1 row2 begins begins2 : List ℕ) (i to : �
 
 pub resized_by : (c : List Numeral) (row row' begins begins' : List ℕ) (i : ℕ) (s : Numeral) → HasNumerals c row begins → i < length c → IsResized i (numeral_text s) row row' begins begins' → HasNumerals (set c i s) row' begins'
 resized_by c row row' begins begins' i s kept agent made =
-    resized c row (moved_before i made.to row begins) row' begins begins' i made.to s kept agent made.fits made.room refl made.written made.long made.moved made.others
+    resized c row (moved_before i made.to row begins) row' begins begins' i made.to s kept agent made.place.fits made.place.room refl made.written made.long made.moved made.others

@@ -34,7 +34,7 @@ unfoldable pub use Rattle.fleet_text.specs.Words.{count_line}
 pub use Rattle.fleet_run.specs.Drive.{Drives, IsInTime, IsDriven, trace_from}
 pub use Rattle.fleet_run.specs.Fleet.{FleetState, IsShown}
 pub use Rattle.fleet_run.specs.HoldText.{agents_of, holds_text, tick_line, tick_of, last_of, text_source, HoldLines, IsTickLine, fault_before, source_of, ticks_of}
-pub use Rattle.fleet_run.specs.Line.{numeral, numeral_text, numerals_of, EndsWith, IsWrittenOver, AreClose, HasNumerals, IsLineKept, IsResized, numerals_text, places_of, IsBeside, IsDigit, IsDigitOver, IsKeptBefore, IsNumeralAt, WritesOver, moved_before}
+pub use Rattle.fleet_run.specs.Line.{numeral, numeral_text, numerals_of, EndsWith, IsWrittenOver, AreClose, ArePlacesKept, HasNumber, HasNumerals, IsLineKept, IsResized, numerals_text, places_of, IsBeside, IsDigit, IsDigitOver, IsKeptBefore, IsNumeralAt, WritesOver, moved_before}
 pub use Rattle.fleet_run.specs.Listing.{texts_below, await_text, action_line, agent_text, await_words, step_words}
 unfoldable pub use Rattle.fleet_run.specs.Listing.{agent_line}
 pub use Rattle.fleet_run.specs.Outcome.{run_end, RunsLines, AsksNext, IsAskedFor, RunsToEnd, AsksUnless, AsksUnlessOver, NeedsTicks, PassesTime, StopsAtSink, StopsAtSource}

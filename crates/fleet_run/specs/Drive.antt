@@ -1,15 +1,19 @@
 -- What driving a fleet writes, asks and answers.
-use Rattle.std.specs.Prelude.{◌≡◌, ℕ, ◌+◌, ◌≤◌, ◌++◌, List, [], length, Result, Ok, Err, if◌then◌else◌}
+use Rattle.std.specs.Prelude.{◌≡◌, ℕ, ◌+◌, ◌≤◌, ◌++◌, List, [], length, Result, Ok, Err, IfOk, IsOk, if◌then◌else◌}
 use Rattle.std.specs.Io.KnownBytes.{Appends}
 use Rattle.fleet_model.specs.Program.{Program}
 use Rattle.fleet_model.specs.Machine.{Configuration, Holds, run, held_ticks, is_finished, IsFinish}
+use Rattle.fleet_model.specs.Chain.{IsLongestChain}
+use Rattle.fleet_model.specs.Run.{AreOnGoals}
+use Rattle.fleet_run.specs.declared.run.TheConstants.{MAX_RUN_TICKS}
 use Rattle.fleet_run.specs.declared.source.SourceFault.TheVariants.{Broken, Text}
 use Rattle.fleet_run.specs.declared.run.RunFault.{RunFault}
 use Rattle.fleet_run.specs.declared.run.RunFault.TheVariants.{OutOfMemory, Source, Hold, Write, HoldLimit}
 use Rattle.fleet_run.specs.declared.run.Report.{Report}
 use Rattle.fleet_run.specs.Text.{line_of, trace_closing, trace_text}
 use Rattle.fleet_text.specs.Sink.{SinkState, IsWorking}
-use Rattle.fleet_run.specs.Source.{SourceState}
+use Rattle.fleet_run.specs.Source.{SourceState, HasNotFailed}
+use Rattle.fleet_run.specs.Fleet.{FleetState}
 use Rattle.fleet_run.specs.Outcome.{IsAskedFor, StopsAtSource, StopsAtSink, StopsAtTickLimit}
 
 -- the whole trace text was written, and the report has its numbers
@@ -40,3 +44,14 @@ Drives p chain s s' o o' c (Err HoldLimit) = (t : ℕ) × (c ≡ run p s.ticks t
 pub record IsInTime (r : Report) : Type 0 where
   pub no_sooner : r.chain ≤ r.ticks
   pub in_time : r.ticks ≤ r.chain + r.held
+
+-- a drive of a fleet that runs the program p: it ends in a report unless the source or the sink has failed, or the
+-- source had more ticks than a run takes
+pub record DrivesFleet {P : Type 0} (p : Program) (old new : FleetState P) (source source' : SourceState) (out out' : SinkState) (r : Result Report RunFault) : Type 0 where
+  pub accepted : new.accepted ≡ old.accepted
+  pub looked : old.looked ≤ new.looked
+  pub outcome : Drives p old.accepted.chain source source' out out' new.configuration r
+  pub longest : IfOk r (λ report. IsLongestChain p report.chain)
+  pub in_time : IfOk r IsInTime
+  pub arrived : IfOk r (λ _. AreOnGoals p new.configuration)
+  pub reports : HasNotFailed source' → IsWorking out' → length source.ticks ≤ MAX_RUN_TICKS → IsOk r

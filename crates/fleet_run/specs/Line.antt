@@ -49,6 +49,12 @@ pub record EndsWith (ns : List Numeral) (from at : ℕ) (row begins : List ℕ) 
   pub within : (k : ℕ) → from ≤ k → k ≤ length ns → get_or begins k 0 ≤ LINE - 1
   pub numerals : (k : ℕ) → from ≤ k → k ≤ length ns → drop (get_or begins k 0) row ≡ numerals_text (drop k ns)
 
+-- there is room for a number before this end, in a row that is as long as a line
+pub record HasRoomBefore (end : ℕ) (row : List ℕ) : Type 0 where
+  pub room : NUMBER ≤ end
+  pub within : end ≤ LINE
+  pub long : length row ≡ LINE
+
 -- the row ends with these numerals, and before them is room for the time
 pub record HasNumerals (ns : List Numeral) (row begins : List ℕ) : Type 0 where
   pub few : length ns ≤ NUMERALS
@@ -62,6 +68,12 @@ pub record HasNumerals (ns : List Numeral) (row begins : List ℕ) : Type 0 wher
 -- the row ends with the places of the configuration
 abbrev pub IsLineKept : Configuration → (row begins : List ℕ) → Type 0
 IsLineKept c row begins = HasNumerals (numerals_of c) row begins
+
+-- a row that is as long as a line has this number, which ends in it
+pub record HasNumber (k : ℕ) (row begins : List ℕ) : Type 0 where
+  pub room : length row ≡ LINE
+  pub number : k + 1 < length begins
+  pub within : get_or begins (k + 1) 0 ≤ LINE
 
 -- a text was written over the bytes from `at` to `end`, and has as many
 pub record IsWrittenOver (text : List ℕ) (at end : ℕ) (row row' : List ℕ) : Type 0 where
@@ -83,11 +95,16 @@ WritesOver false text at end row row' = HasOtherLength text at end row row'
 abbrev pub moved_before : (k to : ℕ) (row begins : List ℕ) → List ℕ
 moved_before k to row begins = copy_within row (get_or begins 0 0) (get_or begins k 0) (to + get_or begins 0 0 - get_or begins k 0)
 
+-- a text that begins at `to` ends at `end`, and there is room for the bytes from `front` to before `begin` before it,
+-- and for the time before these
+pub record HasPlace (text : List ℕ) (front begin end to : ℕ) : Type 0 where
+  pub fits : to + length text ≡ end
+  pub room : begin + TIME ≤ front + to
+
 -- a text is written over a numeral, and the numerals before it are moved as far as it has more bytes or fewer
 pub record IsResized (k : ℕ) (text row row' begins begins' : List ℕ) : Type 0 where
   pub to : ℕ
-  pub fits : to + length text ≡ get_or begins (k + 1) 0
-  pub room : get_or begins k 0 + TIME ≤ get_or begins 0 0 + to
+  pub place : HasPlace text (get_or begins 0 0) (get_or begins k 0) (get_or begins (k + 1) 0) to
   pub written : row' ≡ take to (moved_before k to row begins) ++ (text ++ drop (get_or begins (k + 1) 0) (moved_before k to row begins))
   pub long : length begins' ≡ length begins
   pub moved : (j : ℕ) → j < k + 1 → get_or begins' j 0 + get_or begins k 0 ≡ get_or begins j 0 + to
@@ -136,6 +153,11 @@ IsBeside q r = ((q.x ≡ r.x) × AreClose q.y r.y) ⊎ ((q.y ≡ r.y) × AreClos
 -- where the agents stand
 abbrev pub places_of : Configuration → List Place
 places_of c = map (λ s. s.place) c
+
+-- the row ends with the places of the configuration, and the list has them
+pub record ArePlacesKept (c : Configuration) (row begins : List ℕ) (places : List Place) : Type 0 where
+  pub kept : IsLineKept c row begins
+  pub placed : places ≡ places_of c
 
 -- the row and the places have the places from before the machine's last tick: each agent stands beside its place there,
 -- and those that the tick did not move stand on it

@@ -3,7 +3,7 @@ use Rattle.std.specs.Prelude.{◌≡◌, ◌≢◌, ℕ, ◌+◌, ◌<◌, ◌�
 use Rattle.std.specs.Io.KnownBytes.{Appends}
 use Rattle.fleet_model.specs.Program.{Program}
 use Rattle.fleet_model.specs.declared.geometry.Place.{Place}
-use Rattle.fleet_model.specs.Machine.{Configuration, Holds, opening, run, held_ticks, is_finished, is_stuck, is_over}
+use Rattle.fleet_model.specs.Machine.{Configuration, Holds, opening, tick, run, held_ticks, is_ready_held, is_finished, is_stuck, is_over}
 use Rattle.fleet_machine.specs.Machine.{MachineState, Runs}
 use Rattle.fleet_run.specs.declared.source.SourceFault.{SourceFault}
 use Rattle.fleet_run.specs.declared.source.SourceFault.TheVariants.{Broken, Text}
@@ -32,6 +32,13 @@ pub record AreRowsFor (p : Program) (row begins : List ℕ) (flags : List Bool) 
   pub a_begin_each : length begins ≡ NUMERALS + 1
   pub a_flag_each : length flags ≡ length p
   pub a_place_each : length places ≡ length p
+
+-- one tick in which these agents are held, and whether a ready one was
+pub record HasTicked (p : Program) (holds : ℕ → Bool) (old new : MachineState) (was_held : Bool) : Type 0 where
+  pub runs : Runs p new
+  pub looked : old.looked ≤ new.looked
+  pub after : new.configuration ≡ tick p holds old.configuration
+  pub held : was_held ≡ is_ready_held p holds old.configuration
 
 -- how the run has ended at this configuration, if it has
 abbrev pub run_end : Program → Configuration → Option End

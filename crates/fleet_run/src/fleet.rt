@@ -1,14 +1,12 @@
 //! A fleet that runs an accepted program, tick by tick or in one call.
 
-ghost use Rattle.std.specs.Prelude.{◌≡◌, ℕ, ◌<◌, ◌≤◌, length, IsOk, IfOk, IfErr, OnOk, OnErr, All, IsTrue, IsFalse, false};
+ghost use Rattle.std.specs.Prelude.{◌≡◌, ℕ, ◌<◌, ◌≤◌, length, IfOk, IfErr, OnOk, OnErr, All, IsTrue, IsFalse, false};
 ghost use Rattle.fleet_grid.specs.Ground.{is_passable};
-ghost use Rattle.fleet_model.specs.Chain.{IsLongestChain};
 ghost use Rattle.fleet_verify.specs.Parts.{IsAcceptedFor};
 ghost use Rattle.fleet_model.specs.Machine.{opening, tick, moved_in, is_ready_held, is_finished, is_ready, IsReached, place_at, count_at};
 ghost use Rattle.fleet_model.specs.Run.{AreOnGoals, IsSafeStep};
 ghost use Rattle.fleet_model.specs.Claims.{order_of, AreApart, KeepsOrder};
-ghost use Rattle.fleet_run.specs.Drive.{Drives, IsInTime};
-ghost use Rattle.fleet_run.specs.declared.run.TheConstants.{MAX_RUN_TICKS};
+ghost use Rattle.fleet_run.specs.Drive.{DrivesFleet};
 ghost use Rattle.fleet_text.specs.Sink.{IsWorking};
 ghost use Rattle.fleet_run.specs.Source.{HasNotFailed};
 ghost use Rattle.fleet_machine.specs.Confirmed.{all_but, AreAllReady, IsFirstUnready};
@@ -291,19 +289,8 @@ pub fn drive<P: ProgramView, S: HoldSource, O: TraceOut>(
     requires counts { All (λ s. s.count ≡ 0) fleet.old.configuration }
     requires source { HasNotFailed (S.state source.old) }
     requires sink { IsWorking (O.state out.old) }
-    ensures accepted { fleet.new.accepted ≡ fleet.old.accepted }
-    ensures looked { fleet.old.looked ≤ fleet.new.looked }
-    ensures outcome { Drives (P.program fleet.old.accepted.program) fleet.old.accepted.chain
-        (S.state source.old) (S.state source.new) (O.state out.old) (O.state out.new)
-        fleet.new.configuration result }
-    ensures longest { IfOk result (λ r. IsLongestChain
-        (P.program fleet.old.accepted.program) r.chain) }
-    ensures in_time { IfOk result IsInTime }
-    ensures arrived { IfOk result (λ _. AreOnGoals
-        (P.program fleet.old.accepted.program) fleet.new.configuration) }
-    // It reports unless the source or the sink has failed, or the source had more ticks than a run takes.
-    ensures reports { HasNotFailed (S.state source.new) → IsWorking (O.state out.new)
-        → length (S.state source.old).ticks ≤ MAX_RUN_TICKS → IsOk result }
+    ensures { DrivesFleet (P.program fleet.old.accepted.program) fleet.old fleet.new
+        (S.state source.old) (S.state source.new) (O.state out.old) (O.state out.new) result }
 {
     runs_arrive();
     runs_end();

@@ -6,7 +6,7 @@ ghost use Rattle.std.specs.List.{copy_within};
 ghost use Rattle.std.specs.Fmt.{decimal};
 ghost use Rattle.fleet_model.specs.declared.standing.Standing.{Standing};
 ghost use Rattle.fleet_model.specs.Machine.{Configuration, standing_at};
-ghost use Rattle.fleet_run.specs.Line.{AreClose, EndsWith, HasNumerals, HaveOtherTens, IsBeside, IsDigit, IsDigitOver, IsLineKept, IsKeptBefore, IsNumeralAt, IsResized, LacksPlace, LacksRoom, Numeral, WritesOver, numeral, numeral_text, places_of};
+ghost use Rattle.fleet_run.specs.Line.{AreClose, ArePlacesKept, EndsWith, HasNumber, HasNumerals, HasPlace, HasRoomBefore, HaveOtherTens, IsBeside, IsDigit, IsDigitOver, IsLineKept, IsKeptBefore, IsNumeralAt, IsResized, LacksPlace, LacksRoom, Numeral, WritesOver, numeral, numeral_text, places_of};
 
 use fleet_machine::Machine;
 use fleet_model::{MAX_AGENTS, Place, Standing};
@@ -31,9 +31,7 @@ fn write_numeral(
     begins: &mut [u16],
     end: usize,
 ) -> usize
-    requires room { NUMBER ≤ end }
-    requires within { end ≤ LINE }
-    requires row { length row.old ≡ LINE }
+    requires room { HasRoomBefore end row.old }
     requires begins { at < length begins.old }
     ensures written { (ns : List Numeral)
         → IsNumeralAt ns at (numeral separator value)
@@ -76,10 +74,8 @@ pub fn copy_places(rows: &[Standing], places: &mut [Place])
 
 /// Writes a text over a number of the line if both have as many bytes, and answers whether it did.
 fn overwrite(at: usize, text: &[u8], row: &mut [u8], begins: &[u16]) -> bool
-    requires room { length row.old ≡ LINE }
-    requires number { at + 1 < length begins.now }
+    requires number { HasNumber at row.old begins.now }
     requires order { get_or begins.now at 0 ≤ get_or begins.now (at + 1) 0 }
-    requires within { get_or begins.now (at + 1) 0 ≤ LINE }
     ensures { WritesOver result text.now (get_or begins.now at 0) (get_or begins.now (at + 1) 0)
         row.old row.new }
 {
@@ -152,8 +148,7 @@ fn place_for(text: &[u8], front: usize, begin: usize, end: usize) -> Option<usiz
     requires begin { begin ≤ LINE }
     requires end { end ≤ LINE }
     requires short { length text.now ≤ NUMBER }
-    ensures fits { IfSome result (λ to. to + length text.now ≡ end) }
-    ensures room { IfSome result (λ to. begin + TIME ≤ front + to) }
+    ensures place { IfSome result (HasPlace text.now front begin end) }
     ensures full { IfNone result (front + end < begin + TIME + length text.now) }
 {
     let least = begin + TIME + text.len();
@@ -167,10 +162,8 @@ fn place_for(text: &[u8], front: usize, begin: usize, end: usize) -> Option<usiz
 /// Writes a text over a number of the line, however many bytes it has, and moves the numbers before it as far. Answers
 /// whether there is room for that; if there is none, nothing changes.
 fn resize_to(at: usize, text: &[u8], row: &mut [u8], begins: &mut [u16]) -> bool
-    requires room { length row.old ≡ LINE }
-    requires number { at + 1 < length begins.old }
+    requires number { HasNumber at row.old begins.old }
     requires begin { get_or begins.old at 0 ≤ LINE }
-    requires within { get_or begins.old (at + 1) 0 ≤ LINE }
     requires before { (k : ℕ) → k < at + 1
         → (get_or begins.old 0 0 ≤ get_or begins.old k 0) × (get_or begins.old k 0 ≤ LINE) }
     requires short { length text.now ≤ NUMBER }
@@ -353,8 +346,7 @@ pub fn write_moved(machine: &Machine, row: &mut [u8], begins: &mut [u16], places
     requires agents { length machine.now.configuration ≤ MAX_AGENTS }
     requires before { IsKeptBefore machine.now row.old begins.old places.old }
     requires moved { length machine.now.moving ≡ length machine.now.configuration }
-    ensures kept { IsLineKept machine.now.configuration row.new begins.new }
-    ensures places { places.new ≡ places_of machine.now.configuration }
+    ensures { ArePlacesKept machine.now.configuration row.new begins.new places.new }
 {
     let rows = machine.agents();
     let mut resized = 0;

@@ -1,13 +1,13 @@
 //! Runs, line by line: the trace of an accepted program, and the rehearsal of any one.
 
 ghost use Rattle.std.specs.Prelude.{◌≡◌, ◌+◌, ◌<◌, ◌≤◌, ◌^◌, length, if◌then◌else◌, drop};
-ghost use Rattle.fleet_model.specs.Machine.{Configuration, tick, is_ready_held};
+ghost use Rattle.fleet_model.specs.Machine.{Configuration};
 ghost use Rattle.fleet_machine.specs.Machine.{Runs, flag_of};
 ghost use Rattle.fleet_run.specs.Text.{line_of, last_line_of, closing_lines, trace_closing};
-ghost use Rattle.fleet_run.specs.Line.{IsLineKept, places_of};
+ghost use Rattle.fleet_run.specs.Line.{ArePlacesKept, IsLineKept};
 ghost use Rattle.fleet_text.specs.Sink.{IsWorking, TakesAll};
 ghost use Rattle.fleet_run.specs.Source.{CanBeAsked, HasNotFailed};
-ghost use Rattle.fleet_run.specs.Outcome.{run_end, fault_of, AreRowsFor, AsksNext, AsksUnlessOver, CanRun, PassesTime, RunsLines};
+ghost use Rattle.fleet_run.specs.Outcome.{run_end, fault_of, AreRowsFor, AsksNext, AsksUnlessOver, CanRun, HasTicked, PassesTime, RunsLines};
 ghost use Rattle.fleet_run.specs.Fleet.{IsShown};
 ghost use Rattle.fleet_run.specs.Drive.{Drives};
 ghost use Rattle.fleet_run.specs.Rehearsal.{Rehearses};
@@ -229,16 +229,10 @@ fn tick_row<P: ProgramView>(
 ) -> bool
     requires runs { Runs (P.program program.now) machine.old }
     requires flags { length flags.now ≡ length (P.program program.now) }
-    requires kept { IsLineKept machine.old.configuration row.old begins.old }
-    requires places { places.old ≡ places_of machine.old.configuration }
-    ensures runs { Runs (P.program program.now) machine.new }
-    ensures looked { machine.old.looked ≤ machine.new.looked }
-    ensures after { machine.new.configuration
-        ≡ tick (P.program program.now) (flag_of flags.now) machine.old.configuration }
-    ensures held { result ≡ is_ready_held (P.program program.now)
-        (flag_of flags.now) machine.old.configuration }
-    ensures kept { IsLineKept machine.new.configuration row.new begins.new }
-    ensures places { places.new ≡ places_of machine.new.configuration }
+    requires kept { ArePlacesKept machine.old.configuration row.old begins.old places.old }
+    ensures ticked { HasTicked (P.program program.now) (flag_of flags.now) machine.old machine.new
+        result }
+    ensures kept { ArePlacesKept machine.new.configuration row.new begins.new places.new }
 {
     let tick = machine.tick(program, flags);
     write_moved(machine, row, begins, places);

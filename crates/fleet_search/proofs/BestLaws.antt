@@ -104,16 +104,10 @@ made_front passable tasks horizon n k plan made few = record {
 }
 
 -- all paths but the last
-pub but_last : (problem : Problem) (order : List ℕ) (paths kept : Plan) → AreReservedInOrder problem order paths true → kept ≡ take (length paths - 1) paths → (length kept ≡ length order - 1) × IsMadeBefore problem order kept
+pub but_last : (problem : Problem) (order : List ℕ) (paths kept : Plan) → AreReservedInOrder problem order paths true → kept ≡ take (length paths - 1) paths → IsMadeBefore problem order (length order - 1) kept
 but_last problem order paths kept made is =
     let all : length paths ≡ length order = made.agents in
-    let short : length kept ≡ length order - 1 = (let e = ap length is in let t = length-take (length paths - 1) paths in omega (arith, e, t, all)) in (
-      short,
-      let n : length kept ≡ length paths - 1 = omega arith in
-          subst (λ z. IsPrioritisedPlan (is_passable problem.grid.now) (tasks_by order problem.instance.now) problem.horizon (length kept) z) (sym is)
-          (subst (λ z. IsPrioritisedPlan (is_passable problem.grid.now) (tasks_by order problem.instance.now) problem.horizon z (take (length paths - 1) paths)) (sym n)
-          (made_front (is_passable problem.grid.now) (tasks_by order problem.instance.now) problem.horizon (length order) (length paths - 1) paths made (omega arith))),
-    )
+    rw (is, sym all) (made_front (is_passable problem.grid.now) (tasks_by order problem.instance.now) problem.horizon (length order) (length paths - 1) paths made (omega arith))
 
 pub copied_more : (paths copy new : Plan) (i : ℕ) (path : List Cell) → i < length paths → copy ≡ take i paths → path ≡ get_or paths i path → new ≡ copy ++ path ∷ [] → new ≡ take (i + 1) paths
 copied_more paths copy new i path l e is more = more ∙ ap (λ z. z ++ path ∷ []) e ∙ ap (λ z. take i paths ++ z ∷ []) is ∙ sym (take_more paths i path l)

@@ -1,5 +1,5 @@
 -- The search, step by step.
-use Rattle.fleet_search.proofs.Words.{◌≡◌, ◌≢◌, ℕ, ◌+◌, ◌-◌, ◌<◌, ◌≤◌, ◌==◌, cond, IsTrue, List, [], ◌∷◌, ◌++◌, length, get_or, Contains, Option, Some, None, ◌⊎◌, inl, inr, refl, sym, ap, ◌∙◌, subst, arith, cases_eq, cases_lt, eqb-true, eq-eqb, false_from_ne_true, none-some, same_Some, length_push, get_or_push, get_or_append_left, Contains-append_left, Contains-push, Contains-push_cases, place_of-injective, Cell, Dir, North, East, South, West, place_of, moved, MAX_HORIZON, is_passable, cell_index, State, Link, Query, Node, Expansion, Exploration, AreNodePlaces, IsNodeTaken, IsBucketDone, IsUnoccupied, IsFreeOn, IsInInterval, IsEarliestWithin, place_in, bucket_of, AreBeside, Times, earliest_in, IsLabelSet, IsSeen, heuristic_of, occupancies_on, IsMeasured, IsStep, least_arrival, IsBucket, IsGoalState, no_node, state_in, parent_in, IsKnown, IsMove, IsReachedFrom, IsSoundNode, IsCovered, IsExpanded, IsSuperseded, IsStateSettled, earliest_of, IsFrontier, IsPosed, IsFrontierOf, WasOpen, IsExpansion, Grows, ExpandsOn, IsFreeUntil, IsFoundAt, IsFoundIn, IsFoundFrom}
+use Rattle.fleet_search.proofs.Words.{◌≡◌, ◌≢◌, ℕ, ◌+◌, ◌-◌, ◌<◌, ◌≤◌, ◌==◌, cond, IsTrue, List, [], ◌∷◌, ◌++◌, length, get_or, Contains, Option, Some, None, ◌⊎◌, inl, inr, refl, sym, ap, ◌∙◌, subst, arith, cases_eq, cases_lt, eqb-true, eq-eqb, false_from_ne_true, none-some, same_Some, length_push, get_or_push, get_or_append_left, Contains-append_left, Contains-push, Contains-push_cases, place_of-injective, Cell, Dir, North, East, South, West, place_of, moved, MAX_HORIZON, is_passable, cell_index, State, Link, Query, Node, Expansion, Exploration, AreNodePlaces, IsNodeTaken, IsBucketDone, IsUnoccupied, IsFreeOn, IsInInterval, IsEarliestWithin, place_in, bucket_of, AreBeside, Times, earliest_in, IsLabelSet, IsSeen, heuristic_of, occupancies_on, IsMeasured, IsStep, least_arrival, IsBucket, IsGoalState, no_node, state_in, parent_in, IsKnown, IsMove, IsReachedFrom, IsSoundNode, IsCovered, IsExpanded, IsSuperseded, IsStateSettled, earliest_of, IsFrontier, IsPosed, IsFrontierOf, WasOpen, IsExpansion, Grows, ExpandsOn, IsFreeUntil, IsFoundAt, IsFoundIn, IsFoundFrom, IsFoundInDir, Finds}
 use Rattle.fleet_search.specs.Rows.{IsPut}
 use Rattle.fleet_search.proofs.Spread.{AreNeighbours-sym, one_place}
 use Rattle.fleet_search.proofs.Chase.{step_ok-alone}
@@ -56,10 +56,10 @@ module _ (q : Query) (old new : List Node) (more : length old ≤ length new) (k
       nodes (inl h) = inl h
       nodes (inr (u, e, l, m)) = inr (u, e, omega arith, subst (λ z. IsMove q z u x.cell) (sym (same_at from l)) m)
 
-  pub found_in-stays : (l : State) (c : Cell) (interval : ℕ) → IsFoundIn q old l c interval → IsFoundIn q new l c interval
+  pub found_in-stays : (l : State) (c : Cell) (interval : ℕ) → IsFoundIn q l c interval old → IsFoundIn q l c interval new
   found_in-stays l c interval h u m g t = covered-stays c (u + 1) (h u m g t)
 
-  pub found-stays : (l : State) (c : Cell) → IsFoundFrom q old l c → IsFoundFrom q new l c
+  pub found-stays : (l : State) (c : Cell) → IsFoundFrom q l c old → IsFoundFrom q l c new
   found-stays l c h u m t = covered-stays c (u + 1) (h u m t)
 
 pub Grows-then : (a b c : Exploration) → Grows a b → Grows b c → Grows a c
@@ -83,6 +83,13 @@ pub expands_on : (q : Query) (f : ℕ) (l : Expansion) (old new : Exploration) �
 expands_on q f l old new h frontier grows = record {
   leaving = record { horizon = h.horizon; frontier = frontier; left = left-stays q f old new l.place l.state grows h.left; until = h.until };
   grows = grows;
+}
+
+-- what is found already
+pub found_already : (q : Query) (f : ℕ) (l : Expansion) (Found : List Node → Type 0) (now : Exploration) → IsExpansion q f l now → Found now.nodes → Finds q f l Found now now
+found_already q f l Found now leaving found = record {
+  expands_on = record { leaving = leaving; grows = record { more = omega arith; kept = λ i h. refl; same = λ e k. refl } };
+  found = found;
 }
 
 pub ExpandsOn-then : (q : Query) (f : ℕ) (l : Expansion) (a b c : Exploration) → ExpandsOn q f l a b → ExpandsOn q f l b c → ExpandsOn q f l a c
@@ -322,7 +329,7 @@ step-early q l c u v move a b free = elim (cases_eq v u) [
 ]
 
 -- if the earliest step into the safe interval was looked at, all were
-pub found_in-first : (q : Query) → IsMeasured q → (nodes : List Node) (l : State) (c : Cell) (interval t v : ℕ) → IsEarliestWithin (occupancies_on q c) interval (l.time + 1) t → t ≡ v + 1 → IsFoundAt q nodes l c v → IsFoundIn q nodes l c interval
+pub found_in-first : (q : Query) → IsMeasured q → (nodes : List Node) (l : State) (c : Cell) (interval t v : ℕ) → IsEarliestWithin (occupancies_on q c) interval (l.time + 1) t → t ≡ v + 1 → IsFoundAt q l c v nodes → IsFoundIn q l c interval nodes
 found_in-first q m nodes l c interval t v first e found u move g in_time =
     let early = first.first (u + 1) (let w = move.waits in omega arith) g in
     let later = first.later in
@@ -331,13 +338,13 @@ found_in-first q m nodes l c interval t v first e found u move g in_time =
     covered-on q nodes c (v + 1) (u + 1) (omega arith) free (found (step-early q l c u v move (omega arith) (omega arith) (free (v + 1) (omega arith) (omega arith))) (omega arith))
 
 -- a safe interval that begins too late
-pub found_in-late : (q : Query) (nodes : List Node) (l : State) (c : Cell) (interval t until : ℕ) → q.horizon ≤ MAX_HORIZON → IsFreeUntil q l until → IsEarliestWithin (occupancies_on q c) interval (l.time + 1) t → until < t → IsFoundIn q nodes l c interval
+pub found_in-late : (q : Query) (nodes : List Node) (l : State) (c : Cell) (interval t until : ℕ) → q.horizon ≤ MAX_HORIZON → IsFreeUntil q l until → IsEarliestWithin (occupancies_on q c) interval (l.time + 1) t → until < t → IsFoundIn q l c interval nodes
 found_in-late q nodes l c interval t until few wait first late u move g in_time =
     let early = first.first (u + 1) (let w = move.waits in omega arith) g in
     let before = wait.1 u (omega arith) move.free in
     absurd (omega arith)
 
-pub found_in-none : (q : Query) (nodes : List Node) (l : State) (c : Cell) (interval : ℕ) → ((s : ℕ) → l.time + 1 ≤ s → IsInInterval (occupancies_on q c) interval s → ⊥) → IsFoundIn q nodes l c interval
+pub found_in-none : (q : Query) (nodes : List Node) (l : State) (c : Cell) (interval : ℕ) → ((s : ℕ) → l.time + 1 ≤ s → IsInInterval (occupancies_on q c) interval s → ⊥) → IsFoundIn q l c interval nodes
 found_in-none q nodes l c interval none u move g in_time = absurd (none (u + 1) (let w = move.waits in omega arith) g)
 
 pub each_dir : (P : Dir → Type 0) → P North → P East → P South → P West → (d : Dir) → P d
@@ -346,14 +353,10 @@ each_dir P n e s w East = e
 each_dir P n e s w South = s
 each_dir P n e s w West = w
 
-pub found_dir : (q : Query) (nodes : List Node) (l : State) (beside : Cell) (dir : Dir) → place_of beside ≡ moved (place_of l.cell) dir → IsFoundFrom q nodes l beside → (c : Cell) → place_of c ≡ moved (place_of l.cell) dir → IsFoundFrom q nodes l c
-found_dir q nodes l beside dir e found c g = subst (IsFoundFrom q nodes l) (place_of-injective beside c (e ∙ sym g)) found
+pub found_dir : (q : Query) (nodes : List Node) (l : State) (beside : Cell) (dir : Dir) → place_of beside ≡ moved (place_of l.cell) dir → IsFoundFrom q l beside nodes → IsFoundInDir q l dir nodes
+found_dir q nodes l beside dir e found c g = subst (λ z. IsFoundFrom q l z nodes) (place_of-injective beside c (e ∙ sym g)) found
 
--- what is reached in one direction was noted
-abbrev pub Dir-found : Query → List Node → State → Dir → Type 0
-Dir-found q nodes l dir = (c : Cell) → place_of c ≡ moved (place_of l.cell) dir → IsFoundFrom q nodes l c
-
-pub expanded : (q : Query) (nodes : List Node) (l : State) → ((dir : Dir) → Dir-found q nodes l dir) → (IsGoalState q l → ⊥) → IsExpanded q nodes l
+pub expanded : (q : Query) (nodes : List Node) (l : State) → ((dir : Dir) → IsFoundInDir q l dir nodes) → (IsGoalState q l → ⊥) → IsExpanded q nodes l
 expanded q nodes l there not_end = record { moves = λ u c w m h. there w.0 c w.1 u m h; not_end = not_end }
 
 -- a frontier with other parts

@@ -1,5 +1,5 @@
 -- Cells are labelled with their distances from a goal.
-use Rattle.fleet_search.proofs.Words.{◌≡◌, ◌≢◌, ℕ, zero, suc, ◌+◌, ◌<◌, ◌≤◌, ◌/◌, ◌%◌, ◌==◌, true, false, cond, List, [], ◌∷◌, ◌++◌, length, get_or, Contains, Option, Some, None, ◌⊎◌, inl, inr, refl, sym, ap, ◌∙◌, subst, arith, ltb, IsTrue, ◌↔◌, Bool, abs_diff, sum_by, sum_by-set, unwrap_or, min, set, ints, div-mul-add, mod-mul-add, cases_lt, cases_eq, lt-ltb, ltb-true, eqb-true, eq-eqb, false_from_ne_true, none-some, same_Some, get_or-set_same, get_or-set_other, length-set, get_or_past, length-append, Contains-append_left, Contains-push, Contains-push_cases, Cell, Place, Dir, North, East, South, West, place_of, moved, place_of-injective, MAX_HORIZON, Ground, IsGround, cell_index, off_map, AreNeighbours, Label, DistanceTable, no_label, label_in, label_of_search, manhattan, least_moves, heuristic, with_label, IsReady, AreDistances, IsOnGround, IsClosed, IsWaiting, IsSpread, IsSpreadOf, IsOnBound, LabelsFall, IsFoundTowards, IsPutFrom, IsLabelNear, IsLabelledTowards, label_weight, work_left}
+use Rattle.fleet_search.proofs.Words.{◌≡◌, ◌≢◌, ℕ, zero, suc, ◌+◌, ◌<◌, ◌≤◌, ◌/◌, ◌%◌, ◌==◌, true, false, cond, List, [], ◌∷◌, ◌++◌, length, get_or, Contains, Option, Some, None, ◌⊎◌, inl, inr, refl, sym, ap, ◌∙◌, subst, arith, ltb, IsTrue, ◌↔◌, Bool, abs_diff, sum_by, sum_by-set, unwrap_or, min, set, ints, div-mul-add, mod-mul-add, cases_lt, cases_eq, lt-ltb, ltb-true, eqb-true, eq-eqb, false_from_ne_true, none-some, same_Some, get_or-set_same, get_or-set_other, length-set, get_or_past, length-append, Contains-append_left, Contains-push, Contains-push_cases, Cell, Place, Dir, North, East, South, West, place_of, moved, place_of-injective, MAX_HORIZON, Ground, IsGround, cell_index, off_map, AreNeighbours, Label, DistanceTable, no_label, label_in, label_of_search, manhattan, least_moves, heuristic, with_label, IsReady, AreDistances, IsOnGround, IsClosed, IsWaiting, IsSpread, IsSpreadOf, IsOnBound, LabelsFall, IsFoundTowards, IsPutFrom, IsLabelNear, IsLabelledTowards, label_weight, work_left, HasSpread, IsLayerDone}
 use Rattle.fleet_search.specs.Distance.{IsLabelled}
 
 -- ---- the places of cells in a table
@@ -332,8 +332,8 @@ left_done s left sp done = record {
 }
 
 -- no path of `f_bound` moves leads over the cell that was left
-pub spread-passed : (s : DistanceTable) (left : Cell) → IsSpreadOf (Some left) s → ((n : ℕ) → IsLabelled s left n → n + manhattan left s.start ≢ s.f_bound) → IsSpreadOf None s
-spread-passed s left sp passed = left_done s left sp (λ n here over. absurd (passed n here over))
+pub spread-passed : (s : DistanceTable) (left : Cell) → IsSpreadOf (Some left) s → ((n : ℕ) → IsLabelled s left n → n + manhattan left s.start ≢ s.f_bound) → HasSpread s s
+spread-passed s left sp passed = record { spread = left_done s left sp (λ n here over. absurd (passed n here over)); work = omega arith }
 
 module _ (s1 s2 s3 s4 : DistanceTable) (d : ℕ) (left : Cell) (o : IsOnBound d left s4) (g1 : s1.grid ≡ s4.grid) (g2 : s2.grid ≡ s4.grid) (g3 : s3.grid ≡ s4.grid) (n : IsFoundTowards s1 d left North) (e : IsFoundTowards s2 d left East) (s : IsFoundTowards s3 d left South) (w : IsFoundTowards s4 d left West) (t2 : LabelsFall s1 s2) (t3 : LabelsFall s2 s3) (t4 : LabelsFall s3 s4) where
   Found : DistanceTable → Cell → Type 0
@@ -355,18 +355,18 @@ module _ (s1 s2 s3 s4 : DistanceTable) (d : ℕ) (left : Cell) (o : IsOnBound d 
 
 -- ---- the next list
 
-pub spread-turned : (t : DistanceTable) → IsSpreadOf None t → t.layer ≡ [] → IsSpreadOf None (record t { f_bound = t.f_bound + 2; layer = t.next; next = [] })
-spread-turned t sp e = record {
-  goal_on_ground = sp.goal_on_ground;
-  at_goal = sp.at_goal;
-  apart = sp.apart;
-  in_layer = sp.in_next;
+pub spread-turned : (t : DistanceTable) → IsLayerDone t → IsSpreadOf None (record t { f_bound = t.f_bound + 2; layer = t.next; next = [] })
+spread-turned t done = record {
+  goal_on_ground = done.spread.goal_on_ground;
+  at_goal = done.spread.at_goal;
+  apart = done.spread.apart;
+  in_layer = done.spread.in_next;
   in_next = λ c h. absurd (let l = h.1 in omega arith);
-  closed = λ c n h k. elim (sp.closed c n h k) [
+  closed = λ c n h k. elim (done.spread.closed c n h k) [
     | inl y ↦ inl y
     | inr y ↦ elim y [
       | inl z ↦ elim z.1 [
-        | inl u ↦ absurd (let l = (subst (λ v. Contains v c) e u).1 in omega arith)
+        | inl u ↦ absurd (let l = (subst (λ v. Contains v c) done.layer u).1 in omega arith)
         | inr u ↦ absurd (none-some c u)
       ]
       | inr z ↦ inr (inl (z.0, inl z.1))

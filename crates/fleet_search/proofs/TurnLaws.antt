@@ -21,8 +21,9 @@ first_after_none problem order first =
     subst (IsOrderAfter (is_passable problem.grid.now) problem.instance.now problem.horizon 0) (sym first) (order_after-none (is_passable problem.grid.now) problem.instance.now problem.horizon)
 
 -- an agent comes first
-pub turn_next : (problem : Problem) (order next : List ℕ) (kept : Plan) (place : ℕ) → IsOrderOf problem order → place < length order → next ≡ to_front order place → length kept ≡ place → IsMadeBefore problem order kept → IsTurnOf problem next kept
-turn_next problem order next kept place each within is long made =
+pub turn_next : (problem : Problem) (order next : List ℕ) (kept : Plan) (place : ℕ) → IsOrderOf problem order → place < length order → next ≡ to_front order place → IsMadeBefore problem order place kept → IsTurnOf problem next kept
+turn_next problem order next kept place each within is made =
+    let long = made.agents in
     let few : length kept < length order = omega arith in
     let raised : IsPermutation (indices (length problem.instance.now)) next = subst (IsPermutation (indices (length problem.instance.now))) (sym is) (order_with_raised (length problem.instance.now) order place each within) in
     let at : next ≡ to_front order (length kept) = is ∙ ap (to_front order) (sym long) in
@@ -31,7 +32,7 @@ turn_next problem order next kept place each within is long made =
     record {
       each_once = raised;
       made = subst (λ z. IsPrioritisedPlan (is_passable problem.grid.now) (drop 1 (tasks_by z problem.instance.now)) problem.horizon (length kept) kept) (sym at)
-          (made_after_raise (is_passable problem.grid.now) problem.instance.now problem.horizon order kept few made);
+          (made_after_raise (is_passable problem.grid.now) problem.instance.now problem.horizon order kept few (rw long made));
       fewer = omega (arith, before, after, few);
     }
 

@@ -42,7 +42,7 @@ unfoldable pub use Rattle.fleet_plan.specs.Plan.{cell_at, cell_of, last_cell}
 pub use Rattle.fleet_search.specs.Attempts.{IsOrderOf, AreTables, IsMadeBefore, IsPathAdded, IsOldPath, IsTurn, AreReservedInOrder, IsFor, IsTurnOf, ArePathsKept, IsMadeAfterFirst}
 pub use Rattle.fleet_search.specs.Best.{Outcome, Planned, NoPathAt, order_after, order_after_all, IsOutcome, AreOutcomes, IsFirstLeast}
 pub use Rattle.fleet_search.specs.Bound.{IsSumOfDistances, IsDistance}
-pub use Rattle.fleet_search.specs.Distance.{DistanceTable, IsOnGround, IsSpreadOf, no_label, with_label, IsReady, AreDistances, IsPutFrom, IsLabelNear, label_of_search, IsClosed, IsWaiting, IsSpread, IsOnBound, LabelsFall, IsFoundTowards, IsLabelledTowards, label_weight, IsSameSearch}
+pub use Rattle.fleet_search.specs.Distance.{DistanceTable, IsOnGround, IsSpreadOf, no_label, with_label, IsReady, AreDistances, IsPutFrom, IsLabelNear, label_of_search, IsClosed, IsWaiting, IsSpread, IsOnBound, LabelsFall, IsFoundTowards, IsLabelledTowards, label_weight, IsSameSearch, IsSearchFor, HasSpread, IsLayerDone}
 unfoldable pub use Rattle.fleet_search.specs.Distance.{manhattan, work_left, label_in, least_moves, heuristic}
 pub use Rattle.fleet_search.specs.Earliest.{IsInfeasible, IsEarliest, IsFeasiblePath}
 pub use Rattle.fleet_search.specs.Frontier.{Exploration, IsNodeTaken, AreNodePlaces, IsBucketDone, IsAdded}
@@ -55,7 +55,7 @@ pub use Rattle.fleet_search.specs.Orders.{tasks_by, IsStuckInTries, IsMadeInOrde
 unfoldable pub use Rattle.fleet_search.specs.Orders.{IsOrderAfter}
 pub use Rattle.fleet_search.specs.Reserved.{IsUnoccupied, IsFreeOn, StandsOn, IsFreeFrom, LeadsBack}
 pub use Rattle.fleet_search.specs.Rows.{bucket_of, lists_of}
-pub use Rattle.fleet_search.specs.Search.{state_in, occupancies_on, IsFrontier, IsStep, IsFrontierOf, IsMeasured, heuristic_of, IsGoalState, IsSuperseded, IsStateSettled, IsExpansion, ExpandsOn, IsFoundIn, IsFoundFrom, parent_in, IsReachedFrom, IsTrail, IsBucket, IsKnown, IsMove, IsCovered, IsExpanded, earliest_of, IsPosed, WasOpen, least_arrival, no_node, IsSoundNode, Grows, IsFreeUntil, IsFoundAt}
+pub use Rattle.fleet_search.specs.Search.{state_in, occupancies_on, IsFrontier, IsStep, IsFrontierOf, IsMeasured, heuristic_of, IsGoalState, IsSuperseded, IsStateSettled, IsExpansion, ExpandsOn, IsFoundIn, IsFoundFrom, parent_in, IsReachedFrom, IsTrail, IsBucket, IsKnown, IsMove, IsCovered, IsExpanded, earliest_of, IsPosed, WasOpen, least_arrival, no_node, IsSoundNode, Grows, IsFreeUntil, IsFoundAt, IsFoundInDir, Finds}
 pub use Rattle.fleet_search.specs.Trying.{IsBestSoFar, outcome_of, IsTried}
 pub use Rattle.fleet_search.specs.Way.{Fits, arrival, with_path, FitTogether, Follow, StepFits, AreConflictFree, EachStepFits}
 pub use Rattle.fleet_search.specs.declared.best.Measured.{Measured}

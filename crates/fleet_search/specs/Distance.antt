@@ -93,6 +93,18 @@ pub record IsSpread (g : Ground) (labels : List Label) (search : ℕ) (start goa
 abbrev pub IsSpreadOf : Option Cell → DistanceTable → Type 0
 IsSpreadOf left d = IsSpread d.grid d.labels d.search d.start d.goal d.f_bound left d.layer d.next
 
+-- it is a search from the one cell to the other, and cells wait on the layer alone
+pub record IsSearchFor (from to : Cell) (d : DistanceTable) : Type 0 where
+  pub spread : IsSpreadOf None d
+  pub next : d.next ≡ []
+  pub start : d.start ≡ from
+  pub goal : d.goal ≡ to
+
+-- no cell is left, and no cell waits on the layer
+pub record IsLayerDone (d : DistanceTable) : Type 0 where
+  pub spread : IsSpreadOf None d
+  pub layer : d.layer ≡ []
+
 -- the cell is labelled with n moves
 abbrev pub IsLabelled : DistanceTable → Cell → ℕ → Type 0
 IsLabelled d c n = label_in d.grid d.labels d.search c ≡ Some n
@@ -119,6 +131,11 @@ label_weight search l = unwrap_or (label_of_search search l) (MAX_HORIZON + 1)
 -- how much there is still to do: twice the moves of all labels, and the cells of the layer
 unfoldable pub work_left : DistanceTable → ℕ
 work_left d = 2 * sum_by (label_weight d.search) d.labels + length d.layer
+
+-- no cell is left, and no more is left to do
+pub record HasSpread (old new : DistanceTable) : Type 0 where
+  pub spread : IsSpreadOf None new
+  pub work : work_left new ≤ work_left old
 
 -- the label is one of this search, and says no more moves
 pub record IsLabelNear (search : ℕ) (l : Label) (distance : ℕ) : Type 0 where

@@ -1,8 +1,9 @@
 -- The search over cells and times.
 use Rattle.std.specs.Prelude.{◌≡◌, ℕ, ◌+◌, ◌-◌, ◌<◌, ◌≤◌, Bool, IsTrue, List, [], length, get_or, Contains, Option, None, Some, ◌↔◌, ◌⊎◌}
 use Rattle.fleet_model.specs.declared.geometry.Cell.{Cell}
+use Rattle.fleet_model.specs.declared.geometry.Dir.{Dir}
 use Rattle.fleet_model.specs.declared.geometry.Place.{Place}
-use Rattle.fleet_model.specs.Geometry.{place_of}
+use Rattle.fleet_model.specs.Geometry.{place_of, moved}
 use Rattle.fleet_model.specs.declared.limits.TheConstants.{MAX_HORIZON}
 use Rattle.fleet_plan.specs.Plan.{Plan, AreNeighbours, AreBeside, cell_at}
 use Rattle.fleet_search.specs.declared.frontier.State.{State}
@@ -164,6 +165,11 @@ pub record ExpandsOn (q : Query) (f : ℕ) (l : Expansion) (old new : Exploratio
   pub leaving : IsExpansion q f l new
   pub grows : Grows old new
 
+-- the state is expanded, and no state that was reached is lost
+pub record HasExpanded (q : Query) (f : ℕ) (old new : Exploration) : Type 0 where
+  pub frontier : IsFrontierOf q (f - 1) None new
+  pub grows : Grows old new
+
 -- the cell lies beside the one that is left, and these are the occupancies there
 pub record IsNeighbour (q : Query) (left : Cell) (b : Neighbour) : Type 0 where
   pub neighbours : AreNeighbours left b.cell
@@ -171,16 +177,25 @@ pub record IsNeighbour (q : Query) (left : Cell) (b : Neighbour) : Type 0 where
   pub occupancies : b.occupancies.now ≡ occupancies_on q b.cell
 
 -- if the step that begins at the time fits and is not too late, the cell was reached by its end
-abbrev pub IsFoundAt : Query → List Node → State → Cell → ℕ → Type 0
-IsFoundAt q nodes left c u = IsStep q u left.cell c → u + 1 + heuristic_of q c ≤ q.horizon → IsCovered q nodes c (u + 1)
+abbrev pub IsFoundAt : Query → State → Cell → ℕ → List Node → Type 0
+IsFoundAt q left c u nodes = IsStep q u left.cell c → u + 1 + heuristic_of q c ≤ q.horizon → IsCovered q nodes c (u + 1)
 
 -- the same of all moves that lead to the cell in the safe interval
-abbrev pub IsFoundIn : Query → List Node → State → Cell → ℕ → Type 0
-IsFoundIn q nodes left c interval = (u : ℕ) → IsMove q left u c → IsInInterval (occupancies_on q c) interval (u + 1) → u + 1 + heuristic_of q c ≤ q.horizon → IsCovered q nodes c (u + 1)
+abbrev pub IsFoundIn : Query → State → Cell → ℕ → List Node → Type 0
+IsFoundIn q left c interval nodes = (u : ℕ) → IsMove q left u c → IsInInterval (occupancies_on q c) interval (u + 1) → u + 1 + heuristic_of q c ≤ q.horizon → IsCovered q nodes c (u + 1)
 
 -- if a move leads to the cell in time, the cell was reached by then
-abbrev pub IsFoundFrom : Query → List Node → State → Cell → Type 0
-IsFoundFrom q nodes left c = (u : ℕ) → IsMove q left u c → u + 1 + heuristic_of q c ≤ q.horizon → IsCovered q nodes c (u + 1)
+abbrev pub IsFoundFrom : Query → State → Cell → List Node → Type 0
+IsFoundFrom q left c nodes = (u : ℕ) → IsMove q left u c → u + 1 + heuristic_of q c ≤ q.horizon → IsCovered q nodes c (u + 1)
+
+-- the same of the cell that is reached in this direction
+abbrev pub IsFoundInDir : Query → State → Dir → List Node → Type 0
+IsFoundInDir q left dir nodes = (c : Cell) → place_of c ≡ moved (place_of left.cell) dir → IsFoundFrom q left c nodes
+
+-- the state is still being expanded, and this is found among the nodes
+pub record Finds (q : Query) (f : ℕ) (l : Expansion) (Found : List Node → Type 0) (old new : Exploration) : Type 0 where
+  pub expands_on : ExpandsOn q f l old new
+  pub found : Found new.nodes
 
 -- how the expansion of a bucket has ended: the state at this place was reached and waited in the bucket, and the agent
 -- may come to rest at it; or a new state was reached; or no state is left in the bucket

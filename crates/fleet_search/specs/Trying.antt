@@ -4,9 +4,10 @@ use Rattle.fleet_model.specs.Machine.{indices}
 use Rattle.fleet_plan.specs.Plan.{Plan}
 use Rattle.fleet_grid.specs.Ground.{is_passable}
 use Rattle.fleet_search.specs.Orders.{IsOrderAfter}
-use Rattle.fleet_search.specs.Attempts.{IsFor}
+use Rattle.fleet_search.specs.Attempts.{IsTurn, IsFor}
 use Rattle.fleet_search.specs.Best.{Outcome, Planned, NoPathAt, order_after, order_after_all, IsOutcome, AreOutcomes, IsFirstLeast}
 use Rattle.fleet_search.specs.declared.orders.Problem.{Problem}
+use Rattle.fleet_search.specs.declared.orders.Turn.{Turn}
 use Rattle.fleet_search.specs.declared.best.Measured.{Measured}
 use Rattle.fleet_search.specs.declared.best.Tried.{Tried}
 use Rattle.fleet_search.specs.declared.best.Tried.TheVariants as t
@@ -26,6 +27,11 @@ pub record IsTried (problem : Problem) (Measures : Plan → ℕ → Type 0) (old
   pub outcome : IsOutcome (is_passable problem.grid.now) problem.instance.now problem.horizon Measures old (outcome_of tried)
   pub next : new ≡ order_after old (outcome_of tried)
   pub right : IsTriedFor problem tried
+
+-- the same of turns
+pub record IsTriedInTurn (problem : Problem) (Measures : Plan → ℕ → Type 0) (old new : Turn) (came : Tried) : Type 0 where
+  pub turn : IsTurn problem new
+  pub tried : IsTried problem Measures old.order.items new.order.items came
 
 -- the best of the plans so far: none, as long as each order left an agent without a path; or the first of the least
 abbrev pub IsBestOf : Problem → (order : List ℕ) → List Outcome → Option Measured → Type 0

@@ -3,11 +3,10 @@
 ghost use Rattle.std.specs.Prelude.{◌≡◌, ◌-◌, ◌<◌, ◌≤◌, ℕ, true, length, max, IfOk, IfErr, OnOk, IfSome, IfNone};
 ghost use Rattle.fleet_plan.specs.Plan.{IsConflictFree};
 ghost use Rattle.fleet_grid.specs.Ground.{is_passable};
-ghost use Rattle.fleet_model.specs.Machine.{indices};
 ghost use Rattle.fleet_search.specs.Orders.{IsStuckInTries};
-ghost use Rattle.fleet_search.specs.Attempts.{AreTables, AreReservedInOrder, IsMadeBefore, IsTurn, IsFor};
+ghost use Rattle.fleet_search.specs.Attempts.{AreTables, AreReservedInOrder, IsMadeBefore, IsTurn, IsFirstTurn, IsFor};
 ghost use Rattle.fleet_search.specs.Best.{IsBestInTries};
-ghost use Rattle.fleet_search.specs.Trying.{IsTried};
+ghost use Rattle.fleet_search.specs.Trying.{IsTriedInTurn};
 ghost use Rattle.fleet_plan.specs.Numbers.{sum_of_costs};
 
 use crate::fault::PlanStop;
@@ -55,8 +54,8 @@ fn all_but_last(
 ) -> Result<Vec<Path>, OutOfMemory>
     requires some { 1 ≤ length order.now }
     requires paths { AreReservedInOrder problem.now order.now paths.now true }
-    ensures long { IfOk result (λ kept. length kept.items ≡ length order.now - 1) }
-    ensures made { IfOk result (λ kept. IsMadeBefore problem.now order.now kept.items) }
+    ensures { IfOk result
+        (λ kept. IsMadeBefore problem.now order.now (length order.now - 1) kept.items) }
 {
     copy_paths(problem.alloc, &paths[..paths.len() - 1])
 }
@@ -70,9 +69,8 @@ fn note_made<'g, M: Measure>(
 ) -> Result<Measured<'g>, OutOfMemory>
     requires turn { IsTurn problem.now turn.old }
     requires paths { AreReservedInOrder problem.now turn.old.order.items paths.items true }
-    ensures turn { OnOk result (IsTurn problem.now turn.new) }
-    ensures tried { IfOk result (λ m. IsTried problem.now (M.is_measure measure.now)
-        turn.old.order.items turn.new.order.items (Tried.Planned m)) }
+    ensures tried { IfOk result (λ m. IsTriedInTurn problem.now (M.is_measure measure.now)
+        turn.old turn.new (Tried.Planned m)) }
     ensures kept { OnOk result
         (length turn.new.kept.items ≡ length turn.old.order.items - 1) }
 {
@@ -93,10 +91,9 @@ fn try_order<'g, M: Measure>(
 ) -> Result<Tried<'g>, OutOfMemory>
     requires turn { IsTurn problem.now turn.old }
     requires tables { AreTables problem.now tables.old }
-    ensures turn { OnOk result (IsTurn problem.now turn.new) }
     ensures tables { OnOk result (AreTables problem.now tables.new) }
-    ensures tried { IfOk result (IsTried problem.now (M.is_measure measure.now)
-        turn.old.order.items turn.new.order.items) }
+    ensures tried { IfOk result
+        (IsTriedInTurn problem.now (M.is_measure measure.now) turn.old turn.new) }
 {
     match plan_in_order(problem, turn, tables)? {
         Attempt::Made(paths) => {
@@ -133,8 +130,7 @@ fn best_from<'g, M: Measure>(
     turn: &mut Turn,
     tables: &mut Tables<'_>,
 ) -> Result<Measured<'g>, PlanStop>
-    requires first { turn.old.order.items ≡ indices (length problem.now.instance.now) }
-    requires turn { IsTurn problem.now turn.old }
+    requires first { IsFirstTurn problem.now turn.old }
     requires tables { AreTables problem.now tables.old }
     ensures best { IfOk result (λ m. IsBestInTries (is_passable problem.now.grid.now)
         problem.now.instance.now problem.now.horizon (M.is_measure measure.now) tries

@@ -5,7 +5,7 @@ ghost use Rattle.fleet_model.specs.Geometry.{place_of, moved};
 ghost use Rattle.fleet_model.specs.declared.geometry.Cell.{Cell};
 ghost use Rattle.fleet_model.specs.declared.limits.TheConstants.{MAX_COORDINATE, MAX_HORIZON};
 ghost use Rattle.fleet_grid.specs.Ground.{IsGround, cell_index};
-ghost use Rattle.fleet_search.specs.Distance.{no_label, label_in, manhattan, least_moves, heuristic, AreDistances, IsOnGround, IsSpreadOf, IsOnBound, IsLabelledTowards, IsSameSearch, IsLabelNear, IsPutFrom, with_label, work_left};
+ghost use Rattle.fleet_search.specs.Distance.{no_label, label_in, manhattan, least_moves, heuristic, AreDistances, IsOnGround, IsSpreadOf, IsSearchFor, IsLayerDone, IsOnBound, IsLabelledTowards, IsSameSearch, HasSpread, IsLabelNear, IsPutFrom, with_label};
 
 use fleet_grid::Grid;
 use fleet_model::{Cell, Dir, MAX_HORIZON, OutOfMemory};
@@ -288,8 +288,7 @@ impl<'g> Distances<'g> {
         requires spread { IsSpreadOf (Some left) self.old }
         requires cell { IsOnGround self.old.grid left }
         ensures same { IsSameSearch self.old self.new }
-        ensures spread { OnOk result (IsSpreadOf None self.new) }
-        ensures work { OnOk result (work_left self.new ≤ work_left self.old) }
+        ensures spread { OnOk result (HasSpread self.old self.new) }
     {
         let Some(distance) = self.label(left) else {
             return Ok(());
@@ -307,8 +306,7 @@ impl<'g> Distances<'g> {
         requires few { distance < MAX_HORIZON }
         requires left { IsOnBound distance left self.old }
         ensures same { IsSameSearch self.old self.new }
-        ensures spread { OnOk result (IsSpreadOf None self.new) }
-        ensures work { OnOk result (work_left self.new ≤ work_left self.old) }
+        ensures spread { OnOk result (HasSpread self.old self.new) }
     {
         self.label_towards(distance, left, Dir::North)?;
         self.label_towards(distance, left, Dir::East)?;
@@ -322,8 +320,7 @@ impl<'g> Distances<'g> {
         requires few { self.old.f_bound < MAX_HORIZON }
         requires spread { IsSpreadOf None self.old }
         ensures same { IsSameSearch self.old self.new }
-        ensures spread { OnOk result (IsSpreadOf None self.new) }
-        ensures layer { OnOk result (self.new.layer ≡ []) }
+        ensures done { OnOk result (IsLayerDone self.new) }
     {
         while let Some(left) = self.pop() {
             self.expand(left)?;
@@ -349,10 +346,7 @@ impl<'g> Distances<'g> {
     fn begin(&mut self, start: Cell, goal: Cell) -> Result<(), OutOfMemory>
         requires { IsOnGround self.old.grid goal }
         ensures grid { self.new.grid ≡ self.old.grid }
-        ensures spread { OnOk result (IsSpreadOf None self.new) }
-        ensures next { OnOk result (self.new.next ≡ []) }
-        ensures start { OnOk result (self.new.start ≡ start) }
-        ensures goal { OnOk result (self.new.goal ≡ goal) }
+        ensures search { OnOk result (IsSearchFor start goal self.new) }
     {
         self.renumber();
         self.aim(start, goal);
@@ -421,9 +415,7 @@ impl<'g> Distances<'g> {
         requires start { IsOnGround self.old.grid self.old.start }
         requires next { self.old.next ≡ [] }
         ensures grid { self.new.grid ≡ self.old.grid }
-        ensures spread { OnOk result (IsSpreadOf None self.new) }
-        ensures next { OnOk result (self.new.next ≡ []) }
-        ensures goal { OnOk result (self.new.goal ≡ self.old.goal) }
+        ensures search { OnOk result (IsSearchFor self.old.start self.old.goal self.new) }
     {
         let mut labelled = 0usize;
         for _round in 0..horizon {

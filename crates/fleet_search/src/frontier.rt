@@ -5,7 +5,7 @@
 //! between the occupancies of a cell by others, only the earliest counts (safe intervals: Phillips & Likhachev 2011).
 
 ghost use Rattle.std.specs.Prelude.{◌≡◌, ◌+◌, ◌-◌, ◌<◌, ◌≤◌, ◌↔◌, ℕ, IsTrue, IfSome, IfNone, IfOk, OnOk, Some, None, [], length, get_or, ◌≢◌, ◌++◌, ◌∷◌, OnErr};
-ghost use Rattle.fleet_model.specs.Geometry.{place_of, moved};
+ghost use Rattle.fleet_model.specs.Geometry.{place_of};
 ghost use Rattle.fleet_grid.specs.Ground.{is_passable};
 ghost use Rattle.fleet_grid.specs.Table.{items_at};
 ghost use Rattle.fleet_model.specs.declared.geometry.Cell.{Cell};
@@ -16,7 +16,7 @@ ghost use Rattle.fleet_search.specs.Intervals.{IsInInterval};
 ghost use Rattle.fleet_search.specs.Labels.{earliest_in, IsSeen};
 ghost use Rattle.fleet_search.specs.Rows.{bucket_of, lists_of, IsPut};
 ghost use Rattle.fleet_search.specs.Frontier.{IsAdded, IsNodeTaken, IsBucketDone};
-ghost use Rattle.fleet_search.specs.Search.{heuristic_of, no_node, occupancies_on, IsMeasured, IsGoalState, IsBucket, WasOpen, IsExpansion, ExpandsOn, IsFrontierOf, Grows, IsPosed, IsSearched, IsTrailOf, IsFreeUntil, IsFoundAt, IsFoundIn, IsFoundFrom, IsNeighbour, HasEnded, IsSuperseded};
+ghost use Rattle.fleet_search.specs.Search.{heuristic_of, no_node, occupancies_on, IsMeasured, IsGoalState, IsBucket, WasOpen, IsExpansion, Finds, IsFrontierOf, HasExpanded, IsPosed, IsSearched, IsTrailOf, IsFreeUntil, IsFoundAt, IsFoundIn, IsFoundFrom, IsFoundInDir, IsNeighbour, HasEnded, IsSuperseded};
 ghost use Rattle.fleet_search.specs.Links.{place_in};
 
 use crate::distances::Distances;
@@ -277,9 +277,8 @@ impl Frontier {
         requires free { begin < left.until }
         requires interval { IsInInterval neighbour.now.occupancies.now interval (begin + 1) }
         requires neighbour { IsNeighbour query.now left.state.cell neighbour.now }
-        ensures expands_on { OnOk result (ExpandsOn query.now bucket left self.old self.new) }
-        ensures found { OnOk result
-            (IsFoundAt query.now self.new.nodes left.state neighbour.now.cell begin) }
+        ensures { OnOk result (Finds query.now bucket left
+            (IsFoundAt query.now left.state neighbour.now.cell begin) self.old self.new) }
     {
         if begin >= query.horizon {
             return Ok(());
@@ -322,9 +321,8 @@ impl Frontier {
         requires leaving { IsExpansion query.now bucket left self.old }
         requires interval { interval ≤ length neighbour.now.occupancies.now }
         requires neighbour { IsNeighbour query.now left.state.cell neighbour.now }
-        ensures expands_on { OnOk result (ExpandsOn query.now bucket left self.old self.new) }
-        ensures found { OnOk result
-            (IsFoundIn query.now self.new.nodes left.state neighbour.now.cell interval) }
+        ensures { OnOk result (Finds query.now bucket left
+            (IsFoundIn query.now left.state neighbour.now.cell interval) self.old self.new) }
     {
         let Some(time) = earliest_after(neighbour.occupancies, interval, left.state.time) else {
             return Ok(());
@@ -347,9 +345,8 @@ impl Frontier {
     ) -> Result<(), OutOfMemory>
         requires leaving { IsExpansion query.now bucket left self.old }
         requires neighbour { IsNeighbour query.now left.state.cell neighbour.now }
-        ensures expands_on { OnOk result (ExpandsOn query.now bucket left self.old self.new) }
-        ensures found { OnOk result
-            (IsFoundFrom query.now self.new.nodes left.state neighbour.now.cell) }
+        ensures { OnOk result (Finds query.now bucket left
+            (IsFoundFrom query.now left.state neighbour.now.cell) self.old self.new) }
     {
         if neighbour.occupancies.is_empty() {
             return self.successor_in(query, bucket, left, neighbour, 0);
@@ -373,9 +370,8 @@ impl Frontier {
         dir: Dir,
     ) -> Result<(), OutOfMemory>
         requires leaving { IsExpansion query.now bucket left self.old }
-        ensures expands_on { OnOk result (ExpandsOn query.now bucket left self.old self.new) }
-        ensures found { OnOk result ((c : Cell) → place_of c ≡ moved (place_of left.state.cell) dir
-            → IsFoundFrom query.now self.new.nodes left.state c) }
+        ensures { OnOk result (Finds query.now bucket left
+            (IsFoundInDir query.now left.state dir) self.old self.new) }
     {
         match query.grid.neighbour(left.state.cell, dir) {
             None => Ok(()),
@@ -420,8 +416,7 @@ impl Frontier {
         requires frontier { IsFrontierOf query.now (bucket - 1) (Some place) self.old }
         requires left { WasOpen query.now bucket self.old place state }
         requires not_end { IsGoalState query.now state → ⊥ }
-        ensures frontier { OnOk result (IsFrontierOf query.now (bucket - 1) None self.new) }
-        ensures grows { OnOk result (Grows self.old self.new) }
+        ensures { OnOk result (HasExpanded query.now bucket self.old self.new) }
     {
         let interval = query.interval(state);
         if self.is_superseded(query, bucket, place, state, interval.number) {

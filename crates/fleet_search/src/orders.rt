@@ -5,9 +5,8 @@ ghost use Rattle.std.specs.Prelude.{◌≡◌, ◌+◌, ◌<◌, ◌≤◌, ◌�
 ghost use Rattle.fleet_plan.specs.Plan.{IsConflictFree};
 ghost use Rattle.fleet_grid.specs.Ground.{is_passable};
 ghost use Rattle.fleet_search.specs.Way.{Fits};
-ghost use Rattle.fleet_model.specs.Machine.{indices};
-ghost use Rattle.fleet_search.specs.Orders.{to_front, paths_by, IsMadeInOrder, IsStuckInOrder, IsMadeInTries, IsMadeInTry, IsStuckInTries};
-ghost use Rattle.fleet_search.specs.Attempts.{AreTables, ArePathsKept, IsPathAdded, IsMadeAfterFirst, IsMadeBefore, IsOrderOf, IsTurn, IsFor, AreReservedInOrder, IsAttempt, IsOldPath};
+ghost use Rattle.fleet_search.specs.Orders.{to_front, IsMadeInOrder, IsStuckInOrder, IsMadeInTries, IsMadeInTry, IsStuckInTries};
+ghost use Rattle.fleet_search.specs.Attempts.{AreTables, ArePathsKept, HasAddedPath, IsMadeBefore, IsOrderOf, IsTurn, IsTurnOf, IsFirstTurn, IsNextTurn, AreByNumber, IsFor, AreReservedInOrder, IsAttempt, IsOldPath};
 ghost use Rattle.fleet_search.specs.InTurn.{IsPrioritisedPlan, HasNoPathFor};
 
 use crate::distances::Distances;
@@ -83,8 +82,8 @@ fn add_path(
 ) -> Result<bool, OutOfMemory>
     requires agent { agent < length problem.now.instance.now }
     requires tables { AreTables problem.now tables.old }
-    ensures tables { OnOk result (AreTables problem.now tables.new) }
-    ensures added { IfOk result (IsPathAdded problem.now agent horizon reserved.old reserved.new) }
+    ensures { IfOk result
+        (HasAddedPath problem.now agent horizon reserved.old reserved.new tables.new) }
 {
     match earliest_over(
         reserved,
@@ -122,9 +121,8 @@ fn renew_path(
     requires old { IsOldPath problem.now agent old.now }
     requires fits { Fits reserved.old old.now }
     requires tables { AreTables problem.now tables.old }
-    ensures tables { OnOk result (AreTables problem.now tables.new) }
-    ensures added { OnOk result
-        (IsPathAdded problem.now agent problem.now.horizon reserved.old reserved.new true) }
+    ensures { OnOk result (HasAddedPath problem.now agent problem.now.horizon
+        reserved.old reserved.new tables.new true) }
 {
     let steps = old.steps();
     let has_steps = steps > 0;
@@ -149,9 +147,8 @@ fn add_path_again(
     requires old { number < length olds.now
         → IsOldPath problem.now agent (get_or olds.now number []) }
     requires tables { AreTables problem.now tables.old }
-    ensures tables { OnOk result (AreTables problem.now tables.new) }
-    ensures added { IfOk result
-        (IsPathAdded problem.now agent problem.now.horizon reserved.old reserved.new) }
+    ensures { IfOk result (HasAddedPath problem.now agent problem.now.horizon
+        reserved.old reserved.new tables.new) }
 {
     if number < olds.len() {
         let old = &olds[number];
@@ -208,9 +205,7 @@ fn reserve_in_order(
     reserved: &mut Reservations,
     tables: &mut Tables<'_>,
 ) -> Result<bool, OutOfMemory>
-    requires order { IsOrderOf problem.now order.now }
-    requires kept { IsMadeAfterFirst problem.now order.now kept.now }
-    requires few { length kept.now < length order.now }
+    requires turn { IsTurnOf problem.now order.now kept.now }
     requires none { reserved.old ≡ [] }
     requires tables { AreTables problem.now tables.old }
     ensures tables { OnOk result (AreTables problem.now tables.new) }
@@ -231,9 +226,7 @@ fn reserve_in_order(
 
 /// The first turn: the agents in the order of their numbers, and no paths.
 pub(crate) fn first_turn(problem: &Problem<'_>) -> Result<Turn, OutOfMemory>
-    ensures first { IfOk result (λ turn.
-        turn.order.items ≡ indices (length problem.now.instance.now)) }
-    ensures turn { IfOk result (IsTurn problem.now) }
+    ensures { IfOk result (IsFirstTurn problem.now) }
 {
     let order = agent_numbers(problem.alloc, problem.instance.agents())?;
     let kept = Vec::new(problem.alloc);
@@ -260,12 +253,8 @@ pub(crate) fn advance(
 ) -> Result<(), OutOfMemory>
     requires turn { IsTurn problem.now turn.old }
     requires place { place < length turn.old.order.items }
-    requires kept { length kept.items ≡ place }
-    requires made { IsMadeBefore problem.now turn.old.order.items kept.items }
-    ensures turn { OnOk result (IsTurn problem.now turn.new) }
-    ensures next { OnOk result
-        (turn.new.order.items ≡ to_front turn.old.order.items place) }
-    ensures kept { OnOk result (turn.new.kept ≡ kept) }
+    requires made { IsMadeBefore problem.now turn.old.order.items place kept.items }
+    ensures { OnOk result (IsNextTurn problem.now turn.old place kept turn.new) }
 {
     raise(&mut turn.order, place)?;
     turn.kept = kept;
@@ -280,12 +269,10 @@ pub(crate) fn note_stuck(
 ) -> Result<usize, OutOfMemory>
     requires turn { IsTurn problem.now turn.old }
     requires paths { AreReservedInOrder problem.now turn.old.order.items paths.items false }
-    ensures turn { OnOk result (IsTurn problem.now turn.new) }
     ensures stuck { IfOk result (λ place. IsStuckInOrder (is_passable problem.now.grid.now)
         problem.now.instance.now problem.now.horizon turn.old.order.items place) }
-    ensures next { IfOk result (λ place.
-        turn.new.order.items ≡ to_front turn.old.order.items place) }
-    ensures kept { OnOk result (turn.new.kept ≡ paths) }
+    ensures turn { IfOk result (λ place.
+        IsNextTurn problem.now turn.old place paths turn.new) }
 {
     let place = paths.len();
     advance(problem, turn, place, paths)?;
@@ -318,8 +305,8 @@ fn by_number(
 ) -> Result<Vec<Path>, OutOfMemory>
     requires order { IsOrderOf problem.now order.now }
     requires paths { length paths.items ≡ length order.now }
-    ensures agents { IfOk result (λ plan. length plan.items ≡ length problem.now.instance.now) }
-    ensures same { IfOk result (λ plan. paths_by order.now plan.items ≡ paths.items) }
+    ensures { IfOk result
+        (λ plan. AreByNumber problem.now order.now paths.items plan.items) }
 {
     let mut plan = starts(problem)?;
     let mut left = paths;
@@ -336,8 +323,7 @@ fn plan_from<'g>(
     turn: &mut Turn,
     tables: &mut Tables<'_>,
 ) -> Result<Found<'g>, PlanStop>
-    requires first { turn.old.order.items ≡ indices (length problem.now.instance.now) }
-    requires turn { IsTurn problem.now turn.old }
+    requires first { IsFirstTurn problem.now turn.old }
     requires tables { AreTables problem.now tables.old }
     ensures made { IfOk result (λ f. IsMadeInTry (is_passable problem.now.grid.now)
         problem.now.instance.now problem.now.horizon tries f.tried f.checked.plan) }
@@ -382,8 +368,7 @@ fn plan_by_number(
 ) -> Result<Plan, OutOfMemory>
     requires order { IsOrderOf problem.now order.now }
     requires paths { length paths.items ≡ length order.now }
-    ensures plan { IfOk result (λ plan. (length plan ≡ length problem.now.instance.now)
-        × (paths_by order.now plan ≡ paths.items)) }
+    ensures { IfOk result (AreByNumber problem.now order.now paths.items) }
 {
     // An instance has 1 to 1,024 agents.
     let _agents = problem.instance.agents();

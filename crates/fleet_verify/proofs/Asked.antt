@@ -1,5 +1,5 @@
 -- Open pairs asked for.
-use Rattle.fleet_verify.proofs.Words.{◌≡◌, ℕ, ◌+◌, ◌<◌, ◌≤◌, Bool, true, false, List, [], ◌∷◌, ◌++◌, length, get_or, Option, Some, None, IfSome, slice_get, refl, sym, ap, ◌∙◌, subst, arith, inl, inr, All, cases_lt, cases_eq, cases_order, cases_Bool, ne_eqb, get_or_append_left, get_or_push, slice_get-get_or, slice_get_within, get_or_from_slice_get, same_Some, ActionId, Await, Visit, Program, AreInRange, IsAction, Reaches, Reaches-last, Reaches-need, Reaches-trans, awaited, awaits_of, entering, leaving, eqb, Result, Ok, Err, IfOk, Question, AreAnswers, AreCountedUp, level_in, AreKnown, IsChained, IsAskedOf, AreAsked, BeginsLater, IsFlagOf, EndApart, EnterApart, AreAmong, key_of, HasLevels, AreVisits, question_of, OpenPair}
+use Rattle.fleet_verify.proofs.Words.{◌≡◌, ℕ, ◌+◌, ◌<◌, ◌≤◌, Bool, true, false, List, [], ◌∷◌, ◌++◌, length, get_or, Option, Some, None, slice_get, refl, sym, ap, ◌∙◌, subst, arith, inl, inr, All, cases_lt, cases_eq, cases_order, cases_Bool, ne_eqb, get_or_append_left, get_or_push, slice_get-get_or, slice_get_within, get_or_from_slice_get, same_Some, ActionId, Await, Visit, Program, AreInRange, IsAction, Reaches, Reaches-last, Reaches-need, Reaches-trans, awaited, awaits_of, entering, leaving, eqb, Question, AreAnswers, AreCountedUp, level_in, AreKnown, IsChained, IsAskedOf, AreAsked, BeginsLater, IsFlagOf, EndApart, EnterApart, AreAmong, key_of, HasLevels, AreVisits, question_of, OpenPair, IsFoundByAsking, IsFoundOfPairs}
 use Rattle.fleet_verify.specs.declared.chained.Answers.{Answers}
 use Rattle.fleet_verify.specs.declared.chained.TheConstants.{NUMBERS}
 use Rattle.fleet_needs.proofs.Joining.{awaited_action, own_first}
@@ -86,19 +86,15 @@ asked_apart p pairs asked h apart j k q r at there same =
       | inr (inr l) ↦ absurd (apart k j d l low (sym visits))
     ]
 
--- what was answered to such questions is known
-pub known_asked : {E : Type 0} (p : Program) (asked : List Question) (r : Result (Option Answers) E) → EndApart asked
-    → IfOk r (λ found. IfSome found (λ known. AreAnswers p known.questions.items known.flags.items)) → IfOk r (λ found. IfSome found (λ known. known.questions.items ≡ asked)) → IfOk r (λ found. IfSome found (AreKnown p))
-known_asked p asked (Ok (Some known)) apart answers same = record { answers = answers; apart = subst EndApart (sym same) apart }
-known_asked p asked (Ok None) apart answers same = tt
-known_asked p asked (Err e) apart answers same = tt
-
--- what is answered to them was asked for the pairs
-pub asked_again : {E : Type 0} (Later : Type 0) (p : Program) (pairs : List OpenPair) (asked : List Question) (r : Result (Option Answers) E) → AreAsked p pairs asked
-    → IfOk r (λ found. IfSome found (λ known. known.questions.items ≡ asked)) → IfOk r (λ found. IfSome found (λ known. Later → AreAsked p pairs known.questions.items))
-asked_again _ p pairs asked (Ok (Some known)) h same = λ _. subst (AreAsked p pairs) (sym same) h
-asked_again _ p pairs asked (Ok None) h same = tt
-asked_again _ p pairs asked (Err e) h same = tt
+-- what was answered to such questions is known of the pairs
+pub found_asked : (p : Program) (rows : List (List ℕ)) (pairs : List OpenPair) (asked : List Question) → AreAsked p pairs asked → EnterApart pairs → (found : Option Answers) → IsFoundByAsking p pairs asked found → IsFoundOfPairs p rows pairs found
+found_asked p rows pairs asked h apart (Some known) told = record {
+  chained = tt;
+  unchained = told.unchained;
+  known = record { answers = told.answers; apart = subst EndApart (sym told.questions) (asked_apart p pairs asked h apart) };
+  asked = λ _. subst (AreAsked p pairs) (sym told.questions) h;
+}
+found_asked p rows pairs asked h apart None told = record { chained = told.chained; unchained = tt; known = tt; asked = tt }
 
 -- ---- the places of questions, by the numbers of their last actions
 

@@ -1,5 +1,5 @@
 -- Rows of levels that climb.
-use Rattle.fleet_verify.proofs.Words.{◌≡◌, ◌≢◌, ℕ, zero, suc, ◌+◌, ◌-◌, ◌<◌, ◌≤◌, List, [], ◌∷◌, ◌++◌, length, get_or, set, slice_index, refl, sym, ap, ◌∙◌, subst, arith, inl, inr, All, get_or-set_same, get_or-set_other, length-set, length-append, get_or_default, Bool, IsTrue, Cell, Place, Await, place_of, stepped, Program, moves, path, MAX_COORDINATE, cases_lt, Ground, IsGround, is_passable, ℤ, pos, negsuc, passable_at, true, false, set-get_or, get_or-append_seam, Piece, level_at, levels_to, last_level, climbed_by, climbed, false≢true, off_map, Ahead, Needs, Runner, kept_at, AddsLevel, IsAhead, IsAheadBy, IsArrival, IsRunner, AreNeeds, IsKeptBack, climbed_in, count_in, stand, IsStop, IsStopAt, LeavesGround}
+use Rattle.fleet_verify.proofs.Words.{◌≡◌, ◌≢◌, ℕ, zero, suc, ◌+◌, ◌-◌, ◌<◌, ◌≤◌, List, [], ◌∷◌, ◌++◌, length, get_or, set, slice_index, refl, sym, ap, ◌∙◌, subst, arith, inl, inr, All, get_or-set_same, get_or-set_other, length-set, length-append, get_or_default, Bool, IsTrue, Cell, Place, Await, place_of, stepped, Program, moves, path, MAX_COORDINATE, cases_lt, Ground, IsGround, is_passable, ℤ, pos, negsuc, passable_at, true, false, set-get_or, get_or-append_seam, Piece, level_at, levels_to, last_level, climbed_by, climbed, false≢true, off_map, Ahead, Needs, Runner, kept_at, AddsLevel, IsAhead, IsAheadBy, IsArrival, HasCome, IsRunner, AreNeeds, IsKeptBack, climbed_in, count_in, stand, IsStop, IsStopAt, LeavesGround}
 use Rattle.std.proofs.Math.Nat.{add-zero}
 use Rattle.fleet_verify.specs.declared.unheld_run.Stop.{Stop}
 use Rattle.fleet_verify.specs.declared.unheld_run.Stop.TheVariants.{OutOfMemory, OffGround}
@@ -172,16 +172,15 @@ kept_back p new rows i n w same count kept =
     subst (λ (rs : List (List ℕ)). IsKeptBack p rs i (count_in rs i + 1) w) (sym same) (subst (λ (m : ℕ). IsKeptBack p rows i (m + 1) w) (sym count) kept)
 
 -- an agent that has not run on yet
-pub runner_begins : (passable : Place → Bool) (p : Program) (offset : (i finished k : ℕ) → ℕ) (a : Ahead) (i : ℕ) (r : Runner) → IsAhead passable p a → i < length p → r.finished ≡ count_in a.rows.items i → r.at ≡ offset i r.finished 0
-    → r.level ≡ last_level (get_or a.rows.items i []) → stand r ≡ get_or a.cells.items i (stand r) → IsRunner passable p offset a i r
-runner_begins passable p offset a i r h agent finished at level cell = record {
+pub runner_begins : (passable : Place → Bool) (p : Program) (offset : (i finished k : ℕ) → ℕ) (a : Ahead) (i : ℕ) (r : Runner) → IsAhead passable p a → i < length p → HasCome offset a i r → IsRunner passable p offset a i r
+runner_begins passable p offset a i r h agent come = record {
   agent = agent;
-  begun = omega (arith, finished);
-  level = level ∙ ap last_level (sym (climbed_now (get_or a.rows.items i []) r.finished finished));
-  at = at;
+  begun = omega (arith, come.finished);
+  level = come.level ∙ ap last_level (sym (climbed_now (get_or a.rows.items i []) r.finished come.finished));
+  at = come.at;
   ahead =
-      let rows = none_climbs a.rows.items i r.finished finished in
-      let cells : set a.cells.items i (stand r) ≡ a.cells.items = ap (set a.cells.items i) cell ∙ set-get_or a.cells.items i (stand r) in
+      let rows = none_climbs a.rows.items i r.finished come.finished in
+      let cells : set a.cells.items i (stand r) ≡ a.cells.items = ap (set a.cells.items i) come.cell ∙ set-get_or a.cells.items i (stand r) in
       subst (λ (rs : List (List ℕ)). IsAheadBy passable p rs (set a.cells.items i (stand r)) (kept_at a.last) a.pairs.items) (sym rows)
       (subst (λ (cs : List Cell). IsAheadBy passable p a.rows.items cs (kept_at a.last) a.pairs.items) (sym cells) h);
 }

@@ -13,7 +13,7 @@ stretch_down p cost last total low time room critical zero first end is h leads 
 stretch_down p cost last total low time room critical (suc d) first end is h leads =
     let back = leads first (omega (arith, is)) (omega arith) in
     stretch_down p cost last total low time room critical d (first - 1) back.end (omega (arith, is))
-    (stretch_on p cost last total first end h (omega (arith, room, is)) (of_agent last (first - 1)) refl (omega (arith, is)) back back.end back.critical)
+    (stretch_on p cost last total first end h (omega (arith, room, is)) (of_agent last (first - 1)) back.end (record { agent = refl; number = omega (arith, is); before = back; end = back.critical }))
     (λ n l m. leads n l (omega (arith, m)))
 
 -- ---- levels

@@ -1,5 +1,5 @@
 -- Critical paths: when actions end by their costs, and that something may always be done.
-use Rattle.fleet_verify.proofs.Words.{◌≡◌, ◌≢◌, ℕ, zero, suc, ◌+◌, ◌-◌, ◌<◌, ◌≤◌, Bool, true, false, List, [], ◌∷◌, ◌++◌, length, get_or, refl, ap, sym, subst, ◌∙◌, arith, inl, inr, ◌⊎◌, Option, Some, None, cond, map, map-id, sum_by, count_by, nat_lt, IsTrue, ◌↔◌, slice_get, reverse, IfSome, IfNone, Contains, cases_lt, reverse-append, get_or_past, length_push, get_or_push, get_or_append_left, append-nil, same_Some, none-some, slice_get_past, slice_get-get_or, slice_get_within, get_or_from_slice_get, option_map_or, AgentProgram, sum_by-append, sum_by-cons, sum_by_push, map-range_with_len_more, ActionId, Await, Program, moves, awaits_of, AreInRange, IsAction, DirectlyNeeds, ChainFrom, Reaches, EndsChainOfCost, IsCriticalCost, IsNumbering, awaited, indices, Schedule, IsSchedule, HasBegunBy, HasEndedBy, NeedsNoStalled, but_last, chain_first, chain_last, chain_join, own_reach, Reaches-trans, ends_dearer, need_action, Reaches-need, Reaches-refl, range_with_len, one_cost, own_cost, critical_cost, level_in, AreEnds, HaveArrivedAt, IsLatest, IsLater, IsAwaitedUntil, IsNeedUntil, LeadsBack, IsWayTo, IsStretchTo, of_agent, IsPathOfCost, IsCriticalPath, EachFits, IsFreeTo, EachFreeTo, AreReached, StopsOthers, is_broken, broken_cost, last_action, first_of, stretch_actions, stretch_between, path_actions, Stretch, LONGEST}
+use Rattle.fleet_verify.proofs.Words.{◌≡◌, ◌≢◌, ℕ, zero, suc, ◌+◌, ◌-◌, ◌<◌, ◌≤◌, Bool, true, false, List, [], ◌∷◌, ◌++◌, length, get_or, refl, ap, sym, subst, ◌∙◌, arith, inl, inr, ◌⊎◌, Option, Some, None, cond, map, map-id, sum_by, count_by, nat_lt, IsTrue, ◌↔◌, slice_get, reverse, IfSome, IfNone, Contains, cases_lt, reverse-append, get_or_past, length_push, get_or_push, get_or_append_left, append-nil, same_Some, none-some, slice_get_past, slice_get-get_or, slice_get_within, get_or_from_slice_get, option_map_or, AgentProgram, sum_by-append, sum_by-cons, sum_by_push, map-range_with_len_more, ActionId, Await, Program, moves, awaits_of, AreInRange, IsAction, DirectlyNeeds, ChainFrom, Reaches, EndsChainOfCost, IsCriticalCost, IsNumbering, awaited, indices, Schedule, IsSchedule, HasBegunBy, HasEndedBy, NeedsNoStalled, but_last, chain_first, chain_last, chain_join, own_reach, Reaches-trans, ends_dearer, need_action, Reaches-need, Reaches-refl, range_with_len, one_cost, own_cost, critical_cost, level_in, AreEnds, HaveArrivedAt, IsLatest, IsLater, IsAwaitedUntil, IsNeedUntil, LeadsBack, IsWayTo, IsStretchTo, of_agent, IsPathOfCost, IsCriticalPath, EachFits, IsFreeTo, EachFreeTo, AreReached, StopsOthers, is_broken, broken_cost, last_action, first_of, stretch_actions, stretch_between, path_actions, Stretch, LONGEST, IsOwnBefore}
 use Rattle.fleet_verify.proofs.Timed.{critical, ends_in_time, needs_unended, by_or_not}
 use Rattle.fleet_verify.specs.declared.times.Ends.{Ends}
 use Rattle.fleet_verify.specs.declared.times.Ends.TheVariants.{Costs, Levels}
@@ -272,16 +272,17 @@ stretch_begins p cost b m act critical = record { within = omega arith; few = om
 
 -- .. and a path with the action before it
 pub stretch_on : (p : Program) (cost : ActionId → ℕ) (last : ActionId) (total first end : ℕ) → IsStretchTo p cost last total first end → last.number + 1 < first + LONGEST
-    → (before : ActionId) → before.agent ≡ last.agent → before.number + 1 ≡ first → LeadsBack p cost (of_agent last first) before → (e : ℕ) → IsCriticalCost p cost before e → IsStretchTo p cost last total before.number e
-stretch_on p cost last total first end h room before agent number leads e critical =
+    → (before : ActionId) (e : ℕ) → IsOwnBefore p cost (of_agent last first) before e → IsStretchTo p cost last total before.number e
+stretch_on p cost last total first end h room before e own =
     let here : ActionId = of_agent last before.number in
-    let same : before ≡ here = same_action before here agent refl in
+    let same : before ≡ here = same_action before here own.agent refl in
+    let number : before.number + 1 ≡ first = own.number in
     let count : last.number - before.number + 1 ≡ last.number - first + 1 + 1 = omega (arith, number, h.within) in
     record {
       within = omega (arith, number, h.within);
       few = omega (arith, number, room);
-      way = way_longer p cost last total (stretch_actions (stretch_between (of_agent last first) last)) (of_agent last first) end h.way here (subst (LeadsBack p cost (of_agent last first)) same leads) e
-          (subst (λ x. IsCriticalCost p cost x e) same critical) (stretch_actions (stretch_between here last))
+      way = way_longer p cost last total (stretch_actions (stretch_between (of_agent last first) last)) (of_agent last first) end h.way here (subst (LeadsBack p cost (of_agent last first)) same own.before) e
+          (subst (λ x. IsCriticalCost p cost x e) same own.end) (stretch_actions (stretch_between here last))
           (stretch_longer (stretch_between (of_agent last first) last) (stretch_between here last) refl number count);
     }
 

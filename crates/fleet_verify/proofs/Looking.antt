@@ -1,5 +1,5 @@
 -- How far actions are looked at, and what they need.
-use Rattle.fleet_verify.proofs.Words.{inl, inr, ◌≡◌, ℕ, ◌+◌, ◌<◌, List, [], ◌∷◌, ◌++◌, length, refl, ◌-◌, sym, ap, ◌∙◌, subst, arith, ◌≢◌, ◌≤◌, slice_index, set, Some, slice_get, get_or-set_same, get_or-set_other, ActionId, Visit, Program, moves, total_moves, awaits_of, AreInRange, IsAction, Reaches, DirectlyNeeds, entering, IsVisit, Reaches-first, Reaches-trans, Reaches-last, Reaches-need, Reaches-kept, own_reach, IsNeededFor, ◌⊎◌, Contains, cases_eq, cases_lt, map-append, length_push, get_or_push, get_or_append_left, Await, sum_by-le-sum_by, same_Some, slice_get-get_or, slice_get_within, get_or_from_slice_get, length-set, indices, IsBlocked, IsUnmet, want_at, AreWants, down_from, indices-more, IsRaised, IsLooking, looked_sum, AreNeeded}
+use Rattle.fleet_verify.proofs.Words.{inl, inr, ◌≡◌, ℕ, ◌+◌, ◌<◌, List, [], ◌∷◌, ◌++◌, length, refl, ◌-◌, sym, ap, ◌∙◌, subst, arith, ◌≢◌, ◌≤◌, slice_index, set, Some, slice_get, get_or-set_same, get_or-set_other, ActionId, Visit, Program, moves, total_moves, awaits_of, AreInRange, IsAction, Reaches, DirectlyNeeds, entering, IsVisit, Reaches-first, Reaches-trans, Reaches-last, Reaches-need, Reaches-kept, own_reach, IsNeededFor, ◌⊎◌, Contains, cases_eq, cases_lt, map-append, length_push, get_or_push, get_or_append_left, Await, sum_by-le-sum_by, same_Some, slice_get-get_or, slice_get_within, get_or_from_slice_get, length-set, indices, IsBlocked, IsUnmet, want_at, AreWants, down_from, indices-more, IsRaised, IsLooking, looked_sum, AreNeeded, AreTwoVisits, AreZeros}
 use Rattle.fleet_verify.proofs.RunCounts.{sum_rises, sum_of_moves}
 
 pub needed_action : (p : Program) (v w : Visit) (a : ActionId) → IsNeededFor p v w a → IsAction p a
@@ -111,16 +111,15 @@ looking_moves p v w needed looked h j =
 own_of : (p : Program) (v : Visit) → IsVisit p v → (j c : ℕ) → j ≡ v.agent → 1 ≤ c → c ≤ v.position → Reaches p (record { agent = j; number = c }) (entering v)
 own_of p v k j c e f l = subst (λ i. Reaches p (record { agent = i; number = c }) (entering v)) (sym e) (own_reach p v.agent c v.position k.agent f l k.position)
 
-pub looking_start : (p : Program) (v w : Visit) (needed looked : List ℕ) → IsVisit p v → IsVisit p w → v.agent ≢ w.agent → length needed ≡ length p → length looked ≡ length p
-    → ((j : ℕ) → slice_index needed j ≡ 0) → ((j : ℕ) → slice_index looked j ≡ 0) → IsLooking p v w (set (set needed v.agent v.position) w.agent w.position) looked
-looking_start p v w needed looked k m apart wide long none none' = record {
-  wide = length-set one w.agent w.position ∙ length-set needed v.agent v.position ∙ wide;
-  long = long;
+pub looking_start : (p : Program) (v w : Visit) (needed looked : List ℕ) → AreTwoVisits p v w → v.agent ≢ w.agent → AreZeros (length p) needed → AreZeros (length p) looked → IsLooking p v w (set (set needed v.agent v.position) w.agent w.position) looked
+looking_start p v w needed looked visits apart none unseen = record {
+  wide = length-set one w.agent w.position ∙ length-set needed v.agent v.position ∙ none.all;
+  long = unseen.all;
   first = omega (arith, at_v);
   second = omega (arith, at_w);
   sound = λ j c f l. sound j c f l (cases_eq j w.agent) (cases_eq j v.agent);
-  within = λ j. omega (arith, none' j);
-  closed = λ j c a f l. absurd (omega (arith, none' j));
+  within = λ j. omega (arith, unseen.zero j);
+  closed = λ j c a f l. absurd (omega (arith, unseen.zero j));
 }
   where
     one : List ℕ
@@ -130,15 +129,15 @@ looking_start p v w needed looked k m apart wide long none none' = record {
     two = set one w.agent w.position
 
     at_w : slice_index two w.agent ≡ w.position
-    at_w = get_or-set_same one w.agent w.position 0 (omega (arith, length-set needed v.agent v.position, wide, m.agent))
+    at_w = get_or-set_same one w.agent w.position 0 (omega (arith, length-set needed v.agent v.position, none.all, visits.second.agent))
 
     at_v : slice_index two v.agent ≡ v.position
-    at_v = get_or-set_other one w.agent v.agent w.position 0 apart ∙ get_or-set_same needed v.agent v.position 0 (omega (arith, wide, k.agent))
+    at_v = get_or-set_other one w.agent v.agent w.position 0 apart ∙ get_or-set_same needed v.agent v.position 0 (omega (arith, none.all, visits.first.agent))
 
     sound : (j c : ℕ) → 1 ≤ c → c ≤ slice_index two j → (j ≡ w.agent) ⊎ (j ≡ w.agent → ⊥) → (j ≡ v.agent) ⊎ (j ≡ v.agent → ⊥) → IsNeededFor p v w (record { agent = j; number = c })
-    sound j c f l (inl e) x = inr (own_of p w m j c e f (omega (arith, ap (slice_index two) e, at_w)))
-    sound j c f l (inr n) (inl e) = inl (own_of p v k j c e f (omega (arith, ap (slice_index two) e, at_v)))
-    sound j c f l (inr n) (inr o) = absurd (omega (arith, get_or-set_other one w.agent j w.position 0 n, get_or-set_other needed v.agent j v.position 0 o, none j))
+    sound j c f l (inl e) x = inr (own_of p w visits.second j c e f (omega (arith, ap (slice_index two) e, at_w)))
+    sound j c f l (inr n) (inl e) = inl (own_of p v visits.first j c e f (omega (arith, ap (slice_index two) e, at_v)))
+    sound j c f l (inr n) (inr o) = absurd (omega (arith, get_or-set_other one w.agent j w.position 0 n, get_or-set_other needed v.agent j v.position 0 o, none.zero j))
 
 -- one action more is looked at
 pub looking_more : (p : Program) → AreInRange p → (v w : Visit) (needed looked new : List ℕ) (j n : ℕ) → IsLooking p v w needed looked → j < length p → n ≡ slice_index looked j + 1 → n ≤ slice_index needed j

@@ -1,5 +1,5 @@
 -- Visits that a numbering orders.
-use Rattle.fleet_verify.proofs.Words.{◌≡◌, ◌≢◌, ℕ, zero, suc, ◌+◌, ◌<◌, Bool, true, false, List, [], ◌∷◌, ◌++◌, length, map, get_or, Option, Some, None, slice_get, refl, ap, sym, ◌∙◌, subst, arith, inl, inr, ◌-◌, ◌≤◌, slice_index, ◌⊎◌, filter, AllPairs, All, Contains, cases_eq, cases_lt, map-append, append_assoc, append-nil, length-append, get_or_append_left, filter-append, All-push, Contains-push, Contains-append_left, all_pairs_push, slice_get_within, same_Some, slice_get-get_or, Cell, Place, Visit, place_of, is_same_place, Program, IsCell, moves, awaits_of, AreInRange, IsWellFormed, is_entry, ComesAfterByAwait, is_same_place-true, is_same_place-eq, ActionId, IsAction, DirectlyNeeds, EndsChain, IsLongestChain, awaited, ends_within, ends_action, place_of-injective, PlacedVisit, OpenPair, number_of, visits_of, entries, IsOpenNext, IsLastVisit, IsGrouped, IsOpenPair, IsVisitPlaced, AreAddedBy, AreGroupedBy, AreConsecutive, StandsBefore, get_or-append_seam, IsCountedUp, AreCountedUp, IsTop, IsRanked, AreRanked, IsNextLevel, AddsLevel, count_in, level_in, next_in}
+use Rattle.fleet_verify.proofs.Words.{◌≡◌, ◌≢◌, ℕ, zero, suc, ◌+◌, ◌<◌, Bool, true, false, List, [], ◌∷◌, ◌++◌, length, map, get_or, Option, Some, None, slice_get, refl, ap, sym, ◌∙◌, subst, arith, inl, inr, ◌-◌, ◌≤◌, slice_index, ◌⊎◌, filter, AllPairs, All, Contains, cases_eq, cases_lt, map-append, append_assoc, append-nil, length-append, get_or_append_left, filter-append, All-push, Contains-push, Contains-append_left, all_pairs_push, slice_get_within, same_Some, slice_get-get_or, Cell, Place, Visit, place_of, is_same_place, Program, IsCell, moves, awaits_of, AreInRange, IsWellFormed, is_entry, ComesAfterByAwait, is_same_place-true, is_same_place-eq, ActionId, IsAction, DirectlyNeeds, EndsChain, IsLongestChain, awaited, ends_within, ends_action, place_of-injective, PlacedVisit, OpenPair, number_of, visits_of, entries, IsOpenNext, IsLastVisit, IsGrouped, IsOpenPair, IsVisitPlaced, AreAddedBy, AreGroupedBy, AreConsecutive, StandsBefore, get_or-append_seam, IsCountedUp, AreCountedUp, IsTop, IsRanked, AreRanked, IsNextLevel, AddsLevel, count_in, level_in, next_in, IsVisitKept}
 use Rattle.fleet_verify.proofs.Members.{same_action}
 use Rattle.fleet_verify.proofs.Levels.{counted_numbers, counted_levels}
 use Rattle.fleet_verify.proofs.Stays.{has_action}
@@ -266,13 +266,12 @@ added_none p last pairs none e = subst (AreAddedBy p [] last) (sym e) (record {
 
 -- one more, which begins a visit that is then kept as the last one of its cell
 pub added_visit : (p : Program) (s : PlacedVisit) (old new : Cell → Option Visit) (o os : List OpenPair) → IsVisitPlaced p s → is_entry p s.visit.agent s.visit.position ≡ true
-    → new s.cell ≡ Some s.visit → ((c : Cell) → IsCell c → c ≢ s.cell → new c ≡ old c) → IsOpenNext (ComesAfterByAwait p) (old s.cell) s o os
-    → (visits : List Visit) → AreAddedBy p visits old o → AreAddedBy p (visits ++ s.visit ∷ []) new os
-added_visit p s old new o os here enters last others r visits a = record {
+    → IsVisitKept (ComesAfterByAwait p) s old new o os → (visits : List Visit) → AreAddedBy p visits old o → AreAddedBy p (visits ++ s.visit ∷ []) new os
+added_visit p s old new o os here enters kept visits a = record {
   placed = a.placed ++ s ∷ [];
   same = visits_more a.placed s ∙ (ap (λ vs. vs ++ s.visit ∷ []) a.same ∙ rw (filter-append, enters) refl);
   each = All-push (IsVisitPlaced p) a.placed s a.each here;
-  grouped = grouped_on_more p a.placed s old new o os here.cell a.grouped last others r;
+  grouped = grouped_on_more p a.placed s old new o os here.cell a.grouped kept.here kept.others kept.pairs;
 }
 
 -- or which begins none

@@ -1,5 +1,5 @@
 -- The words that proofs here cite of std, of programs and chains, and of maps.
-pub use Rattle.std.proofs.Common.{EachIndex, ◌≡◌, ℕ, zero, suc, ◌<◌, ◌≤◌, Bool, true, List, [], length, Some, nat_le, ap, ◌∙◌, subst, arith, inl, inr, leb-true, le-leb, Contains, ◌+◌, ◌∷◌, get_or, refl, ap₂, false, ◌-◌, ◌++◌, sym, slice_index, add-one, map, filter, ◌⊎◌, ◌==◌, ◌↔◌, nat_lt, eqb-true, eq-eqb, ltb-true, lt-ltb, append-nil, ext_get_or, not, ◌&&◌, Option, None, cond, IsTrue, slice_get, option_map, ◌≢◌, map-id, sum_by, count_by, reverse, IfSome, IfNone, All, leb-false, false-eqb, AllPairs, append_assoc, drop, ne_eqb, set, get_or-set_same, get_or-set_other, length-set, pos, ◌+ℤ◌, ◌≤ℤ◌, ℤ, negsuc, ◌<ℤ◌, take, get_or-append-add, take_at, ◌||◌, if◌then◌else◌, length-append, int_eq, flat_map, rules, IsSome, is_none, unwrap_or, le-ltb, below_more, take_all, nat_eq, Err, IfOk, Ok, Result, codes, decimal, eqb, max, replicate, leb, ◌%◌, ◌/◌}
+pub use Rattle.std.proofs.Common.{EachIndex, ◌≡◌, ℕ, zero, suc, ◌<◌, ◌≤◌, Bool, true, List, [], length, Some, nat_le, ap, ◌∙◌, subst, arith, inl, inr, leb-true, le-leb, Contains, ◌+◌, ◌∷◌, get_or, refl, ap₂, subst₂, false, ◌-◌, ◌++◌, sym, slice_index, add-one, map, filter, ◌⊎◌, ◌==◌, ◌↔◌, nat_lt, eqb-true, eq-eqb, ltb-true, lt-ltb, append-nil, ext_get_or, not, ◌&&◌, Option, None, cond, IsTrue, slice_get, option_map, ◌≢◌, map-id, sum_by, count_by, reverse, IfSome, IfNone, All, leb-false, false-eqb, AllPairs, append_assoc, drop, ne_eqb, set, get_or-set_same, get_or-set_other, length-set, pos, ◌+ℤ◌, ◌≤ℤ◌, ℤ, negsuc, ◌<ℤ◌, take, get_or-append-add, take_at, ◌||◌, if◌then◌else◌, length-append, int_eq, flat_map, rules, IsSome, is_none, unwrap_or, le-ltb, below_more, take_all, nat_eq, Err, IfOk, Ok, Result, codes, decimal, eqb, max, replicate, leb, ◌%◌, ◌/◌}
 pub use Rattle.std.proofs.Math.Bool.{and-false, and-true}
 pub use Rattle.std.proofs.Math.Seq.{get_or-append_seam}
 pub use Rattle.std.proofs.lemmas.Bool.{cases_lt, cases_eq, or_cases, or_left, or_right, cases_order, and_parts, and_from, cases_Bool, and_right, cond-true, cond-false, not-true, false≢true, true≢false}
@@ -66,20 +66,20 @@ pub use Rattle.fleet_text.proofs.SinkLemmas.{gathers_err, gathers_then, lists_wi
 pub use Rattle.fleet_text.specs.Row.{PassesOn}
 pub use Rattle.fleet_text.specs.Words.{next_words, with_spaces, numbered_text, numbered_words}
 pub use Rattle.indexmap.specs.IndexMap.{get, with_value_at, IndexMap, IsUnique, Updates, insert_entry, keys}
-pub use Rattle.fleet_verify.specs.Ahead.{level_in, count_in, climbed_in, IsAhead, AddsLevel, IsNextLevel, AreCountedUp, IsAheadBy, IsRunner, IsStopped, KeepsOthers, stand, AreBegun, AreDone, IsArrival, IsLastAwait, IsRanked, IsTop, AreEarlier, AreKeptOnGround, AreNeeds, AreRanked, CanGoOn, HaveFinished, IsAwaitOrOwn, IsKeptBack, IsRunOn, NobodyGoesOn, next_in}
+pub use Rattle.fleet_verify.specs.Ahead.{level_in, count_in, climbed_in, HasCome, IsAhead, AddsLevel, IsNextLevel, AreCountedUp, IsAheadBy, IsRunner, IsStopped, KeepsOthers, stand, AreBegun, AreDone, IsArrival, IsLastAwait, IsRanked, IsTop, AreEarlier, AreKeptOnGround, AreNeeds, AreRanked, CanGoOn, HaveFinished, IsAwaitOrOwn, IsKeptBack, IsRunOn, NobodyGoesOn, next_in}
 pub use Rattle.fleet_verify.specs.Blocked.{IsBlocked, down_from, next_of, nth, WaitsBack, want_at, AreWants, IsUnmet, IsLeastBack}
 unfoldable pub use Rattle.fleet_verify.specs.Blocked.{need_of}
 pub use Rattle.fleet_verify.specs.Breaking.{is_held_by, held_row}
-pub use Rattle.fleet_verify.specs.Chained.{IsChained, EnterApart, IsAskedOf, IsFlagOf, BeginsLater, AreAmong, AreAsked, AreKnown, BeginsLate, EndApart, key_of}
+pub use Rattle.fleet_verify.specs.Chained.{IsChained, EnterApart, IsAskedOf, IsFlagOf, BeginsLater, AreAmong, AreAsked, AreKnown, BeginsLate, EndApart, IsFoundByAsking, IsFoundOfPairs, key_of}
 pub use Rattle.fleet_verify.specs.Covers.{AreCovered}
 pub use Rattle.fleet_verify.specs.Faults.{StandsRight, AwaitsRight, EndsRight, HasRanges, EachAction, HasStarts, IsFault, IsFirstBreak, IsUnordered, StartsRight, HasNumbering, IsFirstNumber, IsOfOrder, IsOrderlyAt, IsSooner}
 pub use Rattle.fleet_verify.specs.LastVisits.{kept_at}
 pub use Rattle.fleet_verify.specs.LevelRows.{HasLevels, AreCostRows}
 pub use Rattle.fleet_verify.specs.Listing.{entry_level, IsBefore, AreLevels, IsSortedListing}
-pub use Rattle.fleet_verify.specs.Needed.{AreNeeded, IsLooking, IsRaised}
+pub use Rattle.fleet_verify.specs.Needed.{AreNeeded, AreTwoVisits, AreZeros, IsLooking, IsNeededRow, IsRaised}
 unfoldable pub use Rattle.fleet_verify.specs.Needed.{looked_sum}
 pub use Rattle.fleet_verify.specs.OpenPairs.{AreVisits, question_of, AnswersFirstBad, IsFlagged, HasNoChain, IsFirstBad, violation_of}
-pub use Rattle.fleet_verify.specs.Order.{AreAdded, number_of, AreAddedBy, AreAllPlaced, AreConsecutive, IsOpenPair, IsPathOrderly, IsVisitPlaced, StandsBefore, entries, AreViolations, IsLastVisit, IsListJudged, IsOpenNext, numbered_cell, AreAllAdded, AreGrouped, AreGroupedBy, IsGrouped}
+pub use Rattle.fleet_verify.specs.Order.{AreAdded, number_of, AreAddedBy, AreAllPlaced, AreConsecutive, IsOpenPair, IsPathOrderly, IsVisitPlaced, StandsBefore, entries, AreViolations, IsLastVisit, IsListJudged, IsOpenNext, IsVisitKept, numbered_cell, AreAllAdded, AreGrouped, AreGroupedBy, IsGrouped}
 unfoldable pub use Rattle.fleet_verify.specs.Order.{visits_of}
 pub use Rattle.fleet_verify.specs.Path.{AnswersFirst, AnswersFirstAction, IsPosition}
 pub use Rattle.fleet_verify.specs.Pieces.{level_at, AreRising, levels_to, AreJumps, IsClimb, level_from}
@@ -90,8 +90,8 @@ pub use Rattle.fleet_verify.specs.Rising.{last_level, climbed, climbed_by}
 pub use Rattle.fleet_verify.specs.Rows.{IsCountedUp, IsRow, IsRowOfNeeds}
 pub use Rattle.fleet_verify.specs.Squares.{square_of, IsSquareAt, IsWritten, last_in, place_in_square, visit_in, visit_kept}
 pub use Rattle.fleet_verify.specs.Stretch.{path_actions, first_of, stretch_actions, stretch_between}
-pub use Rattle.fleet_verify.specs.Times.{TimesParts, EachFits, IsStretchTo, of_agent, AreTimes, IsFreeTo, IsLatest, LeadsBack, AreReached, ArrivesAt, EachFreeTo, HaveArrivedAt, IsCriticalPath, IsLater, IsNeedUntil, IsOwnUntil, IsPathOfCost, IsWayTo, IsWholeTo, broken_cost, AreEnds, FollowsOwn, IsAwaitedUntil, StopsOthers, is_broken, last_action}
-pub use Rattle.fleet_verify.specs.Walk.{AreOnGround, counts_of, moved_to, IsReadyBy, begun_by, AreCounts, HasArrived, IsEnded, IsRunOnGround, IsStop, IsStopAt, LeavesGround, position_in, positions_of}
+pub use Rattle.fleet_verify.specs.Times.{TimesParts, EachFits, IsStretchTo, of_agent, AreTimes, IsFreeTo, IsLatest, LeadsBack, AreReached, ArrivesAt, EachFreeTo, HaveArrivedAt, IsCriticalPath, IsLater, IsNeedUntil, IsOwnUntil, IsPathOfCost, IsWayTo, IsWholeTo, broken_cost, AreEnds, FollowsOwn, IsAwaitedUntil, IsOwnBefore, StopsOthers, is_broken, last_action}
+pub use Rattle.fleet_verify.specs.Walk.{AreAddedOnGround, AreOnGround, counts_of, moved_to, IsReadyBy, begun_by, AreCounts, HasArrived, IsEnded, IsRunOnGround, IsStop, IsStopAt, LeavesGround, position_in, positions_of}
 unfoldable pub use Rattle.fleet_verify.specs.Walk.{begun_in}
 pub use Rattle.fleet_verify.specs.declared.ahead.Ahead.{Ahead}
 pub use Rattle.fleet_verify.specs.declared.ahead.Needs.{Needs}

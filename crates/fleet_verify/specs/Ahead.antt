@@ -1,5 +1,5 @@
 -- Actions finished in any order that respects needs: their levels, and the visits that have begun.
-use Rattle.std.specs.Prelude.{◌≡◌, ◌≢◌, ℕ, ◌+◌, ◌-◌, ◌^◌, ◌<◌, ◌≤◌, ◌⊎◌, Bool, Some, None, List, [], ◌∷◌, ◌++◌, length, get_or, set, slice_get, slice_index, Option, Contains, IsTrue}
+use Rattle.std.specs.Prelude.{◌≡◌, ◌≢◌, ℕ, ◌+◌, ◌-◌, ◌^◌, ◌<◌, ◌≤◌, ◌⊎◌, Bool, Some, None, List, [], ◌∷◌, ◌++◌, length, get_or, set, slice_get, slice_index, Option, Contains, IsTrue, IfSome}
 use Rattle.std.specs.List.{AllPairs}
 use Rattle.fleet_model.specs.declared.limits.TheConstants.{MAX_MOVES_IN_ALL}
 use Rattle.fleet_model.specs.declared.geometry.Cell.{Cell}
@@ -9,6 +9,7 @@ use Rattle.fleet_model.specs.declared.program.Await.{Await}
 use Rattle.fleet_model.specs.declared.program.Visit.{Visit}
 use Rattle.fleet_model.specs.Geometry.{place_of}
 use Rattle.fleet_model.specs.Program.{Program, origin, moves, path, awaits_of, step_of, IsCell}
+use Rattle.fleet_model.specs.Visit.{IsVisit}
 use Rattle.fleet_verify.specs.declared.ahead.Needs.{Needs}
 use Rattle.fleet_verify.specs.declared.ahead.Runner.{Runner}
 use Rattle.fleet_verify.specs.Rising.{last_level, climbed}
@@ -85,6 +86,11 @@ AreKeptOnGround passable last = (c : Cell) → IsCell c → (v : Visit) → last
 abbrev pub AreEarlier : (Cell → Option Visit) → Visit → Type 0
 AreEarlier last w = (c : Cell) → IsCell c → (v : Visit) → last c ≡ Some v → v.agent ≡ w.agent → v.position < w.position
 
+-- what the cells keep is on passable ground, and earlier than w if it is by the agent of w
+pub record AreKeptBefore (passable : Place → Bool) (last : Cell → Option Visit) (w : Visit) : Type 0 where
+  pub ground : AreKeptOnGround passable last
+  pub earlier : AreEarlier last w
+
 -- the rows have the levels of the actions that are finished, the cells are those that the agents have come to by them,
 -- and the visits that have begun so are added
 pub record IsAheadBy (passable : Place → Bool) (p : Program) (levels : List (List ℕ)) (stands : List Cell) (last : Cell → Option Visit) (pairs : List OpenPair) : Type 0 where
@@ -122,9 +128,28 @@ pub record IsRunner (passable : Place → Bool) (p : Program) (offset : (i finis
   pub at : r.at ≡ offset i r.finished 0
   pub ahead : IsAheadBy passable p (climbed_in a.rows.items i r.finished) (set a.cells.items i (stand r)) (kept_at a.last) a.pairs.items
 
+-- agent i of these agents has come so far, and the view keeps its next instruction there
+pub record HasCome (offset : (i finished k : ℕ) → ℕ) (a : Ahead) (i : ℕ) (r : Runner) : Type 0 where
+  pub finished : r.finished ≡ count_in a.rows.items i
+  pub at : r.at ≡ offset i r.finished 0
+  pub level : r.level ≡ last_level (get_or a.rows.items i [])
+  pub cell : stand r ≡ get_or a.cells.items i (stand r)
+
+-- agent i has stopped there, and all else is as it was
+pub record HasStopped (old new : Ahead) (i : ℕ) (r : Runner) : Type 0 where
+  pub rows : new.rows.items ≡ climbed_in old.rows.items i r.finished
+  pub cells : new.cells.items ≡ set old.cells.items i (stand r)
+  pub last : kept_at new.last ≡ kept_at old.last
+  pub pairs : new.pairs.items ≡ old.pairs.items
+
 -- the await is one of those of action n of agent i, or of agent i itself
 abbrev pub IsAwaitOrOwn : Program → (i n : ℕ) → Await → Type 0
 IsAwaitOrOwn p i n w = (w.agent ≡ i) ⊎ Contains (awaits_of p i n) w
+
+-- it is a visit, and the await is one of the action that enters it, or of its own agent
+pub record IsEntry (p : Program) (v : Visit) (w : Await) : Type 0 where
+  pub visit : IsVisit p v
+  pub latest : IsAwaitOrOwn p v.agent v.position w
 
 -- the last of the first k awaits of action n of agent i, or for none of them one of agent i itself
 abbrev pub IsLastAwait : Program → (i n k : ℕ) → Await → Type 0
@@ -136,6 +161,11 @@ pub record AreNeeds (p : Program) (offset : (i finished k : ℕ) → ℕ) (rows 
   pub latest : IsAwaitOrOwn p i (finished + 1) needs.latest
   pub step : step_of p i (finished + 1) ≡ Some needs.step
   pub after : needs.after ≡ offset i (finished + 1) 0
+
+-- that of the next action of agent i, which has come so far, with the last of its awaits
+pub record AreNextNeeds (p : Program) (offset : (i finished k : ℕ) → ℕ) (rows : List (List ℕ)) (i : ℕ) (r : Runner) (n : Needs) : Type 0 where
+  pub needs : AreNeeds p offset (climbed_in rows i r.finished) i r.finished n
+  pub latest : IsLastAwait p i (r.finished + 1) (length (awaits_of p i (r.finished + 1))) n.latest
 
 -- action n of agent i, its next one, awaits what is not finished yet; or its level would be above all levels
 abbrev pub IsKeptBack : Program → List (List ℕ) → (i n : ℕ) → Await → Type 0
@@ -156,9 +186,27 @@ NobodyGoesOn p rows = (i : ℕ) → i < length p → (w : Option Await) × IsSto
 abbrev pub CanGoOn : Program → List (List ℕ) → ℕ → Type 0
 CanGoOn p rows i = (w : Option Await) → ¬ IsStopped p rows i w
 
+-- these agents have run ahead until nobody could go on
+pub record AreStill (passable : Place → Bool) (p : Program) (a : Ahead) : Type 0 where
+  pub ahead : IsAhead passable p a
+  pub still : NobodyGoesOn p a.rows.items
+
+-- agent i of these agents has stopped, and the queue, of so many agents, is of as many as before
+pub record IsStoppedAhead (passable : Place → Bool) (p : Program) (a : Ahead) (i old new : ℕ) : Type 0 where
+  pub ahead : IsAhead passable p a
+  pub queue : new ≡ old
+  pub stopped : (w : Option Await) × IsStopped p a.rows.items i w
+
 -- the rows of all but agent i are as they were
 abbrev pub KeepsOthers : List (List ℕ) → List (List ℕ) → ℕ → Type 0
 KeepsOthers old new i = (j : ℕ) → j ≢ i → get_or new j [] ≡ get_or old j []
+
+-- the row of agent i, which has climbed so far, has one level more, and the others are as they were
+pub record HasRaised (old new : List (List ℕ)) (i finished level : ℕ) : Type 0 where
+  pub rows : length new ≡ length old
+  pub begun : count_in new i ≤ finished + 1
+  pub raised : AddsLevel (climbed_in old i finished) (climbed_in new i (finished + 1)) i level
+  pub others : KeepsOthers old new i
 
 -- agent i alone has run on: it has finished more actions, or no row has changed
 pub record IsRunOn (old new : List (List ℕ)) (i : ℕ) : Type 0 where
@@ -168,6 +216,37 @@ pub record IsRunOn (old new : List (List ℕ)) (i : ℕ) : Type 0 where
 -- the agent has come to its end, or to an action that awaits something, or its level with all its moves is too high
 abbrev pub IsBareNoMore : Program → (i count level : ℕ) → Type 0
 IsBareNoMore p i count level = (count ≡ moves p i) ⊎ ((1 ≤ length (awaits_of p i (count + 1))) ⊎ (2 ^ 32 ≤ level + moves p i))
+
+-- agent i has come onto the cell with this number by its action n, and that is passable ground: the visit is added, if
+-- it is one, and no row or cell has changed yet
+pub record ComesOnto (passable : Place → Bool) (p : Program) (old new : Ahead) (i n number : ℕ) : Type 0 where
+  pub rows : new.rows.items ≡ old.rows.items
+  pub cells : new.cells.items ≡ old.cells.items
+  pub here : place_of (numbered_cell number) ≡ path p i n
+  pub ground : IsTrue (passable (place_of (numbered_cell number)))
+  pub added : (visits : List Visit) → AreAddedBy p visits (kept_at old.last) old.pairs.items
+      → AreAddedBy p (visits ++ record { agent = i; position = n } ∷ []) (kept_at new.last) new.pairs.items
+
+-- agent i alone has gone on from there, by one action, of level l
+pub record HasGoneOn (passable : Place → Bool) (p : Program) (offset : (i finished k : ℕ) → ℕ) (old new : Ahead) (i l : ℕ) (from r : Runner) : Type 0 where
+  pub runner : IsRunner passable p offset new i r
+  pub finished : r.finished ≡ from.finished + 1
+  pub level : r.level ≡ l
+  pub others : KeepsOthers old.rows.items new.rows.items i
+
+-- agent i alone has gone on from there, along actions that await nothing
+pub record HasRunBare (passable : Place → Bool) (p : Program) (offset : (i finished k : ℕ) → ℕ) (old new : Ahead) (i : ℕ) (from r : Runner) : Type 0 where
+  pub runner : IsRunner passable p offset new i r
+  pub finished : from.finished ≤ r.finished
+  pub rest : IsBareNoMore p i r.finished from.level
+  pub others : KeepsOthers old.rows.items new.rows.items i
+
+-- agent i alone has run on as far as its awaits allow, and waits for this one, if for any
+pub record HasRunOut (passable : Place → Bool) (p : Program) (old new : Ahead) (i : ℕ) (w : Option Await) : Type 0 where
+  pub ahead : IsAhead passable p new
+  pub waits : IfSome w (λ a. a.agent < length p)
+  pub stopped : IsStopped p new.rows.items i w
+  pub run_on : IsRunOn old.rows.items new.rows.items i
 
 -- the visit is entered, if by a move, by an action whose step and last await are these
 pub record IsArrival (p : Program) (v : Visit) (needs : Needs) : Type 0 where

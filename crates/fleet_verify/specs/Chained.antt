@@ -1,5 +1,5 @@
 -- Open pairs as questions for chains, and what was answered to questions.
-use Rattle.std.specs.Prelude.{◌≡◌, ◌≢◌, ℕ, ◌+◌, ◌*◌, ◌<◌, ◌≤◌, Bool, false, List, length, get_or, slice_get, Option, Some, All}
+use Rattle.std.specs.Prelude.{◌≡◌, ◌≢◌, ℕ, ◌+◌, ◌*◌, ◌<◌, ◌≤◌, Bool, false, List, length, get_or, slice_get, Option, Some, All, IfSome, IfNone}
 use Rattle.std.specs.List.{AllPairs}
 use Rattle.fleet_model.specs.declared.program.ActionId.{ActionId}
 use Rattle.fleet_model.specs.declared.program.Visit.{Visit}
@@ -59,6 +59,21 @@ EnterApart pairs = AllPairs (λ (o u : OpenPair). o.second ≢ u.second) pairs
 pub record AreKnown (p : Program) (known : Answers) : Type 0 where
   pub answers : AreAnswers p known.questions.items known.flags.items
   pub apart : EndApart known.questions.items
+
+-- nothing is found if each of the pairs has a chain, and else what was answered to these questions for them
+pub record IsFoundByAsking (p : Program) (pairs : List OpenPair) (asked : List Question) (found : Option Answers) : Type 0 where
+  pub chained : IfNone found (All (IsChained p) pairs)
+  pub unchained : IfSome found (λ _. ¬ All (IsChained p) pairs)
+  pub answers : IfSome found (λ known. AreAnswers p known.questions.items known.flags.items)
+  pub questions : IfSome found (λ known. known.questions.items ≡ asked)
+
+-- nothing is found if each of the pairs has a chain, and else what is known: answers for all of them, if by these levels
+-- each may have one
+pub record IsFoundOfPairs (p : Program) (rows : List (List ℕ)) (pairs : List OpenPair) (found : Option Answers) : Type 0 where
+  pub chained : IfNone found (All (IsChained p) pairs)
+  pub unchained : IfSome found (λ _. ¬ All (IsChained p) pairs)
+  pub known : IfSome found (AreKnown p)
+  pub asked : IfSome found (λ known. All (BeginsLater rows) pairs → AreAsked p pairs known.questions.items)
 
 -- each of the questions is one of those that were asked
 abbrev pub AreAmong : List Question → List Question → Type 0

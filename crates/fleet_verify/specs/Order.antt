@@ -1,5 +1,5 @@
 -- The visits of a place among all visits in their order, and the first neighbours that break a rule.
-use Rattle.std.specs.Prelude.{◌≡◌, ℕ, ◌+◌, ◌*◌, ◌<◌, ◌≤◌, List, map, slice_get, filter, Option, Some, None, All, Contains, ◌⊎◌, [], ◌∷◌, ◌++◌, ◌/◌, ◌%◌}
+use Rattle.std.specs.Prelude.{◌≡◌, ◌≢◌, ℕ, ◌+◌, ◌*◌, ◌<◌, ◌≤◌, List, map, slice_get, filter, Option, Some, None, All, Contains, ◌⊎◌, [], ◌∷◌, ◌++◌, ◌/◌, ◌%◌}
 use Rattle.std.specs.List.{AllPairs}
 use Rattle.fleet_model.specs.declared.limits.TheConstants.{MAX_COORDINATE}
 use Rattle.fleet_model.specs.declared.geometry.Cell.{Cell}
@@ -54,6 +54,12 @@ abbrev pub IsOpenNext : (Visit → Visit → Type 0) → Option Visit → Placed
 IsOpenNext R last s old new =
     (((v : Visit) → last ≡ Some v → R v s.visit) × (new ≡ old))
     ⊎ ((v : Visit) × (last ≡ Some v) × (R v s.visit → ⊥) × (new ≡ old ++ record { cell = s.cell; first = v; second = s.visit } ∷ []))
+
+-- the visit is kept as the last one of its cell, and the pairs are those that are open then
+pub record IsVisitKept (R : Visit → Visit → Type 0) (s : PlacedVisit) (old new : Cell → Option Visit) (o os : List OpenPair) : Type 0 where
+  pub here : new s.cell ≡ Some s.visit
+  pub others : (c : Cell) → IsCell c → c ≢ s.cell → new c ≡ old c
+  pub pairs : IsOpenNext R (old s.cell) s o os
 
 -- the placed visits are all visits, and those of each place are sorted by level, agent and position
 pub record AreAllPlaced (p : Program) (placed : List PlacedVisit) : Type 0 where

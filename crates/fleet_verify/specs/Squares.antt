@@ -5,6 +5,7 @@ use Rattle.indexmap.specs.IndexMap.{IndexMap, get}
 use Rattle.fleet_model.specs.declared.geometry.Cell.{Cell}
 use Rattle.fleet_model.specs.declared.limits.TheConstants.{MAX_AGENTS, MAX_COORDINATE}
 use Rattle.fleet_model.specs.declared.program.Visit.{Visit}
+use Rattle.fleet_model.specs.Program.{IsCell}
 use Rattle.fleet_verify.specs.declared.last_visits.TheConstants.{SIDE, CELLS, HINTS_ACROSS, MOST_ROOM, NO_VISIT}
 
 -- for how many squares there is room at first: for all of a map of these sizes, unless so many visits are likely to be
@@ -43,6 +44,12 @@ visit_in (Some square) k = visit_kept (get_or square k NO_VISIT)
 pub record IsWritten (old new : List ℕ) (place n : ℕ) : Type 0 where
   pub here : get_or new place NO_VISIT ≡ n
   pub others : (k : ℕ) → k ≢ place → get_or new k NO_VISIT ≡ get_or old k NO_VISIT
+
+-- the visit is kept as the last one of the cell, after the one that was kept before, if any
+pub record IsKeptAfter (old new : Cell → Option Visit) (c : Cell) (v : Visit) (first : Option Visit) : Type 0 where
+  pub before : first ≡ old c
+  pub here : new c ≡ Some v
+  pub others : (d : Cell) → IsCell d → d ≢ c → new d ≡ old d
 
 module _ {S : Type 0} where
   -- the visit that the squares keep for the cell

@@ -94,6 +94,13 @@ pub record LeadsBack (p : Program) (cost : ActionId → ℕ) (b a : ActionId) : 
   pub critical : IsCriticalCost p cost a end
   pub all : IsCriticalCost p cost b (end + cost b)
 
+-- a is so as the action of the same agent before b, and ends at this time
+pub record IsOwnBefore (p : Program) (cost : ActionId → ℕ) (b a : ActionId) (t : ℕ) : Type 0 where
+  pub agent : a.agent ≡ b.agent
+  pub number : a.number + 1 ≡ b.number
+  pub before : LeadsBack p cost b a
+  pub end : IsCriticalCost p cost a t
+
 -- the path is a chain from its first action, which ends then, to this last one, which ends at the total
 pub record IsWayTo (p : Program) (cost : ActionId → ℕ) (last : ActionId) (total : ℕ) (path : List ActionId) (first : ActionId) (end : ℕ) : Type 0 where
   pub rest : List ActionId

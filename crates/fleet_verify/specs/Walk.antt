@@ -8,6 +8,7 @@ use Rattle.fleet_model.specs.declared.geometry.Place.{Place}
 use Rattle.fleet_model.specs.declared.task.Task.{Task}
 use Rattle.fleet_machine.specs.Machine.{MachineState, Runs, flag_of}
 use Rattle.fleet_verify.specs.declared.unheld_run.UnheldRun.{UnheldRun}
+use Rattle.fleet_verify.specs.declared.order.VisitOrder.{VisitOrder}
 use Rattle.fleet_verify.specs.declared.unheld_run.Stop.{Stop}
 use Rattle.fleet_verify.specs.declared.unheld_run.Stop.TheVariants.{OutOfMemory, OffGround}
 use Rattle.fleet_verify.specs.Faults.{EachAction, EndsRight, StandsRight}
@@ -47,6 +48,11 @@ moved_to m n = positions_of (flag_of m.moving) (count_at m.configuration) n
 abbrev pub position_in : MachineState → ℕ → Visit
 position_in m i = record { agent = i; position = count_at m.configuration i }
 
+-- the machine is at its start
+pub record IsAtOpening (p : Program) (m : MachineState) : Type 0 where
+  pub runs : Runs p m
+  pub opening : m.configuration ≡ opening p
+
 -- t ticks without holds have led the machine to the end of their run
 pub record IsEnded (p : Program) (m : MachineState) (t : ℕ) : Type 0 where
   pub runs : Runs p m
@@ -56,6 +62,11 @@ pub record IsEnded (p : Program) (m : MachineState) (t : ℕ) : Type 0 where
 -- at these positions of their paths the agents are on passable ground
 abbrev pub AreOnGround : (Place → Bool) → Program → List Visit → Type 0
 AreOnGround passable p positions = All (λ v. StandsRight passable p v.agent v.position) positions
+
+-- the visits that begin with these positions were added, and all positions are on passable ground
+pub record AreAddedOnGround (passable : Place → Bool) (p : Program) (positions : List Visit) (order : VisitOrder) : Type 0 where
+  pub added : AreAdded p positions order
+  pub on_ground : AreOnGround passable p positions
 
 -- some path leaves passable ground
 abbrev pub LeavesGround : (Place → Bool) → Program → Type 0

@@ -1,16 +1,16 @@
 //! A verifier without ticks: each agent runs on as far as its awaits allow. It only says yes, or what was answered.
 
-ghost use Rattle.std.specs.Prelude.{◌≡◌, ◌≢◌, ◌<◌, ◌≤◌, ◌+◌, ◌↔◌, ◌⊎◌, All, get_or, set, ℕ, Some, None, IsTrue, length, max, IfOk, IfErr, IfNone, IfSome, OnOk, List, [], ◌∷◌, ◌++◌};
+ghost use Rattle.std.specs.Prelude.{◌≡◌, ◌<◌, ◌≤◌, ◌+◌, ◌↔◌, ◌⊎◌, All, get_or, ℕ, Some, None, IsTrue, length, max, IfOk, IfErr, IfNone, IfSome, OnOk, List, [], ◌∷◌, ◌++◌};
 ghost use Rattle.fleet_model.specs.declared.geometry.Cell.{Cell};
 ghost use Rattle.fleet_model.specs.declared.program.Visit.{Visit};
 ghost use Rattle.fleet_model.specs.Geometry.{place_of};
-ghost use Rattle.fleet_verify.specs.Order.{AreAddedBy, IsOpenNext, numbered_cell};
-ghost use Rattle.fleet_model.specs.Program.{Program, start_of, moves, awaits_of, path, IsCell};
+ghost use Rattle.fleet_verify.specs.Order.{AreAddedBy, numbered_cell, IsOpenNext, IsVisitKept};
+ghost use Rattle.fleet_model.specs.Program.{Program, start_of, moves, awaits_of, IsCell};
 ghost use Rattle.fleet_model.specs.Visit.{IsVisit, ComesAfterByAwait, leaving};
 ghost use Rattle.fleet_grid.specs.Ground.{is_passable};
 ghost use Rattle.fleet_model.specs.Chain.{awaited};
 ghost use Rattle.fleet_model.specs.declared.limits.TheConstants.{MAX_MOVES_IN_ALL};
-ghost use Rattle.fleet_verify.specs.Ahead.{IsRanked, IsAhead, IsNext, IsRunner, AreNeeds, AddsLevel, AreDone, AreKeptOnGround, AreEarlier, IsAwaitOrOwn, IsLastAwait, IsKeptBack, IsStopped, IsBareNoMore, HaveFinished, IsRunOn, KeepsOthers, NobodyGoesOn, count_in, stand, level_in, climbed_in};
+ghost use Rattle.fleet_verify.specs.Ahead.{IsRanked, IsAhead, IsNext, IsRunner, AreNeeds, AreDone, IsAwaitOrOwn, IsKeptBack, HaveFinished, count_in, stand, level_in, climbed_in, AreKeptBefore, HasCome, AreNextNeeds, HasRunOut, HasStopped, IsEntry, HasGoneOn, HasRaised, AreStill, ComesOnto, HasRunBare};
 ghost use Rattle.fleet_verify.specs.Rising.{climbed, last_level};
 ghost use Rattle.fleet_verify.specs.Faults.{HasStarts};
 ghost use Rattle.fleet_verify.specs.LastVisits.{kept_at};
@@ -105,10 +105,8 @@ pub fn needs_of<P: ProgramView>(
     requires rows { length rows.now.items ≡ length (P.program program.now) }
     requires next { IsNext (P.program program.now) (P.offset program.now) rows.now.items agent
         runner }
-    ensures needs { IfOk result (AreNeeds (P.program program.now) (P.offset program.now)
-        (climbed_in rows.now.items agent runner.finished) agent runner.finished) }
-    ensures latest { IfOk result (λ n. IsLastAwait (P.program program.now) agent (runner.finished + 1)
-        (length (awaits_of (P.program program.now) agent (runner.finished + 1))) n.latest) }
+    ensures says { IfOk result (AreNextNeeds (P.program program.now) (P.offset program.now)
+        rows.now.items agent runner) }
     ensures agent { IfErr result (λ w. w.agent < length (P.program program.now)) }
     ensures level { IfOk result (λ n. n.level ≤ MAX_MOVES_IN_ALL) }
     ensures waits { IfErr result (IsKeptBack (P.program program.now)
@@ -170,11 +168,8 @@ fn finish_next<P: ProgramView>(
     requires left { runner.finished < moves (P.program program.now) agent }
     requires needs { AreNeeds (P.program program.now) (P.offset program.now)
         (climbed_in ahead.old.rows.items agent runner.finished) agent runner.finished needs }
-    ensures runner { IfOk result (IsRunner (is_passable grid.now) (P.program program.now)
-        (P.offset program.now) ahead.new agent) }
-    ensures finished { IfOk result (λ r. r.finished ≡ runner.finished + 1) }
-    ensures level { IfOk result (λ r. r.level ≡ needs.level) }
-    ensures others { OnOk result (KeepsOthers ahead.old.rows.items ahead.new.rows.items agent) }
+    ensures gone { IfOk result (HasGoneOn (is_passable grid.now) (P.program program.now)
+        (P.offset program.now) ahead.old ahead.new agent needs.level runner) }
     ensures stop { IfErr result (IsStop (is_passable grid.now) (P.program program.now)) }
 {
     let _agents = program.agents();
@@ -203,11 +198,7 @@ fn raise(
         ≡ last_level (climbed (get_or rows.old.items agent []) runner.finished) }
     requires few { runner.finished < u32.MAX }
     requires some { 1 ≤ level }
-    ensures rows { OnOk result (length rows.new.items ≡ length rows.old.items) }
-    ensures begun { OnOk result (count_in rows.new.items agent ≤ runner.finished + 1) }
-    ensures raised { OnOk result (AddsLevel (climbed_in rows.old.items agent runner.finished)
-        (climbed_in rows.new.items agent (runner.finished + 1)) agent level) }
-    ensures others { OnOk result (KeepsOthers rows.old.items rows.new.items agent) }
+    ensures { OnOk result (HasRaised rows.old.items rows.new.items agent runner.finished level) }
 {
     let climbs = level - 1 == runner.level;
     if climbs {
@@ -247,18 +238,8 @@ fn arrive<P: ProgramView>(
     requires left { runner.finished < moves (P.program program.now) agent }
     requires needs { AreNeeds (P.program program.now) (P.offset program.now)
         (climbed_in ahead.old.rows.items agent runner.finished) agent runner.finished needs }
-    ensures rows { OnOk result (ahead.new.rows.items ≡ ahead.old.rows.items) }
-    ensures cells { OnOk result (ahead.new.cells.items ≡ ahead.old.cells.items) }
-    ensures here { IfOk result (λ number. place_of (numbered_cell number)
-        ≡ path (P.program program.now) agent (runner.finished + 1)) }
-    ensures ground { IfOk result (λ number.
-        IsTrue (is_passable grid.now (place_of (numbered_cell number)))) }
-    ensures added { OnOk result ((visits : List Visit)
-        → AreAddedBy (P.program program.now) visits (kept_at ahead.old.last)
-        ahead.old.pairs.items
-        → AreAddedBy (P.program program.now)
-        (visits ++ record { agent = agent; position = runner.finished + 1 } ∷ [])
-        (kept_at ahead.new.last) ahead.new.pairs.items) }
+    ensures comes { IfOk result (ComesOnto (is_passable grid.now) (P.program program.now)
+        ahead.old ahead.new agent (runner.finished + 1)) }
     ensures stop { IfErr result (IsStop (is_passable grid.now) (P.program program.now)) }
 {
     // What these calls ensure is known: a well-formed program, and a map that ends before the numbers of a cell do.
@@ -302,17 +283,11 @@ fn enter<P: ProgramView>(
     placed: PlacedVisit,
     latest: Await,
 ) -> Result<(), Stop>
-    requires visit { IsVisit (P.program program.now) placed.visit }
-    requires latest { IsAwaitOrOwn (P.program program.now) placed.visit.agent placed.visit.position
-        latest }
-    requires ground { AreKeptOnGround (is_passable grid.now) (kept_at last.old) }
-    requires earlier { AreEarlier (kept_at last.old) placed.visit }
+    requires entry { IsEntry (P.program program.now) placed.visit latest }
+    requires before { AreKeptBefore (is_passable grid.now) (kept_at last.old) placed.visit }
     ensures ground { OnOk result (IsTrue (is_passable grid.now (place_of placed.cell))) }
-    ensures here { OnOk result (kept_at last.new placed.cell ≡ Some placed.visit) }
-    ensures others { OnOk result ((c : Cell) → IsCell c → c ≢ placed.cell
-        → kept_at last.new c ≡ kept_at last.old c) }
-    ensures pairs { OnOk result (IsOpenNext (ComesAfterByAwait (P.program program.now))
-        (kept_at last.old placed.cell) placed pairs.old.items pairs.new.items) }
+    ensures kept { OnOk result (IsVisitKept (ComesAfterByAwait (P.program program.now)) placed
+        (kept_at last.old) (kept_at last.new) pairs.old.items pairs.new.items) }
     ensures cell { IsCell placed.cell }
     ensures stop { IfErr result (IsStopAt (is_passable grid.now) (place_of placed.cell)) }
 {
@@ -372,9 +347,7 @@ fn open_unless_follows<P: ProgramView>(
     latest: Await,
     pairs: &mut Vec<OpenPair>,
 ) -> Result<(), OutOfMemory>
-    requires visit { IsVisit (P.program program.now) placed.visit }
-    requires latest { IsAwaitOrOwn (P.program program.now) placed.visit.agent placed.visit.position
-        latest }
+    requires entry { IsEntry (P.program program.now) placed.visit latest }
     requires earlier { first.agent ≡ placed.visit.agent
         → first.position < placed.visit.position }
     ensures { OnOk result (IsOpenNext (ComesAfterByAwait (P.program program.now)) (Some first)
@@ -476,10 +449,8 @@ fn bare_needs<P: ProgramView>(
     requires next { IsNext (P.program program.now) (P.offset program.now) rows.now.items agent
         runner }
     requires fits { runner.level < u32.MAX }
-    ensures needs { IfSome result (AreNeeds (P.program program.now) (P.offset program.now)
-        (climbed_in rows.now.items agent runner.finished) agent runner.finished) }
-    ensures latest { IfSome result (λ n. IsLastAwait (P.program program.now) agent (runner.finished + 1)
-        (length (awaits_of (P.program program.now) agent (runner.finished + 1))) n.latest) }
+    ensures says { IfSome result (AreNextNeeds (P.program program.now) (P.offset program.now)
+        rows.now.items agent runner) }
     ensures level { IfSome result (λ n. n.level ≡ runner.level + 1) }
     ensures none { IfNone result
         (1 ≤ length (awaits_of (P.program program.now) agent (runner.finished + 1))) }
@@ -528,12 +499,8 @@ fn run_bare<P: ProgramView>(
 ) -> Result<Runner, Stop>
     requires runner { IsRunner (is_passable grid.now) (P.program program.now) (P.offset program.now)
         ahead.old agent runner }
-    ensures runner { IfOk result (IsRunner (is_passable grid.now) (P.program program.now)
-        (P.offset program.now) ahead.new agent) }
-    ensures finished { IfOk result (λ r. runner.finished ≤ r.finished) }
-    ensures rest { IfOk result (λ r. IsBareNoMore (P.program program.now)
-        agent r.finished runner.level) }
-    ensures others { OnOk result (KeepsOthers ahead.old.rows.items ahead.new.rows.items agent) }
+    ensures ran { IfOk result (HasRunBare (is_passable grid.now) (P.program program.now)
+        (P.offset program.now) ahead.old ahead.new agent runner) }
     ensures stop { IfErr result (IsStop (is_passable grid.now) (P.program program.now)) }
 {
     let moves = program.moves(agent);
@@ -561,12 +528,8 @@ pub fn run_agent<P: ProgramView>(
 ) -> Result<Option<Await>, Stop>
     requires ahead { IsAhead (is_passable grid.now) (P.program program.now) ahead.old }
     requires agent { agent < length (P.program program.now) }
-    ensures ahead { OnOk result (IsAhead (is_passable grid.now) (P.program program.now) ahead.new) }
-    ensures waits { IfOk result (λ w. IfSome w
-        (λ a. a.agent < length (P.program program.now))) }
-    ensures stopped { IfOk result (IsStopped (P.program program.now)
-        ahead.new.rows.items agent) }
-    ensures run_on { OnOk result (IsRunOn ahead.old.rows.items ahead.new.rows.items agent) }
+    ensures ran { IfOk result (HasRunOut (is_passable grid.now) (P.program program.now)
+        ahead.old ahead.new agent) }
     ensures stop { IfErr result (IsStop (is_passable grid.now) (P.program program.now)) }
 {
     let _agents = program.agents();
@@ -598,10 +561,7 @@ pub fn runner_of<P: ProgramView>(program: &P, ahead: &Ahead, agent: u16) -> Runn
     requires agent { agent < length (P.program program.now) }
     requires within { count_in ahead.now.rows.items agent
         ≤ moves (P.program program.now) agent }
-    ensures finished { result.finished ≡ count_in ahead.now.rows.items agent }
-    ensures at { result.at ≡ P.offset program.now agent result.finished 0 }
-    ensures level { result.level ≡ last_level (get_or ahead.now.rows.items agent []) }
-    ensures cell { stand result ≡ get_or ahead.now.cells.items agent (stand result) }
+    ensures { HasCome (P.offset program.now) ahead.now agent result }
 {
     let row = row_of(&ahead.rows, agent);
     let finished = row.count();
@@ -620,10 +580,7 @@ fn stop_at(ahead: &mut Ahead, agent: u16, runner: Runner)
     requires begun { count_in ahead.old.rows.items agent ≤ runner.finished }
     requires level { runner.level
         ≡ last_level (climbed (get_or ahead.old.rows.items agent []) runner.finished) }
-    ensures rows { ahead.new.rows.items ≡ climbed_in ahead.old.rows.items agent runner.finished }
-    ensures cells { ahead.new.cells.items ≡ set ahead.old.cells.items agent (stand runner) }
-    ensures last { kept_at ahead.new.last ≡ kept_at ahead.old.last }
-    ensures pairs { ahead.new.pairs.items ≡ ahead.old.pairs.items }
+    ensures { HasStopped ahead.old ahead.new agent runner }
 {
     let Runner {
         finished,
@@ -722,8 +679,7 @@ fn judge_ahead<P: ProgramView>(
 
 /// All agents, run on as far as their awaits allow.
 fn run_all<P: ProgramView>(alloc: Global, program: &P, grid: &Grid) -> Result<Ahead, Stop>
-    ensures ahead { IfOk result (IsAhead (is_passable grid.now) (P.program program.now)) }
-    ensures still { IfOk result (λ a. NobodyGoesOn (P.program program.now) a.rows.items) }
+    ensures still { IfOk result (AreStill (is_passable grid.now) (P.program program.now)) }
     ensures stop { IfErr result (IsStop (is_passable grid.now) (P.program program.now)) }
 {
     let mut ahead = begin(alloc, program, grid)?;

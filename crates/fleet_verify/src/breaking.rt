@@ -1,18 +1,18 @@
 //! Holds that bring two agents onto one cell, if their visits of it have no order.
 
-ghost use Rattle.std.specs.Prelude.{◌≡◌, ℕ, ◌<◌, ◌≤◌, ◌↔◌, IsTrue, IfOk, OnOk, All, false, get_or, length, slice_index, map};
+ghost use Rattle.std.specs.Prelude.{◌≡◌, ℕ, ◌<◌, ◌≤◌, ◌↔◌, IsTrue, IfOk, OnOk, All, false, get_or, length, map};
 ghost use Rattle.std.specs.List.Sorted.{IsStrictlyIncreasing};
 ghost use Rattle.fleet_model.specs.declared.geometry.Place.{Place};
 ghost use Rattle.fleet_model.specs.declared.program.ActionId.{ActionId};
 ghost use Rattle.fleet_model.specs.Program.{AreInRange};
 ghost use Rattle.fleet_model.specs.Chain.{IsNumbering};
-ghost use Rattle.fleet_model.specs.Visit.{IsVisit};
-ghost use Rattle.fleet_model.specs.Machine.{count_at, opening, tick};
+ghost use Rattle.fleet_model.specs.Machine.{count_at, tick};
 ghost use Rattle.fleet_machine.specs.Machine.{Runs};
 ghost use Rattle.fleet_model.specs.Visit.{AreUnordered};
 ghost use Rattle.fleet_verify.specs.Breaking.{is_held_by, held_row};
 ghost use Rattle.fleet_model.specs.Breaking.{AreBreakingHolds, MeetOn};
-ghost use Rattle.fleet_verify.specs.Needed.{AreNeeded};
+ghost use Rattle.fleet_verify.specs.Needed.{AreTwoVisits, IsNeededRow};
+ghost use Rattle.fleet_verify.specs.Walk.{IsAtOpening};
 
 use crate::needed::needed_for;
 use fleet_machine::Machine;
@@ -54,12 +54,9 @@ fn holds_by<P: ProgramView>(
     needed: &[u32],
     machine: &mut Machine,
 ) -> Result<Vec<Vec<u16>>, OutOfMemory>
-    requires runs { Runs (P.program program.now) machine.old }
-    requires opening { machine.old.configuration ≡ opening (P.program program.now) }
-    requires v { IsVisit (P.program program.now) v }
-    requires w { IsVisit (P.program program.now) w }
-    requires all { length needed.now ≡ length (P.program program.now) }
-    requires needed { AreNeeded (P.program program.now) v w (slice_index needed.now) }
+    requires start { IsAtOpening (P.program program.now) machine.old }
+    requires visits { AreTwoVisits (P.program program.now) v w }
+    requires needed { IsNeededRow (P.program program.now) v w needed.now }
     requires range { AreInRange (P.program program.now) }
     requires numbering { (number : ActionId → ℕ) × IsNumbering (P.program program.now) number }
     ensures { IfOk result (λ holds.

@@ -7,7 +7,7 @@ ghost use Rattle.fleet_needs.specs.Asked.{AreAnswers};
 ghost use Rattle.fleet_verify.specs.LevelOrder.{AreAllLevels};
 ghost use Rattle.fleet_verify.specs.LevelRows.{HasLevels};
 ghost use Rattle.fleet_verify.specs.OpenPairs.{AreVisits};
-ghost use Rattle.fleet_verify.specs.Chained.{key_of, AreKnown, IsChained, IsAskedOf, AreAsked, BeginsLate, BeginsLater, EnterApart};
+ghost use Rattle.fleet_verify.specs.Chained.{key_of, IsChained, IsAskedOf, AreAsked, BeginsLate, BeginsLater, EnterApart, IsFoundByAsking, IsFoundOfPairs};
 
 use crate::level_row::{AllLevels, LevelRow, row_of};
 use crate::order::{OpenPair, leaving};
@@ -224,14 +224,8 @@ pub fn unless_chained<P: ProgramView>(
     requires levels { AreAllLevels (P.program program.now) levels }
     requires visits { All (AreVisits (P.program program.now)) pairs.items }
     requires apart { EnterApart pairs.items }
-    ensures chained { IfOk result (λ found. IfNone found
-        (All (IsChained (P.program program.now)) pairs.items)) }
-    ensures unchained { IfOk result (λ found. IfSome found (λ _.
-        ¬ All (IsChained (P.program program.now)) pairs.items)) }
-    ensures known { IfOk result (λ found. IfSome found (AreKnown (P.program program.now))) }
-    ensures asked { IfOk result (λ found. IfSome found (λ known.
-        All (BeginsLater levels.rows.items) pairs.items
-        → AreAsked (P.program program.now) pairs.items known.questions.items)) }
+    ensures { IfOk result
+        (IsFoundOfPairs (P.program program.now) levels.rows.items pairs.items) }
 {
     match ask_all(alloc, program, &levels.rows, &pairs)? {
         Some(questions) => answer_asked(alloc, program, levels, pairs, questions),
@@ -250,14 +244,8 @@ fn answer_asked<P: ProgramView>(
 ) -> Result<Option<Answers>, OutOfMemory>
     requires levels { AreAllLevels (P.program program.now) levels }
     requires asked { AreAsked (P.program program.now) pairs.items questions.items }
-    ensures chained { IfOk result (λ found. IfNone found
-        (All (IsChained (P.program program.now)) pairs.items)) }
-    ensures unchained { IfOk result (λ found. IfSome found (λ _.
-        ¬ All (IsChained (P.program program.now)) pairs.items)) }
-    ensures answers { IfOk result (λ found. IfSome found (λ known.
-        AreAnswers (P.program program.now) known.questions.items known.flags.items)) }
-    ensures questions { IfOk result (λ found. IfSome found (λ known.
-        known.questions.items ≡ questions.items)) }
+    ensures { IfOk result
+        (IsFoundByAsking (P.program program.now) pairs.items questions.items) }
 {
     let_go(pairs);
     let answers = Answers::to(alloc, program, levels, questions)?;

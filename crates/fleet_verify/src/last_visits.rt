@@ -5,7 +5,7 @@ ghost use Rattle.fleet_model.specs.declared.geometry.Cell.{Cell};
 ghost use Rattle.fleet_model.specs.declared.limits.TheConstants.{MAX_AGENTS, MAX_MOVES};
 ghost use Rattle.fleet_model.specs.Program.{IsCell};
 ghost use Rattle.fleet_verify.specs.declared.last_visits.TheConstants.{CELLS, MOST_ROOM, NO_SQUARE, NO_VISIT};
-ghost use Rattle.fleet_verify.specs.Squares.{room_for, square_of, place_in_square, place_of_hint, visit_kept, last_in, IsNoted, IsSquareAt, IsWritten};
+ghost use Rattle.fleet_verify.specs.Squares.{room_for, square_of, place_in_square, place_of_hint, visit_kept, last_in, IsNoted, IsSquareAt, IsWritten, IsKeptAfter};
 
 use fleet_model::{Cell, MAX_AGENTS, MAX_COORDINATE, OutOfMemory, Visit};
 use indexmap::IndexMap;
@@ -99,10 +99,8 @@ impl LastVisits {
     pub fn replace(&mut self, cell: Cell, visit: Visit) -> Result<Option<Visit>, OutOfMemory>
         requires agent { visit.agent < MAX_AGENTS }
         requires position { visit.position ≤ MAX_MOVES }
-        ensures before { IfOk result (λ before. before ≡ kept_at self.old cell) }
-        ensures here { OnOk result (kept_at self.new cell ≡ Some visit) }
-        ensures others { OnOk result ((c : Cell) → IsCell c → c ≢ cell
-            → kept_at self.new c ≡ kept_at self.old c) }
+        ensures kept { IfOk result
+            (IsKeptAfter (kept_at self.old) (kept_at self.new) cell visit) }
         ensures cell { IsCell cell }
     {
         let number = number_of_square(cell);
@@ -182,10 +180,7 @@ fn replace_in(
     requires at { IsSquareAt squares.old (square_of cell) slot }
     requires agent { visit.agent < MAX_AGENTS }
     requires position { visit.position ≤ MAX_MOVES }
-    ensures before { result ≡ last_in squares.old cell }
-    ensures here { last_in squares.new cell ≡ Some visit }
-    ensures others { (c : Cell) → IsCell c → c ≢ cell
-        → last_in squares.new c ≡ last_in squares.old c }
+    ensures kept { IsKeptAfter (last_in squares.old) (last_in squares.new) cell visit result }
     ensures stays { IsSquareAt squares.new (square_of cell) slot }
     ensures cell { IsCell cell }
 {

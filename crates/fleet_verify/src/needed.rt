@@ -1,10 +1,9 @@
 //! Which actions two visits need through chains.
 
-ghost use Rattle.std.specs.Prelude.{◌≡◌, ◌≢◌, ◌<◌, ◌≤◌, ℕ, IsTrue, IsFalse, length, slice_index, IfOk};
+ghost use Rattle.std.specs.Prelude.{◌≡◌, ◌≢◌, ◌<◌, ◌≤◌, ℕ, length, slice_index, IfOk};
 ghost use Rattle.fleet_model.specs.Program.{moves, IsWellFormed, AreInRange};
 ghost use Rattle.fleet_model.specs.declared.program.Visit.{Visit};
-ghost use Rattle.fleet_model.specs.Visit.{IsVisit};
-ghost use Rattle.fleet_verify.specs.Needed.{IsRaised, IsLooking, looked_sum, AreNeeded};
+ghost use Rattle.fleet_verify.specs.Needed.{IsRaised, AreNeeded, AreTwoVisits, AreZeros, HasLookedOn, IsNeededRow};
 
 use fleet_model::{OutOfMemory, ProgramView, Visit, total_moves};
 use std::alloc::Global;
@@ -16,13 +15,11 @@ pub fn needed_for<P: ProgramView>(
     first: Visit,
     second: Visit,
 ) -> Result<Vec<u32>, OutOfMemory>
-    requires first { IsVisit (P.program program.now) first }
-    requires second { IsVisit (P.program program.now) second }
+    requires visits { AreTwoVisits (P.program program.now) first second }
     requires apart { first.agent ≢ second.agent }
     requires range { AreInRange (P.program program.now) }
-    ensures all { IfOk result (λ needed. length needed.items ≡ length (P.program program.now)) }
-    ensures needed { IfOk result (λ needed.
-        AreNeeded (P.program program.now) first second (slice_index needed.items)) }
+    ensures { IfOk result (λ needed.
+        IsNeededRow (P.program program.now) first second needed.items) }
 {
     let mut needed = zeros(alloc, program.agents())?;
     let mut looked = zeros(alloc, program.agents())?;
@@ -32,8 +29,7 @@ pub fn needed_for<P: ProgramView>(
 
 /// A row of so many zeros.
 fn zeros(alloc: Global, n: u16) -> Result<Vec<u32>, OutOfMemory>
-    ensures all { IfOk result (λ row. length row.items ≡ n) }
-    ensures zero { IfOk result (λ row. (j : ℕ) → slice_index row.items j ≡ 0) }
+    ensures { IfOk result (λ row. AreZeros n row.items) }
 {
     Ok(vec![in alloc; 0; usize::from(n)]?)
 }
@@ -46,14 +42,11 @@ fn close<P: ProgramView>(
     needed: &mut [u32],
     looked: &mut [u32],
 )
-    requires first { IsVisit (P.program program.now) first }
-    requires second { IsVisit (P.program program.now) second }
+    requires visits { AreTwoVisits (P.program program.now) first second }
     requires apart { first.agent ≢ second.agent }
     requires range { AreInRange (P.program program.now) }
-    requires wide { length needed.old ≡ length (P.program program.now) }
-    requires long { length looked.old ≡ length (P.program program.now) }
-    requires none_needed { (j : ℕ) → slice_index needed.old j ≡ 0 }
-    requires none_looked { (j : ℕ) → slice_index looked.old j ≡ 0 }
+    requires needed { AreZeros (length (P.program program.now)) needed.old }
+    requires looked { AreZeros (length (P.program program.now)) looked.old }
     ensures { AreNeeded (P.program program.now) first second (slice_index needed.new) }
 {
     needed[first.agent as usize] = first.position;
@@ -76,12 +69,8 @@ fn look_at_next<P: ProgramView>(program: &P, needed: &mut [u32], looked: &mut [u
     requires wide { length needed.old ≡ length (P.program program.now) }
     requires long { length looked.old ≡ length (P.program program.now) }
     requires actions { (j : ℕ) → slice_index needed.old j ≤ moves (P.program program.now) j }
-    ensures looking { (v w : Visit) → IsLooking (P.program program.now) v w needed.old looked.old
-        → IsLooking (P.program program.now) v w needed.new looked.new }
-    ensures some { IsTrue result → looked_sum (P.program program.now) looked.old
-        < looked_sum (P.program program.now) looked.new }
-    ensures none { IsFalse result → (j : ℕ) → j < length (P.program program.now)
-        → slice_index needed.new j ≤ slice_index looked.new j }
+    ensures { HasLookedOn (P.program program.now) needed.old looked.old needed.new looked.new
+        result }
 {
     let mut some = false;
     for j in 0..program.agents() {

@@ -13,7 +13,7 @@ ghost use Rattle.fleet_grid.specs.Ground.{is_passable};
 ghost use Rattle.fleet_verify.specs.declared.order.OrderViolation.{OrderViolation};
 ghost use Rattle.fleet_verify.specs.declared.fault.VerifyFault.TheVariants.{Unordered};
 ghost use Rattle.fleet_verify.specs.LastVisits.{kept_at};
-ghost use Rattle.fleet_verify.specs.Order.{number_of, AreAddedBy, AreAllAdded, AreAllViolations, IsPathOrderly, IsOpenNext};
+ghost use Rattle.fleet_verify.specs.Order.{number_of, AreAddedBy, AreAllAdded, AreAllViolations, IsPathOrderly, IsOpenNext, IsVisitKept};
 ghost use Rattle.fleet_verify.specs.Faults.{HasRanges, IsFault};
 ghost use Rattle.std.specs.Option.{option_or};
 ghost use Rattle.fleet_needs.specs.Asked.{IsQuestion};
@@ -350,11 +350,8 @@ fn keep_visit<P: ProgramView>(
     placed: PlacedVisit,
 ) -> Result<(), OutOfMemory>
     requires { IsVisit (P.program program.now) placed.visit }
-    ensures here { OnOk result (kept_at last.new placed.cell ≡ Some placed.visit) }
-    ensures others { OnOk result ((c : Cell) → IsCell c → c ≢ placed.cell
-        → kept_at last.new c ≡ kept_at last.old c) }
-    ensures pairs { OnOk result (IsOpenNext (ComesAfterByAwait (P.program program.now))
-        (kept_at last.old placed.cell) placed pairs.old.items pairs.new.items) }
+    ensures kept { OnOk result (IsVisitKept (ComesAfterByAwait (P.program program.now)) placed
+        (kept_at last.old) (kept_at last.new) pairs.old.items pairs.new.items) }
     ensures cell { IsCell placed.cell }
 {
     let _agents = program.agents();

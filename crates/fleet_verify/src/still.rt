@@ -4,7 +4,7 @@ ghost use Rattle.std.specs.Prelude.{◌≡◌, ◌<◌, ◌≤◌, ℕ, false, l
 ghost use Rattle.fleet_grid.specs.Ground.{is_passable};
 ghost use Rattle.fleet_model.specs.declared.program.Await.{Await};
 ghost use Rattle.fleet_model.specs.Program.{moves};
-ghost use Rattle.fleet_verify.specs.Ahead.{CanGoOn, IsAhead, IsStopped, NobodyGoesOn, count_in};
+ghost use Rattle.fleet_verify.specs.Ahead.{CanGoOn, IsAhead, IsStopped, NobodyGoesOn, count_in, AreStill, IsStoppedAhead};
 ghost use Rattle.fleet_verify.specs.Walk.{IsStop};
 
 use crate::ahead::{Ahead, has_finished, needs_of, run_agent, runner_of};
@@ -24,8 +24,8 @@ pub fn run_ahead<P: ProgramView>(
     ahead: &mut Ahead,
 ) -> Result<(), Stop>
     requires { IsAhead (is_passable grid.now) (P.program program.now) ahead.old }
-    ensures ahead { OnOk result (IsAhead (is_passable grid.now) (P.program program.now) ahead.new) }
-    ensures still { OnOk result (NobodyGoesOn (P.program program.now) ahead.new.rows.items) }
+    ensures still { OnOk result
+        (AreStill (is_passable grid.now) (P.program program.now) ahead.new) }
     ensures stop { IfErr result (IsStop (is_passable grid.now) (P.program program.now)) }
 {
     let agents = program.agents();
@@ -51,10 +51,8 @@ fn look_at<P: ProgramView>(
     requires ahead { IsAhead (is_passable grid.now) (P.program program.now) ahead.old }
     requires queue { queue.old ≡ length (P.program program.now) }
     requires agent { agent < length (P.program program.now) }
-    ensures ahead { OnOk result (IsAhead (is_passable grid.now) (P.program program.now) ahead.new) }
-    ensures queue { OnOk result (queue.new ≡ queue.old) }
-    ensures stopped { OnOk result ((w : Option Await)
-        × IsStopped (P.program program.now) ahead.new.rows.items agent w) }
+    ensures stopped { OnOk result (IsStoppedAhead (is_passable grid.now) (P.program program.now)
+        ahead.new agent queue.old queue.new) }
     ensures stop { IfErr result (IsStop (is_passable grid.now) (P.program program.now)) }
 {
     if let Some(awaited) = run_agent(program, grid, ahead, agent)? {
@@ -104,8 +102,8 @@ fn free_agent<P: ProgramView>(program: &P, ahead: &Ahead) -> Option<u16>
 /// Lets agents run on until nobody can. Mostly nobody can from the outset: it takes one look at each agent.
 fn run_rest<P: ProgramView>(program: &P, grid: &Grid, ahead: &mut Ahead) -> Result<(), Stop>
     requires { IsAhead (is_passable grid.now) (P.program program.now) ahead.old }
-    ensures ahead { OnOk result (IsAhead (is_passable grid.now) (P.program program.now) ahead.new) }
-    ensures still { OnOk result (NobodyGoesOn (P.program program.now) ahead.new.rows.items) }
+    ensures still { OnOk result
+        (AreStill (is_passable grid.now) (P.program program.now) ahead.new) }
     ensures stop { IfErr result (IsStop (is_passable grid.now) (P.program program.now)) }
 {
     while let Some(agent) = free_agent(program, ahead) {

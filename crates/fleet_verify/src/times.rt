@@ -6,7 +6,7 @@ ghost use Rattle.fleet_model.specs.declared.program.ActionId.{ActionId};
 ghost use Rattle.fleet_verify.specs.declared.times.TheConstants.{LONGEST};
 ghost use Rattle.fleet_model.specs.Program.{moves, AreInRange};
 ghost use Rattle.fleet_model.specs.Chain.{IsAction, IsCriticalCost};
-ghost use Rattle.fleet_verify.specs.Times.{ArrivesAt, EachArrivesAt, HaveArrivedAt, IsCriticalPath, IsLatest, IsLater, LeadsBack, IsAwaitedUntil, IsOwnUntil, FollowsOwn, IsNeedUntil, IsFreeTo, EachFreeTo, IsWayTo, IsStretchTo, IsWholeTo};
+ghost use Rattle.fleet_verify.specs.Times.{ArrivesAt, EachArrivesAt, HaveArrivedAt, IsCriticalPath, IsLatest, IsLater, LeadsBack, IsAwaitedUntil, IsOwnUntil, FollowsOwn, IsNeedUntil, IsFreeTo, EachFreeTo, IsWayTo, IsStretchTo, IsWholeTo, IsOwnBefore};
 ghost use Rattle.fleet_verify.specs.Stretch.{first_of, stretch_actions, path_actions};
 
 use crate::level_row::Levels;
@@ -323,12 +323,8 @@ impl<'a, P: ProgramView, C: ActionCosts> Times<'a, P, C> {
         requires action { IsAction (P.program self.now.program) action }
         requires end { IsCriticalCost (P.program self.now.program) (C.cost self.now.costs) action
             end }
-        ensures agent { IfSome result (λ found. found.0.agent ≡ action.agent) }
-        ensures number { IfSome result (λ found. found.0.number + 1 ≡ action.number) }
-        ensures before { IfSome result (λ found. LeadsBack
-            (P.program self.now.program) (C.cost self.now.costs) action found.0) }
-        ensures end { IfSome result (λ found. IsCriticalCost
-            (P.program self.now.program) (C.cost self.now.costs) found.0 found.1) }
+        ensures some { IfSome result (λ found. IsOwnBefore
+            (P.program self.now.program) (C.cost self.now.costs) action found.0 found.1) }
         ensures none { IfNone result ((a : ActionId) → FollowsOwn
             (P.program self.now.program) (C.cost self.now.costs) action end a → ⊥) }
     {

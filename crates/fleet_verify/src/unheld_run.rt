@@ -5,12 +5,12 @@ ghost use Rattle.std.specs.Prelude.{◌≡◌, ◌<◌, ◌++◌, ◌∷◌, [],
 ghost use Rattle.fleet_model.specs.declared.program.Visit.{Visit};
 ghost use Rattle.fleet_model.specs.Geometry.{place_of};
 ghost use Rattle.fleet_model.specs.Program.{IsCell, moves, AreInRange};
-ghost use Rattle.fleet_model.specs.Machine.{opening, count_at, IsReached, is_stuck};
+ghost use Rattle.fleet_model.specs.Machine.{count_at, IsReached, is_stuck};
 ghost use Rattle.fleet_grid.specs.Ground.{is_passable};
 ghost use Rattle.fleet_machine.specs.Machine.{Runs, flag_of};
 ghost use Rattle.fleet_verify.specs.Faults.{StandsRight};
 ghost use Rattle.fleet_verify.specs.Order.{AreAdded};
-ghost use Rattle.fleet_verify.specs.Walk.{begun_in, moved_to, position_in, AreOnGround, IsStop, IsAtStart, IsRunOnGround, IsReadyBy, counts_of};
+ghost use Rattle.fleet_verify.specs.Walk.{begun_in, moved_to, position_in, AreOnGround, IsStop, IsAtStart, IsRunOnGround, IsReadyBy, counts_of, AreAddedOnGround, IsAtOpening};
 ghost use Rattle.fleet_verify.specs.Blocked.{IsBlocked, IsUnmet, AreWants, WaitsBack, IsLeastBack, down_from};
 ghost use Rattle.fleet_verify.specs.Ring.{IsToldRing};
 
@@ -90,12 +90,9 @@ fn run_on<P: ProgramView>(
 ) -> Result<u32, Stop>
     requires agents { length nobody.now ≡ length (P.program program.now) }
     requires nobody { (i : ℕ) → flag_of nobody.now i ≡ false }
-    requires runs { Runs (P.program program.now) machine.old }
-    requires opening { machine.old.configuration ≡ opening (P.program program.now) }
-    requires added { AreAdded (P.program program.now)
+    requires start { IsAtOpening (P.program program.now) machine.old }
+    requires starts { AreAddedOnGround (is_passable grid.now) (P.program program.now)
         (begun_in (P.program program.now) 0) visits.old }
-    requires on_ground { AreOnGround (is_passable grid.now) (P.program program.now)
-        (begun_in (P.program program.now) 0) }
     ensures { MatchResult result
         (λ t. IsRunOnGround (is_passable grid.now) (P.program program.now)
         (record { machine = machine.new; visits = visits.new; ticks = t }))
@@ -119,14 +116,10 @@ fn add_starts<P: ProgramView>(
     machine: &Machine,
     visits: &mut VisitOrder,
 ) -> Result<(), Stop>
-    requires runs { Runs (P.program program.now) machine.now }
-    requires opening { machine.now.configuration ≡ opening (P.program program.now) }
+    requires start { IsAtOpening (P.program program.now) machine.now }
     requires none { AreAdded (P.program program.now) [] visits.old }
-    ensures added { OnOk result
-        (AreAdded (P.program program.now) (begun_in (P.program program.now) 0) visits.new) }
-    ensures on_ground { OnOk result
-        (AreOnGround (is_passable grid.now) (P.program program.now)
-        (begun_in (P.program program.now) 0)) }
+    ensures starts { OnOk result (AreAddedOnGround (is_passable grid.now) (P.program program.now)
+        (begun_in (P.program program.now) 0) visits.new) }
     ensures stop { IfErr result (IsStop (is_passable grid.now) (P.program program.now)) }
 {
     for agent in 0..program.agents() {

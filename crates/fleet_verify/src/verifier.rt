@@ -228,11 +228,13 @@ impl<'g, P: ProgramView> Accepted<'g, P> {
     fn new(program: P, grid: &'g Grid, instance: &'g Instance, judged: Judged) -> Self
         requires accepted { IsAcceptedFor grid.now instance.now (P.program program) judged.chain }
         requires levels { IfSome judged.levels (HasLevels (P.program program)) }
-        ensures program { result.program ≡ program }
-        ensures grid { result.grid ≡ grid.now }
-        ensures instance { result.instance ≡ instance.now }
-        ensures chain { result.chain ≡ judged.chain }
-        ensures has_levels { result.has_levels ≡ is_some judged.levels }
+        ensures { result ≡ record {
+          program = program;
+          grid = grid.now;
+          instance = instance.now;
+          chain = judged.chain;
+          has_levels = is_some judged.levels;
+        } }
     {
         let Judged { chain, levels } = judged;
         Accepted {

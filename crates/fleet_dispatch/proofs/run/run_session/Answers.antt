@@ -26,7 +26,7 @@ pub returns-then-is_err : goal.returns-then-is_err
 returns-then-is_err g c =
     let way = c.lines.invariant.under_way in
     write_stops _ _ _ _ (joins g c.args.floor.now c.lines.floor c.tell_orders.new.floor) c.lines.session c.tell_orders.new.session c.lines.lines way.0 way.1
-    c.tell_orders.ensures.done c.tell_orders.ensures.told _ c.tell_orders.result c.tell_orders.ensures.said (sym c.is_err.ensures.value ∙ c.if-is_err.true) c.tell_orders.ensures.taken
+    _ c.tell_orders.result c.tell_orders.ensures (sym c.is_err.ensures.value ∙ c.if-is_err.true)
 
 pub returns-then-is_finished : goal.returns-then-is_finished
 returns-then-is_finished g c =
@@ -34,7 +34,7 @@ returns-then-is_finished g c =
     let d = course_of p c.args.pace c.args.session.now in
     let way = c.lines.invariant.under_way in
     let told = now_told d _ _ _ (joins g c.args.floor.now c.lines.floor c.tell_orders.new.floor) c.lines.session c.tell_orders.new.session c.lines.lines way.0 way.1
-    c.tell_orders.ensures.done c.tell_orders.ensures.told _ c.tell_orders.result c.tell_orders.ensures.said (sym c.is_err.ensures.value ∙ c.if-is_err.false) c.tell_orders.ensures.taken in
+    _ c.tell_orders.result c.tell_orders.ensures (sym c.is_err.ensures.value ∙ c.if-is_err.false) in
     concludes d _ _ _ (joins g c.args.floor.now c.tell_orders.new.floor c.conclude.new.floor) c.tell_orders.new.session c.tell_orders.new.session c.lines.lines way.0 told.0
     c.agents.result c.total_moves.result c.tell_orders.new.session.taken c.conclude.result (sym c.is_finished.ensures ∙ c.if-is_finished.true) c.agents.ensures.count c.total_moves.ensures refl c.conclude.ensures
 
@@ -43,7 +43,7 @@ returns-then-lines g c =
     let d = course_of (g.P.ProgramView.program c.args.program.now) c.args.pace c.args.session.now in
     let way = c.lines.invariant.under_way in
     let told = now_told d _ _ _ (joins g c.args.floor.now c.lines.floor c.tell_orders.new.floor) c.lines.session c.tell_orders.new.session c.lines.lines way.0 way.1
-    c.tell_orders.ensures.done c.tell_orders.ensures.told _ c.tell_orders.result c.tell_orders.ensures.said (sym c.is_err.ensures.value ∙ c.if-is_err.false) c.tell_orders.ensures.taken in
+    _ c.tell_orders.result c.tell_orders.ensures (sym c.is_err.ensures.value ∙ c.if-is_err.false) in
     limit_stops d _ c.tell_orders.new.session c.lines.lines way.0 told.0 (sym c.is_finished.ensures ∙ c.if-is_finished.false) c.then-lines.either
 
 pub returns-in_err-take_line : goal.returns-in_err-take_line
@@ -52,7 +52,7 @@ returns-in_err-take_line g c =
     let d = course_of p c.args.pace c.args.session.now in
     let way = c.lines.invariant.under_way in
     let told = now_told d _ _ _ (joins g c.args.floor.now c.lines.floor c.tell_orders.new.floor) c.lines.session c.tell_orders.new.session c.lines.lines way.0 way.1
-    c.tell_orders.ensures.done c.tell_orders.ensures.told _ c.tell_orders.result c.tell_orders.ensures.said (sym c.is_err.ensures.value ∙ c.if-is_err.false) c.tell_orders.ensures.taken in
+    _ c.tell_orders.result c.tell_orders.ensures (sym c.is_err.ensures.value ∙ c.if-is_err.false) in
     let e = c.in_err-take_line.field-0.0 in
     err_stops d _ _ c.from_residual.result e c.from_residual.ensures.1
     (line_stops d _ _ _ (joins g c.args.floor.now c.tell_orders.new.floor c.take_line.new.floor) c.tell_orders.new.session c.take_line.new.session c.lines.lines way.0 told.0
@@ -64,7 +64,7 @@ lines-preserved g c =
     let d = course_of p c.args.pace c.args.session.now in
     let way = c.lines.invariant.under_way in
     let told = now_told d _ _ _ (joins g c.args.floor.now c.lines.floor c.tell_orders.new.floor) c.lines.session c.tell_orders.new.session c.lines.lines way.0 way.1
-    c.tell_orders.ensures.done c.tell_orders.ensures.told _ c.tell_orders.result c.tell_orders.ensures.said (sym c.is_err.ensures.value ∙ c.if-is_err.false) c.tell_orders.ensures.taken in
+    _ c.tell_orders.result c.tell_orders.ensures (sym c.is_err.ensures.value ∙ c.if-is_err.false) in
     let taken = c.in_ok-take_line.ensures in
     record {
       ready = taken.1.ready;

@@ -16,11 +16,9 @@ returns-in-Ok-Some-Report g c =
 pub returns-then-is_err : goal.returns-then-is_err
 returns-then-is_err g c =
     unanswered _ _ _ (joins g c.args.floor.now c.hear.new.self c.answer_question.new.floor) (g.P.ProgramView.program c.args.program.now) c.args.pace (g.F.Floor.works c.answer_question.new.floor) c.args.session.now c.answer_question.new.session c.args.line
-    c.answer_question.ensures.ready c.answer_question.ensures.done c.answer_question.ensures.taken
-    (heard_question (g.F.Floor.talks c.args.floor.now c.hear.new.self) (g.F.Floor.works c.hear.new.self) c.hear.new.report c.in-Ok-Some-Question.field-0 (cc) c.in-Ok-Some-Question.ensures).0 (Unit {0}) c.answer_question.result (sym c.is_err.ensures.value ∙ c.if-is_err.true) c.answer_question.ensures.said
+    c.hear.new.report (heard_question (g.F.Floor.talks c.args.floor.now c.hear.new.self) (g.F.Floor.works c.hear.new.self) c.hear.new.report c.in-Ok-Some-Question.field-0 (cc) c.in-Ok-Some-Question.ensures).0 (Unit {0}) c.answer_question.result (sym c.is_err.ensures.value ∙ c.if-is_err.true) c.answer_question.ensures
 
 pub returns-else-is_err : goal.returns-else-is_err
 returns-else-is_err g c =
     answered _ _ _ (joins g c.args.floor.now c.hear.new.self c.answer_question.new.floor) (g.P.ProgramView.program c.args.program.now) c.args.pace (g.F.Floor.works c.answer_question.new.floor) c.args.session.now c.answer_question.new.session c.args.line
-    c.answer_question.ensures.ready c.answer_question.ensures.done c.answer_question.ensures.taken
-    (heard_question (g.F.Floor.talks c.args.floor.now c.hear.new.self) (g.F.Floor.works c.hear.new.self) c.hear.new.report c.in-Ok-Some-Question.field-0 (cc) c.in-Ok-Some-Question.ensures).0 (Unit {0}) c.answer_question.result tt (sym c.is_err.ensures.value ∙ c.if-is_err.false) c.answer_question.ensures.said
+    c.hear.new.report (heard_question (g.F.Floor.talks c.args.floor.now c.hear.new.self) (g.F.Floor.works c.hear.new.self) c.hear.new.report c.in-Ok-Some-Question.field-0 (cc) c.in-Ok-Some-Question.ensures).0 (Unit {0}) c.answer_question.result tt (sym c.is_err.ensures.value ∙ c.if-is_err.false) c.answer_question.ensures

@@ -1,4 +1,4 @@
-use Rattle.fleet_plan.proofs.Words.{arith, subst, IfNone, is_passable, HasNoConflict}
+use Rattle.fleet_plan.proofs.Words.{arith, is_passable}
 use Rattle.fleet_plan.proofs.FaultLaws.{free_from}
 use Rattle.fleet_plan.proofs.checking.first_fault.Goals as goal
 
@@ -6,4 +6,4 @@ pub returns-in-None-clause-right : goal.returns-in-None-clause-right
 returns-in-None-clause-right c = free_from (is_passable c.args.grid.now) c.args.instance.now c.args.plan.now
     (record { agents = omega (arith, c.if-is_other_fleet.false, c.agents.ensures.count, c.agents-2.ensures.count); starts = c.in_default.ensures.none; goals = c.in_default-first_wrong_goal.ensures.none })
     c.in_default-first_wrong_step.ensures.none
-    (subst (λ o. IfNone o (HasNoConflict c.args.plan.now)) c.in-None.is c.in_ok-conflict.ensures.none)
+    (rw c.in-None.is at c.in_ok-conflict.ensures)

@@ -9,7 +9,7 @@ pub loop-i-preserved : goal.loop-i-preserved
 loop-i-preserved c =
     let places = c.args.places.now in
     but_more c.args.agents.now c.loop-i.i-index (length places) (λ (k : ℕ). value_in c.loop-i.table (slice_index places k) ≡ k) (λ (k : ℕ). value_in c.enter_one.new.table (slice_index places k) ≡ k) c.loop-i.invariant
-    (c.in_ok-enter_one.ensures.here c.if-not-branch.false) (λ j l ne was. c.in_ok-enter_one.ensures.others c.if-not-branch.false j l was)
+    (c.in_ok-enter_one.ensures c.if-not-branch.false).here (λ j l ne was. (c.in_ok-enter_one.ensures c.if-not-branch.false).others j l was)
 
 pub returns : goal.returns
 returns c = λ alone. but_ends c.args.agents.now c.loop-i.i-index (length c.args.places.now) (λ (k : ℕ). value_in c.loop-i.table (slice_index c.args.places.now k) ≡ k) c.loop-i.invariant c.loop-i-test.false

@@ -22,8 +22,8 @@ loop-i-init c =
     let ahead = c.args.ahead.now in
     record {
       each = but_begins c.args.agents.now (length places) (λ (k : ℕ). IsAhead places next k (ahead_of ahead k))
-          (λ i l. elim (c.requires.others i l) [ inl later ↦ inl later | inr stays ↦ inr (subst (IsAhead places next i) (sym (c.requires.nobody i)) (inl stays)) ]);
-      apart = λ yes i j both. none_is_not j (ahead_of ahead i) both.there (c.requires.nobody i);
+          (λ i l. elim (c.requires.agents.others i l) [ inl later ↦ inl later | inr stays ↦ inr (subst (IsAhead places next i) (sym (c.requires.ahead.none i)) (inl stays)) ]);
+      apart = λ yes i j both. none_is_not j (ahead_of ahead i) both.there (c.requires.ahead.none i);
     }
 
 pub loop-i-preserved : goal.loop-i-preserved
@@ -34,8 +34,8 @@ loop-i-preserved c =
     let index = c.loop-i.i-index in
     let i : ℕ = slice_index c.args.agents.now index in
     let one = c.agent_ahead-next_one.result in
-    let agent : i < length places = c.requires.agents index 0 c.loop-i-test.true in
-    let within : i < length old = omega (arith, agent, c.requires.all, c.loop-i.auto.ahead) in
+    let agent : i < length places = c.requires.agents.agents index 0 c.loop-i-test.true in
+    let within : i < length old = omega (arith, agent, c.requires.ahead.all, c.loop-i.auto.ahead) in
     record {
       each = ahead_more c.args.agents.now places next old index (length places) c.from.result one c.from.ensures within c.agent_ahead-next_one.ensures c.loop-i.invariant.each;
       apart = elim c.if-is_behind.branch [
@@ -52,7 +52,7 @@ returns-clause-ahead c =
     let next = c.args.next.now in
     let ahead = c.loop-i.ahead in
     record {
-      all = omega (arith, c.requires.all, c.loop-i.auto.ahead);
+      all = omega (arith, c.requires.ahead.all, c.loop-i.auto.ahead);
       each = but_ends c.args.agents.now c.loop-i.i-index (length places) (λ (k : ℕ). IsAhead places next k (ahead_of ahead k)) c.loop-i.invariant.each c.loop-i-test.false;
     }
 

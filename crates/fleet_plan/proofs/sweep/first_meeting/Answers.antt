@@ -1,5 +1,5 @@
 use Rattle.std.proofs.Common.{◌≡◌, ◌≢◌, ◌<◌, slice_index, sym, ap, ◌∙◌, arith}
-use Rattle.fleet_plan.proofs.MeetLaws.{picked, meeting-hit, meeting-miss}
+use Rattle.fleet_plan.proofs.MeetLaws.{meeting-hit, meeting-miss}
 use Rattle.fleet_plan.proofs.sweep.first_meeting.Goals as goal
 use Rattle.fleet_plan.proofs.sweep.first_meeting.Goals.{then-from-j+then-places-from, else-from-j+in_ok-set, else-from-j-via-then-from-j+else-places-from, else-from-j-via-else-from-j}
 
@@ -13,7 +13,7 @@ loop-j-preserved c =
       | then-from-j+then-places-from w ↦
           let below : i < j = omega (arith, c.from.ensures, w.if-from-j.true) in
           let same : slice_index places i ≡ slice_index places j = ap (slice_index places) (sym w.from-then-from-j.ensures) ∙ w.if-places-from.true in
-          rw (w.table-is, w.first-is) (meeting-hit table places c.loop-j.first j c.loop-j.invariant i c.get-i.ensures below same w.first_pair.result (picked c.loop-j.first i j w.first_pair.result w.first_pair.ensures.kept w.first_pair.ensures.new))
+          rw (w.table-is, w.first-is) (meeting-hit table places c.loop-j.first j c.loop-j.invariant i c.get-i.ensures below same w.first_pair.result w.first_pair.ensures)
       | else-from-j+in_ok-set w ↦
           let other : i < j → slice_index places i ≢ slice_index places j = elim w.else-from-j.branch [
             | else-from-j-via-then-from-j+else-places-from w' ↦ λ l s. w'.if-places-from.false (ap (slice_index places) w'.from-then-from-j.ensures ∙ s)

@@ -1,4 +1,4 @@
-use Rattle.fleet_run.proofs.Words.{◌≡◌, ℕ, arith, [], ◌∙◌, ap, sym, subst, IfOk, is_passable, IsShown, AreOnGoals, Drives, Arrives, opening, standing_at, IsFinish}
+use Rattle.fleet_run.proofs.Words.{◌≡◌, refl, ℕ, arith, [], ◌∙◌, ap, sym, subst, is_passable, IsShown, Drives, opening, standing_at, IsFinish}
 use Rattle.fleet_run.proofs.UnderWay.{at_opening, told_in_time, told_unless_failed}
 use Rattle.fleet_run.proofs.Progress.{arrived_if_told, longest_if_told}
 use Rattle.fleet_run.proofs.fleet.drive.Goals as goal
@@ -30,52 +30,27 @@ run_trace-requires-clause-shown g c =
     } in
     subst (λ q. IsShown q c.chain-chain.result) (sym same) shown
 
-pub returns-clause-in_time : goal.returns-clause-in_time
-returns-clause-in_time g c =
+pub returns : goal.returns
+returns g c =
     let running = c.fleet.invariant in
     let parts = c.fleet.inside.accepted in
     let p = g.P.ProgramView.program parts.program in
-    let s = g.S.HoldSource.state c.args.source.now in
-    let holds = s.ticks in
-    let same : g.P.ProgramView.program c.program.result.now ≡ p = ap g.P.ProgramView.program c.program.ensures.program in
-    let accepted = running.accepted_for.accepted in
-    let longest = c.chain-chain.ensures.accepted.longest in
-    let arrive = λ (f : ℕ) (h : IsFinish p holds f). c.runs_arrive.ensures.arrive (is_passable parts.grid) parts.instance p accepted holds c.chain-chain.result f longest h in
-    let still = subst (λ q. (f : ℕ) → IsFinish q holds f → Arrives q holds c.chain-chain.result f) (sym same) arrive in
-    told_in_time (g.P.ProgramView.program c.program.result.now) c.chain-chain.result s _ _ _ c.run_trace.new.machine.configuration c.run_trace.result still c.run_trace.ensures.outcome
-
-pub returns-clause-arrived : goal.returns-clause-arrived
-returns-clause-arrived g c =
-    let running = c.fleet.invariant in
-    let parts = c.fleet.inside.accepted in
-    let p = g.P.ProgramView.program parts.program in
-    let s = g.S.HoldSource.state c.args.source.now in
-    let holds = s.ticks in
-    let same : g.P.ProgramView.program c.program.result.now ≡ p = ap g.P.ProgramView.program c.program.ensures.program in
-    let accepted = running.accepted_for.accepted in
-    let longest = c.chain-chain.ensures.accepted.longest in
-    let arrive = λ (f : ℕ) (h : IsFinish p holds f). c.runs_arrive.ensures.arrive (is_passable parts.grid) parts.instance p accepted holds c.chain-chain.result f longest h in
-    let still = subst (λ q. (f : ℕ) → IsFinish q holds f → Arrives q holds c.chain-chain.result f) (sym same) arrive in
-    let told = arrived_if_told (g.P.ProgramView.program c.program.result.now) c.chain-chain.result s _ _ _ c.run_trace.new.machine.configuration c.run_trace.result still c.run_trace.ensures.outcome in
-    let here : IfOk c.run_trace.result (λ _. AreOnGoals p c.run_trace.new.machine.configuration) = subst (λ q. IfOk c.run_trace.result (λ _. AreOnGoals q c.run_trace.new.machine.configuration)) same told in
-    rw (← c.fleet.view_is) here
-
-pub returns-clause-longest : goal.returns-clause-longest
-returns-clause-longest g c =
-    let p = g.P.ProgramView.program c.fleet.inside.accepted.program in
-    let s = g.S.HoldSource.state c.args.source.now in
-    rw (← c.fleet.view_is) (longest_if_told (g.P.ProgramView.program c.program.result.now) c.chain-chain.result s _ _ _ c.run_trace.new.machine.configuration c.run_trace.result p c.chain-chain.ensures.accepted.longest c.run_trace.ensures.outcome)
-
-pub returns-clause-reports : goal.returns-clause-reports
-returns-clause-reports g c =
-    told_unless_failed (g.P.ProgramView.program c.program.result.now) c.chain-chain.result (g.S.HoldSource.state c.args.source.now) _ _ _ c.run_trace.new.machine.configuration c.run_trace.result c.run_trace.ensures.outcome
-
-pub returns-clause-outcome : goal.returns-clause-outcome
-returns-clause-outcome g c =
     let s = g.S.HoldSource.state c.args.source.now in
     let s' = g.S.HoldSource.state c.run_trace.new.source in
     let o = g.O.TraceOut.state c.args.out.now in
     let o' = g.O.TraceOut.state c.run_trace.new.out in
+    let chain = c.chain-chain.result in
     let here = c.run_trace.new.machine.configuration in
-    let ran = subst (λ q. Drives (g.P.ProgramView.program q) c.chain-chain.result s s' o o' here c.run_trace.result) c.program.ensures.program c.run_trace.ensures.outcome in
-    rw (← c.fleet.view_is) (subst (λ n. Drives (g.P.ProgramView.program c.fleet.inside.accepted.program) n s s' o o' here c.run_trace.result) c.chain-chain.ensures.chain ran)
+    let r = c.run_trace.result in
+    let longest = c.chain-chain.ensures.accepted.longest in
+    let told : Drives p chain s s' o o' here r = subst (λ q. Drives (g.P.ProgramView.program q) chain s s' o o' here r) c.program.ensures.program c.run_trace.ensures.outcome in
+    let arrive = λ (f : ℕ) (h : IsFinish p s.ticks f). c.runs_arrive.ensures.arrive (is_passable parts.grid) parts.instance p running.accepted_for.accepted s.ticks chain f longest h in
+    rw (← c.fleet.view_is) (record {
+      accepted = refl {a = parts};
+      looked = c.run_trace.ensures.looked;
+      outcome = subst (λ n. Drives p n s s' o o' here r) c.chain-chain.ensures.chain told;
+      longest = longest_if_told p chain s s' o o' here r p longest told;
+      in_time = told_in_time p chain s s' o o' here r arrive told;
+      arrived = arrived_if_told p chain s s' o o' here r arrive told;
+      reports = told_unless_failed p chain s s' o o' here r told;
+    })

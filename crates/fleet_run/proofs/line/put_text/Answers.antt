@@ -1,5 +1,5 @@
 use Rattle.fleet_run.proofs.Words.{◌≡◌, ◌+◌, arith, subst, List, ℕ, get_or, IsWrittenOver, IsResized}
-use Rattle.fleet_run.proofs.Lines.{in_order, really_over, not_over, overwritten}
+use Rattle.fleet_run.proofs.Lines.{has_number, in_order, really_over, not_over, overwritten}
 use Rattle.fleet_run.proofs.Resized.{resized_by}
 use Rattle.fleet_run.proofs.line.put_text.Goals as goal
 
@@ -9,10 +9,8 @@ overwrite-requires c =
     let kept = c.requires.kept.1 in
     let inside = c.requires.kept.2 in
     record {
-      room = kept.room;
-      number = omega (arith, kept.begun, kept.few, inside);
+      number = has_number ns c.args.at c.args.row.now c.args.begins.now kept inside;
       order = in_order ns c.args.at c.args.row.now c.args.begins.now kept inside;
-      within = (let within = kept.within (c.args.at + 1) (omega (arith, inside)) in omega (arith, within));
     }
 
 pub returns-then-overwrite-clause-kept : goal.returns-then-overwrite-clause-kept
@@ -28,12 +26,9 @@ resize_to-requires c =
     let inside = c.requires.kept.2 in
     let same : c.overwrite.new.row ≡ c.args.row.now = not_over c.overwrite.result _ _ _ _ _ c.overwrite.ensures c.if-overwrite.false in
     let here = kept.within c.args.at (omega (arith, inside)) in
-    let next = kept.within (c.args.at + 1) (omega (arith, inside)) in
     record {
-      room = rw same kept.room;
-      number = omega (arith, kept.begun, kept.few, inside);
+      number = rw same (has_number c.requires.kept.0 c.args.at c.args.row.now c.args.begins.now kept inside);
       begin = omega (arith, here);
-      within = omega (arith, next);
       before = λ k l. let low = kept.within k (omega (arith, inside, l)) in (kept.rising k (omega (arith, inside, l)), omega (arith, low));
       short = c.requires.short;
     }

@@ -1,6 +1,6 @@
 use Rattle.fleet_run.proofs.Words.{◌<◌, ap, length, refl, arith, Place, standing_at}
 use Rattle.std.proofs.Math.ListN.{length-set}
-use Rattle.fleet_run.proofs.Lines.{places_long, rewritten_next, rewritten_all, places_all, stood}
+use Rattle.fleet_run.proofs.Lines.{places_long, rewritten_next, rewritten_all, stood}
 use Rattle.fleet_run.proofs.line.write_moved.Goals as goal
 
 pub move_place-more-requires : goal.move_place-more-requires
@@ -55,11 +55,8 @@ loop-i-preserved-else-resized-gt-MOST_RESIZED c =
       kept = rw (behind, c.from-i.ensures, c.agents-rows.ensures) (rewritten_next m c.loop-i.cursor.from i c.loop-i.row c.move_place-more.new.row c.loop-i.begins c.move_place-more.new.begins c.loop-i.places h next agent kept);
     }
 
-pub returns-clause-kept : goal.returns-clause-kept
-returns-clause-kept c = rewritten_all c.args.machine.now c.loop-i.cursor.from c.loop-i.row c.loop-i.begins c.loop-i.places c.loop-i.invariant.kept c.in_default.ensures.next
-
-pub returns-clause-places : goal.returns-clause-places
-returns-clause-places c = places_all c.args.machine.now c.loop-i.cursor.from c.loop-i.row c.loop-i.begins c.loop-i.places c.loop-i.invariant.kept c.in_default.ensures.next
+pub returns : goal.returns
+returns c = rewritten_all c.args.machine.now c.loop-i.cursor.from c.loop-i.row c.loop-i.begins c.loop-i.places c.loop-i.invariant.kept c.in_default.ensures.next
 
 pub bounds-places-i : goal.bounds-places-i
 bounds-places-i c = omega (arith, c.in-Some.ensures.next.agent, c.requires.moved, c.from-i.ensures, places_long c.args.machine.now c.loop-i.cursor.from c.loop-i.row c.loop-i.begins c.loop-i.places c.loop-i.invariant.kept)

@@ -7,12 +7,12 @@ pub returns-in_err-more-clause-lines : goal.returns-in_err-more-clause-lines
 returns-in_err-more-clause-lines g c =
     let time : Time = record { ticks = c.ticks.counts.ticks; source_ended = c.ticks.source_ended; end = c.end_at-end.result } in
     let told = err_from_is_err_and c.from_residual.result c.from_residual.ensures.1 in
-    rw (told.1, told.2) (stops_in_time time _ _ _ c.ticks.invariant.so_far c.pass_time.auto.flags c.end_at-end.ensures c.in_err-more.field-0.0 (c.in_err-more.ensures.passes c.ticks.machine.configuration c.ticks.invariant.kept))
+    rw (told.1, told.2) (stops_in_time time _ _ _ c.ticks.invariant.so_far c.pass_time.auto.flags c.end_at-end.ensures c.in_err-more.field-0.0 (c.in_err-more.ensures.passes c.ticks.machine.configuration c.ticks.invariant.kept.kept))
 
 pub returns-in-Some-clause-lines : goal.returns-in-Some-clause-lines
 returns-in-Some-clause-lines g c =
     let time : Time = record { ticks = c.ticks.counts.ticks; source_ended = c.ticks.source_ended; end = c.end_at-end.result } in
-    ends_in_time time _ _ _ c.ticks.invariant.so_far c.pass_time.auto.flags c.end_at-end.ensures c.in_ok-more.more c.in-Some.end c.in-Some.is (c.in_ok-more.ensures.passes c.ticks.machine.configuration c.ticks.invariant.kept)
+    ends_in_time time _ _ _ c.ticks.invariant.so_far c.pass_time.auto.flags c.end_at-end.ensures c.in_ok-more.more c.in-Some.end c.in-Some.is (c.in_ok-more.ensures.passes c.ticks.machine.configuration c.ticks.invariant.kept.kept)
 
 pub after-counts-requires-clause-held : goal.after-counts-requires-clause-held
 after-counts-requires-clause-held g c =
@@ -24,19 +24,18 @@ after-counts-requires-clause-held g c =
 pub ticks-smaller : goal.ticks-smaller
 ticks-smaller g c =
     let time : Time = record { ticks = c.ticks.counts.ticks; source_ended = c.ticks.source_ended; end = c.end_at-end.result } in
-    rw c.tick_row-ready_held.ensures.after
-    (goes_on_in_time time _ _ _ c.ticks.invariant.so_far c.pass_time.auto.flags c.end_at-end.ensures c.in_ok-more.more c.in_default.is c.requires.can.runs.well_formed (c.in_ok-more.ensures.passes c.ticks.machine.configuration c.ticks.invariant.kept)).1
+    rw c.tick_row-ready_held.ensures.ticked.after
+    (goes_on_in_time time _ _ _ c.ticks.invariant.so_far c.pass_time.auto.flags c.end_at-end.ensures c.in_ok-more.more c.in_default.is c.requires.can.runs.well_formed (c.in_ok-more.ensures.passes c.ticks.machine.configuration c.ticks.invariant.kept.kept)).1
 
 pub ticks-preserved : goal.ticks-preserved
 ticks-preserved g c =
     let time : Time = record { ticks = c.ticks.counts.ticks; source_ended = c.ticks.source_ended; end = c.end_at-end.result } in
-    let on = goes_on_in_time time _ _ _ c.ticks.invariant.so_far c.pass_time.auto.flags c.end_at-end.ensures c.in_ok-more.more c.in_default.is c.requires.can.runs.well_formed (c.in_ok-more.ensures.passes c.ticks.machine.configuration c.ticks.invariant.kept) in
+    let on = goes_on_in_time time _ _ _ c.ticks.invariant.so_far c.pass_time.auto.flags c.end_at-end.ensures c.in_ok-more.more c.in_default.is c.requires.can.runs.well_formed (c.in_ok-more.ensures.passes c.ticks.machine.configuration c.ticks.invariant.kept.kept) in
     record {
-      runs = c.tick_row-ready_held.ensures.runs;
-      looked = let before = c.ticks.invariant.looked in omega (arith, c.tick_row-ready_held.ensures.looked);
-      so_far = rw (c.tick_row-ready_held.ensures.after, c.after-counts.ensures.ticks, c.after-counts.ensures.held, c.tick_row-ready_held.ensures.held) on.0;
+      runs = c.tick_row-ready_held.ensures.ticked.runs;
+      looked = let before = c.ticks.invariant.looked in omega (arith, c.tick_row-ready_held.ensures.ticked.looked);
+      so_far = rw (c.tick_row-ready_held.ensures.ticked.after, c.after-counts.ensures.ticks, c.after-counts.ensures.held, c.tick_row-ready_held.ensures.ticked.held) on.0;
       kept = c.tick_row-ready_held.ensures.kept;
-      places = c.tick_row-ready_held.ensures.places;
     }
 
 pub pass_time-requires-clause-few : goal.pass_time-requires-clause-few
@@ -44,11 +43,12 @@ pass_time-requires-clause-few g c =
     omega (arith, few_ticks (g.P.ProgramView.program c.args.program.now) (g.S.HoldSource.state c.args.source.now) _ _ _ _ _ c.ticks.invariant.so_far.under_way)
 
 pub pass_time-requires-clause-kept : goal.pass_time-requires-clause-kept
-pass_time-requires-clause-kept g c = (c.ticks.machine.configuration, c.ticks.invariant.kept)
+pass_time-requires-clause-kept g c = (c.ticks.machine.configuration, c.ticks.invariant.kept.kept)
 
 pub after-counts-requires-clause-few : goal.after-counts-requires-clause-few
 after-counts-requires-clause-few g c =
     omega (arith, few_ticks (g.P.ProgramView.program c.args.program.now) (g.S.HoldSource.state c.args.source.now) _ _ _ _ _ c.ticks.invariant.so_far.under_way)
 
 pub tick_row-ready_held-requires-clause-kept : goal.tick_row-ready_held-requires-clause-kept
-tick_row-ready_held-requires-clause-kept g c = c.pass_time.ensures.kept c.ticks.machine.configuration c.ticks.invariant.kept
+tick_row-ready_held-requires-clause-kept g c =
+    record { kept = c.pass_time.ensures.kept c.ticks.machine.configuration c.ticks.invariant.kept.kept; placed = c.ticks.invariant.kept.placed }

@@ -1,4 +1,4 @@
-use Rattle.fleet_run.proofs.Words.{◌≡◌, ◌≤◌, ◌+◌, length, Runs, IsLineKept, places_of}
+use Rattle.fleet_run.proofs.Words.{◌≤◌, ◌+◌, length, Runs, ArePlacesKept}
 use Rattle.fleet_run.proofs.Passing.{IsSoFar}
 use Rattle.fleet_run.proofs.Progress.{all_left}
 use Rattle.fleet_run.proofs.run.run_in.Given as goal
@@ -12,8 +12,7 @@ invariant-ticks g l =
       runs : Runs p l.machine;
       looked : l.initial.machine.looked ≤ l.machine.looked;
       so_far : IsSoFar p first now (g.O.TraceOut.state l.initial.out) (g.O.TraceOut.state l.out) l.machine.configuration l.counts.ticks l.counts.held l.source_ended l.flags;
-      kept : IsLineKept l.machine.configuration l.row l.begins;
-      places : l.places ≡ places_of l.machine.configuration;
+      kept : ArePlacesKept l.machine.configuration l.row l.begins l.places;
     }
 
 abbrev pub decreases-ticks : goal.decreases-ticks

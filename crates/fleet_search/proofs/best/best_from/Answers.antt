@@ -9,8 +9,8 @@ pub returns-then-is_last_try-clause-no_path : goal.returns-then-is_last_try-clau
 returns-then-is_last_try-clause-no_path g c = λ agent e.
     let problem = c.args.problem.now in
     let next = c.try_order.new.turn.order.items in
-    let tried = rw c.in-NoPathAt.is at c.in_ok-measured.ensures.tried in
-    let some : 0 < length next = (let l = c.in_ok-measured.ensures.turn.fewer in omega arith) in
+    let tried = rw c.in-NoPathAt.is at c.in_ok-measured.ensures.tried.tried in
+    let some : 0 < length next = (let l = c.in_ok-measured.ensures.tried.turn.fewer in omega arith) in
     let few : c.loop-tried.tried ≤ c.args.tries - 1 = omega (arith, c.loop-tried-test.true, c.max-tried-end.ensures, c.loop-tried.auto.tried-end) in
     same_agent (IsStuckInTries (is_passable problem.grid.now) problem.instance.now problem.horizon c.args.tries) c.index-agent.result.now agent e
     (stuck_at_last problem (g.M.Measure.is_measure c.args.measure.now) c.loop-tried.turn.order.items next c.loop-tried.tried c.args.tries c.loop-tried.best c.in-NoPathAt.place c.index-agent.result.now c.is_none.result c.is_none.ensures c.if-is_none.true
@@ -25,10 +25,10 @@ loop-tried-preserved g c =
     let next = c.try_order.new.turn.order.items in
     elim c.match-branch-2.branch [
       | in-Planned w ↦ record {
-        turn = c.in_ok-measured.ensures.turn;
+        turn = c.in_ok-measured.ensures.tried.turn;
         tables = c.in_ok-measured.ensures.tables;
         so_far = subst (IsBestSoFar problem measures next (c.loop-tried.tried + 1)) (sym w.best-is)
-            (best_planned problem measures order next c.loop-tried.tried c.loop-tried.best w.in-Planned.measured w.lesser.result c.loop-tried.invariant.so_far (rw w.in-Planned.is at c.in_ok-measured.ensures.tried) w.lesser.ensures.none w.lesser.ensures.earlier w.lesser.ensures.later);
+            (best_planned problem measures order next c.loop-tried.tried c.loop-tried.best w.in-Planned.measured w.lesser.result c.loop-tried.invariant.so_far (rw w.in-Planned.is at c.in_ok-measured.ensures.tried.tried) w.lesser.ensures.none w.lesser.ensures.earlier w.lesser.ensures.later);
         more = subst (λ b. IfNone b (c.loop-tried.tried + 1 < max c.args.tries 1)) (sym w.best-is) tt;
       }
       | in-NoPathAt+else-is_none w ↦
@@ -40,10 +40,10 @@ loop-tried-preserved g c =
             | else-is_none-via-else-is_none v ↦ if_some c.loop-tried.best (c.loop-tried.tried + 1 < max c.args.tries 1) w.is_none.result w.is_none.ensures v.if-is_none.false
           ] in
           record {
-            turn = c.in_ok-measured.ensures.turn;
+            turn = c.in_ok-measured.ensures.tried.turn;
             tables = c.in_ok-measured.ensures.tables;
             so_far = subst (IsBestSoFar problem measures next (c.loop-tried.tried + 1)) (sym w.best-is)
-                (best_stuck problem measures order next c.loop-tried.tried c.loop-tried.best w.in-NoPathAt.place c.loop-tried.invariant.so_far (rw w.in-NoPathAt.is at c.in_ok-measured.ensures.tried));
+                (best_stuck problem measures order next c.loop-tried.tried c.loop-tried.best w.in-NoPathAt.place c.loop-tried.invariant.so_far (rw w.in-NoPathAt.is at c.in_ok-measured.ensures.tried.tried));
             more = subst (λ b. IfNone b (c.loop-tried.tried + 1 < max c.args.tries 1)) (sym w.best-is) more;
           }
     ]

@@ -39,8 +39,11 @@ loop-path-preserved c =
       done = placed-more n order c.requires.order c.args.paths.items plan left c.from.result c.in-Some.path i.agents less is last.1 (subst (ArePlaced order c.args.paths.items plan) one i.done);
     }
 
-pub returns-clause-same : goal.returns-clause-same
-returns-clause-same c =
+pub returns : goal.returns
+returns c =
     let i = c.loop-path.invariant in
     let none : length c.loop-path.left.items ≡ 0 = omega (arith, c.in_default.ensures.cases) in
-    all_placed c.args.order.now c.args.paths.items c.loop-path.plan.items c.requires.paths (subst (ArePlaced c.args.order.now c.args.paths.items c.loop-path.plan.items) none i.done)
+    record {
+      agents = i.agents;
+      same = all_placed c.args.order.now c.args.paths.items c.loop-path.plan.items c.requires.paths (subst (ArePlaced c.args.order.now c.args.paths.items c.loop-path.plan.items) none i.done);
+    }

@@ -1,4 +1,4 @@
-use Rattle.fleet_search.proofs.Words.{sym, subst, length, is_passable, IsPrioritisedPlan, tasks_by, IsMadeInOrder}
+use Rattle.fleet_search.proofs.Words.{is_passable, IsMadeInOrder}
 use Rattle.fleet_search.proofs.OrderConflicts.{in_order_free}
 use Rattle.fleet_search.proofs.orders.checked_of.Goals as goal
 
@@ -9,6 +9,5 @@ checked-requires c =
     let horizon = c.args.problem.now.horizon in
     let order = c.args.order.now in
     let plan = c.in_ok-plan.plan in
-    let made : IsMadeInOrder passable tasks horizon order plan =
-    subst (IsPrioritisedPlan passable (tasks_by order tasks) horizon (length order)) (sym c.in_ok-plan.ensures.plan.1) c.requires.paths in
-    in_order_free passable tasks horizon order plan c.requires.order c.in_ok-plan.ensures.plan.0 made
+    let made : IsMadeInOrder passable tasks horizon order plan = rw c.in_ok-plan.ensures.same c.requires.paths in
+    in_order_free passable tasks horizon order plan c.requires.order c.in_ok-plan.ensures.agents made

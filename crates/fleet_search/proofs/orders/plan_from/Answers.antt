@@ -8,8 +8,8 @@ use Rattle.fleet_search.proofs.orders.plan_from.Goals as goal
 pub loop-failed-init : goal.loop-failed-init
 loop-failed-init c = record {
   more = omega arith;
-  turn = c.requires.turn;
-  after = first_after_none c.args.problem.now c.args.turn.now.order.items c.requires.first;
+  turn = c.requires.first.turn;
+  after = first_after_none c.args.problem.now c.args.turn.now.order.items c.requires.first.first;
   tables = c.requires.tables;
 }
 
@@ -20,9 +20,9 @@ returns-then-is_last_try-clause-no_path c = λ agent e.
     let next = c.note_stuck.new.turn.order.items in
     let stuck = c.in_ok-place-in-Stuck.ensures in
     let few : c.loop-failed.failed ≤ c.args.tries - 1 = (let m = i.more in omega arith) in
-    let some : 0 < length next = (let f = stuck.turn.fewer in omega arith) in
+    let some : 0 < length next = (let f = stuck.turn.turn.fewer in omega arith) in
     same_agent (IsStuckInTries (is_passable problem.grid.now) problem.instance.now problem.horizon c.args.tries) c.index-agent.result.now agent e
-    (stuck_in_turn problem c.loop-failed.turn.order.items next c.args.tries c.loop-failed.failed c.in_ok-place-in-Stuck.place c.index-agent.result.now i.turn.each_once few i.after stuck.stuck stuck.next
+    (stuck_in_turn problem c.loop-failed.turn.order.items next c.args.tries c.loop-failed.failed c.in_ok-place-in-Stuck.place c.index-agent.result.now i.turn.each_once few i.after stuck.stuck stuck.turn.next
     (c.index-agent.ensures ∙ get_or_default next 0 c.index-agent.result.now 0 some) (c.is_last_try.ensures.0 c.if-is_last_try.true))
 
 pub loop-failed-preserved : goal.loop-failed-preserved
@@ -35,8 +35,8 @@ loop-failed-preserved c =
         | inl less ↦ omega arith
         | inr late ↦ absurd (no_from_false c.is_last_try.result c.if-is_last_try.false c.is_last_try.ensures (inr late))
       ];
-      turn = stuck.turn;
-      after = order_after-more (is_passable problem.grid.now) problem.instance.now problem.horizon c.loop-failed.failed c.in_ok-place-in-Stuck.place c.loop-failed.turn.order.items c.note_stuck.new.turn.order.items i.after stuck.stuck stuck.next;
+      turn = stuck.turn.turn;
+      after = order_after-more (is_passable problem.grid.now) problem.instance.now problem.horizon c.loop-failed.failed c.in_ok-place-in-Stuck.place c.loop-failed.turn.order.items c.note_stuck.new.turn.order.items i.after stuck.stuck stuck.turn.next;
       tables = c.in_ok-paths.ensures.tables;
     }
 

@@ -60,8 +60,8 @@ returns-then-least-ge-MOST_LEVEL-clause-waits g c =
       omega (arith, c.if-least-ge-MOST_LEVEL.true),
     )
 
-pub returns-in-Step-clause-needs : goal.returns-in-Step-clause-needs
-returns-in-Step-clause-needs g c =
+pub returns-in-Step-clause-says : goal.returns-in-Step-clause-says
+returns-in-Step-clause-says g c =
     let p = g.P.ProgramView.program c.args.program.now in
     let next = c.requires.next in
     let rows = c.args.rows.now.items in
@@ -70,10 +70,13 @@ returns-in-Step-clause-needs g c =
     let said = rw c.in-Step.is at c.read-reading.ensures.instruction in
     let all : c.instructions.k ≡ length (awaits_of p c.args.agent (c.args.runner.finished + 1)) = said.0 in
     record {
-      level = least_ends p (climbed_in rows c.args.agent c.args.runner.finished) c.args.agent (c.args.runner.finished + 1) c.instructions.k c.instructions.least c.instructions.invariant.least (omega (arith, count)) (omega (arith, all)) _ (omega arith);
-      latest = c.instructions.invariant.latest;
-      step = said.1;
-      after = rw c.in-Step.is at c.read-reading.ensures.after;
+      needs = record {
+        level = least_ends p (climbed_in rows c.args.agent c.args.runner.finished) c.args.agent (c.args.runner.finished + 1) c.instructions.k c.instructions.least c.instructions.invariant.least (omega (arith, count)) (omega (arith, all)) _ (omega arith);
+        latest = c.instructions.invariant.latest;
+        step = said.1;
+        after = rw c.in-Step.is at c.read-reading.ensures.after;
+      };
+      latest = subst (λ (k : ℕ). IsLastAwait p c.args.agent (c.args.runner.finished + 1) k c.instructions.latest) said.0 c.instructions.invariant.last;
     }
 
 pub instructions-preserved : goal.instructions-preserved
@@ -103,9 +106,3 @@ overflow_add-k g c =
     let n = c.args.runner.finished + 1 in
     let here = rw c.in-Await.is at c.read-reading.ensures.instruction in
     omega (arith, few_awaits_of p c.args.agent n c.requires.next.agent c.agents-agents.ensures.well_formed, slice_get_within (awaits_of p c.args.agent n) c.instructions.k c.in-Await.awaited here)
-
-pub returns-in-Step-clause-latest : goal.returns-in-Step-clause-latest
-returns-in-Step-clause-latest g c =
-    let p = g.P.ProgramView.program c.args.program.now in
-    let said = rw c.in-Step.is at c.read-reading.ensures.instruction in
-    subst (λ (k : ℕ). IsLastAwait p c.args.agent (c.args.runner.finished + 1) k c.instructions.latest) said.0 c.instructions.invariant.last

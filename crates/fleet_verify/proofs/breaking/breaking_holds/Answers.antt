@@ -1,11 +1,11 @@
-use Rattle.fleet_verify.proofs.Words.{ℕ, List, slice_index, map, subst, sym, err_from_is_err_and, IfOk-weaker, AreNeeded}
+use Rattle.fleet_verify.proofs.Words.{map, subst, sym, err_from_is_err_and, IfOk-weaker, IsNeededRow}
 use Rattle.fleet_verify.proofs.BreakingHolds.{breaking_conflict}
 use Rattle.fleet_verify.proofs.Rows.{rising_rows}
 use Rattle.fleet_verify.proofs.breaking.breaking_holds.Goals as goal
 
 pub holds_by-requires-clause-needed : goal.holds_by-requires-clause-needed
 holds_by-requires-clause-needed g c =
-    subst (λ (xs : List ℕ). AreNeeded (g.P.ProgramView.program c.args.program.now) c.args.first c.args.second (slice_index xs)) (sym c.deref.ensures.value) c.in_ok-needed.ensures.needed
+    subst (IsNeededRow (g.P.ProgramView.program c.args.program.now) c.args.first c.args.second) (sym c.deref.ensures.value) c.in_ok-needed.ensures
 
 pub returns-clause-meet : goal.returns-clause-meet
 returns-clause-meet g c =

@@ -4,7 +4,7 @@ use Rattle.fleet_verify.proofs.needed.close.Goals as goal
 
 pub loop-round-init : goal.loop-round-init
 loop-round-init g c = record {
-  looking = looking_start (g.P.ProgramView.program c.args.program.now) c.args.first c.args.second c.args.needed.now c.args.looked.now c.requires.first c.requires.second c.requires.apart c.requires.wide c.requires.long c.requires.none_needed c.requires.none_looked;
+  looking = looking_start (g.P.ProgramView.program c.args.program.now) c.args.first c.args.second c.args.needed.now c.args.looked.now c.requires.visits c.requires.apart c.requires.needed c.requires.looked;
   rounds = omega arith;
 }
 

@@ -6,7 +6,7 @@ pub returns-in_ok-keep_visit : goal.returns-in_ok-keep_visit
 returns-in_ok-keep_visit g c =
     let made = c.in_ok-keep_visit.ensures in
     added_visit (g.P.ProgramView.program c.args.program.now) c.args.placed (kept_at c.args.last.now) (kept_at c.keep_visit.new.last) c.args.pairs.now.items c.keep_visit.new.pairs.items
-    (record { cell = made.cell; here = c.requires.here }) (sym c.begins_visit.ensures ∙ c.if-begins_visit.true) made.here made.others made.pairs
+    (record { cell = made.cell; here = c.requires.here }) (sym c.begins_visit.ensures ∙ c.if-begins_visit.true) made.kept
 
 pub returns-else-begins_visit : goal.returns-else-begins_visit
 returns-else-begins_visit g c =

@@ -10,7 +10,7 @@ returns-in-Ok-clause-yes g c _ =
     let i = c.args.agent in
     let here = c.runner_of-runner.ensures.finished in
     goes_on p rows i _ (some_left c.has_finished.result (count_in rows i) (moves p i) c.requires.within c.has_finished.ensures.1 c.if-has_finished.false)
-    (subst (λ (rs : List (List ℕ)). IsNextLevel p rs i c.in-Ok.field-0.level) (none_climbs rows i c.runner_of-runner.result.finished here) c.in-Ok.ensures.needs.level) c.in-Ok.ensures.level
+    (subst (λ (rs : List (List ℕ)). IsNextLevel p rs i c.in-Ok.field-0.level) (none_climbs rows i c.runner_of-runner.result.finished here) c.in-Ok.ensures.says.needs.level) c.in-Ok.ensures.level
 
 pub returns-in-Err-clause-no : goal.returns-in-Err-clause-no
 returns-in-Err-clause-no g c _ =

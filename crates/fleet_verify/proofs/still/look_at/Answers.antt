@@ -1,15 +1,18 @@
-use Rattle.fleet_verify.proofs.Words.{◌∙◌, err_from_is_err_and}
+use Rattle.fleet_verify.proofs.Words.{◌∙◌, arith, err_from_is_err_and}
 use Rattle.fleet_verify.proofs.still.look_at.Goals.{in-Some, in_default}
 use Rattle.fleet_verify.proofs.still.look_at.Goals as goal
 
-pub returns-clause-ahead : goal.returns-clause-ahead
-returns-clause-ahead g c = c.in_ok-awaited.ensures.ahead
-
-pub returns-clause-queue : goal.returns-clause-queue
-returns-clause-queue g c = c.in_ok-wake.ensures ∙ elim c.match-branch-2.branch [ in-Some w ↦ w.queue-is ∙ w.wait.ensures | in_default w ↦ w.queue-is ]
+pub wait-requires-clause-other : goal.wait-requires-clause-other
+wait-requires-clause-other g c = let other = rw c.in-Some.is at c.in_ok-awaited.ensures.ran.waits in omega (arith, other, c.requires.queue)
 
 pub returns-clause-stopped : goal.returns-clause-stopped
-returns-clause-stopped g c = (c.in_ok-awaited.field-0, c.in_ok-awaited.ensures.stopped)
+returns-clause-stopped g c =
+    let ran = c.in_ok-awaited.ensures.ran in
+    record {
+      ahead = ran.ahead;
+      queue = c.in_ok-wake.ensures ∙ elim c.match-branch-2.branch [ in-Some w ↦ w.queue-is ∙ w.wait.ensures | in_default w ↦ w.queue-is ];
+      stopped = (c.in_ok-awaited.field-0, ran.stopped);
+    }
 
 pub returns-in_err-awaited-clause-stop : goal.returns-in_err-awaited-clause-stop
 returns-in_err-awaited-clause-stop g c =

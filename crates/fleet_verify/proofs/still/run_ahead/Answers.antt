@@ -2,7 +2,7 @@ use Rattle.fleet_verify.proofs.Words.{◌∙◌, err_from_is_err_and}
 use Rattle.fleet_verify.proofs.still.run_ahead.Goals as goal
 
 pub loop-preserved : goal.loop-preserved
-loop-preserved g c = record { ahead = c.in_ok-look_at.ensures.ahead; queue = c.in_ok-look_at.ensures.queue ∙ (c.pop.ensures.same ∙ c.loop.invariant.queue) }
+loop-preserved g c = record { ahead = c.in_ok-look_at.ensures.stopped.ahead; queue = c.in_ok-look_at.ensures.stopped.queue ∙ (c.pop.ensures.same ∙ c.loop.invariant.queue) }
 
 pub returns-clause-still : goal.returns-clause-still
 returns-clause-still g c = c.run_rest.ensures.still

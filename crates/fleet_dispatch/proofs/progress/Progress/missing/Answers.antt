@@ -8,16 +8,19 @@ done_of-requires g c =
     let there = awaited_agent p c.args.i c.args.n c.loop-k.k c.await_at-awaited.result c.requires.well_formed c.await_at-awaited.ensures in
     omega (arith, there, c.requires.rows.done)
 
-pub returns-then-is_missing-clause-missing : goal.returns-then-is_missing-clause-missing
-returns-then-is_missing-clause-missing g c =
+pub returns-then-is_missing : goal.returns-then-is_missing
+returns-then-is_missing g c =
     let p = g.P.ProgramView.program c.args.program.now in
     let w = c.await_at-awaited.result in
     let ws = awaits_of p c.args.i c.args.n in
     let at = c.await_at-awaited.ensures in
     record {
-      is_await = (c.loop-k.k, slice_get_within ws c.loop-k.k w at, get_or_from_slice_get ws c.loop-k.k w w at);
-      agent = awaited_agent p c.args.i c.args.n c.loop-k.k w c.requires.well_formed at;
-      unmet = omega (arith, c.if-is_missing.true, c.done_of.ensures);
+      missing = record {
+        is_await = (c.loop-k.k, slice_get_within ws c.loop-k.k w at, get_or_from_slice_get ws c.loop-k.k w w at);
+        agent = awaited_agent p c.args.i c.args.n c.loop-k.k w c.requires.well_formed at;
+        unmet = omega (arith, c.if-is_missing.true, c.done_of.ensures);
+      };
+      first = first_found (is_done c.args.self.now.done) ws c.loop-k.k w c.loop-k.invariant at (lt-leb _ _ (omega (arith, c.if-is_missing.true, c.done_of.ensures)));
     }
 
 pub loop-k-preserved : goal.loop-k-preserved
@@ -30,21 +33,11 @@ loop-k-preserved g c =
     let here : is_done c.args.self.now.done (get_or ws c.loop-k.k w) ≡ true = ap (is_done c.args.self.now.done) (get_or_from_slice_get ws c.loop-k.k w w at) ∙ met in
     rw (list_all_more (is_done c.args.self.now.done) ws c.loop-k.k w (slice_get_within ws c.loop-k.k w at), c.loop-k.invariant, here) (search rules)
 
-pub returns-clause-missing : goal.returns-clause-missing
-returns-clause-missing g c = λ w h.
-    let p = g.P.ProgramView.program c.args.program.now in
-    let ws = awaits_of p c.args.i c.args.n in
+pub returns : goal.returns
+returns g c =
+    let ws = awaits_of (g.P.ProgramView.program c.args.program.now) c.args.i c.args.n in
     let all : list_all (is_done c.args.self.now.done) ws ≡ true = ap (list_all (is_done c.args.self.now.done)) (sym (take_all c.loop-k.k ws (omega (arith, c.loop-k-test.false, c.await_count-k-end.ensures)))) ∙ c.loop-k.invariant in
-    leb-true _ _ (All-contains (λ (v : Await). is_done c.args.self.now.done v ≡ true) ws w (AllPass-from_list_all (is_done c.args.self.now.done) ws all) h)
-
-pub returns-then-is_missing-clause-first : goal.returns-then-is_missing-clause-first
-returns-then-is_missing-clause-first g c =
-    let p = g.P.ProgramView.program c.args.program.now in
-    let ws = awaits_of p c.args.i c.args.n in
-    first_found (is_done c.args.self.now.done) ws c.loop-k.k c.await_at-awaited.result c.loop-k.invariant c.await_at-awaited.ensures (lt-leb _ _ (omega (arith, c.if-is_missing.true, c.done_of.ensures)))
-
-pub returns-clause-first : goal.returns-clause-first
-returns-clause-first g c =
-    let p = g.P.ProgramView.program c.args.program.now in
-    let ws = awaits_of p c.args.i c.args.n in
-    none_found (is_done c.args.self.now.done) ws (ap (list_all (is_done c.args.self.now.done)) (sym (take_all c.loop-k.k ws (omega (arith, c.loop-k-test.false, c.await_count-k-end.ensures)))) ∙ c.loop-k.invariant)
+    record {
+      missing = λ w h. leb-true _ _ (All-contains (λ (v : Await). is_done c.args.self.now.done v ≡ true) ws w (AllPass-from_list_all (is_done c.args.self.now.done) ws all) h);
+      first = none_found (is_done c.args.self.now.done) ws all;
+    }

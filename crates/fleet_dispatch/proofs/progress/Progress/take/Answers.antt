@@ -1,4 +1,4 @@
-use Rattle.fleet_dispatch.proofs.Cited.{◌≡◌, ℕ, ◌<◌, ◌≤◌, ◌∙◌, None, length, get_or, ap, sym, subst, arith, false, get_or_default, Words, Counts, IsRising, count_of, said_of, raised, Reported}
+use Rattle.fleet_dispatch.proofs.Cited.{◌≡◌, ℕ, ◌<◌, ◌≤◌, ◌∙◌, None, length, get_or, ap, sym, subst, arith, false, take, take_all, get_or_default, Words, Counts, IsRising, count_of, counts_after, said_of, raised, Reported, CarriesOut}
 use Rattle.fleet_dispatch.proofs.Words.{said_then, after_one_more}
 use Rattle.fleet_dispatch.proofs.Steps.{led_counts}
 use Rattle.fleet_dispatch.proofs.progress.Progress.take.Goals as goal
@@ -50,3 +50,10 @@ loop-word-preserved g c =
       done = c.raise.ensures.done ∙ ap (raised c.loop-word.self.done w.agent) c.said-said.ensures ∙ ap (λ (x : Counts). raised x w.agent (said_of x w)) inv.done ∙ sym (after_one_more c.args.self.now.done words i w l at);
       told = c.raise.ensures.told ∙ inv.told;
     }
+
+pub returns : goal.returns
+returns g c =
+    let p = g.P.ProgramView.program c.args.program.now in
+    let words = c.args.report.now in
+    let all : take c.loop-word.word-index words ≡ words = take_all c.loop-word.word-index words (omega (arith, c.loop-word-test.false, ap length c.words-word-items.ensures.words)) in
+    subst (λ (ws : Words). CarriesOut p c.args.self.now c.loop-word.self (counts_after c.args.self.now.done ws)) all c.loop-word.invariant

@@ -41,17 +41,18 @@ agents-preserved g c =
       written = one_agent_more p c.args.pace.form c.args.self.now.told c.agents.self.told new.told c.agents.from i _ _ from inv.written inv.later more.others c.tell_agent-at.ensures.written;
     }
 
-pub returns-clause-told : goal.returns-clause-told
-returns-clause-told g c =
+pub returns : goal.returns
+returns g c =
     let p = g.P.ProgramView.program c.args.program.now in
+    let ahead = c.args.pace.ahead in
     let inv = c.agents.invariant in
-    all_told p c.args.pace.ahead c.agents.self inv.leads (λ i agent. elim (cases_lt i c.agents.from) [
-      | inl below ↦ inv.passed i below
-      | inr above ↦ c.in_default.ensures i above
-    ]) ∙ ap (told_at p c.args.pace.ahead) inv.done
-
-pub returns-clause-written : goal.returns-clause-written
-returns-clause-written g c =
-    let p = g.P.ProgramView.program c.args.program.now in
-    let inv = c.agents.invariant in
-    all_written p c.args.pace.form c.args.self.now.told c.agents.self.told c.agents.from _ inv.from inv.written inv.later
+    record {
+      leads = inv.leads;
+      done = inv.done;
+      told = all_told p ahead c.agents.self inv.leads (λ i agent. elim (cases_lt i c.agents.from) [
+        | inl below ↦ inv.passed i below
+        | inr above ↦ c.in_default.ensures i above
+      ]) ∙ ap (told_at p ahead) inv.done;
+      within = omega (arith, inv.at, inv.row, c.requires.room, mul-le-mul_left (73 * ahead) inv.from);
+      written = all_written p c.args.pace.form c.args.self.now.told c.agents.self.told c.agents.from _ inv.from inv.written inv.later;
+    }

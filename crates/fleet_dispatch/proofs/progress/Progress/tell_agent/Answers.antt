@@ -31,8 +31,8 @@ actions-init g c =
       written = sym (ap (λ (xs : List ℕ). take c.args.at c.args.row.now ++ xs) none ∙ append-nil (take c.args.at c.args.row.now));
     }
 
-pub returns-in-Some-clause-leads : goal.returns-in-Some-clause-leads
-returns-in-Some-clause-leads g c =
+pub returns-in-Some : goal.returns-in-Some
+returns-in-Some g c =
     let p = g.P.ProgramView.program c.args.program.now in
     let i = c.args.i in
     let inv = c.actions.invariant in
@@ -44,10 +44,17 @@ returns-in-Some-clause-leads g c =
     let home : home_of new.waiting.homes i ≡ Some w.agent = ap (λ (x : ProgressState). home_of x.waiting.homes i) c.wait_for.ensures ∙ get_or-set_same c.actions.self.waiting.homes i (Some w.agent) None inside in
     let mem : Contains (awaits_of p i (n + 1)) w = subst (λ m. Contains (awaits_of p i (m + 1)) w) c.told_of-next.ensures c.in-Some.ensures.missing.is_await in
     let unmet : count_of new.done w.agent < w.count = omega (arith, c.in-Some.ensures.missing.unmet, ap (λ (x : ProgressState). count_of x.done w.agent) c.wait_for.ensures) in
-    agent_told p c.args.pace.ahead i n c.args.self.now new c.requires.leads c.requires.agent now inv.may (lacks_now p c.args.pace.ahead i w.agent n new w now.told_here mem refl unmet home)
+    let from = (c.requires.leads.told i c.requires.agent).from in
+    record {
+      leads = agent_told p c.args.pace.ahead i n c.args.self.now new c.requires.leads c.requires.agent now inv.may (lacks_now p c.args.pace.ahead i w.agent n new w now.told_here mem refl unmet home);
+      told = record { done = now.done; left = now.left; rises = omega (arith, inv.rises, now.told_here); others = now.told_there };
+      due = now.due;
+      high = omega (arith, inv.at, inv.may.few, from);
+      written = rw now.told_here inv.written;
+    }
 
-pub returns-clause-leads : goal.returns-clause-leads
-returns-clause-leads g c =
+pub returns : goal.returns
+returns g c =
     let p = g.P.ProgramView.program c.args.program.now in
     let i = c.args.i in
     let inv = c.actions.invariant in
@@ -55,7 +62,14 @@ returns-clause-leads g c =
     let home : home_of c.actions.self.waiting.homes i ≡ None = ap (λ (x : WaitState). home_of x.homes i) inv.waiting ∙ c.requires.leads.nowhere i c.requires.agent c.requires.due in
     let full : min (moves p i) (count_of c.actions.self.done i + c.args.pace.ahead) ≤ n =
     omega (arith, c.actions-test.false, c.told_of.ensures, c.last_told-last.ensures, ap (λ (x : ProgressState). count_of x.done i) c.set_due.ensures, ap (λ (x : Counts). count_of x i) inv.told.done) in
-    agent_told p c.args.pace.ahead i n c.args.self.now c.actions.self c.requires.leads c.requires.agent inv.told inv.may (full_now p c.args.pace.ahead i c.actions.self home full)
+    let from = (c.requires.leads.told i c.requires.agent).from in
+    record {
+      leads = agent_told p c.args.pace.ahead i n c.args.self.now c.actions.self c.requires.leads c.requires.agent inv.told inv.may (full_now p c.args.pace.ahead i c.actions.self home full);
+      told = record { done = inv.told.done; left = inv.told.left; rises = inv.rises; others = inv.told.told_there };
+      due = inv.told.due;
+      high = omega (arith, inv.at, inv.may.few, from);
+      written = inv.written;
+    }
 
 pub actions-preserved : goal.actions-preserved
 actions-preserved g c =
@@ -99,25 +113,12 @@ actions-preserved g c =
           ∙ ap (λ m. take c.args.at c.args.row.now ++ agent_orders p form i (count_of s.told i) m) (sym here);
     }
 
-pub returns-clause-high : goal.returns-clause-high
-returns-clause-high g c =
-    let at = c.actions.invariant.at in
-    let few = c.actions.invariant.may.few in
-    let from = (c.requires.leads.told c.args.i c.requires.agent).from in
-    omega arith
-
-pub returns-in-Some-clause-high : goal.returns-in-Some-clause-high
-returns-in-Some-clause-high g c =
-    let at = c.actions.invariant.at in
-    let few = c.actions.invariant.may.few in
-    let from = (c.requires.leads.told c.args.i c.requires.agent).from in
-    omega arith
-
-pub returns-in-Some-clause-told : goal.returns-in-Some-clause-told
-returns-in-Some-clause-told g c =
-    let inv = c.actions.invariant in
-    let now = told_waits (g.P.ProgramView.program c.args.program.now) c.args.i (count_of c.actions.self.told c.args.i) c.in-Some.awaited.agent c.args.self.now c.actions.self c.wait_for.new.self inv.told c.wait_for.ensures in
-    record { done = now.done; left = now.left; rises = omega (arith, inv.rises, now.told_here); others = now.told_there }
+pub tell_next-at-requires-clause-untold : goal.tell_next-at-requires-clause-untold
+tell_next-at-requires-clause-untold g c = record {
+  agent = c.requires.agent;
+  left = omega (arith, c.actions-test.true, c.told_of.ensures, c.last_told-last.ensures);
+  place = c.actions.invariant.told.place_here;
+}
 
 pub tell_next-at-requires-clause-room : goal.tell_next-at-requires-clause-room
 tell_next-at-requires-clause-room g c =

@@ -6,17 +6,17 @@ meeting-requires-clause-others c =
     let has = rw (sym c.self.view_is) at c.requires.ahead in
     rw (c.as_slice-agents.ensures.value, c.as_slice-next.ensures.value) has.entered
 
-pub returns-in-Some-clause-some : goal.returns-in-Some-clause-some
-returns-in-Some-clause-some c =
-    rw (sym (c.as_slice-next.ensures.value ∙ ap (λ (rows : SweepRows). rows.next) c.self.view_is)) (rw c.in-Some.is at c.in_ok-pair.ensures.some)
+pub returns-in-Some : goal.returns-in-Some
+returns-in-Some c =
+    rw (sym (c.as_slice-next.ensures.value ∙ ap (λ (rows : SweepRows). rows.next) c.self.view_is)) (rw c.in-Some.is at c.in_ok-pair.ensures)
 
 pub settle-requires-clause-others : goal.settle-requires-clause-others
 settle-requires-clause-others c =
     let has = rw (sym c.self.view_is) at c.requires.ahead in
     rw (c.as_slice-agents.ensures.value, c.as_slice-next.ensures.value, c.as_mut_slice-places.ensures.value, c.as_mut_slice-ahead.ensures.value, c.as_mut_slice-walks.ensures.value) has.settled
 
-pub returns-clause-none : goal.returns-clause-none
-returns-clause-none c =
+pub returns : goal.returns
+returns c =
     let v = c.self.inside in
     let has = rw (sym c.self.view_is) at c.requires.ahead in
     rw (
@@ -32,7 +32,7 @@ returns-clause-none c =
         walks = omega (arith, c.settle.auto.walks, ap length c.as_mut_slice-walks.ensures.value, has.fits.walks);
       };
       next = ap (λ (rows : SweepRows). rows.next) c.self.view_is;
-      entered = rw (sym c.as_slice-next.ensures.value) (rw c.in_default.is at c.in_ok-pair.ensures.none);
+      entered = rw (sym c.as_slice-next.ensures.value) (rw c.in_default.is at c.in_ok-pair.ensures);
       settled = rw (sym c.as_slice-next.ensures.value) c.settle.ensures;
       covers = c.drop_arrived.ensures;
     })

@@ -1,6 +1,6 @@
 use Rattle.fleet_plan.proofs.Words.{sym, arith, with_items_is}
-use Rattle.fleet_plan.proofs.MeetLaws.{ahead_agents, entered_apart, first_in, free_in}
-use Rattle.fleet_plan.proofs.SweepLaws.{found_first, found_none, nobody_yet, unwalked_yet, others_there, others_stay, names_movers, others_entered, others_settled, come_to_as}
+use Rattle.fleet_plan.proofs.MeetLaws.{entered_apart, told_in}
+use Rattle.fleet_plan.proofs.SweepLaws.{found_is, nobody_yet, unwalked_yet, others_there, names_leavers, names_movers, others_entered, others_settled, come_to_as}
 use Rattle.fleet_plan.proofs.sweep.Sweep.look_ahead.Goals as goal
 
 pub fill_next-requires-clause-others : goal.fill_next-requires-clause-others
@@ -8,38 +8,34 @@ fill_next-requires-clause-others c =
     let has = come_to_as _ _ _ _ _ _ _ _ c.as_slice-places.ensures.value c.as_mut_slice-next.ensures.value c.as_mut_slice-ahead.ensures.value c.as_mut_slice-walks.ensures.value (rw (sym c.self.view_is) at c.requires.swept) in
     rw c.as_slice-agents.ensures.value (others_there c.args.grid.now c.args.plan.now c.self.inside.table c.as_slice-places.result.now c.as_mut_slice-next.result.now c.as_mut_slice-ahead.result.now c.as_mut_slice-walks.result.now c.self.inside.agents.items c.args.time has.swept has.fits.next)
 
-pub fill_ahead-apart-requires-clause-others : goal.fill_ahead-apart-requires-clause-others
-fill_ahead-apart-requires-clause-others c =
+pub fill_ahead-apart-requires-clause-agents : goal.fill_ahead-apart-requires-clause-agents
+fill_ahead-apart-requires-clause-agents c =
     let has = come_to_as _ _ _ _ _ _ _ _ c.as_slice-places.ensures.value c.as_mut_slice-next.ensures.value c.as_mut_slice-ahead.ensures.value c.as_mut_slice-walks.ensures.value (rw (sym c.self.view_is) at c.requires.swept) in
-    rw c.as_slice-agents.ensures.value (others_stay c.args.grid.now c.args.plan.now c.self.inside.table c.as_slice-places.result.now c.as_mut_slice-next.result.now c.as_mut_slice-ahead.result.now c.as_mut_slice-walks.result.now c.self.inside.agents.items c.args.time has.swept has.fits.next c.fill_next.new.next c.fill_next.ensures)
+    rw c.as_slice-agents.ensures.value (names_leavers c.args.grid.now c.args.plan.now c.self.inside.table c.as_slice-places.result.now c.as_mut_slice-next.result.now c.as_mut_slice-ahead.result.now c.as_mut_slice-walks.result.now c.self.inside.agents.items c.args.time has.swept has.fits.next c.fill_next.new.next c.fill_next.ensures)
+
+pub fill_ahead-apart-requires-clause-ahead : goal.fill_ahead-apart-requires-clause-ahead
+fill_ahead-apart-requires-clause-ahead c =
+    let has = come_to_as _ _ _ _ _ _ _ _ c.as_slice-places.ensures.value c.as_mut_slice-next.ensures.value c.as_mut_slice-ahead.ensures.value c.as_mut_slice-walks.ensures.value (rw (sym c.self.view_is) at c.requires.swept) in
+    nobody_yet c.args.grid.now c.args.plan.now c.self.inside.table c.as_slice-places.result.now c.as_mut_slice-next.result.now c.as_mut_slice-ahead.result.now c.as_mut_slice-walks.result.now c.self.inside.agents.items c.args.time has.swept has.fits.next has.fits.ahead
 
 pub conflict_in-requires-clause-agents : goal.conflict_in-requires-clause-agents
 conflict_in-requires-clause-agents c =
     let has = come_to_as _ _ _ _ _ _ _ _ c.as_slice-places.ensures.value c.as_mut_slice-next.ensures.value c.as_mut_slice-ahead.ensures.value c.as_mut_slice-walks.ensures.value (rw (sym c.self.view_is) at c.requires.swept) in
     rw c.as_slice-agents.ensures.value (names_movers c.args.grid.now c.args.plan.now c.self.inside.table c.as_slice-places.result.now c.as_mut_slice-next.result.now c.as_mut_slice-ahead.result.now c.as_mut_slice-walks.result.now c.self.inside.agents.items c.args.time has.swept has.fits.next c.fill_next.new.next c.fill_next.ensures c.fill_ahead-apart.new.ahead c.fill_ahead-apart.ensures.ahead)
 
-pub fill_ahead-apart-requires-clause-nobody : goal.fill_ahead-apart-requires-clause-nobody
-fill_ahead-apart-requires-clause-nobody c =
+pub conflict_in-requires-clause-walks : goal.conflict_in-requires-clause-walks
+conflict_in-requires-clause-walks c =
     let has = come_to_as _ _ _ _ _ _ _ _ c.as_slice-places.ensures.value c.as_mut_slice-next.ensures.value c.as_mut_slice-ahead.ensures.value c.as_mut_slice-walks.ensures.value (rw (sym c.self.view_is) at c.requires.swept) in
-    nobody_yet c.args.grid.now c.args.plan.now c.self.inside.table c.as_slice-places.result.now c.as_mut_slice-next.result.now c.as_mut_slice-ahead.result.now c.as_mut_slice-walks.result.now c.self.inside.agents.items c.args.time has.swept has.fits.next has.fits.ahead
+    unwalked_yet c.args.grid.now c.args.plan.now c.self.inside.table c.as_slice-places.result.now c.as_mut_slice-next.result.now c.as_mut_slice-ahead.result.now c.as_mut_slice-walks.result.now c.self.inside.agents.items c.args.time has.swept has.fits.next c.fill_next.new.next c.fill_next.ensures c.fill_ahead-apart.new.ahead c.fill_ahead-apart.ensures.ahead has.fits.walks
 
-pub conflict_in-requires-clause-ahead : goal.conflict_in-requires-clause-ahead
-conflict_in-requires-clause-ahead c = ahead_agents c.as_slice-places.result.now c.fill_next.new.next c.fill_ahead-apart.new.ahead c.fill_ahead-apart.ensures.ahead
-
-pub conflict_in-requires-clause-unwalked : goal.conflict_in-requires-clause-unwalked
-conflict_in-requires-clause-unwalked c =
+pub returns-clause-found : goal.returns-clause-found
+returns-clause-found c =
     let has = come_to_as _ _ _ _ _ _ _ _ c.as_slice-places.ensures.value c.as_mut_slice-next.ensures.value c.as_mut_slice-ahead.ensures.value c.as_mut_slice-walks.ensures.value (rw (sym c.self.view_is) at c.requires.swept) in
-    unwalked_yet c.args.grid.now c.args.plan.now c.self.inside.table c.as_slice-places.result.now c.as_mut_slice-next.result.now c.as_mut_slice-ahead.result.now c.as_mut_slice-walks.result.now c.self.inside.agents.items c.args.time has.swept has.fits.next has.fits.walks
-
-pub returns-clause-some : goal.returns-clause-some
-returns-clause-some c =
-    let has = come_to_as _ _ _ _ _ _ _ _ c.as_slice-places.ensures.value c.as_mut_slice-next.ensures.value c.as_mut_slice-ahead.ensures.value c.as_mut_slice-walks.ensures.value (rw (sym c.self.view_is) at c.requires.swept) in
-    found_first c.cells_have_places_of_their_own.ensures c.args.grid.now c.args.plan.now c.requires.on_map c.args.time c.as_slice-places.result.now c.fill_next.new.next has.swept.sweep c.fill_next.ensures c.conflict_in.result (first_in c.as_slice-places.result.now c.fill_next.new.next c.fill_ahead-apart.new.ahead c.args.time (entered_apart c.self.inside.table c.as_slice-places.result.now has.swept.entered) c.fill_ahead-apart.ensures.ahead c.conflict_in.result c.conflict_in.ensures.some)
-
-pub returns-clause-none : goal.returns-clause-none
-returns-clause-none c =
-    let has = come_to_as _ _ _ _ _ _ _ _ c.as_slice-places.ensures.value c.as_mut_slice-next.ensures.value c.as_mut_slice-ahead.ensures.value c.as_mut_slice-walks.ensures.value (rw (sym c.self.view_is) at c.requires.swept) in
-    rw (with_items_is c.self.inside.next c.fill_next.new.next (omega (arith, c.fill_next.auto.next, c.as_mut_slice-next.ensures.len, c.self.inside.next.ok))) (found_none c.cells_have_places_of_their_own.ensures c.args.grid.now c.args.plan.now c.requires.on_map c.args.time c.as_slice-places.result.now c.fill_next.new.next has.swept.sweep c.fill_next.ensures c.conflict_in.result (free_in c.as_slice-places.result.now c.fill_next.new.next c.fill_ahead-apart.new.ahead (entered_apart c.self.inside.table c.as_slice-places.result.now has.swept.entered) c.fill_ahead-apart.ensures.ahead c.conflict_in.result c.conflict_in.ensures.none))
+    let places = c.as_slice-places.result.now in
+    let next = c.fill_next.new.next in
+    let found = c.conflict_in.result in
+    rw (with_items_is c.self.inside.next next (omega (arith, c.fill_next.auto.next, c.as_mut_slice-next.ensures.len, c.self.inside.next.ok))) (found_is c.cells_have_places_of_their_own.ensures c.args.grid.now c.args.plan.now c.requires.on_map c.args.time places next has.swept.sweep c.fill_next.ensures found
+    (told_in places next c.fill_ahead-apart.new.ahead c.args.time (entered_apart c.self.inside.table places has.swept.entered) c.fill_ahead-apart.ensures.ahead found c.conflict_in.ensures.found))
 
 pub returns-clause-ahead : goal.returns-clause-ahead
 returns-clause-ahead c =

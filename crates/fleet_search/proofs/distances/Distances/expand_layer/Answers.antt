@@ -11,4 +11,4 @@ expand-requires-clause-cell c = taken c.in-Some.left c.pop.new.self (subst (IsSp
 pub loop-left-smaller : goal.loop-left-smaller
 loop-left-smaller c =
     let less = work-popped c.loop-left.self c.pop.new.self c.in-Some.left c.in-Some.ensures.some in
-    omega (arith, c.in_ok-expand.ensures.work)
+    omega (arith, c.in_ok-expand.ensures.spread.work)

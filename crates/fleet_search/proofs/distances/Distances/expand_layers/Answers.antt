@@ -7,9 +7,11 @@ loop-round-preserved c =
     let i = c.loop-round.invariant in
     let same = c.expand_layer.ensures.same in
     rw c.next_layer.ensures record {
-      spread = spread-turned c.expand_layer.new.self c.in_ok-expand_layer.ensures.spread c.in_ok-expand_layer.ensures.layer;
-      next = refl;
       grid = same.grid ∙ i.grid;
-      start = same.start ∙ i.start;
-      goal = same.goal ∙ i.goal;
+      search = record {
+        spread = spread-turned c.expand_layer.new.self c.in_ok-expand_layer.ensures.done;
+        next = refl;
+        start = same.start ∙ i.search.start;
+        goal = same.goal ∙ i.search.goal;
+      };
     }

@@ -11,7 +11,7 @@ returns-clause-spread c =
     let g3 = sym c.label_towards-4.ensures.same.grid in
     let g2 = sym c.label_towards-3.ensures.same.grid ∙ g3 in
     let g1 = sym c.label_towards-2.ensures.same.grid ∙ g2 in
-    spread-left c.label_towards.new.self c.label_towards-2.new.self c.label_towards-3.new.self c.label_towards-4.new.self c.args.distance c.args.left w.left_on_bound g1 g2 g3 n.found e.found s.found w.found e.fall s.fall w.fall
-
-pub returns-clause-work : goal.returns-clause-work
-returns-clause-work c = omega (arith, c.in_ok-label_towards.ensures.labelled.work, c.in_ok-label_towards-2.ensures.labelled.work, c.in_ok-label_towards-3.ensures.labelled.work, c.in_ok-label_towards-4.ensures.labelled.work)
+    record {
+      spread = spread-left c.label_towards.new.self c.label_towards-2.new.self c.label_towards-3.new.self c.label_towards-4.new.self c.args.distance c.args.left w.left_on_bound g1 g2 g3 n.found e.found s.found w.found e.fall s.fall w.fall;
+      work = omega (arith, n.work, e.work, s.work, w.work);
+    }

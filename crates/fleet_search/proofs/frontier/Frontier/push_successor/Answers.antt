@@ -1,16 +1,16 @@
 use Rattle.fleet_search.proofs.Words.{◌+◌, ◌-◌, ◌≤◌, inr, sym, ap, ◌∙◌, subst, arith, both_ways, place_of, is_passable, State, IsInInterval, earliest_in, IsSeen, IsLabelSet, heuristic_of, occupancies_on, IsStep, IsMove, earliest_of}
 use Rattle.fleet_search.proofs.Spread.{on_map}
 use Rattle.fleet_search.proofs.IntervalLaws.{interval-free, few-occupancies}
-use Rattle.fleet_search.proofs.SearchSteps.{near-beside, bucket-next, covered-seen, covered-new, expands_on, pushed, pushed-grows}
+use Rattle.fleet_search.proofs.SearchSteps.{near-beside, bucket-next, covered-seen, covered-new, expands_on, found_already, pushed, pushed-grows}
 use Rattle.fleet_search.proofs.frontier.Frontier.push_successor.Goals as goal
 
-pub returns-then-is_reached-clause-found : goal.returns-then-is_reached-clause-found
-returns-then-is_reached-clause-found c = λ step h.
+pub returns-then-is_reached : goal.returns-then-is_reached
+returns-then-is_reached c = found_already _ _ _ _ _ c.requires.leaving (λ step h.
     let q = c.args.query.now in
     let s = c.args.self.now in
     let cell = c.args.neighbour.now.cell in
     let seen : IsSeen (earliest_of q (earliest_in s.labels) cell c.args.interval) (c.args.begin + 1) = subst (λ z. IsSeen (earliest_in s.labels z c.args.interval) (c.args.begin + 1)) c.cell_index-number.ensures.value (c.is_reached.ensures.0 c.if-is_reached.true) in
-    covered-seen q _ _ s.nodes (earliest_in s.labels) s.open_list c.requires.leaving.frontier cell c.args.interval (c.args.begin + 1) c.requires.neighbour.on_ground seen (subst (λ z. IsInInterval z c.args.interval (c.args.begin + 1)) c.requires.neighbour.occupancies c.requires.interval)
+    covered-seen q _ _ s.nodes (earliest_in s.labels) s.open_list c.requires.leaving.frontier cell c.args.interval (c.args.begin + 1) c.requires.neighbour.on_ground seen (subst (λ z. IsInInterval z c.args.interval (c.args.begin + 1)) c.requires.neighbour.occupancies c.requires.interval))
 
 pub fits-requires-clause-free : goal.fits-requires-clause-free
 fits-requires-clause-free c =
@@ -24,11 +24,8 @@ add-requires-clause-interval c =
     let bound = (subst (λ z. IsInInterval z c.args.interval (c.args.begin + 1)) c.requires.neighbour.occupancies c.requires.interval).bound in
     omega arith
 
-pub returns-clause-found : goal.returns-clause-found
-returns-clause-found c = λ step h. covered-new c.args.query.now c.args.self.now.nodes c.add.new.self.nodes c.to.result c.args.begin c.args.neighbour.now.cell c.in_ok-add.ensures.nodes step.fits.vertex
-
-pub returns-clause-expands_on : goal.returns-clause-expands_on
-returns-clause-expands_on c =
+pub returns : goal.returns
+returns c =
     let s = c.args.self.now in
     let q = c.args.query.now in
     let r = s.nodes in
@@ -47,7 +44,10 @@ returns-clause-expands_on c =
     let near = near-beside q fr.measured l.state.cell cell ground c.requires.neighbour.on_ground (inr c.requires.neighbour.neighbours) in
     let waits = c.requires.waits in
     let late = bucket-next q l.state (record { time = c.args.begin + 1; cell = cell }) c.args.bucket c.bucket.result c.requires.leaving.left.bucket bucket (omega arith) near.1 in
-    expands_on q c.args.bucket l s _ c.requires.leaving (pushed q (c.args.bucket - 1) l.place r labels s.open_list fr c.in_ok-add.ensures.places l.state c.requires.leaving.left.within c.requires.leaving.left.here c.args.begin cell c.args.interval (subst (λ z. IsInInterval z c.args.interval (c.args.begin + 1)) c.requires.neighbour.occupancies c.requires.interval) unseen move in_time c.add.new.self.nodes new c.add.new.self.open_list c.bucket.result c.to.result c.to.ensures c.in_ok-add.ensures.nodes set bucket c.in_ok-add.ensures.open_list late) (pushed-grows s _ (record { state = record { time = c.args.begin + 1; cell = cell }; parent = c.to.result }) c.in_ok-add.ensures.nodes)
+    record {
+      expands_on = expands_on q c.args.bucket l s _ c.requires.leaving (pushed q (c.args.bucket - 1) l.place r labels s.open_list fr c.in_ok-add.ensures.places l.state c.requires.leaving.left.within c.requires.leaving.left.here c.args.begin cell c.args.interval (subst (λ z. IsInInterval z c.args.interval (c.args.begin + 1)) c.requires.neighbour.occupancies c.requires.interval) unseen move in_time c.add.new.self.nodes new c.add.new.self.open_list c.bucket.result c.to.result c.to.ensures c.in_ok-add.ensures.nodes set bucket c.in_ok-add.ensures.open_list late) (pushed-grows s _ (record { state = record { time = c.args.begin + 1; cell = cell }; parent = c.to.result }) c.in_ok-add.ensures.nodes);
+      found = λ step h. covered-new q r c.add.new.self.nodes c.to.result c.args.begin cell c.in_ok-add.ensures.nodes step.fits.vertex;
+    }
 
 pub cell_index-number-requires-clause-column : goal.cell_index-number-requires-clause-column
 cell_index-number-requires-clause-column c = (on_map c.args.query.now.grid.now c.args.neighbour.now.cell c.requires.leaving.frontier.measured.heuristic.ready.map c.requires.neighbour.on_ground).0

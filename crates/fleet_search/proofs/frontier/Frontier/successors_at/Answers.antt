@@ -21,10 +21,10 @@ loop-interval-init c =
     turning-begin q c.args.bucket c.args.left cell first c.args.self.now c.requires.leaving begun
 
 pub loop-interval-preserved : goal.loop-interval-preserved
-loop-interval-preserved c = turning-more c.args.query.now c.args.bucket c.args.left c.args.neighbour.now.cell c.loop-interval.interval c.args.self.now c.loop-interval.self c.successor_in-in-loop-interval.new.self c.loop-interval.invariant c.in_ok-successor_in.ensures.expands_on c.in_ok-successor_in.ensures.found
+loop-interval-preserved c = turning-more c.args.query.now c.args.bucket c.args.left c.args.neighbour.now.cell c.loop-interval.interval c.args.self.now c.loop-interval.self c.successor_in-in-loop-interval.new.self c.loop-interval.invariant c.in_ok-successor_in.ensures
 
-pub returns-then-begins_after-clause-found : goal.returns-then-begins_after-clause-found
-returns-then-begins_after-clause-found c =
+pub returns-then-begins_after : goal.returns-then-begins_after
+returns-then-begins_after c =
     let q = c.args.query.now in
     let cell = c.args.neighbour.now.cell in
     let m = c.requires.leaving.frontier.measured in
@@ -33,11 +33,8 @@ returns-then-begins_after-clause-found c =
     let late = subst (λ z. c.args.left.until < (occupancy_at z (interval - 1)).from) c.requires.neighbour.occupancies (yes_from_true c.begins_after.result c.if-begins_after.true c.begins_after.ensures) in
     turned q m c.args.bucket c.args.left cell interval c.args.self.now c.loop-interval.self c.loop-interval.invariant (omega arith) (λ i h l. all_later q m cell c.args.left.until (interval - 1) (omega arith) late i (omega arith) l)
 
-pub returns-clause-found : goal.returns-clause-found
-returns-clause-found c =
+pub returns : goal.returns
+returns c =
     let q = c.args.query.now in
     let same = ap length c.requires.neighbour.occupancies in
     turned q c.requires.leaving.frontier.measured c.args.bucket c.args.left c.args.neighbour.now.cell c.loop-interval.interval c.args.self.now c.loop-interval.self c.loop-interval.invariant (omega arith) (λ i h l. absurd (omega arith))
-
-pub returns-clause-expands_on : goal.returns-clause-expands_on
-returns-clause-expands_on c = c.loop-interval.invariant.on

@@ -9,7 +9,7 @@ longer-requires-clause-action g c =
 pub loop-first-preserved : goal.loop-first-preserved
 loop-first-preserved g c =
     stretch_on (g.P.ProgramView.program c.args.self.now.program) (g.C.ActionCosts.cost c.args.self.now.costs) c.args.action c.args.end c.loop-first.first c.loop-first.time c.loop-first.invariant
-    (omega (arith, c.loop-first-test.true, c.least_first-least.ensures)) c.in-Some.before c.in-Some.ensures.agent c.in-Some.ensures.number c.in-Some.ensures.before c.in-Some.begun c.in-Some.ensures.end
+    (omega (arith, c.loop-first-test.true, c.least_first-least.ensures)) c.in-Some.before c.in-Some.begun c.in-Some.ensures.some
 
 pub returns-clause-whole : goal.returns-clause-whole
 returns-clause-whole g c = λ room a f. omega (arith, room, f.2.before, f.2.some, c.loop-first-test.false, c.least_first-least.ensures)

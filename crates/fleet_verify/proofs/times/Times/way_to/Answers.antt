@@ -9,8 +9,8 @@ pub way_on-requires : goal.way_on-requires
 way_on-requires g c =
     let p = g.P.ProgramView.program c.args.self.now.program in
     let cost = g.C.ActionCosts.cost c.args.self.now.costs in
-    stretch_on p cost c.args.action c.args.end c.args.action.number c.args.end (stretch_begins p cost c.args.action c.args.end c.requires.action c.requires.end) (omega arith) c.in-Some.before c.in-Some.ensures.agent c.in-Some.ensures.number
-    c.in-Some.ensures.before c.in-Some.time c.in-Some.ensures.end
+    stretch_on p cost c.args.action c.args.end c.args.action.number c.args.end (stretch_begins p cost c.args.action c.args.end c.requires.action c.requires.end) (omega arith)
+    c.in-Some.before c.in-Some.time c.in-Some.ensures.some
 
 pub returns-in-None-clause-stretch : goal.returns-in-None-clause-stretch
 returns-in-None-clause-stretch g c =

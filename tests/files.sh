@@ -53,7 +53,7 @@ check 'so there is none' 1 '' '' 'ls | grep none'
 check 'OUT in no folder' 3 '' 'file no/out\n' "fleet compile $M $S $P no/out"
 check 'OUT is a folder' 3 '' 'file examples\n' "fleet compile $M $S $P examples"
 check 'OUT is full' 3 '' 'file /dev/full\n' "fleet compile $M $S $P /dev/full"
-# Limits and ends of the system, on the program of the warehouse, of 58,119 bytes.
+# Limits and ends of the system, on the program of the warehouse, of 59,059 bytes.
 W='examples/warehouse.map examples/warehouse.scen'
 check 'a plan of the warehouse' 0 '' '' "fleet plan $W > many"
 check 'OUT beyond a file-size limit: the system ends the program by a signal' 0 '153\n' '' \

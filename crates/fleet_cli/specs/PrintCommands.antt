@@ -1,4 +1,4 @@
--- What the commands `instance`, `check`, `plan`, `verify`, `list` and `times` print.
+-- What the commands print that write neither a file nor a run.
 use Rattle.std.specs.Prelude.{◌≡◌, ℕ, List, [], ◌∷◌, ◌++◌, length, slice_get, option_map, unwrap_or, Option, codes, decimal, Result, Err, ◌≢◌, Bool, true, false, Some, None, ◌⊎◌, ⊤}
 use Rattle.fleet_model.specs.declared.{geometry.Cell.Cell, task.Task.Task, program.Visit.Visit, program.ActionId.ActionId}
 use Rattle.fleet_model.specs.{Program.origin, Program.Program, Program.total_moves, Program.total_awaits, Machine.Holds, Breaking.AreBreakingHolds}

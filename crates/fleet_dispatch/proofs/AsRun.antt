@@ -16,7 +16,7 @@ movers_at p counts [] t l = absurd (omega arith)
 movers_at p counts (r ∷ reports) zero l = refl
 movers_at p counts (r ∷ reports) (suc t) l = movers_at p (counts_after counts r) reports t (omega arith)
 
-told_last : (p : Program) (k : ℕ) (told counts : Counts) (reports : List Words) (t : ℕ) → length reports ≡ suc t
+pub told_last : (p : Program) (k : ℕ) (told counts : Counts) (reports : List Words) (t : ℕ) → length reports ≡ suc t
     → told_by p k told counts reports ≡ told_at p k (counts_by counts (take t reports))
 told_last p k told counts [] t e = absurd (omega arith)
 told_last p k told counts (r ∷ []) zero e = refl

@@ -8,7 +8,7 @@ pub use Rattle.std.proofs.lemmas.Bool.{cases_lt, cases_eq, cases_Bool, and_parts
 pub use Rattle.std.proofs.lemmas.Bool.Decides.{nat_tests}
 pub use Rattle.std.proofs.lemmas.Grind.{common_steps}
 pub use Rattle.std.proofs.lemmas.Int.{ints}
-pub use Rattle.std.proofs.lemmas.List.{get_or_past, take_more, drop_all, ext_get_or, get_or-replicate, length-replicate, take-append-le, drop-append-le, take-append-drop, length-take-le, get_or-take, length-map, get_or-map, drop-drop, take_rest, get_or-drop, take_at, drop_at, drop-take, map-append, map-set, get_or_default}
+pub use Rattle.std.proofs.lemmas.List.{get_or_past, take_more, drop_all, ext_get_or, get_or-replicate, length-replicate, take-append-le, drop-append-le, take-append-drop, length-take-le, take-take, take-map, get_or-take, length-map, get_or-map, drop-drop, take_rest, get_or-drop, take_at, drop_at, drop-take, map-append, map-set, get_or_default}
 pub use Rattle.std.proofs.lemmas.List.Elements.{All-contains, recursion_from_All, All-nil, All-append}
 pub use Rattle.std.proofs.lemmas.List.Folds.{prefix_len-append, list_all_at, Any-from_list_any, list_all_more}
 pub use Rattle.std.proofs.lemmas.List.FromFn.{get_or-map-range_with_len, length-range_with_len, length-map-range_with_len, get_or-range_with_len, map-range_with_len_more}
@@ -21,7 +21,7 @@ pub use Rattle.std.proofs.lemmas.Result.{err_from_is_err_and}
 pub use Rattle.std.specs.Io.KnownBytes.{prepend_known, Keeps}
 pub use Rattle.std.specs.List.{list_all, flat_map, position_or_len, range_with_len, slice_split, AllByRecursion, count_by, join_with_byte, find}
 pub use Rattle.std.specs.Option.{option_map_or}
-pub use Rattle.std.specs.Prelude.{min, codes, IfSome, is_err, IsTrue, if◌then◌else◌, is_some, MatchOption, Vec, ℤ, ◌+ℤ◌, ◌-ℤ◌, pos, IfNone, MatchBool, slice_index_or, ⊤}
+pub use Rattle.std.specs.Prelude.{min, codes, IfSome, is_err, IsTrue, if◌then◌else◌, ◌↔◌, is_some, MatchOption, Vec, ℤ, ◌+ℤ◌, ◌-ℤ◌, pos, IfNone, MatchBool, slice_index_or, ⊤}
 pub use Rattle.std.specs.Result.{IsErrAnd}
 pub use Rattle.std.specs.Str.Lines.{strip_carriage_return}
 pub use Rattle.std.specs.Vec.{with_item}
@@ -34,8 +34,8 @@ unfoldable pub use Rattle.fleet_dispatch.specs.Costs.{cost_line_in}
 pub use Rattle.fleet_dispatch.specs.Dispatch.{AreTaken, Course, counts_by, reports_in, Left, AreHeard, told_by, counts_now, Dispatches, configuration_at, taken_by, turns_of, MayBeTaken, said_before, said_by, taken_now, left_by, StopsAtLine, IsCut, log_turns}
 unfoldable pub use Rattle.fleet_dispatch.specs.Dispatch.{talk_before}
 pub use Rattle.fleet_dispatch.specs.Hearing.{EndsLine, HearsLine}
-pub use Rattle.fleet_dispatch.specs.Lead.{none_done, counts_at, LeadsWell, movers, movers_by, holds_by, IsRun, is_told_by, is_done_by, may_begin_by, first_time, NeverFalls, IsSafelyLed, OrdersAtOnce, MayBeOnOrder, Arrive, is_news, news_by, resumed, SaysAlike}
-unfoldable pub use Rattle.fleet_dispatch.specs.Lead.{dispatch_of, orders_in_run, schedule_of}
+pub use Rattle.fleet_dispatch.specs.Lead.{none_done, counts_at, LeadsWell, movers, movers_by, holds_by, IsRun, is_told_by, is_done_by, may_begin_by, first_time, NeverFalls, IsSafelyLed, OrdersAtOnce, MayBeOnOrder, Arrive, is_news, news_by, Rises, is_ordered_at, agent_orders_at, IsToldAt, TellsWhatIsOrdered, resumed, SaysAlike}
+unfoldable pub use Rattle.fleet_dispatch.specs.Lead.{dispatch_of, orders_at, orders_in_run, schedule_of}
 pub use Rattle.fleet_dispatch.specs.Orders.{agent_orders, order_text, name_text}
 unfoldable pub use Rattle.fleet_dispatch.specs.Orders.{new_orders, order_line, closing}
 pub use Rattle.fleet_dispatch.specs.Progress.{AreDone, MayBeTold, ProgressState, HasRows, AreCounts, LeadsBut, Leads, is_woken, back, IsSettled, AreTold, IsWoken, CarriesOut}
@@ -75,10 +75,10 @@ pub use Rattle.fleet_machine.specs.Confirmed.{AreAllReady}
 pub use Rattle.fleet_machine.specs.Machine.{flag_of}
 pub use Rattle.fleet_machine.specs.WaitLists.{home_of, WaitState}
 pub use Rattle.fleet_model.proofs.Chains.{bound_below}
-pub use Rattle.fleet_model.proofs.Tick.{length-run, fails_at, standing_at_tick, standing_at_opening, free_moves, other_stays, unready_waits}
+pub use Rattle.fleet_model.proofs.Tick.{length-run, fails_at, standing_at_tick, standing_at_opening, some_passes, free_moves, other_stays, unready_waits}
 pub use Rattle.fleet_model.specs.Accepted.{IsAcceptedBy}
 pub use Rattle.fleet_model.specs.Chain.{IsAction, DirectlyNeeds, awaited}
-pub use Rattle.fleet_model.specs.Dispatch.{IsCarriedOut, OrdersAwait}
+pub use Rattle.fleet_model.specs.Dispatch.{Dispatch, IsCarriedOut, OrdersAwait}
 pub use Rattle.fleet_model.specs.Geometry.{stepped, place_of}
 pub use Rattle.fleet_model.specs.Machine.{indices, Configuration, standing_at, count_at, is_ready, Holds, is_among, is_held, run, is_finished, tick, opening, IsReached}
 pub use Rattle.fleet_model.specs.Program.{Program, path, moves, awaits_of, total_moves, step_of, actions_of, IsWellFormed, AreInRange, origin}

@@ -6,7 +6,7 @@ use Rattle.fleet_dispatch.proofs.Words.{length_after, after_grows, after_bounded
 
 -- ---- the first number that passes a test
 
-first_in : (test : ℕ → Bool) (n t : ℕ) → t < n → test t ≡ true → (u : ℕ) × (position test (indices n) ≡ Some u) × (u ≤ t)
+pub first_in : (test : ℕ → Bool) (n t : ℕ) → t < n → test t ≡ true → (u : ℕ) × (position test (indices n) ≡ Some u) × (u ≤ t)
 first_in test n t l e = go (cases_lt t (position_or_len test (indices n)))
   where
     long : length (indices n) ≡ n
@@ -21,7 +21,7 @@ first_in test n t l e = go (cases_lt t (position_or_len test (indices n)))
         let inside : position_or_len test (indices n) < length (indices n) = omega (arith, long) in
         (position_or_len test (indices n), rw (lt-ltb _ _ inside) refl, le)
 
-passes : (test : ℕ → Bool) (n u : ℕ) → position test (indices n) ≡ Some u → (u < n) × (test u ≡ true)
+pub passes : (test : ℕ → Bool) (n u : ℕ) → position test (indices n) ≡ Some u → (u < n) × (test u ≡ true)
 passes test n u e =
     let s = position-Some test (indices n) u 0 e in
     let l : u < n = omega (arith, s.0, length-range_with_len 0 n) in
@@ -29,7 +29,7 @@ passes test n u e =
     (l, ap test (sym at) ∙ s.1)
 
 -- a time that a clock says of a number
-timed : (clock : ℕ → ℕ) (o : Option ℕ) (t : ℕ) → option_map clock o ≡ Some t → (u : ℕ) × (o ≡ Some u) × (clock u ≡ t)
+pub timed : (clock : ℕ → ℕ) (o : Option ℕ) (t : ℕ) → option_map clock o ≡ Some t → (u : ℕ) × (o ≡ Some u) × (clock u ≡ t)
 timed clock None t e = absurd cc
 timed clock (Some u) t e = (u, refl, same_Some (clock u) t e)
 

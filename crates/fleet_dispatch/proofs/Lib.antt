@@ -14,6 +14,7 @@ pub mod TalkLaws
 pub mod Leading
 pub mod Promises
 pub mod AsRun
+pub mod Told
 pub mod Replaying
 pub mod Spelling
 pub mod Kept

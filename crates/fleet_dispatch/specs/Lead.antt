@@ -1,10 +1,11 @@
 -- Robots that are led by a dispatch: when each action is ordered and reported, and what is promised of whatever they
 -- do.
-use Rattle.std.specs.Prelude.{◌≡◌, ◌≢◌, ℕ, ◌+◌, ◌<◌, ◌≤◌, Bool, true, false, IsTrue, ◌&&◌, nat_le, nat_lt, List, [], ◌∷◌, length, get_or, take, filter, replicate, Option, option_map, if◌then◌else◌}
+use Rattle.std.specs.Prelude.{◌≡◌, ◌≢◌, ℕ, ◌+◌, ◌<◌, ◌≤◌, Bool, true, false, IsTrue, ◌&&◌, nat_le, nat_lt, List, [], ◌∷◌, length, get_or, take, filter, replicate, Option, Some, option_map, ◌↔◌, ◌==◌, if◌then◌else◌}
 use Rattle.std.specs.List.{list_any, position, flat_map}
+use Rattle.std.specs.Option.{option_map_or}
 use Rattle.fleet_model.specs.declared.geometry.Place.{Place}
 use Rattle.fleet_model.specs.declared.program.ActionId.{ActionId}
-use Rattle.fleet_model.specs.Program.{Program, total_moves, path}
+use Rattle.fleet_model.specs.Program.{Program, moves, total_moves, path}
 use Rattle.fleet_model.specs.Machine.{indices, Holds, is_among, run, count_at, is_finished}
 use Rattle.fleet_model.specs.Run.{AreOnGoals}
 use Rattle.fleet_model.specs.Claims.{holds_of, is_new}
@@ -14,9 +15,11 @@ use Rattle.fleet_model.specs.Schedule.{Schedule, IsBy, IsSchedule, IsSafeSchedul
 use Rattle.fleet_model.specs.Dispatch.{Dispatch, OrdersAwait, IsCarriedOut}
 use Rattle.fleet_dispatch.specs.Report.{Words, Counts, count_of, said_of, counts_after, Line}
 use Rattle.fleet_dispatch.specs.declared.form.ReportForm.{ReportForm}
+use Rattle.fleet_dispatch.specs.declared.pace.Pace.{Pace}
 use Rattle.fleet_dispatch.specs.Ahead.{told_to, told_at, is_all_done}
 use Rattle.fleet_dispatch.specs.Orders.{order_line, new_orders}
-use Rattle.fleet_dispatch.specs.Dispatch.{Course, counts_by, told_by, configuration_at, counts_now, due_orders, taken_now}
+use Rattle.fleet_dispatch.specs.Dispatch.{Course, counts_by, told_by, configuration_at, reports_in, counts_now, due_orders, taken_now}
+use Rattle.fleet_dispatch.specs.Session.{first_course}
 
 -- nothing is carried out
 abbrev pub none_done : Program → Counts
@@ -113,6 +116,42 @@ pub record LeadsWell (passable : Place → Bool) (p : Program) (k : ℕ) (report
   pub few : news_by (none_done p) reports ≤ total_moves p
   pub short : news_by (none_done p) reports ≡ total_moves p → Arrive p (counts_by (none_done p) reports)
   pub arrive : is_all_done p (counts_by (none_done p) reports) ≡ true → Arrive p (counts_by (none_done p) reports)
+
+-- ---- what is told
+
+-- the clock rises with each report
+abbrev pub Rises : (ℕ → ℕ) → Type 0
+Rises clock = (t u : ℕ) → t < u → clock t < clock u
+
+-- the action is ordered at time x
+abbrev pub is_ordered_at : Dispatch → ℕ → ActionId → Bool
+is_ordered_at d x a = option_map_or (λ t. t == x) (d.orders a) false
+
+-- the orders of agent i for those of its actions that are ordered at time x, in turn
+abbrev pub agent_orders_at : Program → ReportForm → Dispatch → ℕ → ℕ → List ℕ
+agent_orders_at p form d x i =
+    flat_map (λ n. if is_ordered_at d x (record { agent = i; number = n + 1 }) then order_line p form i n else []) (indices (moves p i))
+
+-- .. of all agents, in rising order of agent
+unfoldable pub orders_at : Program → ReportForm → Dispatch → ℕ → List ℕ
+orders_at p form d x = flat_map (agent_orders_at p form d x) (indices (length p))
+
+-- the action is told as soon as t reports are taken: its agent was told fewer before, and is told as many now
+abbrev pub IsToldAt : Program → ℕ → List Words → ℕ → ActionId → Type 0
+IsToldAt p k reports t a =
+    (count_of (told_by p k (none_done p) (none_done p) (take t reports)) a.agent < a.number)
+    × (a.number ≤ told_to p k (counts_at p reports t) a.agent)
+
+-- What is told is what `dispatch_of` orders: after the first t of these lines those orders are due that it gives at the
+-- time of the last of them, by every clock that rises; and by any clock it orders an action at the time of the report
+-- with which the action is told, and at no other
+pub record TellsWhatIsOrdered (p : Program) (pace : Pace) (lines : List Line) : Type 0 where
+  pub said : (clock : ℕ → ℕ) (t : ℕ) → Rises clock → t ≤ length lines
+      → due_orders (first_course p pace) (take t lines)
+      ≡ orders_at p pace.form (dispatch_of clock p pace.ahead (reports_in lines)) (clock t)
+  pub when : (clock : ℕ → ℕ) (a : ActionId) (x : ℕ) → IsAction p a
+      → (((dispatch_of clock p pace.ahead (reports_in lines)).orders a ≡ Some x)
+      ↔ ((t : ℕ) × (t ≤ length lines) × (clock t ≡ x) × IsToldAt p pace.ahead (reports_in lines) t a))
 
 -- ---- a dispatch that goes on
 

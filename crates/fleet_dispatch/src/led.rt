@@ -8,12 +8,14 @@ ghost use Rattle.fleet_model.specs.Visit.{ComesAfterByChain};
 ghost use Rattle.fleet_model.specs.Accepted.{IsAcceptedBy};
 ghost use Rattle.fleet_model.specs.Dispatch.{IsCarriedOut};
 ghost use Rattle.fleet_dispatch.specs.declared.form.ReportForm.{ReportForm};
+ghost use Rattle.fleet_dispatch.specs.declared.pace.Pace.{Pace};
 ghost use Rattle.fleet_dispatch.specs.Report.{Words, Line};
 ghost use Rattle.fleet_dispatch.specs.Ahead.{told_at};
 ghost use Rattle.fleet_dispatch.specs.Orders.{new_orders};
 ghost use Rattle.fleet_dispatch.specs.Dispatch.{Course, AreTaken, AreHeard, counts_now, due_orders, said_by, left_by};
+ghost use Rattle.fleet_dispatch.specs.Session.{first_course};
 ghost use Rattle.fleet_dispatch.specs.Replay.{IsReplayed, logged_in, AreRead};
-ghost use Rattle.fleet_dispatch.specs.Lead.{none_done, dispatch_of, schedule_of, NeverFalls, IsSafelyLed, OrdersAtOnce, LeadsWell, IsRun, resumed, SaysAlike};
+ghost use Rattle.fleet_dispatch.specs.Lead.{none_done, dispatch_of, schedule_of, NeverFalls, IsSafelyLed, OrdersAtOnce, LeadsWell, TellsWhatIsOrdered, IsRun, resumed, SaysAlike};
 
 /// Whatever robots do that carry out the orders of a dispatch, each once, in turn and after it was given, and whose
 /// reports come after the ends of their actions, is a schedule of the program, so they are safe, however many orders
@@ -42,6 +44,8 @@ pub fn dispatches_lead_safely()
         → IsAcceptedBy ComesAfterByChain passable tasks p
         → (ahead : ℕ) (reports : List Words) → AreTaken p ahead (none_done p) reports
         → LeadsWell passable p ahead reports }
+    ensures told { (p : Program) (pace : Pace) (lines : List Line)
+        → AreHeard (first_course p pace) lines → TellsWhatIsOrdered p pace lines }
     ensures machine { (p : Program) (form : ReportForm) (reports : List Words)
         → AreTaken p 1 (none_done p) reports → IsRun p form reports }
     ensures resume { (d : Course) (log live : List Line) (r : Line)

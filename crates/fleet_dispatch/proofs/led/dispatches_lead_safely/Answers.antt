@@ -1,6 +1,7 @@
 use Rattle.fleet_dispatch.proofs.Leading.{safely_led, carried_out, ordered_at_once}
 use Rattle.fleet_dispatch.proofs.Promises.{leads_well, says_alike, heard_together}
 use Rattle.fleet_dispatch.proofs.AsRun.{as_run}
+use Rattle.fleet_dispatch.proofs.Told.{tells_what_is_ordered}
 use Rattle.fleet_dispatch.proofs.Kept.{leads_there}
 use Rattle.fleet_dispatch.proofs.led.dispatches_lead_safely.Goals as goal
 
@@ -15,6 +16,9 @@ returns-clause-at_once c = ordered_at_once
 
 pub returns-clause-well : goal.returns-clause-well
 returns-clause-well c passable tasks p ok ahead reports taken = leads_well p ahead reports taken passable tasks ok
+
+pub returns-clause-told : goal.returns-clause-told
+returns-clause-told c = tells_what_is_ordered
 
 pub returns-clause-resume : goal.returns-clause-resume
 returns-clause-resume c = says_alike

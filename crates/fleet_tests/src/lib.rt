@@ -15,8 +15,8 @@
 //! and thins, `code_calls` reads and writes bytes (each front of the pair's program, and each byte of it set to each
 //! other value, by both readers), `verify_calls` verifies, `kernel_calls` joins and compares rows, `run_calls` ticks,
 //! drives and rehearses (up to the most ticks of holds, and 1,024 agents of which one moves), `left_calls` goes on
-//! after a log and writes maps and scenarios, and `cli_calls` does whole commands over files in memory. `ends` has
-//! their writer and the files that fail at a call, `due` what compares.
+//! after a log and writes maps and scenarios, `dispatch_calls` has dispatches tell all orders, and `cli_calls` does
+//! whole commands over files in memory. `ends` has their writer and the files that fail at a call, `due` what compares.
 #![tactic(auto)]
 
 #[cfg(test)]
@@ -27,6 +27,8 @@ mod changed_tests;
 mod cli_calls;
 #[cfg(test)]
 mod code_calls;
+#[cfg(test)]
+mod dispatch_calls;
 #[cfg(test)]
 mod due;
 #[cfg(test)]

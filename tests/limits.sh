@@ -32,6 +32,7 @@ crowd='BEGIN { print "version 1"; for (i = 0; i < n; i++) print "0 m 1025 1", i,
 row='BEGIN { r = "."; while (length(r) < 1024) r = r r; print "type t\nheight 1\nwidth 1025\nmap\n" r "." }'
 check '1,024 agents' 0 'agents 1024\nticks 0\nchain 0\nheld 0\n' '' "awk '$row' > row && awk -v n=1024 '$crowd' > crowd && fleet auto row crowd | tail -n 4"
 check '1,025 agents' 1 '' 'scen 10 TooMany\n' "awk -v n=1025 '$crowd' > crowd && fleet auto row crowd"
+check '.. the last of which is no agent line: it is not judged' 1 '' 'scen 10 TooMany\n' "awk -v n=1024 '$crowd' > crowd1024 && echo x >> crowd1024 && fleet auto row crowd1024"
 check 'the first 1,024 of them' 0 'agents 1024\n' '' 'fleet instance row crowd --agents 1024 | grep agents'
 south='BEGIN { print "version 1"; for (i = 0; i < 1024; i++) print "0 m 1024 2", i, 0, i, 1, 1 }'
 wide='BEGIN { r = "."; while (length(r) < 1024) r = r r; print "type t\nheight 2\nwidth 1024\nmap\n" r "\n" r }'

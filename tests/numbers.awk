@@ -62,5 +62,5 @@ END {
         cost += last
         if (last) waits += waits_here
     }
-    printf "conflict-free\nagents %d\nsteps %d\ncost %d\nbound %d\nmoves %d\nwaits %d\n", agents, steps, cost, bound, moves, waits > (to "/want")
+    printf "conflict-free\nagents %d\nsteps %d\ncost %d\nbound %d\nmoves %d\nwaits %d\n", agents, steps, cost, (cost < bound ? -1 : bound), moves, waits > (to "/want")
 }

@@ -50,7 +50,7 @@ impl Grid {
     ghost use Rattle.fleet_grid.specs.Stored.{ground_of, IsStored};
 
     /// A map of these sizes, from its cells row by row.
-    pub(crate) fn new(width: u16, height: u16, cells: Cells) -> Self
+    fn new(width: u16, height: u16, cells: Cells) -> Self
         requires width { IsSide width }
         requires height { IsSide height }
         requires cells { IsStored width height cells.passable_count cells.bytes.items }

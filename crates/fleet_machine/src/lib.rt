@@ -1,8 +1,8 @@
 //! The state of a run: the agents of a program on their way, and one tick of all of them.
 //!
 //! `Machine` is the agents on their way, with rows that are made once. The program is handed to each method, and no
-//! tick takes memory. `fleet_needs` and `fleet_verify` run one without holds, and `fleet_run` under those of a source;
-//! `fleet_dispatch` uses the sets and the lists alone. A tick goes by sets of agents (`AgentSet`: a bit for each agent)
+//! tick takes memory. `fleet_verify` runs one without holds, or under those that break a program, and `fleet_run` under
+//! those of a source; `fleet_dispatch` uses the sets and the lists alone. A tick goes by sets of agents (`AgentSet`: a bit for each agent)
 //! and by lists (`WaitLists`, linked by the agents' numbers, eight for each agent), both of `agent_set`: who is ready
 //! is a set, and who is not and has an action left stands in a list of an agent whose count it lacks; which of the
 //! eight the count says. With each list is kept the least count for which an agent in it waits, or a lesser one. A tick

@@ -7,10 +7,6 @@ act j c = record { agent = j; number = c }
 same_action : (x y : ActionId) → x.agent ≡ y.agent → x.number ≡ y.number → x ≡ y
 same_action x y e g = λ t. record { agent = e t; number = g t }
 
--- an action by its agent and its number
-pub numbered : (a : ActionId) (n : ℕ) → n ≡ a.number → record { agent = a.agent; number = n } ≡ a
-numbered a n e = λ t. record { agent = a.agent; number = e t }
-
 -- before its first action nothing reaches an agent
 pub column_none : (p : Program) (i j : ℕ) → IsColumn p (record { agent = i; number = 0 }) j 0
 column_none p i j c = (

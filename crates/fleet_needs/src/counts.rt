@@ -153,6 +153,7 @@ pub fn join_rows(row: &mut [u32], other: &[u32])
 fn join_lanes(row: &mut [u32], other: &[u32]) -> usize
     requires { length other.now ≡ length row.old }
     ensures within { result ≤ length row.old }
+    ensures whole { length row.old < result + LANES }
     ensures joined { AreJoined row.old other.now row.new 0 result }
     ensures rest { (k : ℕ) → result ≤ k → get_or row.new k 0 ≡ get_or row.old k 0 }
 {

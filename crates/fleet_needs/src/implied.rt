@@ -59,7 +59,7 @@ pub fn implied_awaits<P: ProgramView>(
     Ok(implied)
 }
 
-/// Flags the awaits of the asked agents, block by block, each with as many columns as there is room for.
+/// Flags the awaits for the asked agents, block by block, each with as many columns as there is room for.
 #[tactic(auto, using(crate::proofs::NextBlock::columns_of, crate::proofs::NextBlock::fewer_left))]
 fn flag_all<P: ProgramView>(
     alloc: Global,
@@ -83,7 +83,7 @@ fn flag_all<P: ProgramView>(
     Ok(())
 }
 
-/// Flags the awaits of the asked agents of a block, row by row.
+/// Flags the awaits for the asked agents of a block, row by row.
 fn flag_block<P: ProgramView>(
     alloc: Global,
     program: &P,

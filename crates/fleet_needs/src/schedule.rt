@@ -536,7 +536,8 @@ impl Columns {
         requires agents { length asked.now ≤ MAX_AGENTS }
         requires from { from < length asked.now }
         requires some { 1 ≤ most }
-        ensures { IfOk result (AreColumns asked.now from) }
+        ensures columns { IfOk result (AreColumns asked.now from) }
+        ensures few { IfOk result (λ columns. columns.width ≤ most) }
     {
         let mut of_agent = vec![in alloc; None; asked.len()]?;
         let mut width = 0;

@@ -24,8 +24,8 @@ const LESS_LOOKS: usize = 4;
 /// To look at one action costs about as much as to join so many counts.
 const COUNTS_A_LOOK: usize = 128;
 
-/// Which awaits others imply, as far as a few steps back show it, and a flag for each agent: whether an await of one of
-/// its actions is left open.
+/// Which awaits others imply, as far as a few steps back show it, and a flag for each agent: whether an await that names
+/// one of its actions is left open.
 pub fn settle_all<P: ProgramView>(
     alloc: Global,
     program: &P,
@@ -57,7 +57,9 @@ pub fn is_any(asked: &[bool]) -> bool
 
 /// How many actions are looked at for one await: fewer once most agents are asked for, since rows answer for all these,
 /// so a look is worth it only if it may spare a long row.
-fn looks_for(asked: &[bool]) -> u8 {
+fn looks_for(asked: &[bool]) -> u8
+    ensures { result ≤ LOOKS }
+{
     let flagged = asked.iter().filter(|flag| **flag).count();
     if flagged > asked.len() / 2 {
         (asked.len() / COUNTS_A_LOOK).min(LESS_LOOKS) as u8

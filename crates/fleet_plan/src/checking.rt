@@ -94,7 +94,7 @@ impl<'g> Model for Checked<'g> {
 
 impl<'g> Checked<'g> {
     /// The plan, which is free of conflict for the map and the instance.
-    pub(crate) fn new(plan: Plan, grid: &'g Grid, instance: &'g Instance) -> Self
+    fn new(plan: Plan, grid: &'g Grid, instance: &'g Instance) -> Self
         requires { IsCheckedFor grid.now instance.now plan }
         ensures plan { result.plan ≡ plan }
         ensures grid { result.grid ≡ grid.now }

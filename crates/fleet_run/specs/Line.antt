@@ -13,6 +13,7 @@ pub record Numeral : Type 0 where
   pub separator : ℕ
   pub value : ℤ
 
+-- .. of these
 abbrev pub numeral : ℕ → ℤ → Numeral
 numeral separator value = record { separator = separator; value = value }
 

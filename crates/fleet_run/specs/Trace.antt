@@ -17,6 +17,7 @@ use Rattle.fleet_run.specs.declared.run.Report.{Report}
 abbrev pub hold_ticks : Program → List ℕ → Holds
 hold_ticks p held = ticks_of (length p) (lines held)
 
+-- .. these
 abbrev pub hold_last : Program → List ℕ → Option SourceFault
 hold_last p held = last_of (length p) (lines held)
 

@@ -23,8 +23,8 @@ use fleet_verify::{Accepted, ready_moves_are_apart, runs_arrive, runs_end, ticks
 use std::alloc::Global;
 use std::marker::Model;
 
-/// The agents of an accepted program, on their way. As a value it is the accepted program and the configuration, in
-/// which each agent has a place and a number of finished actions.
+/// The agents of an accepted program, on their way. As a value it is the accepted program, the configuration, in which
+/// each agent has a place and a number of finished actions, and how many agents ticks have looked at.
 #[derive(Drop)]
 pub struct Fleet<'g, P: ProgramView> {
     accepted: Accepted<'g, P>,

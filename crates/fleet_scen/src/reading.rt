@@ -365,7 +365,7 @@ impl Model for Instance {
 
 impl Instance {
     /// The instance of these tasks.
-    pub(crate) fn new(tasks: Vec<Task>) -> Self
+    fn new(tasks: Vec<Task>) -> Self
         requires { IsInstance tasks.items }
         ensures { result ≡ tasks.items }
     {

@@ -67,8 +67,8 @@ fn sum_of_distances(tables: &mut Alone<'_>, checked: &Checked<'_>) -> Result<u32
     Ok(sum)
 }
 
-/// The sum of the distances from the agents' starts to their goals, each alone on the map, in steps: no plan has a
-/// lesser sum of costs. It takes the time of a search for each agent, and fails only if memory is refused.
+/// The sum of the distances from the agents' starts to their goals, each alone on the map, in steps. It takes the time
+/// of a search for each agent, and fails only if memory is refused.
 pub fn bound(alloc: Global, checked: &Checked<'_>) -> Result<u32, OutOfMemory>
     ensures { IfOk result (IsBound (is_passable checked.now.grid) checked.now.instance) }
 {

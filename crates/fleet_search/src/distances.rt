@@ -38,7 +38,7 @@ const NONE: Label = Label {
 };
 
 /// How many moves lead at least from each cell of a map to the goal of the latest search. Labels of earlier searches
-/// stay in the table, where their numbers tell them apart, so no search clears it.
+/// stay in the table, where their numbers tell them apart, so one search in 65,535 clears it.
 #[derive(Drop)]
 pub struct Distances<'g> {
     grid: &'g Grid,

@@ -55,14 +55,14 @@ impl Reservations {
     }
 
     /// For each cell the occupancies on it.
-    pub fn table(&self) -> &ReservationTable
+    pub(crate) fn table(&self) -> &ReservationTable
         ensures { HaveOccupancies self.now result.now }
     {
         &self.table
     }
 
     /// An agent that stands on the cell at the time, if one does.
-    pub fn occupant(&self, time: u32, cell: Cell) -> Option<usize>
+    pub(crate) fn occupant(&self, time: u32, cell: Cell) -> Option<usize>
         ensures some { IfSome result (StandsOn self.now time cell) }
         ensures none { IfNone result (IsUnoccupied self.now time cell) }
     {
@@ -107,7 +107,7 @@ impl Reservations {
     }
 
     /// Whether an agent may go from the one cell to the other in the step that begins at the time.
-    pub fn step_fits(&self, time: u32, from: Cell, to: Cell) -> bool
+    pub(crate) fn step_fits(&self, time: u32, from: Cell, to: Cell) -> bool
         requires { time < FOREVER }
         ensures { IsTrue result ↔ StepFits self.now time from to }
     {
@@ -144,7 +144,7 @@ impl Reservations {
     }
 
     /// The least time from which on nobody stands on the cell, if there is one.
-    pub fn free_from(&self, cell: Cell) -> Option<u32>
+    pub(crate) fn free_from(&self, cell: Cell) -> Option<u32>
         ensures some { IfSome result (λ s. (t : ℕ) → IsFreeFrom self.now cell t ↔ (s ≤ t)) }
         ensures none { IfNone result ((t : ℕ) → IsFreeFrom self.now cell t → ⊥) }
     {
@@ -187,7 +187,7 @@ impl Reservations {
     }
 
     /// The reserved paths.
-    pub fn into_paths(self) -> Vec<Path>
+    pub(crate) fn into_paths(self) -> Vec<Path>
         ensures { result.items ≡ self }
     {
         let Reservations {

@@ -1,7 +1,5 @@
 //! Whole commands over files in memory, by their words and by a request, and the lines of refusals.
 
-ghost use Rattle.std.specs.Prelude.{◌<◌};
-
 use crate::due::{Ended, due_bytes, due_end};
 use crate::ends::FailingFiles;
 use crate::fleets::{

@@ -33,7 +33,7 @@ fn joins(alloc: Global, len: usize, steps: (u32, u32)) -> Result<bool, AllocErro
     Ok(joined.len() == len)
 }
 
-/// Whether a row of fives is found to cover another of which one count is larger nowhere, and at no place.
+/// Whether a row of fives is found to cover its like, and none that has a greater count at one place.
 fn compares(alloc: Global, len: usize) -> Result<bool, AllocError> {
     let fives = vec![in alloc; 5u32; len]?;
     let mut others = vec![in alloc; 5u32; len]?;

@@ -141,7 +141,7 @@ fn plans_are_made(rt: HostRuntime) -> Result<(), Fail> {
 }
 
 /// A row of seven cells with two bays, whose ends two agents exchange. One of them goes straight, in six steps. The
-/// other stands in a bay meanwhile: the first one, if it comes second, until time 9, the second one until time 11.
+/// other waits in a bay, and arrives at time 9 if it is agent 0, at 11 if it is agent 1.
 const BAYS_MAP: &[u8] = b"type octile\nheight 2\nwidth 7\nmap\n.......\n@.@@.@@\n";
 
 const BAYS_SCEN: &[u8] = b"version 1\n0 m 7 2 6 0 0 0 6\n0 m 7 2 0 0 6 0 6\n";

@@ -30,6 +30,7 @@ fn text_sentences(alloc: Global) -> Result<String, AllocError> {
     put_all(
         &mut text,
         &[
+            MapFault::OutOfMemory,
             MapFault::Header { line: 1 },
             MapFault::Size,
             MapFault::RowCount,
@@ -41,6 +42,7 @@ fn text_sentences(alloc: Global) -> Result<String, AllocError> {
     put_all(
         &mut text,
         &[
+            ScenFault::OutOfMemory,
             ScenFault::Version,
             ScenFault::Fields { line: 2 },
             ScenFault::Number { line: 2, field: 3 },
@@ -56,6 +58,7 @@ fn text_sentences(alloc: Global) -> Result<String, AllocError> {
     put_all(
         &mut text,
         &[
+            TextFault::OutOfMemory,
             TextFault::Form { line: 1 },
             TextFault::Length { line: 2 },
             TextFault::AgentCount,
@@ -70,6 +73,7 @@ fn program_sentences(alloc: Global) -> Result<String, AllocError> {
     put_all(
         &mut text,
         &[
+            LoadFault::OutOfMemory,
             LoadFault::Magic,
             LoadFault::Truncated,
             LoadFault::AgentCount,
@@ -81,8 +85,22 @@ fn program_sentences(alloc: Global) -> Result<String, AllocError> {
             LoadFault::Trailing { at: 16 },
         ],
     )?;
-    put_all(&mut text, &[HexFault::Digit { at: 4 }, HexFault::Odd])?;
-    put_all(&mut text, &[EncodeFault::TooLong, EncodeFault::Dwell])?;
+    put_all(
+        &mut text,
+        &[
+            HexFault::OutOfMemory,
+            HexFault::Digit { at: 4 },
+            HexFault::Odd,
+        ],
+    )?;
+    put_all(
+        &mut text,
+        &[
+            EncodeFault::OutOfMemory,
+            EncodeFault::TooLong,
+            EncodeFault::Dwell,
+        ],
+    )?;
     Ok(text)
 }
 
@@ -223,12 +241,14 @@ fn dispatch_sentences(alloc: Global) -> Result<String, AllocError> {
 }
 
 /// What is said of faults in texts.
-const TEXT_SENTENCES: &[u8] = b"line 1 of the header is missing or has another form
+const TEXT_SENTENCES: &[u8] = b"out of memory
+line 1 of the header is missing or has another form
 a side of the map is 0 or above 4096
 there are fewer rows than the header says
 row 0 is not as wide as the header says
 the byte in row 0, column 2 is no glyph
 something follows the last row
+out of memory
 the first line that is not empty is no version line
 line 2 has not nine fields
 field 3 of line 2 is no number up to 65535
@@ -239,13 +259,15 @@ the goal of line 3 is that of an earlier agent
 there are no agents
 there are more than 1024 agents
 there are fewer agents than were asked for
+out of memory
 line 1 is no list of cells
 line 2 has more than 65536 cells
 there are not 1 to 1024 agents
 ";
 
 /// What is said of faults in program bytes.
-const PROGRAM_SENTENCES: &[u8] = b"the bytes begin neither with MPF1 nor with MPF2
+const PROGRAM_SENTENCES: &[u8] = b"out of memory
+the bytes begin neither with MPF1 nor with MPF2
 the bytes end within the program
 the number of agents is 0 or above 1024
 an agent has more than 1000000 actions, or the agents have more than 4194304 together
@@ -254,8 +276,10 @@ the await at offset 16 names no other agent of the program
 the await at offset 21 names no higher agent than the one before it
 the await at offset 16 has a count of 0
 bytes follow the last agent, from offset 16 on
+out of memory
 the byte at offset 4 is no hexadecimal digit
 the last digit has no partner
+out of memory
 an agent has more than 65535 actions, or the count of an await is above 65535
 an action of the program stays on its cell
 ";

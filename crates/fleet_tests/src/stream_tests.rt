@@ -271,8 +271,18 @@ moves 4
 reports 3
 ";
 
-/// Whether a dispatch whose orders fail after so many bytes, or at the flush after so many, stops for that, or else
-/// goes to its end.
+/// How many bytes of the orders are told up to the flush after so many.
+fn told_by_flush(flushes: usize) -> usize {
+    match flushes {
+        0 => 15,
+        1 => 45,
+        2 => 60,
+        _ => ORDERS.len(),
+    }
+}
+
+/// Whether a dispatch whose orders fail after so many bytes, or at the flush after so many, stops for that once it has
+/// told as many, or else goes to its end.
 fn is_cut(alloc: Global, room: usize, flushes: usize) -> Result<bool, Fail> {
     let mut output = writer(alloc, room, flushes, None);
     let input = given(REPORTS);
@@ -281,7 +291,8 @@ fn is_cut(alloc: Global, room: usize, flushes: usize) -> Result<bool, Fail> {
         Some(DispatchFault::Write) => room < ORDERS.len() || flushes < 4,
         Some(_) => false,
     };
-    Ok(is_told && ORDERS.starts_with(&output.bytes) && output.bytes.len() <= room)
+    let told = room.min(told_by_flush(flushes));
+    Ok(is_told && ORDERS.starts_with(&output.bytes) && output.bytes.len() == told)
 }
 
 #[test]
@@ -351,18 +362,31 @@ fn is_unread(alloc: Global, rest: &[u8], failing: ErrorKind) -> bool {
     )
 }
 
-/// Whether a dispatch over such an input stops for that, or goes to its end once it has all reports.
+/// How many bytes of the orders are told once so many bytes of the reports are heard.
+fn told_after(heard: usize) -> usize {
+    match heard {
+        0..=3 => 15,
+        4..=11 => 45,
+        12..=15 => 60,
+        _ => ORDERS.len(),
+    }
+}
+
+/// Whether a dispatch over such an input stops for that once it has told what is due, or goes to its end once it has
+/// all reports.
 fn is_unheard(alloc: Global, rest: &[u8], failing: ErrorKind) -> Result<bool, Fail> {
     let input = ShortReader {
         rest,
         failing: Some(failing),
     };
-    let is_unheard = match dispatch_answer(alloc, input, &mut writer(alloc, 999, 4, None))? {
+    let mut output = writer(alloc, ORDERS.len(), 4, None);
+    let is_stopped = match dispatch_answer(alloc, input, &mut output)? {
         None => rest.len() == REPORTS.len(),
         Some(DispatchFault::Input) => rest.len() < REPORTS.len(),
         Some(_) => false,
     };
-    Ok(is_unheard)
+    let told = told_after(rest.len());
+    Ok(is_stopped && ORDERS.starts_with(&output.bytes) && output.bytes.len() == told)
 }
 
 #[test]

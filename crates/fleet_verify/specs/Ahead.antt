@@ -248,7 +248,7 @@ pub record HasRunOut (passable : Place → Bool) (p : Program) (old new : Ahead)
   pub stopped : IsStopped p new.rows.items i w
   pub run_on : IsRunOn old.rows.items new.rows.items i
 
--- the visit is entered, if by a move, by an action whose step and last await are these
+-- the visit is entered, if by a move, by an action whose step, and one of whose awaits, are these
 pub record IsArrival (p : Program) (v : Visit) (needs : Needs) : Type 0 where
   pub first : 1 ≤ v.position
   pub last : v.position ≤ moves p v.agent

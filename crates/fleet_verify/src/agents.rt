@@ -1,12 +1,13 @@
 //! The judgements that go agent by agent: of the fleet, starts, paths, each by one walk along it, and ends.
 
-ghost use Rattle.std.specs.Prelude.{◌≡◌, ◌<◌, ◌↔◌, length, IsTrue, IfOk, OnOk, IfErr, Bool, option_map, ◌≤◌, ◌+◌, ◌<ℤ◌, false, pos, IfSome, IfNone};
+ghost use Rattle.std.specs.Prelude.{◌≡◌, ◌≢◌, ◌<◌, ◌↔◌, length, IsTrue, IfOk, OnOk, IfErr, Bool, option_map, ◌≤◌, ◌+◌, ◌<ℤ◌, false, pos, IfSome, IfNone};
 ghost use Rattle.std.specs.Option.{option_or};
 ghost use Rattle.fleet_model.specs.Program.{moves, path, IsWellFormed};
 ghost use Rattle.fleet_model.specs.declared.geometry.Place.{Place};
 ghost use Rattle.fleet_model.specs.Machine.{IsReached};
 ghost use Rattle.fleet_grid.specs.Ground.{is_passable};
 ghost use Rattle.fleet_machine.specs.Machine.{Runs};
+ghost use Rattle.fleet_verify.specs.declared.fault.VerifyFault.TheVariants.{OutOfMemory};
 ghost use Rattle.fleet_verify.specs.Faults.{HasStarts, HasEnds, HasRanges, EndsRight, StandsRight, AwaitsRight, IsFault};
 ghost use Rattle.fleet_verify.specs.Path.{AnswersFirstAction, AnswersFirst, IsPosition, IsPathJudged};
 ghost use Rattle.fleet_verify.specs.Walk.{HasArrived};
@@ -25,6 +26,7 @@ pub fn check_starts<P: ProgramView>(program: &P, instance: &Instance) -> Result<
     ensures ok { OnOk result (HasStarts instance.now (P.program program.now)) }
     ensures err { IfErr result (λ f. (passable : Place → Bool)
         → IsFault passable instance.now (P.program program.now) f) }
+    ensures memory { IfErr result (λ f. f ≢ OutOfMemory) }
     ensures formed { IsWellFormed (P.program program.now) }
 {
     let agents = program.agents();
@@ -50,6 +52,7 @@ pub fn check_paths<P: ProgramView>(
         (P.program program.now)) }
     ensures err { IfErr result (λ f. IsFault (is_passable grid.now) instance.now
         (P.program program.now) f) }
+    ensures memory { IfErr result (λ f. f ≢ OutOfMemory) }
 {
     let faults = judge_paths(program, grid, instance)?;
     if let Some(ActionId { agent, number }) = faults.off_ground {
@@ -91,6 +94,7 @@ fn judge_paths<P: ProgramView>(
         (AwaitsRight (P.program program.now)) (length (P.program program.now)) found.out_of_range) }
     ensures err { IfErr result (λ f. IsFault (is_passable grid.now) instance.now
         (P.program program.now) f) }
+    ensures memory { IfErr result (λ f. f ≢ OutOfMemory) }
 {
     let mut off_ground = None;
     let mut out_of_range = None;
@@ -299,6 +303,7 @@ pub fn next_number(number: u32, step: Step) -> u32
 #[inline(always)]
 pub fn map_cell(grid: &Grid, place: Place) -> Option<Cell>
     ensures some { IfSome result (λ cell. place_of cell ≡ place) }
+    ensures on_map { IfSome result (λ cell. (cell.x < grid.now.width) × (cell.y < grid.now.height)) }
     ensures none { IfNone result (is_passable grid.now place ≡ false) }
 {
     let width = i32::from(grid.width());

@@ -641,7 +641,7 @@ pub enum Outlook {
 }
 
 /// Whether all has been found right. Chains are asked for at open pairs alone, once the memory of all else is given
-/// back. If there are none, or short chains order all of them, the levels are handed on.
+/// back. If there are none, or awaits of awaited actions order all of them, the levels are handed on.
 fn judge_ahead<P: ProgramView>(
     alloc: Global,
     program: &P,

@@ -148,8 +148,8 @@ impl Answers {
 /// Of an action with more awaits none is looked at.
 const FEW: u16 = 8;
 
-/// Whether each of the open pairs is ordered by a chain of three actions or fewer, as far as a look at few awaits shows
-/// it. It ends at the first pair of which that does not, so where chains are longer it costs next to nothing. Takes no
+/// Whether in each of the open pairs the action that enters the second visit awaits one that awaits that the first is
+/// left, as far as a look at few awaits shows it. It ends at the first pair of which that does not, so where chains are longer it costs next to nothing. Takes no
 /// memory.
 pub fn are_near<P: ProgramView>(program: &P, pairs: &Vec<OpenPair>) -> bool
     requires range { AreInRange (P.program program.now) }
@@ -190,8 +190,8 @@ fn is_near<P: ProgramView>(program: &P, pair: OpenPair) -> bool
     false
 }
 
-/// Whether the action that is waited for awaits this one, or a later one of its agent. Where its awaits are many it says
-/// no.
+/// Whether the action that is waited for awaits this one, or a later one of its agent. Where its awaits are many it
+/// says no.
 fn awaits<P: ProgramView>(program: &P, wait: Await, first: ActionId) -> bool
     requires range { AreInRange (P.program program.now) }
     requires action { IsAction (P.program program.now) (awaited wait) }

@@ -14,7 +14,7 @@ ghost use Rattle.fleet_model.specs.Accepted.{IsAcceptedBy};
 ghost use Rattle.fleet_verify.specs.Ring.{IsRing};
 ghost use Rattle.fleet_verify.specs.Listing.{AreLevels, entry_level, IsSortedListing};
 
-/// If each visit of a place awaits the leaving of the one before it, a chain leads from the one to the other.
+/// A program that is accepted by awaits is accepted by chains.
 pub fn awaits_are_chains()
     ensures { (passable : Place → Bool) (tasks : List Task) (p : Program)
         → IsAcceptedBy ComesAfterByAwait passable tasks p

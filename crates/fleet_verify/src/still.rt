@@ -40,7 +40,7 @@ pub fn run_ahead<P: ProgramView>(
     run_rest(program, grid, ahead)
 }
 
-/// Lets an agent run on, and those that it has kept waiting.
+/// Lets an agent run on, and wakes those that it has kept waiting.
 fn look_at<P: ProgramView>(
     program: &P,
     grid: &Grid,

@@ -24,7 +24,8 @@ use fleet_model::{
 };
 use std::alloc::Global;
 
-/// A run in which nobody is held, to its end: the agents as they stand then, all visits, and the number of ticks.
+/// A run in which nobody is held, to its end: the agents as they stand then, the order of their visits, and the number
+/// of ticks.
 #[derive(Drop)]
 pub struct UnheldRun {
     pub machine: Machine,
@@ -32,7 +33,7 @@ pub struct UnheldRun {
     pub ticks: u32,
 }
 
-/// Why a run in which nobody is held is not made to its end.
+/// Why agents are not let run to the end.
 #[derive(Clone, Copy)]
 pub enum Stop {
     OutOfMemory,

@@ -7,6 +7,7 @@ invariant-loop-of_agent l = record {
   on : l.from ≤ l.end;
   first : l.end ≡ l.from → l.width ≡ 0;
   end : l.end ≤ length l.asked;
+  few : l.width ≤ l.most;
   chosen : (j : ℕ) → l.from ≤ j → j < l.end → get_or l.asked j false ≡ true → get_or l.of_agent.items j None ≢ None;
   later : (j : ℕ) → l.end ≤ j → get_or l.of_agent.items j None ≡ None;
   within : (j k : ℕ) → get_or l.of_agent.items j None ≡ Some k → k < l.width;

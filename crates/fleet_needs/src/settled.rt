@@ -24,8 +24,8 @@ const LESS_LOOKS: usize = 4;
 /// To look at one action costs about as much as to join so many counts.
 const COUNTS_A_LOOK: usize = 128;
 
-/// Which awaits others imply, as far as a few steps back show it, and a flag for each agent: whether an await that names
-/// one of its actions is left open.
+/// Which awaits others imply, as far as a few steps back show it, and a flag for each agent: whether an await that
+/// names one of its actions is left open.
 pub fn settle_all<P: ProgramView>(
     alloc: Global,
     program: &P,

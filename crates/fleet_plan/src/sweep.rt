@@ -1,6 +1,6 @@
 //! The sweep over time for conflicts, with a table of cells in which each agent enters itself. Each step looks at the
-//! agents under way, and at those that have arrived since the last eighth step: one that has come to its last cell stays
-//! entered there.
+//! agents under way, and at those that have arrived since the last eighth step: one that has come to its last cell
+//! stays entered there.
 
 ghost use Rattle.std.specs.Prelude.{◌≡◌, ◌≢◌, ℕ, ◌+◌, ◌<◌, ◌≤◌, ◌⊎◌, ◌↔◌, IfOk, IfSome, IfNone, MatchOption, length, slice_index, Some, None, All, IsTrue, false, EachIndex};
 ghost use Rattle.fleet_grid.specs.Ground.{is_passable};

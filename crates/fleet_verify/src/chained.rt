@@ -149,8 +149,8 @@ impl Answers {
 const FEW: u16 = 8;
 
 /// Whether in each of the open pairs the action that enters the second visit awaits one that awaits that the first is
-/// left, as far as a look at few awaits shows it. It ends at the first pair of which that does not, so where chains are longer it costs next to nothing. Takes no
-/// memory.
+/// left, as far as a look at few awaits shows it. It ends at the first pair of which that does not, so where chains are
+/// longer it costs next to nothing. Takes no memory.
 pub fn are_near<P: ProgramView>(program: &P, pairs: &Vec<OpenPair>) -> bool
     requires range { AreInRange (P.program program.now) }
     requires visits { All (AreVisits (P.program program.now)) pairs.now.items }

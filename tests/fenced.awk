@@ -46,4 +46,5 @@ is_refusal($0) { err = err $0 "\n"; status = status_of($0); next }
 /^error: / { is_usage = 1; status = 2 }
 is_usage { err = err $0 "\n"; next }
 { out = out $0 "\n"; status = ($0 == "stuck") }
-END { close_example() }
+# A fence that is not closed would hide all after it.
+END { close_example(); exit inside }

@@ -6,7 +6,7 @@ M=examples/corridor.map S=examples/corridor.scen P=examples/corridor.plan B=exam
 # Each file that a command reads is missing in turn, alone and with those that are read after it. `@` stands for the
 # missing one.
 echo old > "$room/kept"
-grep -v '^#' "$root/tests/commands.list" | sed 's/.*|//; s/OUT/kept/' | awk '
+grep -v '^#' "$root/tests/commands.list" | sed 's/.*|//; s/OUT/kept/g' | awk '
     { for (k = 1; k <= NF; k++) if ($k ~ /[.]/) { words = $0; $k = "@"; print; $0 = words } }' > "$room/missing"
 while read -r words; do
     check "a missing file: $words" 3 '' 'file nowhere\n' "fleet $(echo "$words" | sed 's/@/nowhere/')"

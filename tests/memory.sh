@@ -32,13 +32,14 @@ fi
 EOF
 
 # growths COMMAND..: with each growth refused in turn. Prints wrong answers, and `each` if memory lacked each time, or
-# all but once: the buffer of the output can be done without. A dispatch, and `rest`, which goes through its reports,
+# all but once: the room that is asked for at once for the words of the command line can be done without. A dispatch, and `rest`, which goes through its reports,
 # copy the counts of the agents four times, and can do without the room that is asked for at once for each copy: so many
 # growths $spare has.
 script growths <<'EOF'
 #!/bin/sh
 . due
 n=1 lacking=0
+echo "${held:-kept}" > out
 GROWTHS=count LD_PRELOAD=$REFUSER "$@" > got 2>&1 < "$input"
 all=$(cat count)
 while [ "$n" -le "$all" ]; do
@@ -196,6 +197,8 @@ done <<EOF
 16 rehearse program
 16 migrate program out
 16 dispatch $many program
+16 times $many program
+16 rest $many program log tasks out
 64 auto $many --holds examples/warehouse.holds
 EOF
 while read -r words; do

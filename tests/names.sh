@@ -37,13 +37,13 @@ sed 's/::.*//' "$work/want.out" | sort -u | while read -r crate; do
 done | sort -u | comm -12 - "$work/want.out" > "$work/out"
 alike 'each name of tests/names.txt is handed out by its crate' 'crates/*/src/lib.rt against tests/names.txt'
 
-# A call is made by its type or on a value: on values at least as often as there are calls of that name.
+# A call is made by its type, or on a value: then calls of that name are made at least as often as there are such.
 grep "::.*::" "$room/listed" > "$work/want.out"
 while read -r line; do
     name=${line#*::}
     call=${name##*::}
     if grep -qE "(^|[^A-Za-z_])$name\(" "$surface"/*.rt ||
-        [ "$(cat "$surface"/*.rt | grep -cE "\.$call\(")" -ge "$(grep -c "::$call\$" "$work/want.out")" ]; then
+        [ "$(cat "$surface"/*.rt | grep -cE "(\.|::)$call\(")" -ge "$(grep -c "::$call\$" "$work/want.out")" ]; then
         echo "$line"
     fi
 done < "$work/want.out" > "$work/out"

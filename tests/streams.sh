@@ -252,6 +252,7 @@ EOF
 $(sed '/|dispatch/d; s/.*|/5 /; s/OUT OUT/tasks anew/; s/OUT/anew/; s/corridor/pair/g; s/pair.holds/corridor.holds/; s/examples.pair.log/lines/' "$room/commands")
 5 times $pair --costs costs
 5 dispatch $pair --resume lines
+5 dispatch $pair --resume lines --log ./lines
 EOF
     # 28 is a full disk.
     while read -r way bytes words; do

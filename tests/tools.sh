@@ -29,7 +29,7 @@ check 'orders ahead: a program that cannot be carried out' 1 'the program cannot
     "printf 'agent 0: 0,0 to 1,0\\n0:1 east to 1,0 after 1:1\\nagent 1: 3,0 to 2,0\\n1:1 west to 2,0 after 0:1\\n' | awk -f tools/ahead.awk"
 check 'two orders at a time take at most three quarters of the time of one' 0 'less\n' '' \
     "fleet plan examples/warehouse.map examples/warehouse.scen > plan && fleet compile examples/warehouse.map examples/warehouse.scen plan program > numbers && fleet list program > list && for k in 1 2; do awk -v ahead=\$k -f tools/ahead.awk list; done | awk '{ t[\$2] = \$8 } END { if (0 < t[2] && t[2] <= 0.75 * t[1]) print \"less\" }'"
-for tool in dot log; do
+for tool in ahead dot log; do
     check "$tool.awk of no list" 1 '' "$tool: no list of a program\n" "awk -f tools/$tool.awk examples/corridor.plan"
 done
 check 'a map of no kind' 1 '' 'map: kind is random, room, maze, warehouse or den\n' 'awk -v kind=city -f tools/map.awk'

@@ -56,6 +56,7 @@ function carry_out(i,   n, at, came, free, begun, more) {
 }
 
 END {
+    if (!agents) { print "ahead: no list of a program" > "/dev/stderr"; exit 1 }
     while (left > 0) {
         step = 0
         for (i = 0; i < agents; i++) step += carry_out(i)

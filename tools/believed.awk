@@ -12,7 +12,7 @@ FNR == 1 {
     said = ""
 }
 
-/^use Rattle\.[a-z_]*\.specs\.[A-Za-z]*\.\{/ {
+/^(unfoldable )?(pub )?use Rattle\.[a-z_]*\.specs\.[A-Za-z]*\.\{/ {
     split($0, path, ".")
     list = $0
     sub(/^[^{]*\{/, "", list)
@@ -23,7 +23,7 @@ FNR == 1 {
 }
 
 # Of several files at once: {FILE.NAME, ..}
-/^use Rattle\.[a-z_]*\.specs\.\{/ {
+/^(unfoldable )?(pub )?use Rattle\.[a-z_]*\.specs\.\{/ {
     split($0, path, ".")
     list = $0
     sub(/^[^{]*\{/, "", list)
@@ -84,7 +84,7 @@ END {
 }
 
 # Wants what a definition cites, of its own file and of those that it names in front.
-function cite(it,    n, word, i, key, words) {
+function cite(it,    n, word, i, k, key, words) {
     split(it, at, SUBSEP)
     words = text[it]
     gsub(/-- [^\n]*\n/, "", words)
@@ -92,7 +92,8 @@ function cite(it,    n, word, i, key, words) {
     n = split(words, word, " ")
     for (i = 1; i <= n; i++) {
         key = at[1] SUBSEP word[i]
-        if (!(key in text) && ((at[1], word[i]) in from)) key = from[at[1], word[i]] SUBSEP word[i]
+        # A file may hand on what it names in front.
+        for (k = 0; k < 2 && !(key in text) && (key in from); k++) key = from[key] SUBSEP word[i]
         if ((key in text) && !wanted[key]) wanted[key] = 1
     }
 }

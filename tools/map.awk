@@ -84,7 +84,7 @@ function den(   n, x, y, i, j, rock) {
 BEGIN {
     seed = seed % 2147483646 + 1
     for (k = 0; k < 10; k++) random()
-    if (!share) share = .2
+    if (share == "") share = .2
     if (!size) size = kind == "room" ? 3 : 2
     if (kind == "random") blocked_at_random(share)
     else if (kind == "room") rooms()

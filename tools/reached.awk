@@ -48,7 +48,7 @@ is_root && (/^pub use / || used != "") {
 }
 
 # Names that clauses and definitions bring in.
-/^ *(ghost )?use Rattle\.[a-z_]*\.specs\.[A-Za-z]*\.\{/ {
+/^ *(ghost |unfoldable )?(pub )?use Rattle\.[a-z_]*\.specs\.[A-Za-z]*\.\{/ {
     path = $0
     sub(/^ */, "", path)
     split(path, at, ".")
@@ -61,7 +61,7 @@ is_root && (/^pub use / || used != "") {
 }
 
 # Those of several files at once: {FILE.NAME, ..}
-/^ *(ghost )?use Rattle\.[a-z_]*\.specs\.\{/ {
+/^ *(ghost |unfoldable )?(pub )?use Rattle\.[a-z_]*\.specs\.\{/ {
     split($0, at, ".")
     list = $0
     sub(/^[^{]*\{/, "", list)
@@ -162,12 +162,12 @@ END {
 
 # Wants the definitions that the words of a clause, or of the definition `by`, name, and counts the definitions that
 # name them.
-function want(where, words, by,    n, word, i, key, is_told) {
+function want(where, words, by,    n, word, i, k, key, is_told) {
     gsub(/[^A-Za-z0-9_-]+/, " ", words)
     n = split(words, word, " ")
     for (i = 1; i <= n; i++) {
         key = where SUBSEP word[i]
-        if (!(key in text) && ((where, word[i]) in from)) key = from[where, word[i]] SUBSEP word[i]
+        for (k = 0; k < 2 && !(key in text) && (key in from); k++) key = from[key] SUBSEP word[i]
         if (!(key in text) || key == by || key in is_told) continue
         is_told[key] = 1
         users[key]++

@@ -79,7 +79,7 @@ IsReadFault files name f.Memory = Unit {0}
 IsReadFault files name (f.File n) = (name ≡ n.now) × IsUnreadable files name
 IsReadFault files name _ = ⊥
 
--- the named file was not written
+-- why a write of the named file was refused: memory ran out, or the write failed
 abbrev pub IsWriteFault : List ℕ → Fault → Type 0
 IsWriteFault name f.Memory = Unit {0}
 IsWriteFault name (f.File n) = name ≡ n.now

@@ -100,7 +100,7 @@ pub record IsSearchFor (from to : Cell) (d : DistanceTable) : Type 0 where
   pub start : d.start ≡ from
   pub goal : d.goal ≡ to
 
--- no cell is left, and no cell waits on the layer
+-- no cell is being left, and none waits on the layer
 pub record IsLayerDone (d : DistanceTable) : Type 0 where
   pub spread : IsSpreadOf None d
   pub layer : d.layer ≡ []
@@ -132,7 +132,7 @@ label_weight search l = unwrap_or (label_of_search search l) (MAX_HORIZON + 1)
 unfoldable pub work_left : DistanceTable → ℕ
 work_left d = 2 * sum_by (label_weight d.search) d.labels + length d.layer
 
--- no cell is left, and no more is left to do
+-- no cell is being left, and no more is to be done than before
 pub record HasSpread (old new : DistanceTable) : Type 0 where
   pub spread : IsSpreadOf None new
   pub work : work_left new ≤ work_left old

@@ -21,8 +21,8 @@
  *
  * Stack. No call needs as much as 64 KB.
  *
- * Memory. malloc, realloc and free are those of the program, from one allocator; a block is aligned to each power of
- * two up to 16 that divides its size. If a growth is refused the call fails with the refusal `memory`.
+ * Memory. malloc, realloc and free are those of the program; they have to be of one allocator, and to align a block to
+ * each power of two up to 16 that divides its size. If a growth is refused the call fails with the refusal `memory`.
  */
 #ifndef FLEET_H
 #define FLEET_H
@@ -115,8 +115,9 @@ uint32_t fleet_compile(const uint8_t *map, size_t map_length,
                        uint8_t *out, size_t room, size_t *length, struct fleet_fault *fault);
 
 /*
- * Verifies a program: whoever is held, for as long as it may be, no two agents come onto one cell, and all arrive. It
- * is accepted exactly if that is so.
+ * Verifies a program: whoever is held, for as long as it may be, no two agents come onto one cell, and all arrive. Of
+ * the programs with the scenario's agents, starts and goals it accepts exactly those that, whoever is held, stay on
+ * passable cells, have no conflict and arrive.
  */
 uint32_t fleet_verify(const uint8_t *map, size_t map_length,
                       const uint8_t *scen, size_t scen_length, uint16_t agents,
@@ -124,7 +125,8 @@ uint32_t fleet_verify(const uint8_t *map, size_t map_length,
                       struct fleet_accepted *accepted, struct fleet_fault *fault);
 
 /*
- * Thins a program, if it is accepted: `out` gets the bytes of it without the awaits that others imply. It runs equally.
+ * Thins a program, if it is accepted: `out` gets the bytes of it without the awaits that others imply. What is left
+ * runs as the program does, whoever is held.
  */
 uint32_t fleet_thin(const uint8_t *map, size_t map_length,
                     const uint8_t *scen, size_t scen_length, uint16_t agents,

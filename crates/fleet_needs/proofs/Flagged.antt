@@ -73,7 +73,7 @@ flags_first p s asked m settled passed = record {
   known = λ a is k w at. elim (settled.known a is k w at) [
     | inr known ↦ inr known
     | inl (inl past, sure) ↦ absurd (none_past p a k w is at past)
-    | inl (inr asks, sure) ↦ elim (passed a is is) [
+    | inl (inr asks, sure) ↦ elim (passed a is) [
       | inl (r, row) ↦ inl (record { row = r; of = row; asks = asks; upon = omega arith }, sure)
       | inr set ↦ inr ((λ f. sure f), (λ i. set k w at))
     ]

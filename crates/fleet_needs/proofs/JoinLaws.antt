@@ -62,7 +62,7 @@ module _ (p : Program) (rows : List ActionId) (old new : Vec ℕ Global) (a : Ac
 
 -- ---- each action has a row that stands for it
 
-module _ (p : Program) (rows : List ActionId) (awaiting : All (IsAwaiting p) rows) (has : HasAllRows p rows (IsAction p)) (old new : Vec ℕ Global) (noted : AreAllNoted p rows old) (filled : (x : ℕ) → x < length old.items → IsFilled old new x) (a : ActionId) (up : IsUpToLast p a) where
+module _ (p : Program) (rows : List ActionId) (awaiting : All (IsAwaiting p) rows) (has : HasAllRows p rows) (old new : Vec ℕ Global) (noted : AreAllNoted p rows old) (filled : (x : ℕ) → x < length old.items → IsFilled old new x) (a : ActionId) (up : IsUpToLast p a) where
   abbrev x : ℕ
   x = row_place p a
 
@@ -99,7 +99,7 @@ module _ (p : Program) (rows : List ActionId) (awaiting : All (IsAwaiting p) row
         ];
         quiet = λ m from le. (
             let act : IsAction p (record { agent = a.agent; number = m }) = record { agent = up.agent; first = omega (arith, from); last = omega (arith, le, up.last) } in
-            elim (has (record { agent = a.agent; number = m }) act act) [
+            elim (has (record { agent = a.agent; number = m }) act) [
               | inr adds ↦ adds
               | inl (r, k) ↦
                   let here : 1 ≤ slice_index old.items (row_place p (record { agent = a.agent; number = m })) = subst (λ (c : ActionId). 1 ≤ slice_index old.items (row_place p c)) k.of (noted.some (r - 1) (omega (arith, k.some, k.upto))) in

@@ -4,7 +4,7 @@ use Rattle.fleet_needs.proofs.Words.{◌≡◌, ◌≢◌, ℕ, zero, suc, ◌+�
 abbrev act : ℕ → ℕ → ActionId
 act j c = record { agent = j; number = c }
 
-same_action : (x y : ActionId) → x.agent ≡ y.agent → x.number ≡ y.number → x ≡ y
+pub same_action : (x y : ActionId) → x.agent ≡ y.agent → x.number ≡ y.number → x ≡ y
 same_action x y e g = λ t. record { agent = e t; number = g t }
 
 -- before its first action nothing reaches an agent

@@ -24,7 +24,13 @@ AreAnswersIn p questions flags = AreAnswers p questions flags.items
 abbrev pub IsAskedFor : List Bool → Question → Type 0
 IsAskedFor asked q = get_or asked q.first.agent false ≡ true
 
--- .. of each of these questions, by a flag for each agent of the program
+-- agent i is that of the first action of one of these questions
+abbrev pub IsFirstIn : List Question → ℕ → Type 0
+IsFirstIn questions i = (k : ℕ) × (q : Question) × (slice_get questions k ≡ Some q) × (q.first.agent ≡ i)
+
+-- of the flags, one for each agent of the program, those of the agents of the questions' first actions are set, and no
+-- others
 pub record AreAskedFor (p : Program) (questions : List Question) (asked : Vec Bool Global) : Type 0 where
   pub agents : length asked.items ≡ length p
   pub each : All (IsAskedFor asked.items) questions
+  pub only : (i : ℕ) → get_or asked.items i false ≡ true → IsFirstIn questions i

@@ -44,17 +44,17 @@ pub record StandsFor (p : Program) (rows : List ActionId) (r i n : ℕ) : Type 0
   pub quiet : AreQuiet p i number n
   pub row : IsRowOrNone rows r (record { agent = i; number = number })
 
--- each of these actions has a row, or there is that to say of it
-abbrev pub HasRowOr : (ActionId → Type 0) → Program → List ActionId → (ActionId → Type 0) → Type 0
-HasRowOr Else p rows These = (a : ActionId) → IsAction p a → These a → ((r : ℕ) × IsRow rows r a) ⊎ Else a
+-- each action of the program has a row, or there is that to say of it
+abbrev pub HasRowOr : (ActionId → Type 0) → Program → List ActionId → Type 0
+HasRowOr Else p rows = (a : ActionId) → IsAction p a → ((r : ℕ) × IsRow rows r a) ⊎ Else a
 
--- those that add a chain have rows
-abbrev pub HasAllRows : Program → List ActionId → (ActionId → Type 0) → Type 0
-HasAllRows p rows These = HasRowOr (λ a. AddsNone p a.agent a.number) p rows These
+-- each that adds a chain has a row
+abbrev pub HasAllRows : Program → List ActionId → Type 0
+HasAllRows p rows = HasRowOr (λ a. AddsNone p a.agent a.number) p rows
 
--- .. or else flags for all their awaits, which are set
+-- each has a row, unless the flags of all its awaits are set
 abbrev pub HasRowUnlessSet : Program → List Bool → List ActionId → Type 0
-HasRowUnlessSet p flags rows = HasRowOr (AreSet p flags) p rows (IsAction p)
+HasRowUnlessSet p flags rows = HasRowOr (AreSet p flags) p rows
 
 -- no action needs a later one of its agent
 abbrev pub AreOwn : Program → Type 0

@@ -8,7 +8,7 @@ IsMost Is n = (c : ℕ) → Is c ↔ ((1 ≤ c) × (c ≤ n))
 
 -- n is the greatest c such that action c of agent j begins a chain that ends with the action, or 0
 abbrev pub IsColumn : Program → ActionId → ℕ → ℕ → Type 0
-IsColumn p a j n = (c : ℕ) → Reaches p (record { agent = j; number = c }) a ↔ ((1 ≤ c) × (c ≤ n))
+IsColumn p a j n = IsMost (λ c. Reaches p (record { agent = j; number = c }) a) n
 
 -- the action before, of the same agent
 abbrev pub action_before : ActionId → ActionId

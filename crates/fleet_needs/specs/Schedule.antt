@@ -1,5 +1,5 @@
 -- A schedule of rows, and the counts of rows in their slots.
-use Rattle.std.specs.Prelude.{◌≡◌, ◌≢◌, true, ℕ, ◌+◌, ◌-◌, ◌*◌, ◌^◌, ◌<◌, ◌≤◌, ◌⊎◌, Bool, List, length, slice_index, slice_get, Some}
+use Rattle.std.specs.Prelude.{◌≡◌, ◌≢◌, true, cond, ℕ, ◌+◌, ◌-◌, ◌*◌, ◌^◌, ◌<◌, ◌≤◌, ◌⊎◌, Bool, List, length, slice_index, slice_get, Some}
 use Rattle.fleet_needs.specs.Words.{ActionId, Await, Program, awaits_of, moves, IsAction, awaited}
 use Rattle.fleet_needs.specs.Block.{HasColumn}
 use Rattle.fleet_needs.specs.Columns.{agents_in}
@@ -15,6 +15,7 @@ use Rattle.fleet_needs.specs.declared.schedule.Joins.{Joins}
 use Rattle.fleet_needs.specs.declared.schedule.Need.{Need}
 use Rattle.fleet_needs.specs.declared.schedule.Schedule.{Schedule}
 use Rattle.fleet_needs.specs.declared.schedule.Slots.{Slots}
+use Rattle.fleet_needs.specs.declared.schedule.TheConstants.{COUNTS}
 use Rattle.fleet_needs.specs.declared.join_pass.SlotRows.{SlotRows}
 
 -- the actions whose rows it has, in their order
@@ -28,6 +29,10 @@ joins_in s = length (joins_of s)
 -- the action of the join after n others
 abbrev pub next_action : Schedule → ℕ → ActionId
 next_action s n = action_at (joins_of s) n
+
+-- so many counts of its rows may be kept at once
+abbrev pub counts_at_once : Schedule → ℕ
+counts_at_once s = cond s.is_narrow (2 * COUNTS) COUNTS
 
 -- the join after n others takes row r
 abbrev pub TakesIn : Joins → ℕ → ℕ → Type 0
@@ -56,7 +61,7 @@ pub record IsJoinFor (p : Program) (x : Joins) (n : ℕ) (a : ActionId) : Type 0
 pub record AreRows (p : Program) (x : Joins) : Type 0 where
   pub order : AreInOrder x
   pub joins : (n : ℕ) → n < length (rows_of x) → IsJoinFor p x n (action_at (rows_of x) n)
-  pub rows : HasAllRows p (rows_of x) (IsAction p)
+  pub rows : HasAllRows p (rows_of x)
   pub rising : AreRising (rows_of x)
   pub own : AreOwn p
 

@@ -1,9 +1,9 @@
 //! A schedule of rows, made once for all blocks of columns: which rows are made, in which order, which stand for other
 //! actions, of which rows each is joined, the slot in which it is kept, and the columns of the blocks, one after another.
 
-ghost use Rattle.std.specs.Prelude.{◌≡◌, ◌+◌, ◌++◌, ◌<◌, ◌≤◌, All, ℕ, true, length, vec_len, IfOk, OnOk, MatchOption};
+ghost use Rattle.std.specs.Prelude.{◌≡◌, ◌+◌, ◌++◌, ◌*◌, ◌<◌, ◌≤◌, All, ℕ, true, length, vec_len, IfOk, OnOk, MatchOption};
 ghost use Rattle.fleet_model.specs.{declared.limits.TheConstants.MAX_AGENTS, declared.program.ActionId.ActionId, Program.AreInRange, Program.moves, Chain.IsAction, Chain.awaited};
-ghost use Rattle.fleet_needs.specs.{Implied.AreAwaitPlaces, Joins.AreAllListed, Joins.AreListedTo, Joins.AreStanding, Joins.HasAllRows, Joins.HasRoom, Joins.IsFilled, Joins.IsUpToLast, Joins.action_at, Joins.base_of, Joins.end_of, Joins.need_at, Joins.need_for, Joins.needs_in, Joins.needs_of, Joins.row_of, Joins.rows_of, Keys.need_of_key, Order.AreKeys, Order.IsAwaiting, Order.IsLevelOrder, Order.named_in, Schedule.AreInOrder, Schedule.AreRows, Schedule.AreRowsBut, Schedule.IsSchedule, Schedule.IsScheduleBut, Schedule.IsScheduleOf, Schedule.IsNextJoin, Schedule.IsNextNeed, Schedule.joins_in, Schedule.next_action, Schedule.AreSlottedFrom, Slots.IsFree, Slots.IsHeld, Slots.rows_in, Columns.AreColumns, Columns.IsNextBlock, Columns.agents_in, Columns.column_of};
+ghost use Rattle.fleet_needs.specs.{Implied.AreAwaitPlaces, Joins.AreAllListed, Joins.AreListedTo, Joins.AreStanding, Joins.HasAllRows, Joins.HasRoom, Joins.IsFilled, Joins.IsUpToLast, Joins.action_at, Joins.base_of, Joins.end_of, Joins.need_at, Joins.need_for, Joins.needs_in, Joins.needs_of, Joins.row_of, Joins.rows_of, Keys.need_of_key, Order.AreKeys, Order.IsAwaiting, Order.IsLevelOrder, Order.named_in, Schedule.AreInOrder, Schedule.AreRows, Schedule.AreRowsBut, Schedule.IsSchedule, Schedule.IsScheduleBut, Schedule.IsScheduleOf, Schedule.IsNextJoin, Schedule.IsNextNeed, Schedule.joins_in, Schedule.next_action, Schedule.AreSlottedFrom, Schedule.counts_at_once, Slots.IsFree, Slots.IsHeld, Slots.rows_in, Columns.AreColumns, Columns.IsNextBlock, Columns.agents_in, Columns.column_of};
 
 use crate::await_places::AwaitPlaces;
 use crate::level_order::{LevelOrder, action_in, key_of, value_in};
@@ -314,6 +314,7 @@ impl Schedule {
     pub(crate) fn columns_at_once(&self) -> u16
         ensures least { LEAST_COLUMNS ≤ result }
         ensures most { result ≤ MAX_AGENTS }
+        ensures room { LEAST_COLUMNS < result → result * self.now.slots ≤ counts_at_once self.now }
     {
         let counts = if self.is_narrow { 2 * COUNTS } else { COUNTS };
         let room = counts / self.slots.max(1);
@@ -366,8 +367,7 @@ impl Standing {
         requires places { AreAwaitPlaces (P.program program.now) places }
         requires keys { AreKeys (P.program program.now) keys.now }
         requires few { vec_len keys.now < u32.MAX }
-        requires rows { HasAllRows (P.program program.now) (named_in keys.now)
-            (IsAction (P.program program.now)) }
+        requires rows { HasAllRows (P.program program.now) (named_in keys.now) }
         ensures { IfOk result (AreStanding (P.program program.now) (named_in keys.now)) }
     {
         let agents = usize::from(program.agents());

@@ -1,5 +1,6 @@
 -- The cells, one after another.
-use Rattle.fleet_verify.proofs.Words.{◌≡◌, ℕ, suc, ◌+◌, ◌<◌, ◌≤◌, Bool, true, false, List, [], ◌∷◌, length, Option, Some, None, refl, ap, sym, ◌∙◌, subst, arith, inl, inr, ◌⊎◌, All, cases_eq, Cell, Place, Task, Visit, place_of, is_same_place, Program, moves, path, IsCell, IsVisitOf, Adjacent, ComesAfter, IsOrderly, IsVisit, is_same_place-true, IsIn, is_in, PlacedVisit, VerifyFault, Unordered, OrderViolation, visits_of, IsListJudged, IsVisitPlaced, IsPathOrderly, AreAllPlaced, AreViolations, IsFirstBreak, HasRanges, IsFault, IsSooner, IsOrderlyAt}
+use Rattle.fleet_verify.proofs.Words.{◌≡◌, ◌≢◌, ℕ, suc, ◌+◌, ◌<◌, ◌≤◌, Bool, true, false, List, [], ◌∷◌, length, Option, Some, None, refl, ap, sym, ◌∙◌, subst, arith, inl, inr, ◌⊎◌, All, cases_eq, Cell, Place, Task, Visit, place_of, is_same_place, Program, moves, path, IsCell, IsVisitOf, Adjacent, ComesAfter, IsOrderly, IsVisit, is_same_place-true, IsIn, is_in, PlacedVisit, VerifyFault, Unordered, OrderViolation, visits_of, IsListJudged, IsVisitPlaced, IsPathOrderly, AreAllPlaced, AreViolations, IsFirstBreak, HasRanges, IsFault, IsSooner, IsOrderlyAt}
+use Rattle.fleet_verify.specs.declared.fault.VerifyFault.TheVariants.{OutOfMemory}
 use Rattle.fleet_verify.proofs.Listing.{levels_number}
 
 -- the visits of the place come one after another
@@ -74,6 +75,10 @@ pub broken_fault : (passable : Place → Bool) (tasks : List Task) (p : Program)
 broken_fault passable tasks p stays breaks found agent n c cell right all a m e h f (b, is, told) =
     subst (IsFault passable tasks p) (sym told)
     (found_fault passable tasks p stays agent n c right all a m e h b.first b.second (subst (IsListJudged (ComesAfter p) (visits_of (place_of c) stays)) is (found c cell)))
+
+-- .. which is not that memory lacks
+pub broken_told : (c : Cell) (found : Option OrderViolation) (f : VerifyFault) → ((b : OrderViolation) × (found ≡ Some b) × (f ≡ Unordered c b.first b.second)) → f ≢ OutOfMemory
+broken_told c found f (b, is, told) lacks = absurd cc
 
 -- a place without visits, or a cell
 pub some_cell : (p : Program) (q : Place) (stays : List PlacedVisit) → All (IsVisitPlaced p) stays → (visits_of q stays ≡ []) ⊎ ((c : Cell) × IsCell c × (place_of c ≡ q))

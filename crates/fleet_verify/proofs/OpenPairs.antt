@@ -1,5 +1,5 @@
 -- Open pairs: questions for chains, and the first neighbours of each cell without one.
-use Rattle.fleet_verify.proofs.Words.{◌≡◌, ◌≢◌, ℕ, zero, suc, ◌+◌, ◌<◌, ◌≤◌, Bool, List, [], ◌∷◌, length, map, get_or, Option, Some, None, slice_get, refl, ap, sym, ◌∙◌, subst, arith, inl, inr, add-one, All, Contains, ◌⊎◌, ◌↔◌, option_map, option_or, cases_eq, cases_lt, length-map, slice_get-get_or, slice_get_within, get_or_from_slice_get, same_Some, Cell, Place, Task, ActionId, Visit, place_of, Program, path, start_of, IsCell, AreInRange, Reaches, IsNumbering, IsVisitOf, ComesAfter, ComesAfterByChain, entering, leaving, All-map, place_of-injective, IsQuestion, AreAnswers, OrderViolation, OpenPair, PlacedVisit, VisitOrder, HasStarts, IsFirstBreak, IsBefore, number_of, visits_of, IsListJudged, AreAllPlaced, AreViolations, AreGrouped, IsOpenPair, AreConsecutive, StandsBefore, AreVisits, question_of, violation_of, HasNoChain, IsFirstBad, AnswersFirstBad, IsFlagged}
+use Rattle.fleet_verify.proofs.Words.{◌≡◌, ◌≢◌, ℕ, zero, suc, ◌+◌, ◌<◌, ◌≤◌, Bool, List, [], ◌∷◌, length, map, get_or, Option, Some, None, slice_get, refl, ap, sym, ◌∙◌, subst, arith, inl, inr, add-one, All, Contains, ◌⊎◌, ◌↔◌, option_map, option_or, cases_eq, cases_lt, length-map, slice_get-get_or, slice_get_within, get_or_from_slice_get, same_Some, Cell, Place, Task, ActionId, Visit, place_of, Program, path, start_of, IsCell, AreInRange, Reaches, IsNumbering, IsVisitOf, ComesAfter, ComesAfterByChain, entering, leaving, All-map, place_of-injective, IsQuestion, AreAnswers, OrderViolation, OpenPair, PlacedVisit, VisitOrder, HasStarts, IsFirstBreak, IsBefore, number_of, visits_of, IsListJudged, AreAllPlaced, AreViolations, AreGrouped, IsOpenPair, AreConsecutive, StandsBefore, AreVisits, question_of, violation_of, IsChained, IsFirstBad, AnswersFirstBad, IsFlagged}
 use Rattle.fleet_scen.specs.Instance.{IsInstance}
 use Rattle.fleet_verify.proofs.Decide.{Reaches-dec}
 use Rattle.fleet_verify.proofs.Listing.{levels_number, await_chain, entry_start, entry_later, before_rank, as_visit}
@@ -63,8 +63,8 @@ question_get p (x ∷ xs) (suc k) o e = question_get p xs k o e
 
 -- flags that answer the questions tell the pairs without a chain
 pub flags_tell : (p : Program) (pairs : List OpenPair) (flags : List Bool) → AreAnswers p (map (question_of p) pairs) flags → (n : ℕ) (m : Option OrderViolation)
-    → AnswersFirstBad (IsFlagged flags) pairs (length pairs) n m → AnswersFirstBad (λ _ o. HasNoChain p o) pairs (length pairs) n m
-flags_tell p pairs flags h n m t = first_as (IsFlagged flags) (λ _ o. HasNoChain p o) pairs (length pairs) n (λ k o e. h.each k (question_of p o) (question_get p pairs k o e)) m t
+    → AnswersFirstBad (IsFlagged flags) pairs (length pairs) n m → AnswersFirstBad (λ _ o. ¬ IsChained p o) pairs (length pairs) n m
+flags_tell p pairs flags h n m t = first_as (IsFlagged flags) (λ _ o. ¬ IsChained p o) pairs (length pairs) n (λ k o e. h.each k (question_of p o) (question_get p pairs k o e)) m t
 
 before_trans : (lev : ActionId → ℕ) (u v w : Visit) → IsBefore lev u v → IsBefore lev v w → IsBefore lev u w
 before_trans lev u v w (inl a) (inl b) = inl (omega arith)
@@ -181,13 +181,13 @@ module _ (p : Program) (order : VisitOrder) (placed : List PlacedVisit) (all : A
   ]
 
   -- where it is refuted that there is none, a chain is there
-  chain_unless : (o : OpenPair) → (HasNoChain p o → ⊥) → Reaches p (leaving p o.first) (entering o.second)
+  chain_unless : (o : OpenPair) → (¬ ¬ IsChained p o) → Reaches p (leaving p o.first) (entering o.second)
   chain_unless o n = elim (Reaches-dec p all.level numbered (leaving p o.first) (entering o.second)) [ yes r ↦ r | no m ↦ absurd (n m) ]
 
   pair_get : (o : OpenPair) (k : ℕ) → k < length pairs_of → get_or pairs_of k o ≡ o → slice_get pairs_of k ≡ Some o
   pair_get o k l e = slice_get-get_or pairs_of k o l ∙ ap (λ (x : OpenPair). Some x) e
 
-  judged_none : AreInRange p → (c : Cell) → IsCell c → AnswersFirstBad (λ _ o. HasNoChain p o) pairs_of (length pairs_of) (number_of c) None → IsListJudged (ComesAfter p) (visits_of (place_of c) placed) None
+  judged_none : AreInRange p → (c : Cell) → IsCell c → AnswersFirstBad (λ _ o. ¬ IsChained p o) pairs_of (length pairs_of) (number_of c) None → IsListJudged (ComesAfter p) (visits_of (place_of c) placed) None
   judged_none range c cell none = adjacent_from (ComesAfterByChain p) vs (λ k d l. pair (get_or vs k d) (get_or vs (suc k) d)
       (record { at = k; here = slice_get-get_or vs k d (omega arith); next = ap (slice_get vs) (add-one k) ∙ slice_get-get_or vs (suc k) d l }))
     where
@@ -200,7 +200,7 @@ module _ (p : Program) (order : VisitOrder) (placed : List PlacedVisit) (all : A
         | inr (k, l, e) ↦ inr (chain_unless (record { cell = c; first = v; second = w }) (λ m. none k (record { cell = c; first = v; second = w }) l (pair_get (record { cell = c; first = v; second = w }) k l e) refl m))
       ]
 
-  judged_some : AreInRange p → (c : Cell) → IsCell c → (first second : Visit) → IsFirstBad (λ _ o. HasNoChain p o) pairs_of (length pairs_of) (number_of c) first second → IsFirstBreak (ComesAfter p) (visits_of (place_of c) placed) first second
+  judged_some : AreInRange p → (c : Cell) → IsCell c → (first second : Visit) → IsFirstBad (λ _ o. ¬ IsChained p o) pairs_of (length pairs_of) (number_of c) first second → IsFirstBreak (ComesAfter p) (visits_of (place_of c) placed) first second
   judged_some range c cell first second f = record { at = n.at; here = n.here; next = n.next; breaks = breaks; sooner = sooner }
     where
       o : OpenPair
@@ -250,10 +250,10 @@ module _ (p : Program) (order : VisitOrder) (placed : List PlacedVisit) (all : A
             ]
       ]
 
-  pub violations_are : AreInRange p → (found : ℕ → Option OrderViolation) → ((n : ℕ) → AnswersFirstBad (λ _ o. HasNoChain p o) pairs_of (length pairs_of) n (found n)) → AreViolations p placed (λ c. found (number_of c))
+  pub violations_are : AreInRange p → (found : ℕ → Option OrderViolation) → ((n : ℕ) → AnswersFirstBad (λ _ o. ¬ IsChained p o) pairs_of (length pairs_of) n (found n)) → AreViolations p placed (λ c. found (number_of c))
   violations_are range found h c cell = go (found (number_of c)) (h (number_of c))
     where
-      go : (m : Option OrderViolation) → AnswersFirstBad (λ _ o. HasNoChain p o) pairs_of (length pairs_of) (number_of c) m → IsListJudged (ComesAfter p) (visits_of (place_of c) placed) m
+      go : (m : Option OrderViolation) → AnswersFirstBad (λ _ o. ¬ IsChained p o) pairs_of (length pairs_of) (number_of c) m → IsListJudged (ComesAfter p) (visits_of (place_of c) placed) m
       go None t = judged_none range c cell t
       go (Some b) t = judged_some range c cell b.first b.second t
 

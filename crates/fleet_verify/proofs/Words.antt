@@ -70,15 +70,15 @@ pub use Rattle.fleet_verify.specs.Ahead.{level_in, count_in, climbed_in, HasCome
 pub use Rattle.fleet_verify.specs.Blocked.{IsBlocked, down_from, next_of, nth, WaitsBack, want_at, AreWants, IsUnmet, IsLeastBack}
 unfoldable pub use Rattle.fleet_verify.specs.Blocked.{need_of}
 pub use Rattle.fleet_verify.specs.Breaking.{is_held_by, held_row}
-pub use Rattle.fleet_verify.specs.Chained.{IsChained, EnterApart, IsAskedOf, IsFlagOf, BeginsLater, AreAmong, AreAsked, AreKnown, BeginsLate, EndApart, IsFoundByAsking, IsFoundOfPairs, key_of}
+pub use Rattle.fleet_verify.specs.Chained.{EnterApart, IsAskedOf, IsFlagOf, BeginsLater, AreAmong, AreAsked, AreKnown, BeginsLate, EndApart, IsFoundByAsking, IsFoundOfPairs, key_of}
 pub use Rattle.fleet_verify.specs.Covers.{AreCovered}
-pub use Rattle.fleet_verify.specs.Faults.{StandsRight, AwaitsRight, EndsRight, HasRanges, EachAction, HasStarts, IsFault, IsFirstBreak, IsUnordered, StartsRight, HasNumbering, IsFirstNumber, IsOfOrder, IsOrderlyAt, IsSooner}
+pub use Rattle.fleet_verify.specs.Faults.{StandsRight, AwaitsRight, EndsRight, HasRanges, EachAction, HasStarts, IsFault, IsFirstBreak, IsUnordered, StartsRight, HasNumbering, IsFirstNumber, IsOfOrder, IsOrderlyAt}
 pub use Rattle.fleet_verify.specs.LastVisits.{kept_at}
 pub use Rattle.fleet_verify.specs.LevelRows.{HasLevels, AreCostRows}
-pub use Rattle.fleet_verify.specs.Listing.{entry_level, IsBefore, AreLevels, IsSortedListing}
+pub use Rattle.fleet_verify.specs.Listing.{entry_level, IsBefore, IsSooner, AreLevels, IsSortedListing}
 pub use Rattle.fleet_verify.specs.Needed.{AreNeeded, AreTwoVisits, AreZeros, IsLooking, IsNeededRow, IsRaised}
 unfoldable pub use Rattle.fleet_verify.specs.Needed.{looked_sum}
-pub use Rattle.fleet_verify.specs.OpenPairs.{AreVisits, question_of, AnswersFirstBad, IsFlagged, HasNoChain, IsFirstBad, violation_of}
+pub use Rattle.fleet_verify.specs.OpenPairs.{AreVisits, question_of, AnswersFirstBad, IsFlagged, IsChained, IsFirstBad, violation_of}
 pub use Rattle.fleet_verify.specs.Order.{AreAdded, number_of, AreAddedBy, AreAllPlaced, AreConsecutive, IsOpenPair, IsPathOrderly, IsVisitPlaced, StandsBefore, entries, AreViolations, IsLastVisit, IsListJudged, IsOpenNext, IsVisitKept, numbered_cell, AreAllAdded, AreGrouped, AreGroupedBy, IsGrouped}
 unfoldable pub use Rattle.fleet_verify.specs.Order.{visits_of}
 pub use Rattle.fleet_verify.specs.Path.{AnswersFirst, AnswersFirstAction, IsPosition}

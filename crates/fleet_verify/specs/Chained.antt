@@ -4,20 +4,15 @@ use Rattle.std.specs.List.{AllPairs}
 use Rattle.fleet_model.specs.declared.program.ActionId.{ActionId}
 use Rattle.fleet_model.specs.declared.program.Visit.{Visit}
 use Rattle.fleet_model.specs.Program.{Program}
-use Rattle.fleet_model.specs.Chain.{Reaches}
-use Rattle.fleet_model.specs.Visit.{entering, leaving}
+use Rattle.fleet_model.specs.Visit.{entering}
 use Rattle.fleet_needs.specs.Asked.{IsQuestion, AreAnswers}
 use Rattle.fleet_needs.specs.declared.questions.Question.{Question}
 use Rattle.fleet_verify.specs.Ahead.{level_in, count_in}
 use Rattle.fleet_verify.specs.Listing.{entry_level}
-use Rattle.fleet_verify.specs.OpenPairs.{question_of}
+use Rattle.fleet_verify.specs.OpenPairs.{IsChained, question_of}
 use Rattle.fleet_verify.specs.declared.chained.Answers.{Answers}
 use Rattle.fleet_verify.specs.declared.chained.TheConstants.{NUMBERS}
 use Rattle.fleet_verify.specs.declared.order.OpenPair.{OpenPair}
-
--- a chain begins with the action that leaves the first visit and ends with the one that enters the second
-abbrev pub IsChained : Program → OpenPair → Type 0
-IsChained p o = Reaches p (leaving p o.first) (entering o.second)
 
 -- the visit begins with an action, which has no level in these rows, or none below this one
 abbrev pub BeginsLate : List (List ℕ) → Visit → ℕ → Type 0

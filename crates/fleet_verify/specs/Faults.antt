@@ -1,5 +1,5 @@
 -- The first of the faults of a program, for a ground and the tasks of an instance.
-use Rattle.std.specs.Prelude.{option_map, ◌≡◌, ℕ, ◌+◌, ◌<◌, ◌≤◌, Bool, IsTrue, List, length, EachIndex, ◌⊎◌, Contains, slice_get, Some}
+use Rattle.std.specs.Prelude.{option_map, ◌≡◌, ℕ, ◌+◌, ◌<◌, ◌≤◌, Bool, IsTrue, List, length, EachIndex, Contains, slice_get, Some}
 use Rattle.fleet_model.specs.declared.geometry.Place.{Place}
 use Rattle.fleet_model.specs.declared.task.Task.{Task}
 use Rattle.fleet_model.specs.declared.program.Await.{Await}
@@ -9,7 +9,7 @@ use Rattle.fleet_model.specs.Geometry.{place_of}
 use Rattle.fleet_model.specs.Program.{Program, start_of, goal_of, moves, awaits_of, path, IsInRange}
 use Rattle.fleet_model.specs.Chain.{IsNumbering}
 use Rattle.fleet_model.specs.Visit.{IsVisit, IsVisitOf, ListsVisits, Adjacent, ComesAfter, AreUnordered}
-use Rattle.fleet_verify.specs.Listing.{AreLevels, IsSortedListing}
+use Rattle.fleet_verify.specs.Listing.{AreLevels, IsSooner, IsSortedListing}
 use Rattle.fleet_verify.specs.Ring.{IsToldRing}
 use Rattle.fleet_verify.specs.declared.fault.VerifyFault.{VerifyFault}
 use Rattle.fleet_verify.specs.declared.fault.VerifyFault.TheVariants.{OutOfMemory, OtherFleet, Start, Goal, Step, AwaitRange, Cyclic, Unordered}
@@ -93,10 +93,6 @@ pub record IsFirstAction (p : Program) (Right : ℕ → ℕ → Type 0) (i n : �
 -- the visits of the place can be listed so that each comes after the one before
 abbrev pub IsOrderlyAt : (Program → Visit → Visit → Type 0) → Program → Place → Type 0
 IsOrderlyAt After p q = (listing : List Visit) × ListsVisits p q listing × Adjacent (After p) listing
-
--- by agent, then by position
-abbrev pub IsSooner : Visit → Visit → Type 0
-IsSooner u v = (u.agent < v.agent) ⊎ ((u.agent ≡ v.agent) × (u.position < v.position))
 
 -- the first neighbours in the list of which the second may not come after the first
 pub record IsFirstBreak (R : Visit → Visit → Type 0) (l : List Visit) (first second : Visit) : Type 0 where

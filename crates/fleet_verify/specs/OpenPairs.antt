@@ -23,9 +23,9 @@ violation_of o = record { first = o.first; second = o.second }
 abbrev pub question_of : Program → OpenPair → Question
 question_of p o = record { first = leaving p o.first; last = entering o.second }
 
--- no chain does
-abbrev pub HasNoChain : Program → OpenPair → Type 0
-HasNoChain p o = Reaches p (leaving p o.first) (entering o.second) → ⊥
+-- one does
+abbrev pub IsChained : Program → OpenPair → Type 0
+IsChained p o = Reaches p (leaving p o.first) (entering o.second)
 
 -- these visits are the first bad pair of the cell with this number, among so many pairs
 pub record IsFirstBad (Bad : ℕ → OpenPair → Type 0) (pairs : List OpenPair) (many n : ℕ) (first second : Visit) : Type 0 where

@@ -7,7 +7,8 @@ use Rattle.fleet_model.specs.declared.geometry.Place.{Place}
 use Rattle.fleet_verify.specs.Ahead.{IsAhead, HaveFinished, NobodyGoesOn}
 use Rattle.fleet_verify.specs.Walk.{LeavesGround}
 use Rattle.fleet_verify.specs.declared.ahead.Ahead.{Ahead}
-use Rattle.fleet_verify.specs.Chained.{AreKnown, IsChained}
+use Rattle.fleet_verify.specs.Chained.{AreKnown}
+use Rattle.fleet_verify.specs.OpenPairs.{IsChained}
 use Rattle.fleet_verify.specs.Parts.{IsAcceptedFor}
 use Rattle.fleet_verify.specs.LevelRows.{HasLevels}
 use Rattle.fleet_verify.specs.declared.ahead.Outlook.{Outlook}

@@ -74,8 +74,7 @@ LeavesGround passable p = EachAction p (StandsRight passable p) → ⊥
 
 -- the run at its start, to which no visits are added yet
 pub record IsAtStart (p : Program) (run : UnheldRun) : Type 0 where
-  pub runs : Runs p run.machine
-  pub opening : run.machine.configuration ≡ opening p
+  pub machine : IsAtOpening p run.machine
   pub none : AreAdded p [] run.visits
 
 -- the run was stopped rightly: some path leaves passable ground. Want of memory may stop any run

@@ -157,13 +157,13 @@ fn or_action(found: Option<ActionId>, agent: u16, number: Option<u32>) -> Option
 
 /// The judgement of an agent's path.
 #[derive(Clone, Copy)]
-pub struct PathJudged {
+struct PathJudged {
     /// The place at which it ends, which may be off the map.
-    pub end: Place,
+    end: Place,
     /// The first action that leads off passable ground, or 0 if the start is off it.
-    pub off_ground: Option<u32>,
+    off_ground: Option<u32>,
     /// The first action that awaits more actions than there are.
-    pub out_of_range: Option<u32>,
+    out_of_range: Option<u32>,
 }
 
 /// The position of a walk along a path: a cell, if the walk was on passable ground alone, or else any place, with the
@@ -175,7 +175,7 @@ enum Position {
 }
 
 /// Walks along the path of an agent once, from its start to its end.
-pub fn judge_path<P: ProgramView>(program: &P, grid: &Grid, agent: u16) -> PathJudged
+fn judge_path<P: ProgramView>(program: &P, grid: &Grid, agent: u16) -> PathJudged
     requires agent { agent < length (P.program program.now) }
     requires well_formed { IsWellFormed (P.program program.now) }
     ensures { IsPathJudged (is_passable grid.now) (P.program program.now) agent result }

@@ -10,12 +10,12 @@ ghost use Rattle.fleet_model.specs.Visit.{IsVisit, ComesAfterByAwait, leaving};
 ghost use Rattle.fleet_grid.specs.Ground.{is_passable};
 ghost use Rattle.fleet_model.specs.Chain.{awaited};
 ghost use Rattle.fleet_model.specs.declared.limits.TheConstants.{MAX_MOVES_IN_ALL};
-ghost use Rattle.fleet_verify.specs.Ahead.{IsRanked, IsAhead, IsNext, IsRunner, AreNeeds, AreDone, IsAwaitOrOwn, IsKeptBack, HaveFinished, count_in, stand, level_in, climbed_in, AreKeptBefore, HasCome, AreNextNeeds, HasRunOut, HasStopped, IsEntry, HasGoneOn, HasRaised, AreStill, ComesOnto, HasRunBare};
+ghost use Rattle.fleet_verify.specs.Ahead.{IsRanked, IsAhead, IsNext, IsRunner, AreNeeds, AreDone, IsAwaitOrOwn, IsKeptBack, HaveFinished, count_in, level_in, climbed_in, AreKeptBefore, HasCome, AreNextNeeds, HasRunOut, HasStopped, IsEntry, HasGoneOn, HasRaised, AreStill, ComesOnto, HasRunBare};
 ghost use Rattle.fleet_verify.specs.Rising.{climbed, last_level};
 ghost use Rattle.fleet_verify.specs.Faults.{HasStarts};
 ghost use Rattle.fleet_verify.specs.LastVisits.{kept_at};
 ghost use Rattle.fleet_verify.specs.Walk.{IsStop, IsStopAt};
-ghost use Rattle.fleet_verify.specs.Chained.{IsChained};
+ghost use Rattle.fleet_verify.specs.OpenPairs.{IsChained};
 ghost use Rattle.fleet_verify.specs.Outlook.{IsFound, IsFoundUnless, IsOutlook};
 
 use crate::agents::{ends_right, next_number, numbered_cell};
@@ -38,9 +38,9 @@ use std::alloc::Global;
 #[derive(Drop)]
 pub struct Ahead {
     pub rows: Vec<LevelRow>,
-    pub cells: Vec<Cell>,
-    pub last: LastVisits,
-    pub pairs: Vec<OpenPair>,
+    cells: Vec<Cell>,
+    last: LastVisits,
+    pairs: Vec<OpenPair>,
 }
 
 /// The greater of a level and of that of an awaited action, if that has one.
@@ -60,25 +60,25 @@ fn greater_level(rows: &Vec<LevelRow>, least: u64, w: Await) -> Option<u64>
 #[derive(Clone, Copy)]
 pub struct Runner {
     /// How many actions it has finished.
-    pub finished: u32,
+    finished: u32,
     /// Where its next instruction stands.
-    pub at: usize,
+    at: usize,
     /// The level of its last action, or 0.
-    pub level: u32,
+    level: u32,
     /// The number of the cell that it is on. A step is one sum so.
-    pub number: u32,
+    number: u32,
 }
 
 /// What an action says whose awaits are all met.
 #[derive(Clone, Copy)]
 pub struct Needs {
     /// The level of the action.
-    pub level: u32,
+    level: u32,
     /// The last of its awaits, or one of the agent itself if it has none.
-    pub latest: Await,
-    pub step: Step,
+    latest: Await,
+    step: Step,
     /// Where the first instruction of the next action stands.
-    pub after: usize,
+    after: usize,
 }
 
 /// An await of the agent itself, as none has.

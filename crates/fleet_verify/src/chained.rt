@@ -6,8 +6,8 @@ ghost use Rattle.fleet_model.specs.{Program.AreInRange, Chain.IsAction, Chain.Re
 ghost use Rattle.fleet_needs.specs.Asked.{AreAnswers};
 ghost use Rattle.fleet_verify.specs.LevelOrder.{AreAllLevels};
 ghost use Rattle.fleet_verify.specs.LevelRows.{HasLevels};
-ghost use Rattle.fleet_verify.specs.OpenPairs.{AreVisits};
-ghost use Rattle.fleet_verify.specs.Chained.{key_of, IsChained, IsAskedOf, AreAsked, BeginsLate, BeginsLater, EnterApart, IsFoundByAsking, IsFoundOfPairs};
+ghost use Rattle.fleet_verify.specs.OpenPairs.{AreVisits, IsChained};
+ghost use Rattle.fleet_verify.specs.Chained.{key_of, IsAskedOf, AreAsked, BeginsLate, BeginsLater, EnterApart, IsFoundByAsking, IsFoundOfPairs};
 
 use crate::level_row::{AllLevels, LevelRow, row_of};
 use crate::order::{OpenPair, leaving};
@@ -31,7 +31,7 @@ fn key(action: ActionId) -> u64
 /// last.
 #[derive(Drop)]
 pub struct Answers {
-    pub questions: Vec<Question>,
+    questions: Vec<Question>,
     pub flags: Vec<bool>,
 }
 

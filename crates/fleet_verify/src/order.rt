@@ -18,7 +18,7 @@ ghost use Rattle.fleet_verify.specs.Faults.{HasRanges, IsFault};
 ghost use Rattle.std.specs.Option.{option_or};
 ghost use Rattle.fleet_needs.specs.Asked.{IsQuestion};
 ghost use Rattle.fleet_verify.specs.Chained.{AreKnown};
-ghost use Rattle.fleet_verify.specs.OpenPairs.{question_of, violation_of, AreVisits, HasNoChain, IsFlagged, AnswersFirstBad};
+ghost use Rattle.fleet_verify.specs.OpenPairs.{question_of, violation_of, AreVisits, IsChained, IsFlagged, AnswersFirstBad};
 
 use crate::agents::cell_after;
 use crate::chained::Answers;
@@ -73,6 +73,7 @@ fn check_cells<P: ProgramView>(
     ensures ok { OnOk result (IsOrderly ComesAfter (P.program program.now)) }
     ensures err { IfErr result (λ f. IsFault (is_passable grid.now) instance.now
         (P.program program.now) f) }
+    ensures memory { IfErr result (λ f. f ≢ VerifyFault.OutOfMemory) }
 {
     if violations.is_empty() {
         return Ok(());
@@ -102,6 +103,7 @@ fn check_path<P: ProgramView>(
     ensures ok { OnOk result (IsPathOrderly ComesAfter (P.program program.now) agent) }
     ensures err { IfErr result (λ f. IsFault (is_passable grid.now) instance.now
         (P.program program.now) f) }
+    ensures memory { IfErr result (λ f. f ≢ VerifyFault.OutOfMemory) }
 {
     let mut cell = program.start(agent);
     check_cell(violations, cell)?;
@@ -135,9 +137,9 @@ fn check_cell(violations: &IndexMap<u32, OrderViolation>, cell: Cell) -> Result<
 
 /// Visits of a cell, one right after the other, of which the second may not come after the first.
 #[derive(Clone, Copy, Drop)]
-pub struct OrderViolation {
-    pub first: Visit,
-    pub second: Visit,
+struct OrderViolation {
+    first: Visit,
+    second: Visit,
 }
 
 /// By the number of each cell its first open pair without a chain from the action that leaves the first visit to the
@@ -157,7 +159,7 @@ fn find_violations<P: ProgramView>(
         (map (question_of (P.program program.now)) pairs.now) }
     requires known { AreKnown (P.program program.now) known.now }
     ensures { IfOk result (λ found. (n : ℕ)
-        → AnswersFirstBad (λ _ o. HasNoChain (P.program program.now) o)
+        → AnswersFirstBad (λ _ o. ¬ IsChained (P.program program.now) o)
         pairs.now (length pairs.now) n (get nat_eq found n)) }
 {
     let questions = questions_of(alloc, program, pairs)?;

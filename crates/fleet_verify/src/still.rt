@@ -116,7 +116,7 @@ fn run_rest<P: ProgramView>(program: &P, grid: &Grid, ahead: &mut Ahead) -> Resu
 
 /// Agents that may go on, and agents that wait for others. It only says who is looked at next.
 #[derive(Drop)]
-pub struct Queue {
+struct Queue {
     agents: u16,
     /// Those that may go on, the next one last.
     work: Vec<u16>,
@@ -149,8 +149,6 @@ const FREE: Turn = Turn {
 };
 
 impl Model for Queue {
-    ghost use Rattle.std.specs.Prelude.{ℕ, ◌≡◌, length};
-
     ghost Value = { ℕ };
 
     ghost view = { λ q. q.agents };
@@ -160,7 +158,7 @@ impl Model for Queue {
 
 impl Queue {
     /// All of so many agents may go on, the first one next.
-    pub fn new(alloc: Global, agents: u16) -> Result<Queue, OutOfMemory>
+    fn new(alloc: Global, agents: u16) -> Result<Queue, OutOfMemory>
         ensures { IfOk result (λ q. q ≡ agents) }
     {
         let mut work = Vec::new(alloc);
@@ -176,7 +174,7 @@ impl Queue {
     }
 
     /// An agent that may go on.
-    pub fn pop(&mut self) -> Option<u16>
+    fn pop(&mut self) -> Option<u16>
         ensures agent { IfSome result (λ i. i < self.old) }
         ensures same { self.new ≡ self.old }
     {
@@ -189,7 +187,7 @@ impl Queue {
     }
 
     /// An agent waits until another one has finished so many actions.
-    pub fn wait(&mut self, agent: u16, awaited: Await)
+    fn wait(&mut self, agent: u16, awaited: Await)
         requires agent { agent < self.old }
         requires other { awaited.agent < self.old }
         ensures { self.new ≡ self.old }
@@ -206,7 +204,7 @@ impl Queue {
     }
 
     /// An agent has finished so many actions: of those that wait for it, each that waits for no more may go on.
-    pub fn wake(&mut self, agent: u16, count: u32) -> Result<(), OutOfMemory>
+    fn wake(&mut self, agent: u16, count: u32) -> Result<(), OutOfMemory>
         requires { agent < self.old }
         ensures { self.new ≡ self.old }
     {

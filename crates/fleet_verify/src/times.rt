@@ -178,7 +178,7 @@ impl<'a, P: ProgramView, C: ActionCosts> Times<'a, P, C> {
     }
 
     /// How many first actions of agent `i` end at time 0. Takes no memory.
-    pub(crate) fn free_count(&self, i: u16) -> u32
+    fn free_count(&self, i: u16) -> u32
         requires { i < length (P.program self.now.program) }
         ensures { IsFreeTo (P.program self.now.program) (C.cost self.now.costs) i result }
     {

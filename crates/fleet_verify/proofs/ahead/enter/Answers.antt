@@ -11,11 +11,6 @@ returns-in_ok-open_unless_follows-in-Some-clause-kept g c =
       pairs = subst (λ (o : Option Visit). IsOpenNext (ComesAfterByAwait (g.P.ProgramView.program c.args.program.now)) o c.args.placed c.args.pairs.now.items c.open_unless_follows.new.pairs.items) before c.in_ok-open_unless_follows-in-Some.ensures;
     }
 
-pub returns-in_ok-open_unless_follows-in-Some-clause-ground : goal.returns-in_ok-open_unless_follows-in-Some-clause-ground
-returns-in_ok-open_unless_follows-in-Some-clause-ground g c =
-    let there : IsCell c.args.placed.cell = search rules in
-    c.requires.before.ground c.args.placed.cell there c.in-Some.first (sym c.in_ok-first.ensures.kept.before ∙ c.in-Some.is)
-
 pub open_unless_follows-requires-clause-earlier : goal.open_unless_follows-requires-clause-earlier
 open_unless_follows-requires-clause-earlier g c =
     let before = sym c.in-Some.is ∙ c.in_ok-first.ensures.kept.before in

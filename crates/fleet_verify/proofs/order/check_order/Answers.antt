@@ -1,4 +1,4 @@
-use Rattle.fleet_verify.proofs.Words.{◌≡◌, ℕ, List, length, map, None, refl, sym, ◌∙◌, subst, arith, err_from_is_err_and, All, eqb-true, nat_eq, IsQuestion, OpenPair, AreVisits, question_of, HasNoChain, AnswersFirstBad, get}
+use Rattle.fleet_verify.proofs.Words.{◌≡◌, ℕ, List, length, map, None, refl, sym, ◌∙◌, subst, arith, err_from_is_err_and, All, eqb-true, nat_eq, IsQuestion, OpenPair, AreVisits, question_of, IsChained, AnswersFirstBad, get}
 use Rattle.fleet_verify.proofs.Judged.{none_broken}
 use Rattle.fleet_verify.proofs.OpenPairs.{are_visits, are_questions, violations_are, none_open}
 use Rattle.fleet_verify.proofs.Ordered.{no_entries}
@@ -40,7 +40,7 @@ check_cells-requires-clause-violations g c =
     let p = g.P.ProgramView.program c.args.program.now in
     let added = c.requires.added in
     let found = c.in_ok-violations.violations in
-    let tells = subst (λ (ps : List OpenPair). (n : ℕ) → AnswersFirstBad (λ _ o. HasNoChain p o) ps (length ps) n (get nat_eq found n)) c.deref.ensures.value c.in_ok-violations.ensures in
+    let tells = subst (λ (ps : List OpenPair). (n : ℕ) → AnswersFirstBad (λ _ o. ¬ IsChained p o) ps (length ps) n (get nat_eq found n)) c.deref.ensures.value c.in_ok-violations.ensures in
     record {
       placed = added.placed;
       all = added.all;

@@ -1,11 +1,8 @@
-use Rattle.fleet_verify.proofs.Words.{ℕ, Bool, List, length, map, Ok, Err, Result, sym, ap, ◌∙◌, subst, length-map, nat_eq, IfOk, get, Question, AreAnswers, question_of, HasNoChain, IsFlagged, AnswersFirstBad}
+use Rattle.std.proofs.lemmas.Result.{IfOk-weaker}
+use Rattle.fleet_verify.proofs.Words.{Bool, List, length, map, sym, ap, ◌∙◌, subst, length-map, nat_eq, get, Question, AreAnswers, question_of}
 use Rattle.fleet_verify.proofs.Finish.{finish_numbers}
 use Rattle.fleet_verify.proofs.OpenPairs.{flags_tell}
 use Rattle.fleet_verify.proofs.order.find_violations.Goals as goal
-
-on_ok : {X E : Type 0} (P Q : X → Type 0) → ((x : X) → P x → Q x) → (r : Result X E) → IfOk r P → IfOk r Q
-on_ok P Q h (Ok x) p = h x p
-on_ok P Q h (Err e) p = tt
 
 pub first_flagged-requires : goal.first_flagged-requires
 first_flagged-requires g c =
@@ -21,8 +18,7 @@ returns-in-Some g c =
     let told = rw c.in-Some.is at c.in_ok-flags.ensures.some in
     let answers : AreAnswers p (map (question_of p) pairs) flags =
     subst (λ (qs : List Question). AreAnswers p qs flags) (c.deref.ensures.value ∙ c.in_ok-questions.ensures) (subst (λ (fs : List Bool). AreAnswers p c.deref.result.now fs) (sym c.deref-in-Some.ensures.value) (told p c.requires.known.answers)) in
-    on_ok (λ found. (n : ℕ) → AnswersFirstBad (IsFlagged flags) pairs (length pairs) n (get nat_eq found n)) (λ found. (n : ℕ) → AnswersFirstBad (λ _ o. HasNoChain p o) pairs (length pairs) n (get nat_eq found n))
-    (λ found h n. flags_tell p pairs flags answers n (get nat_eq found n) (h n)) c.first_flagged.result c.first_flagged.ensures
+    IfOk-weaker c.first_flagged.result _ _ (λ found h n. flags_tell p pairs flags answers n (get nat_eq found n) (h n)) c.first_flagged.ensures
 
 pub returns : goal.returns
 returns g c =
@@ -31,8 +27,7 @@ returns g c =
     let flags = c.deref-2.result.now in
     let answers : AreAnswers p (map (question_of p) pairs) flags =
     subst (λ (qs : List Question). AreAnswers p qs flags) (c.in_ok-asked.ensures.questions ∙ c.in_ok-questions.ensures) (subst (λ (fs : List Bool). AreAnswers p c.in_ok-asked.asked.questions.items fs) (sym c.deref-2.ensures.value) c.in_ok-asked.ensures.answers) in
-    on_ok (λ found. (n : ℕ) → AnswersFirstBad (IsFlagged flags) pairs (length pairs) n (get nat_eq found n)) (λ found. (n : ℕ) → AnswersFirstBad (λ _ o. HasNoChain p o) pairs (length pairs) n (get nat_eq found n))
-    (λ found h n. flags_tell p pairs flags answers n (get nat_eq found n) (h n)) c.first_flagged-2.result c.first_flagged-2.ensures
+    IfOk-weaker c.first_flagged-2.result _ _ (λ found h n. flags_tell p pairs flags answers n (get nat_eq found n) (h n)) c.first_flagged-2.ensures
 
 pub to-requires-clause-source : goal.to-requires-clause-source
 to-requires-clause-source g c = finish_numbers (g.P.ProgramView.program c.args.program.now) c.requires.range c.args.ticks c.requires.finish

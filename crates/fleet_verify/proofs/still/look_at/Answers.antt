@@ -1,9 +1,6 @@
-use Rattle.fleet_verify.proofs.Words.{◌∙◌, arith, err_from_is_err_and}
+use Rattle.fleet_verify.proofs.Words.{◌∙◌, err_from_is_err_and}
 use Rattle.fleet_verify.proofs.still.look_at.Goals.{in-Some, in_default}
 use Rattle.fleet_verify.proofs.still.look_at.Goals as goal
-
-pub wait-requires-clause-other : goal.wait-requires-clause-other
-wait-requires-clause-other g c = let other = rw c.in-Some.is at c.in_ok-awaited.ensures.ran.waits in omega (arith, other, c.requires.queue)
 
 pub returns-clause-stopped : goal.returns-clause-stopped
 returns-clause-stopped g c =

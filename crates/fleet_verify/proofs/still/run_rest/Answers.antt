@@ -1,9 +1,6 @@
 use Rattle.fleet_verify.proofs.FewerLeft.{fewer_left}
 use Rattle.fleet_verify.proofs.still.run_rest.Goals as goal
 
-pub returns-clause-still : goal.returns-clause-still
-returns-clause-still g c = record { ahead = c.loop-agent.invariant; still = c.in_default.ensures.still }
-
 pub loop-agent-smaller : goal.loop-agent-smaller
 loop-agent-smaller g c =
     let found = c.in-Some.ensures in

@@ -14,10 +14,10 @@ pub run_on-requires-clause-nobody : goal.run_on-requires-clause-nobody
 run_on-requires-clause-nobody g c = λ i. none_flagged c.agents.result MAX_AGENTS i (omega (arith, c.agents.ensures.count, c.agents.ensures.well_formed.few_agents))
 
 pub add_starts-requires : goal.add_starts-requires
-add_starts-requires g c = record { start = record { runs = c.requires.runs; opening = c.requires.opening }; none = c.requires.none }
+add_starts-requires g c = record { start = c.requires.machine; none = c.requires.none }
 
 pub run_on-requires-clause-start : goal.run_on-requires-clause-start
-run_on-requires-clause-start g c = record { runs = c.requires.runs; opening = c.requires.opening }
+run_on-requires-clause-start g c = c.requires.machine
 
 pub returns-in_err-add_starts : goal.returns-in_err-add_starts
 returns-in_err-add_starts g c =

@@ -16,7 +16,8 @@ pub record IsNotedCost (p : Program) (cost : ActionId → ℕ) (a : ActionId) (m
   pub critical : IsCriticalCost p cost a m
   pub few : (number : ActionId → ℕ) → IsNumbering p number → m ≤ number a * MAX_COST
 
--- what an agent has finished: the costs of the critical paths of its first actions; and how far it has come with the next
+-- what an agent has finished: the costs of the critical paths of its first actions; and how far it has come with the
+-- next
 pub record Finished : Type 0 where
   pub costs : List ℕ
   pub stage : Stage

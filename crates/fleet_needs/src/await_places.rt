@@ -43,7 +43,8 @@ impl AwaitPlaces {
         requires places { AreAwaitPlaces (P.program program.now) self.now }
         requires action { IsAction (P.program program.now) action }
         ensures place { result ≡ first_await (P.program program.now) action }
-        ensures within { result + length (awaits_of (P.program program.now) action.agent action.number)
+        ensures within { result
+            + length (awaits_of (P.program program.now) action.agent action.number)
             ≤ total_awaits (P.program program.now) }
     {
         let before = program.awaits_before(action.agent, action.number - 1);

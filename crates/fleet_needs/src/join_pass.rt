@@ -48,7 +48,8 @@ pub struct SlotRows<'a> {
 }
 
 impl<'a> SlotRows<'a> {
-    /// The rows of a schedule in these columns, none of which is made yet, and a row of zeros, which can be one of them.
+    /// The rows of a schedule in these columns, none of which is made yet, and a row of zeros, which can be one of
+    /// them.
     pub(crate) fn begin<P: ProgramView>(
         alloc: Global,
         program: &P,

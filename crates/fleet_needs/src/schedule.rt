@@ -1,5 +1,6 @@
 //! A schedule of rows, made once for all blocks of columns: which rows are made, in which order, which stand for other
-//! actions, of which rows each is joined, the slot in which it is kept, and the columns of the blocks, one after another.
+//! actions, of which rows each is joined, the slot in which it is kept, and the columns of the blocks, one after
+//! another.
 
 ghost use Rattle.std.specs.Prelude.{◌≡◌, ◌+◌, ◌++◌, ◌*◌, ◌<◌, ◌≤◌, All, ℕ, true, length, vec_len, IfOk, OnOk, MatchOption};
 ghost use Rattle.fleet_model.specs.{declared.limits.TheConstants.MAX_AGENTS, declared.program.ActionId.ActionId, Program.AreInRange, Program.moves, Chain.IsAction, Chain.awaited};

@@ -1,7 +1,8 @@
 /*
  * Random inputs, each answered by the program and by libfleet:  differ FLEET COUNT SEED
- * Writes files where it runs. Prints the first difference, or how many were alike, and on standard error how many were
- * answered and refused with each number.
+ * Writes files where it runs. Prints the first difference, or how many were alike, which calls answered (`stuck`: a
+ * rehearsal that is so) and which parts refused, and on standard error how many were answered and refused with each
+ * number.
  */
 #include "library.h"
 #include <fcntl.h>
@@ -388,9 +389,18 @@ static void ask_of_nothing(void)
         wrong("null pointers");
 }
 
+/* Whether some input was refused by this part. */
+static int has_refused(const unsigned *numbers)
+{
+    unsigned all = 0;
+    for (unsigned number = 0; number < 16; number++)
+        all += numbers[number];
+    return all > 0;
+}
+
 int main(int words, char **word)
 {
-    static unsigned seen[FLEET_RUN + 1][16];
+    static unsigned seen[FLEET_RUN + 1][16], answered[CALLS], stuck;
     unsigned count, i;
     if (words != 4)
         return 2;
@@ -408,8 +418,16 @@ int main(int words, char **word)
             return 1;
         }
         seen[due.fault.part][due.fault.number]++;
+        answered[call] += !due.fault.part;
+        stuck += !due.fault.part && due.status == 1;
     }
-    printf("%u of %u alike\n", i, count);
+    printf("%u of %u alike\nanswered:", i, count);
+    for (unsigned call = 0; call < CALLS; call++)
+        printf("%s%s", answered[call] ? " " : "", answered[call] ? call_names[call] : "");
+    printf("%s\nrefused:", stuck ? " stuck" : "");
+    for (unsigned part = 1; part <= FLEET_RUN; part++)
+        printf("%s%s", has_refused(seen[part]) ? " " : "", has_refused(seen[part]) ? part_names[part] : "");
+    printf("\n");
     fprintf(stderr, "%7u answered\n", seen[0][0]);
     for (unsigned part = 1; part <= FLEET_RUN; part++)
         for (unsigned number = 0; number < 16; number++)

@@ -4,9 +4,7 @@
  * and --wrap=realloc, through which libfleet asks for memory.
  */
 #include "blocks.h"
-#include "library.h"
-
-enum { MOST = 1 << 16 };
+#include "calls.h"
 
 static long growths, refuse;
 
@@ -22,38 +20,6 @@ void *__wrap_realloc(void *old, size_t size)
     return is_growth(old, size) && is_refused() ? NULL : note(__real_realloc(old, size), size);
 }
 
-/* What a call is lent: a buffer, its length, numbers and a fault. */
-struct lent {
-    uint8_t out[MOST];
-    size_t length;
-    uint32_t numbers[4];
-    struct fleet_fault fault;
-};
-
-static struct bytes map, scen, plan, program, holds;
-
-static uint32_t make(int call, struct lent *it)
-{
-    switch (call) {
-    case 0:
-        return fleet_check(map.at, map.length, scen.at, scen.length, 0, plan.at, plan.length,
-            (struct fleet_checked *)it->numbers, &it->fault);
-    case 1:
-        return fleet_compile(map.at, map.length, scen.at, scen.length, 0, plan.at, plan.length, FLEET_DEPS_ALL, 1, it->out,
-            MOST, &it->length, &it->fault);
-    case 2:
-        return fleet_verify(map.at, map.length, scen.at, scen.length, 0, program.at, program.length,
-            (struct fleet_accepted *)it->numbers, &it->fault);
-    case 3:
-        return fleet_thin(map.at, map.length, scen.at, scen.length, 0, program.at, program.length, it->out, MOST,
-            &it->length, &it->fault);
-    case 4:
-        return fleet_plan(map.at, map.length, scen.at, scen.length, 0, 100, 3, it->out, MOST, &it->length, &it->fault);
-    default:
-        return fleet_rehearse(program.at, program.length, holds.at, holds.length, it->out, MOST, &it->length, &it->fault);
-    }
-}
-
 /* Whether two were lent the same and have the same. */
 static int is_same(const struct lent *a, const struct lent *b)
 {
@@ -63,22 +29,20 @@ static int is_same(const struct lent *a, const struct lent *b)
 
 int main(int words, char **word)
 {
-    static const char *const names[] = {"check", "compile", "verify", "thin", "plan", "rehearse"};
     static struct lent before, due, got, failed;
     const struct fleet_fault memory = {FLEET_MEMORY, 1, 0, {0}};
     if (words != 6)
         return 2;
-    map = read_file(word[1]), scen = read_file(word[2]), plan = read_file(word[3]);
-    program = read_file(word[4]), holds = read_file(word[5]);
+    read_inputs(word + 1);
     memset(&before, 85, sizeof before);
     failed = before;
     failed.fault = memory;
-    for (int call = 0; call < 6; call++) {
+    for (int call = 0; call < CALLS; call++) {
         long all, lacking = 0;
         refuse = growths = 0;
         due = before;
         if (make(call, &due) != FLEET_DONE)
-            return printf("%s refuses\n", names[call]), 1;
+            return printf("%s refuses\n", call_names[call]), 1;
         all = growths;
         for (long n = 1; n <= all; n++) {
             refuse = n, growths = 0;
@@ -88,11 +52,11 @@ int main(int words, char **word)
             if (status == FLEET_FAILED && is_same(&got, &failed))
                 lacking++;
             else if (status != FLEET_DONE || !is_same(&got, &due))
-                return printf("%s, growth %ld of %ld: status %u\n", names[call], n, all, status), 1;
+                return printf("%s, growth %ld of %ld: status %u\n", call_names[call], n, all, status), 1;
         }
         if (lacking < 5 || all != lacking)
-            return printf("%s: memory lacked in %ld of %ld\n", names[call], lacking, all), 1;
-        printf("%s: each growth\n", names[call]);
+            return printf("%s: memory lacked in %ld of %ld\n", call_names[call], lacking, all), 1;
+        printf("%s: each growth\n", call_names[call]);
     }
     return 0;
 }

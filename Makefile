@@ -112,11 +112,11 @@ transcripts: $(FLEET)
 	sh tools/help.sh $(FLEET) > tests/transcripts/help.md
 
 install: $(FLEET) $(ARCHIVE)
-	install -D -m 755 $(FLEET) $(TO)/bin/fleet
+	install -D -m 755 $(FLEET) "$(TO)/bin/fleet"
 ifneq ($(LIBRARY),)
-	install -D -m 644 $(LIBRARY)/libfleet.a $(TO)/lib/libfleet.a
-	install -D -m 755 $(LIBRARY)/libfleet.so $(TO)/lib/libfleet.so
-	install -D -m 644 $(LIBRARY)/fleet.h $(TO)/include/fleet.h
-	mkdir -p $(TO)/lib/pkgconfig
-	sed 's|@PREFIX@|$(PREFIX)|' include/fleet.pc.in > $(TO)/lib/pkgconfig/fleet.pc
+	install -D -m 644 $(LIBRARY)/libfleet.a "$(TO)/lib/libfleet.a"
+	install -D -m 755 $(LIBRARY)/libfleet.so "$(TO)/lib/libfleet.so"
+	install -D -m 644 $(LIBRARY)/fleet.h "$(TO)/include/fleet.h"
+	mkdir -p "$(TO)/lib/pkgconfig"
+	sed 's|@PREFIX@|$(PREFIX)|' include/fleet.pc.in > "$(TO)/lib/pkgconfig/fleet.pc"
 endif

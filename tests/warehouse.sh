@@ -28,6 +28,6 @@ check 'thinned once more it is the same' 0 '' '' "fleet thin $on thinned again >
 check 'of both kinds of awaits the same is left' 0 '' '' "fleet thin $on program less > told && sed -n 2p told | cmp has - && cmp thinned less"
 check 'thinned it runs as before' 0 '' '' "fleet run $on thinned $holds > thinned.trace && cmp thinned.trace examples/warehouse.trace"
 awk 'BEGIN { srand(7); for (t = 0; t < 300; t++) { line = ""; for (i = 0; i < 100; i++) if (rand() < 0.2) line = line (line == "" ? "" : " ") i; print line == "" ? "-" : line } }' > "$work/random.holds"
-check 'and under random holds' 0 '' '' "fleet run $on all --holds $work/random.holds > one.trace && fleet run $on thinned --holds $work/random.holds > two.trace && cmp one.trace two.trace"
+check 'and under random holds' 0 '' '' "fleet run $on all --holds '$work/random.holds' > one.trace && fleet run $on thinned --holds '$work/random.holds' > two.trace && cmp one.trace two.trace"
 check 'ten agents' 0 'agents 10\n' '' "fleet auto $on --agents 10 | grep agents"
 check 'holds of more agents than there are' 1 "$(sed 1q "$root/examples/warehouse.trace" | cut -d ' ' -f -11)\n" 'run 3 Hold line 1\n' "fleet auto $on $holds --agents 10"

@@ -32,8 +32,9 @@ fi
 EOF
 
 # growths COMMAND..: with each growth refused in turn. Prints wrong answers, and `each` if memory lacked each time, or
-# all but once: the room that is asked for at once for the words of the command line can be done without. A dispatch, and `rest`, which goes through its reports,
-# copy the counts of the agents four times, and can do without the room that is asked for at once for each copy: so many
+# all but once: the room that is asked for at once for the words of the command line can be done without. A dispatch,
+# and `rest`, which goes through its reports, copy the counts of the agents four times, and can do without the room that
+# is asked for at once for each copy, as can a word that is no command, which is compared with each that is one: so many
 # growths $spare has.
 script growths <<'EOF'
 #!/bin/sh
@@ -83,12 +84,12 @@ done
 echo $order
 EOF
 
-# shallow COMMAND..: with a stack of 88 KB, and no environment on it.
+# shallow COMMAND..: with a stack of 88 KB, or of $depth, and no environment on it.
 script shallow <<'EOF'
 #!/bin/sh
 program=$(command -v "$1")
 ulimit -c 0
-ulimit -s 88
+ulimit -s "${depth:-88}"
 shift
 exec env -i "$program" "$@"
 EOF
@@ -135,7 +136,7 @@ check 'costs, and a log' 0 '' '' "printf '0 2\n1:2 3\n' > costs && printf '0:1\n
 if has "${cc%% *}"; then
     $cc -shared -fPIC -o "$REFUSER" "$root/tests/refuse.c" -ldl || failed=$((failed + 1))
     while read -r words; do
-        case $words in rest*) spare=4 ;; *) spare=0 ;; esac
+        case $words in rest*) spare=4 ;; fly) spare=38 ;; *) spare=0 ;; esac
         check "each growth refused: $words" 0 'each\n' '' "spare=$spare growths fleet $words"
     done <<EOF
 $("$work/bin/listed" $on examples/pair.plan examples/pair.program)
@@ -167,6 +168,10 @@ times $on examples/pair.program --broken 0:3
 instance $on --agents 3
 rest $on examples/pair.program log tasks out --without 1:0,0 --map-out map.left --others-out tasks.left
 verify examples/corridor.map examples/corridor.scen examples/pair.program
+--help
+auto --help
+auto m
+fly
 EOF
     check 'each growth refused: no words' 0 'each\n' '' 'input=examples/pair.hex growths fleet'
     check 'each growth refused: dispatch' 0 'each\n' '' "printf '%s\n' 0:1 '0:2 1:1' 1:2 > reports && input=reports spare=4 growths fleet dispatch $on examples/pair.program"
@@ -207,6 +212,10 @@ done <<EOF
 $("$work/bin/listed" $many plan program)
 dispatch $many program
 EOF
+for words in --help fly; do
+    check "a small stack: $words" 0 'right\n' '' "depth=128 stack fleet $words"
+done
+check 'a small stack: auto m' 0 'right\n' '' 'stack fleet auto m'
 check 'a small stack: no words' 0 'right\n' '' 'input=examples/pair.hex stack fleet'
 check 'a small stack: dispatch to its end' 0 'right\n' '' "printf '%s\\n' 0:1 '0:2 1:1' 1:2 > reports && input=reports stack fleet dispatch $on examples/pair.program"
 rm -rf "$room"

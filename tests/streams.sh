@@ -122,22 +122,22 @@ check 'the file has the front of the trace' 0 '' '' \
 STREAMS=$work/bin/streams.so
 export STREAMS
 
-# output_cut WAY LINE COMMAND..: standard output takes 0 bytes, or one more each time, and then fails in this way.
-# Prints `each` and then after how many bytes it was not so that the program said the line, with status 3, and that the
-# front of what it prints was taken.
+# output_cut WAY LINE COMMAND..: standard output takes 0 bytes, or $from, or one more each time, and then fails in this
+# way. Prints `each` and then after how many bytes it was not so that the program said the line, with status 3, and that
+# the front of what it prints was taken.
 script output_cut <<'EOF'
 #!/bin/sh
 WAY=$1 line=$2
 export WAY
 shift 2
 "$@" > whole 2> told < "$input"
-bytes=$(wc -c < whole) wrong= room=0
+bytes=$(wc -c < whole) wrong= room=${from:-0}
 while [ "$room" -lt "$bytes" ]; do
     env ROOM="$room" LD_PRELOAD="$STREAMS" "$@" > got 2> told < "$input"
     [ "$? $(cat told)" = "3 $line" ] && head -c "$room" whole | cmp -s - got || wrong="$wrong $room"
     room=$((room + 1))
 done
-[ "$bytes" -gt 0 ] && echo "each$wrong"
+[ "$bytes" -gt "${from:-0}" ] && echo "each$wrong"
 EOF
 
 # input_cut WAY COMMAND..: the same of standard input. Prints how many bytes it has, and after how many the program did
@@ -156,9 +156,9 @@ done
 echo $bytes:$heard
 EOF
 
-# files_cut WAY VARIABLE COMMAND..: the files that the program opens give (GIVES) or take (TAKES) 0 bytes, or are put on
-# the disk 0 times (SYNCS), or once more each time until it is done, at most 1,000 times, and then fail in this way.
-# Prints each status and line, and how often they came in a row.
+# files_cut WAY VARIABLE COMMAND..: the files that the program opens give (GIVES) or take (TAKES) 0 bytes, or standard
+# output takes so many (ROOM), or the files are put on the disk 0 times (SYNCS), or once more each time until it is done,
+# at most 1,000 times, and then fail in this way. Prints each status and line, and how often they came in a row.
 script files_cut <<'EOF'
 #!/bin/sh
 WAY=$1 variable=$2 bytes=0 status=3
@@ -232,6 +232,15 @@ $(sed '/|dispatch/d; s#|#|/dev/null|#; s/OUT OUT/tasks anew/; s/OUT/anew/; s/^/3
 0|dispatch 5 Write|lines|dispatch $pair
 11|dispatch 5 Write|lines|dispatch $pair
 EOF
+    # The numbers of the plan come after the trace, when the run is over.
+    auto='auto examples/pair.map examples/pair.scen'
+    trace=$(cd "$room" && fleet $auto | wc -c | tr -d ' ')
+    numbers=$(cd "$room" && fleet $auto --numbers | tail -n 3 | wc -c | tr -d ' ')
+    for way in 32 0; do
+        check "standard output is cut ($way): the numbers of $auto" 0 'each\n' '' "input=/dev/null from=$trace output_cut $way 'file -' fleet $auto --numbers"
+        check "standard output is cut ($way): the trace before them" 0 "$trace 3 run 4 Write\n$numbers 3 file -\n1 0 \n" '' "files_cut $way ROOM fleet $auto --numbers"
+    done
+
     # 4 is an interrupted read, 5 a failed one, and 11 one that would have to wait. The last report ends a dispatch, so
     # nothing is read after it.
     bytes=$(wc -c < "$room/examples/pair.hex" | tr -d ' ')

@@ -121,7 +121,8 @@ GROWTHS=count LD_PRELOAD=$REFUSER fleet instance "$3" "$4" > got 2>&1 < "$input"
 echo $((all - $(cat count)))
 EOF
 input=/dev/null
-REFUSER=$work/bin/refuse.so
+# The loader parts its list at blanks, which the folder's name may have.
+REFUSER=./refuse.so
 LIST=$root/tests/commands.list
 export input REFUSER LIST
 
@@ -134,7 +135,7 @@ check 'a program that nobody begins' 0 '' '' "bytes 4D504631 0002 0001 0000 0003
 check 'a program in version 2' 0 'bytes 48\n' '' 'fleet migrate examples/pair.program pair2'
 check 'costs, and a log' 0 '' '' "printf '0 2\n1:2 3\n' > costs && printf '0:1\n' > log"
 if has "${cc%% *}"; then
-    $cc -shared -fPIC -o "$REFUSER" "$root/tests/refuse.c" -ldl || failed=$((failed + 1))
+    $cc -shared -fPIC -o "$room/$REFUSER" "$root/tests/refuse.c" -ldl || failed=$((failed + 1))
     while read -r words; do
         case $words in rest*) spare=4 ;; fly) spare=38 ;; *) spare=0 ;; esac
         check "each growth refused: $words" 0 'each\n' '' "spare=$spare growths fleet $words"

@@ -100,8 +100,8 @@ EOF
 check 'a log of a process that is killed' 0 'killed 3900\n' '' 'kill_loggers 2> told'
 check 'a log that is a folder' 3 '' 'file examples\n' "fleet dispatch $pair --log examples < each"
 check 'a log that goes to a pipe' 0 '0:1\n0:2\n1:1\n1:2\n' '' "fleet dispatch $pair --log /dev/stderr < each 2>&1 > told | cat"
-check 'a log that is moved away is begun anew by the next report' 0 '0:1\n0:2\n1:1\n1:2\n' '' \
-    "rm -f live; { echo 0:1; until [ -s live ]; do sleep 0.01; done; mv live moved; tail -n 3 each; } | fleet dispatch $pair --log live > told; cat moved live"
+check 'a log that is moved away ends a dispatch' 3 '0:1\n' 'dispatch 8 LogWrite line 2\n' \
+    "rm -f live; { echo 0:1; until [ -s live ]; do sleep 0.01; done; mv live moved; tail -n 3 each; } | fleet dispatch $pair --log live > told; status=\$?; cat moved; [ ! -e live ] && exit \$status"
 check 'nothing of a log is read after the end' 0 'reports 4\n' '' "{ cat each; echo 9:9; } > long && fleet dispatch $pair --resume long | tail -n 1"
 check 'reports are closed' 3 'go 0:1 1,0 2,0\n' 'file -\n' "fleet dispatch $pair <&-"
 check 'reports are a folder' 3 'go 0:1 1,0 2,0\n' 'file -\n' "fleet dispatch $pair < examples"

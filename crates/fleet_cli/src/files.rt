@@ -107,8 +107,8 @@ pub trait Files {
         ensures refused { IfErr result (refuses_write self.old name.now) }
         ensures others { ChangesOnly (contents self.old) (contents self.new) name.now };
 
-    /// Puts the bytes behind those of the file, and stores them before it answers; a file that is not there is begun.
-    /// After a refusal a front of them stands there, or all, or none.
+    /// Puts the bytes behind those of the file, and stores them before it answers; a file that is not there is begun or
+    /// refused. After a refusal a front of them stands there, or all, or none.
     fn append(&mut self, name: &str, bytes: &[u8]) -> Result<(), FileFault>
         ensures grown { PutsBehind (contents self.old) (contents self.new) name.now result
             bytes.now }
@@ -172,7 +172,7 @@ impl<'r, R: rt::Files> Files for Disk<'r, R> {
     /// What is no file, as a pipe or a terminal, holds nothing. The folder of a file is on the disk when it is
     /// answered, so that a log that was begun is found there after a power cut.
     fn begin_log(&mut self, alloc: Global, name: &str, past: &[u8]) -> Result<bool, FileFault> {
-        let mut file = open_to_append(self.runtime, name)?;
+        let mut file = open_to_append(self.runtime, name, true)?;
         if !is_file(&file)? {
             return Ok(true);
         }
@@ -188,9 +188,10 @@ impl<'r, R: rt::Files> Files for Disk<'r, R> {
         Ok(true)
     }
 
-    /// What is put behind a file is on the disk when it is answered.
+    /// What is put behind a file is on the disk when it is answered. A file that is not there is refused: a log that was
+    /// moved away while a dispatch runs would go on without its front.
     fn append(&mut self, name: &str, bytes: &[u8]) -> Result<(), FileFault> {
-        let mut file = open_to_append(self.runtime, name)?;
+        let mut file = open_to_append(self.runtime, name, false)?;
         put_all(&mut WriteOut::new(&mut file), bytes).or(Err(FileFault::Failed))?;
         if is_file(&file)? && file.sync_data().is_err() {
             return Err(FileFault::Failed);
@@ -199,10 +200,14 @@ impl<'r, R: rt::Files> Files for Disk<'r, R> {
     }
 }
 
-/// The file of this path, which is begun if it is not there, to be read, and written behind its bytes.
-fn open_to_append<R: rt::Files>(runtime: &R, name: &str) -> Result<R::File, FileFault> {
+/// The file of this path, to be read, and written behind its bytes. One that is not there is begun if `create` says so.
+fn open_to_append<R: rt::Files>(
+    runtime: &R,
+    name: &str,
+    create: bool,
+) -> Result<R::File, FileFault> {
     let mut options = OpenOptions::new();
-    options.read(true).append(true).create(true);
+    options.read(true).append(true).create(create);
     options.open(runtime, name).or(Err(FileFault::Failed))
 }
 

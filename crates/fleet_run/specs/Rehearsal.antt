@@ -1,6 +1,6 @@
 -- What a rehearsal writes, asks and answers.
 use Rattle.std.specs.Prelude.{◌≡◌, ℕ, ◌+◌, ◌++◌, List, [], length, Some, Result, Ok, Err, if◌then◌else◌}
-use Rattle.std.specs.Io.KnownBytes.{Keeps, Appends}
+use Rattle.std.specs.Io.KnownBytes.{Appends}
 use Rattle.fleet_model.specs.Program.{Program}
 use Rattle.fleet_model.specs.Machine.{Holds, run, held_ticks, is_over, IsEnd}
 use Rattle.fleet_run.specs.declared.source.SourceFault.TheVariants.{Broken, Text}
@@ -8,7 +8,7 @@ use Rattle.fleet_run.specs.declared.run.RunFault.{RunFault}
 use Rattle.fleet_run.specs.declared.run.RunFault.TheVariants.{OutOfMemory, Source, Hold, Write, HoldLimit}
 use Rattle.fleet_run.specs.declared.run.Rehearsal.{Rehearsal}
 use Rattle.fleet_run.specs.Text.{line_of, rehearsal_closing, rehearsal_text}
-use Rattle.fleet_text.specs.Sink.{SinkState, IsWorking}
+use Rattle.fleet_text.specs.Sink.{SinkState, IsUnwritten, IsWorking}
 use Rattle.fleet_run.specs.Source.{SourceState}
 use Rattle.fleet_run.specs.Outcome.{IsAskedFor, run_end, StopsAtSource, StopsAtSink, StopsAtTickLimit}
 
@@ -25,8 +25,7 @@ pub record IsRehearsed (p : Program) (source source' : SourceState) (out out' : 
 -- no tick was asked for, and nothing was written
 pub record IsUntouched (source source' : SourceState) (out out' : SinkState) : Type 0 where
   pub asked : IsAskedFor 0 source source'
-  pub taken : Keeps out.taken out'.taken
-  pub working : IsWorking out'
+  pub unwritten : IsUnwritten out out'
 
 -- the text from the line of time t on: that line, and the closing lines if the run is over
 abbrev pub text_from : Program → Holds → ℕ → List ℕ

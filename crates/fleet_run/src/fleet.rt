@@ -1,23 +1,22 @@
 //! A fleet that runs an accepted program, tick by tick or in one call.
 
-ghost use Rattle.std.specs.Prelude.{◌≡◌, ℕ, ◌<◌, ◌≤◌, length, IfOk, IfErr, OnOk, OnErr, All, IsTrue, IsFalse, false};
+ghost use Rattle.std.specs.Prelude.{◌≡◌, ℕ, ◌<◌, ◌≤◌, length, IfOk, IfErr, OnOk, OnErr, All, IsTrue, false};
 ghost use Rattle.fleet_grid.specs.Ground.{is_passable};
-ghost use Rattle.fleet_verify.specs.Parts.{IsAcceptedFor};
-ghost use Rattle.fleet_model.specs.Machine.{opening, tick, moved_in, is_ready_held, is_finished, is_ready, IsReached, place_at, count_at};
+ghost use Rattle.fleet_model.specs.Machine.{opening, tick, is_finished, is_ready, IsReached, place_at, count_at};
 ghost use Rattle.fleet_model.specs.Run.{AreOnGoals, IsSafeStep};
 ghost use Rattle.fleet_model.specs.Claims.{order_of, AreApart, KeepsOrder};
 ghost use Rattle.fleet_run.specs.Drive.{DrivesFleet};
+ghost use Rattle.fleet_run.specs.Fleet.{HaveCarriedOut, IsOutcomeOf};
 ghost use Rattle.fleet_text.specs.Sink.{IsWorking};
 ghost use Rattle.fleet_run.specs.Source.{HasNotFailed};
-ghost use Rattle.fleet_machine.specs.Confirmed.{all_but, AreAllReady, IsFirstUnready};
-ghost use Rattle.fleet_machine.specs.Looked.{ready_in, awaiting_in, LooksAt};
+ghost use Rattle.fleet_machine.specs.Confirmed.{IsFirstUnready};
 ghost use Rattle.fleet_machine.specs.Machine.{flag_of};
 ghost use Rattle.fleet_run.specs.Trace.{Traces};
 
 use crate::run::{Report, RunFault, run_trace};
 use crate::source::{HoldSource, HoldText};
-use fleet_machine::{AgentSet, Machine, Tick};
-use fleet_model::{MAX_AGENTS, Place, ProgramView, Standing, Step};
+use fleet_machine::{Machine, Tick};
+use fleet_model::{Place, ProgramView, Standing, Step};
 use fleet_text::TraceOut;
 use fleet_verify::{Accepted, ready_moves_are_apart, runs_arrive, runs_end, ticks_are_safe};
 use std::alloc::Global;
@@ -89,16 +88,8 @@ impl<'g, P: ProgramView> Fleet<'g, P> {
               (flag_of held.now) self.old.configuration;
           looked = self.new.looked;
         } }
-        ensures looked { LooksAt (ready_in
-            (P.program self.old.accepted.program) self.old.configuration)
-            (awaiting_in (P.program self.old.accepted.program)
-            (flag_of held.now) self.old.configuration)
-            self.old.looked self.new.looked }
-        ensures moved { result.moved ≡ moved_in (P.program self.old.accepted.program)
-            (flag_of held.now) self.old.configuration }
-        ensures held { result.ready_held
-            ≡ is_ready_held (P.program self.old.accepted.program)
-            (flag_of held.now) self.old.configuration }
+        ensures outcome { IsOutcomeOf (P.program self.old.accepted.program) (flag_of held.now)
+            self.old self.new result }
         // All places are passable and differ, and no agent stands where another stood before.
         ensures safe { IsSafeStep (is_passable self.old.accepted.grid)
             (length (P.program self.old.accepted.program))
@@ -123,25 +114,9 @@ impl<'g, P: ProgramView> Fleet<'g, P> {
     pub fn confirm(&mut self, done: &[bool]) -> Result<(), NotSent>
         requires { length done.now ≡ length (P.program self.old.accepted.program) }
         ensures accepted { self.new.accepted ≡ self.old.accepted }
-        ensures after { OnOk result (self.new ≡ record self.old {
-          configuration = tick (P.program self.old.accepted.program)
-              (all_but (flag_of done.now)) self.old.configuration;
-          looked = self.new.looked;
-        }) }
         ensures looked { self.old.looked ≤ self.new.looked }
-        ensures looks { OnOk result (LooksAt
-            (moved_in (P.program self.old.accepted.program)
-            (all_but (flag_of done.now)) self.old.configuration)
-            (awaiting_in (P.program self.old.accepted.program)
-            (all_but (flag_of done.now)) self.old.configuration)
-            self.old.looked self.new.looked) }
-        ensures sent { OnOk result (AreAllReady
-            (P.program self.old.accepted.program) self.old.configuration (flag_of done.now)) }
-        // An agent that is not flagged stays, and keeps its order.
-        ensures kept { OnOk result ((i : ℕ) → i < length (P.program self.old.accepted.program)
-            → IsFalse (flag_of done.now i)
-            → KeepsOrder
-            (P.program self.old.accepted.program) self.old.configuration self.new.configuration i) }
+        ensures carried_out { OnOk result (HaveCarriedOut (P.program self.old.accepted.program)
+            (flag_of done.now) self.old self.new) }
         ensures refused { IfErr result (λ e. IsFirstUnready
             (P.program self.old.accepted.program) self.old.configuration
             (flag_of done.now) e.agent) }
@@ -207,16 +182,6 @@ impl<'g, P: ProgramView> Fleet<'g, P> {
         self.machine.is_ready(self.accepted.program(), i)
     }
 
-    /// The agents that have orders.
-    pub fn ready_agents(&self) -> &AgentSet
-        ensures agents { length result.now ≡ length (P.program self.now.accepted.program) }
-        ensures ready { (i : ℕ) → i < length (P.program self.now.accepted.program)
-            → flag_of result.now i ≡ is_ready
-            (P.program self.now.accepted.program) self.now.configuration i }
-    {
-        self.machine.ready_agents(self.accepted.program())
-    }
-
     /// The order that agent `i` may be given: the step of its next action, if it is ready. It stays the same until it
     /// is carried out.
     pub fn order(&self, i: u16) -> Option<Step>
@@ -224,17 +189,6 @@ impl<'g, P: ProgramView> Fleet<'g, P> {
         ensures { result ≡ order_of (P.program self.now.accepted.program) self.now.configuration i }
     {
         self.machine.order(self.accepted.program(), i)
-    }
-
-    /// The program is accepted for its ground and its tasks, so that every law of accepted programs is true of it. This
-    /// does nothing: its contract is the law.
-    pub fn acceptance(&self)
-        ensures accepted { IsAcceptedFor self.now.accepted.grid self.now.accepted.instance
-            (P.program self.now.accepted.program) self.now.accepted.chain }
-        ensures few { length (P.program self.now.accepted.program) ≤ MAX_AGENTS }
-    {
-        // The fleet that is read shows its invariant.
-        let _ = &self.machine;
     }
 
     /// However long the agents take for their orders, no two of them meet: the places on which they stand and those to

@@ -27,5 +27,5 @@ pub use hold_list::HoldList;
 pub use hold_writing::write_holds;
 pub use listing::put_program;
 pub use run::{End, MAX_RUN_TICKS, Rehearsal, Report, RunFault, rehearse};
-pub use source::{HoldSource, HoldText, SourceFault, a_tick_line_is_read, clear, set_tick};
+pub use source::{HoldSource, HoldText, SourceFault, a_tick_line_is_read, clear};
 pub use times_text::{put_reached, put_times};

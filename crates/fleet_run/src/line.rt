@@ -1,7 +1,7 @@
 //! The line of a run, kept from tick to tick: numbers, each with the byte before it, which are those of the agents'
 //! places, one after another. A move changes one of them.
 
-ghost use Rattle.std.specs.Prelude.{◌≡◌, false, ◌+◌, ◌-◌, ◌*◌, ◌<◌, ◌≤◌, ◌^◌, ◌++◌, ◌∷◌, ℕ, List, true, length, take, drop, set, get_or, slice_index, IfSome, IfNone, IsTrue, ◌↔◌, ◌%◌, ◌≢◌, pos};
+ghost use Rattle.std.specs.Prelude.{◌≡◌, false, ◌+◌, ◌-◌, ◌<◌, ◌≤◌, ◌^◌, ◌++◌, ◌∷◌, ℕ, List, true, length, take, drop, set, get_or, slice_index, IfSome, IfNone, IsTrue, ◌↔◌, ◌%◌, ◌≢◌, pos};
 ghost use Rattle.std.specs.List.{copy_within};
 ghost use Rattle.std.specs.Fmt.{decimal};
 ghost use Rattle.fleet_model.specs.declared.standing.Standing.{Standing};

@@ -72,10 +72,10 @@ impl Refusal for RunFault {
 
 /// A run that came to its end: its ticks, those in which a ready agent was held, and how it ended.
 #[derive(Clone, Copy)]
-pub struct Ran {
-    pub ticks: u32,
-    pub held: u32,
-    pub end: End,
+struct Ran {
+    ticks: u32,
+    held: u32,
+    end: End,
 }
 
 /// How many ticks a run has had, and in how many of them a ready agent was held.
@@ -294,7 +294,7 @@ fn run_in<P: ProgramView, S: HoldSource, O: TraceOut>(
 }
 
 /// Runs a program from its start, and writes the line of each time. Takes no memory.
-pub fn run_lines<P: ProgramView, S: HoldSource, O: TraceOut>(
+fn run_lines<P: ProgramView, S: HoldSource, O: TraceOut>(
     program: &P,
     machine: &mut Machine,
     source: &mut S,
@@ -376,16 +376,10 @@ fn last_line(end: End) -> &'static [u8]
 }
 
 /// How many bytes the closing lines have at most.
-pub const CLOSING: usize = 100;
+const CLOSING: usize = 100;
 
 /// Writes the closing lines of a rehearsal, and answers where they begin. They end with the row.
-pub fn write_rehearsal_closing(
-    agents: u16,
-    ticks: u32,
-    held: u32,
-    end: End,
-    row: &mut [u8],
-) -> usize
+fn write_rehearsal_closing(agents: u16, ticks: u32, held: u32, end: End, row: &mut [u8]) -> usize
     requires room { length row.old ≡ CLOSING }
     ensures within { result ≤ length row.new }
     ensures written { drop result row.new ≡ closing_lines agents ticks held end }
@@ -397,7 +391,7 @@ pub fn write_rehearsal_closing(
 }
 
 /// Writes the closing lines of a trace, and answers where they begin. They end with the row.
-pub fn write_trace_closing(agents: u16, ticks: u32, chain: u32, held: u32, row: &mut [u8]) -> usize
+fn write_trace_closing(agents: u16, ticks: u32, chain: u32, held: u32, row: &mut [u8]) -> usize
     requires room { length row.old ≡ CLOSING }
     ensures within { result ≤ length row.new }
     ensures written { drop result row.new ≡ trace_closing agents ticks chain held }

@@ -130,7 +130,7 @@ impl<'a> HoldSource for HoldText<'a> {
 
 /// Sets the flags of the agents that the line of a tick names; at first no flag is set. Answers whether it is the line
 /// of a tick of so many agents; if it is not, some flags may be set.
-pub fn set_tick(line: &[u8], agents: u16, flags: &mut [bool]) -> bool
+fn set_tick(line: &[u8], agents: u16, flags: &mut [bool]) -> bool
     requires { AreFlagsOf [] flags.old }
     ensures { MatchBool result
         ((tick : List ℕ) × (tick_of agents line.now ≡ Some tick) × AreFlagsOf tick flags.new)

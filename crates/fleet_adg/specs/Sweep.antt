@@ -1,5 +1,5 @@
 -- The moves and actions that the compiler has found up to a step of the plan.
-use Rattle.std.specs.Prelude.{ℕ, ◌+◌, ◌<◌, List, length, map, filter}
+use Rattle.std.specs.Prelude.{◌≡◌, ℕ, ◌+◌, ◌<◌, List, length, map, filter}
 use Rattle.fleet_model.specs.declared.program.Action.{Action}
 use Rattle.fleet_model.specs.Machine.{indices}
 use Rattle.fleet_model.specs.declared.deps.Deps.{Deps}
@@ -9,7 +9,9 @@ use Rattle.fleet_plan.specs.UnderWay.{is_under_way}
 use Rattle.fleet_code.specs.declared.format.Version.{Version}
 use Rattle.fleet_code.specs.Written.{Written, written}
 use Rattle.fleet_adg.specs.declared.sweep.Move.{Move}
+use Rattle.fleet_adg.specs.declared.sweep.Leavings.{Leavings}
 use Rattle.fleet_adg.specs.Compiled.{changes_in, changes, action_in}
+use Rattle.fleet_adg.specs.Leavings.{AreLeavingsAt}
 
 -- the agents whose paths go on after time t
 abbrev pub under_way : Plan → ℕ → List ℕ
@@ -43,3 +45,9 @@ all_bytes_by plan deps v t = map (written v) (all_actions_by plan deps t)
 pub record IsOnMap (g : Ground) (plan : Plan) : Type 0 where
   pub columns : (i t : ℕ) → i < length plan → (cell_of plan i t).x < g.width
   pub rows : (i t : ℕ) → i < length plan → (cell_of plan i t).y < g.height
+
+-- the steps before time t are swept: the table has the leavings of cells in them, and these are the bytes of the
+-- actions of each agent in them
+pub record AreSweptTo (g : Ground) (plan : Plan) (deps : Deps) (v : Version) (t : ℕ) (l : Leavings) (bytes : List Written) : Type 0 where
+  pub leavings : AreLeavingsAt g plan deps t l
+  pub actions : bytes ≡ all_bytes_by plan deps v t

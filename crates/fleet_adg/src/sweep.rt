@@ -8,7 +8,7 @@ ghost use Rattle.fleet_model.specs.declared.limits.TheConstants.{MAX_HORIZON};
 ghost use Rattle.fleet_adg.specs.Compiled.{direction, changes_in, moves_by};
 ghost use Rattle.fleet_adg.specs.Leavings.{kind_of, AreLeavingsAt, await_for, row_of, leavings_after, with_leaving};
 ghost use Rattle.fleet_code.specs.Written.{written};
-ghost use Rattle.fleet_adg.specs.Sweep.{under_way, moves_in, all_bytes_by, IsOnMap};
+ghost use Rattle.fleet_adg.specs.Sweep.{under_way, moves_in, all_bytes_by, AreSweptTo, IsOnMap};
 ghost use Rattle.fleet_model.specs.declared.geometry.Step.TheVariants.{Go};
 ghost use Rattle.fleet_model.specs.declared.program.Action.{Action};
 ghost use Rattle.fleet_code.specs.Spelling.{most_count};
@@ -116,14 +116,10 @@ fn make_moves(
     requires on_map { IsOnMap at.now.grid.now at.now.plan.now }
     requires time { at.now.time < MAX_HORIZON }
     requires moves { moves.now ≡ moves_in at.now.plan.now at.now.time }
-    requires leavings { AreLeavingsAt at.now.grid.now at.now.plan.now (kind_of leavings.old)
-        at.now.time leavings.old }
-    requires actions { actions.old
-        ≡ all_bytes_by at.now.plan.now (kind_of leavings.old) at.now.version at.now.time }
-    ensures leavings { OnOk result (AreLeavingsAt at.now.grid.now at.now.plan.now
-        (kind_of leavings.old) (at.now.time + 1) leavings.new) }
-    ensures actions { OnOk result (actions.new
-        ≡ all_bytes_by at.now.plan.now (kind_of leavings.old) at.now.version (at.now.time + 1)) }
+    requires swept { AreSweptTo at.now.grid.now at.now.plan.now (kind_of leavings.old) at.now.version
+        at.now.time leavings.old actions.old }
+    ensures { OnOk result (AreSweptTo at.now.grid.now at.now.plan.now (kind_of leavings.old)
+        at.now.version (at.now.time + 1) leavings.new actions.new) }
 {
     note_leavings(at, moves, actions, leavings)?;
     add_actions(at, moves, leavings, actions)
@@ -300,14 +296,14 @@ fn direction(from: Cell, to: Cell) -> Dir
 /// A move by which a cell was left: `number` of `agent`, from 1 on. There may be one for each cell of a map, so it is
 /// small.
 #[derive(Clone, Copy)]
-pub(crate) struct Leaving {
-    pub(crate) agent: u16,
-    pub(crate) number: u16,
+struct Leaving {
+    agent: u16,
+    number: u16,
 }
 
 impl Leaving {
     /// To wait for this move.
-    pub(crate) fn as_await(self) -> Await
+    fn as_await(self) -> Await
         ensures { result ≡ await_for self }
     {
         Await {
@@ -319,16 +315,16 @@ impl Leaving {
 
 /// The entering of the cell at a place by an agent, in this direction.
 #[derive(Clone, Copy)]
-pub(crate) struct Entry {
-    pub(crate) place: usize,
-    pub(crate) agent: u16,
-    pub(crate) dir: Dir,
+struct Entry {
+    place: usize,
+    agent: u16,
+    dir: Dir,
 }
 
 /// For each place of a map the leavings that an action that enters it would await. It takes memory for the parts of the
 /// map alone in which a cell was left.
 #[derive(Drop)]
-pub(crate) enum Leavings {
+enum Leavings {
     /// The last leaving by each agent that has left the cell.
     All(Lists<Await>),
     /// The last leaving by whichever agent.
@@ -337,7 +333,7 @@ pub(crate) enum Leavings {
 
 impl Leavings {
     /// No cell has been left.
-    pub(crate) fn none(alloc: Global, deps: Deps) -> Leavings
+    fn none(alloc: Global, deps: Deps) -> Leavings
         ensures kind { kind_of result ≡ deps }
         ensures rows { (place : ℕ) → row_of result place ≡ [] }
     {
@@ -348,7 +344,7 @@ impl Leavings {
     }
 
     /// Notes a leaving of the cell at `place`.
-    pub(crate) fn note(&mut self, place: usize, leaving: Leaving) -> Result<(), OutOfMemory>
+    fn note(&mut self, place: usize, leaving: Leaving) -> Result<(), OutOfMemory>
         ensures kind { OnOk result (kind_of self.new ≡ kind_of self.old) }
         ensures here { OnOk result (row_of self.new place
             ≡ leavings_after (kind_of self.old) (row_of self.old place) (await_for leaving)) }
@@ -364,7 +360,7 @@ impl Leavings {
     }
 
     /// Adds the action by which an agent enters a cell, with what it awaits, to its actions.
-    pub(crate) fn add_action(
+    fn add_action(
         &self,
         entry: Entry,
         version: Version,
@@ -420,7 +416,7 @@ fn by_another(leaving: Option<Leaving>, own: u16) -> Option<Leaving>
 // The leavings of one cell of the map: the last one by each agent that has left it, in rising order of agent.
 
 /// Notes a leaving in the row, in place of an earlier one by the same agent.
-pub(crate) fn note(row: &mut Vec<Await>, leaving: Await) -> Result<(), AllocError>
+fn note(row: &mut Vec<Await>, leaving: Await) -> Result<(), AllocError>
     ensures { OnOk result (row.new.items ≡ with_leaving row.old.items leaving) }
 {
     let place = position_from(row, leaving.agent).unwrap_or(row.len());

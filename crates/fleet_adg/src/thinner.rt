@@ -1,6 +1,6 @@
 //! Programs without the awaits that others imply.
 
-ghost use Rattle.std.specs.Prelude.{◌≡◌, ◌≤◌, ◌<◌, ◌+◌, ◌-◌, ◌↔◌, ℕ, Some, false, length, slice_get, IfOk, OnOk, IsTrue};
+ghost use Rattle.std.specs.Prelude.{◌≡◌, ◌≤◌, ◌<◌, ◌-◌, ◌↔◌, ℕ, Some, false, length, slice_get, IfOk, OnOk, IsTrue};
 ghost use Rattle.fleet_model.specs.declared.limits.TheConstants.{MAX_MOVES_V1};
 ghost use Rattle.fleet_model.specs.Program.{Program, moves, awaits_of, NeverStays, AreShort};
 ghost use Rattle.fleet_model.specs.declared.program.Await.{Await};

@@ -3,3 +3,4 @@ pub mod Plans
 pub mod Compiled
 pub mod Meetings
 pub mod Schedules
+pub mod Library

@@ -3,15 +3,16 @@
 
 ghost use Rattle.std.specs.Prelude.{◌≡◌, ◌<◌, List, ℕ, IfOk, IfErr, OnOk, OnErr, Ok, length};
 ghost use Rattle.fleet_code.specs.Spelling.{Spells};
+ghost use Rattle.fleet_run.specs.Fleet.{HaveCarriedOut};
 ghost use Rattle.fleet_run.specs.Trace.{WritesTrace};
 ghost use Rattle.fleet_dispatch.specs.Replay.{DispatchesAfter};
 ghost use Rattle.fleet_dispatch.specs.Session.{first_course};
+ghost use Rattle.fleet_example.specs.Library.{IsRunStop};
 ghost use Rattle.fleet_grid.specs.Ground.{Ground};
 ghost use Rattle.fleet_grid.specs.MapText.{IsMapText};
-ghost use Rattle.fleet_machine.specs.Confirmed.{all_but, AreAllReady, IsFirstUnready};
+ghost use Rattle.fleet_machine.specs.Confirmed.{IsFirstUnready};
 ghost use Rattle.fleet_machine.specs.Machine.{flag_of};
 ghost use Rattle.fleet_model.specs.Claims.{order_of};
-ghost use Rattle.fleet_model.specs.Machine.{tick};
 ghost use Rattle.fleet_model.specs.Program.{Program};
 ghost use Rattle.fleet_model.specs.declared.task.Task.{Task};
 ghost use Rattle.fleet_scen.specs.ScenText.{IsScenText};
@@ -32,21 +33,21 @@ use thiserror::Error;
 #[derive(Debug, Drop, Error)]
 pub enum Stop {
     #[error("the map: {0}")]
-    Map(#[from] MapFault),
+    Map(MapFault),
     #[error("the scenario: {0}")]
-    Scen(#[from] ScenFault),
+    Scen(ScenFault),
     #[error("the bytes: {0}")]
-    Load(#[from] LoadFault),
+    Load(LoadFault),
     #[error("the program: {0}")]
     Verify(VerifyFault),
     #[error("the run: {0}")]
-    Run(#[from] RunFault),
+    Run(RunFault),
     #[error("the dispatch: {0}")]
     Dispatch(DispatchFault),
 }
 
 /// Verifies the program that the bytes spell for the map and the scenario, runs it under the holds, and writes its
-/// trace to `out`. The report has the trace's numbers.
+/// trace to `out`. The report has the trace's numbers. Before the run nothing is written.
 pub fn run<O: TraceOut>(
     alloc: Global,
     map: &[u8],
@@ -56,19 +57,27 @@ pub fn run<O: TraceOut>(
     out: &mut O,
 ) -> Result<Report, Stop>
     requires { IsWorking (O.state out.old) }
-    ensures { IfOk result (λ report. (g : Ground) × (tasks : List Task)
+    ensures ran { IfOk result (λ report. (g : Ground) × (tasks : List Task)
         × IsMapText map.now g × IsScenText scen.now g None tasks
         × ((p : Program) × (chain : ℕ) × Spells bytes.now p × IsAcceptedFor g tasks p chain
         × WritesTrace p chain holds.now (O.state out.old) (O.state out.new) report)) }
+    ensures refused { IfErr result (IsRunStop map.now scen.now bytes.now holds.now
+        (O.state out.old) (O.state out.new)) }
 {
-    let grid = read_map(alloc, map)?;
-    let instance = read_scen(alloc, scen, &grid, None)?;
-    let program = view(alloc, bytes)?;
+    let grid = read_map(alloc, map).map_err(Stop::Map)?;
+    let instance = read_scen(alloc, scen, &grid, None).map_err(Stop::Scen)?;
+    let program = match view(alloc, bytes) {
+        Ok(program) => program,
+        Err(fault) => return Err(Stop::Load(fault)),
+    };
     let accepted = match verify(alloc, program, &grid, &instance) {
         Ok(accepted) => accepted,
         Err(refused) => return Err(Stop::Verify(refused.fault)),
     };
-    Ok(run_accepted(alloc, accepted, holds, out)?)
+    match run_accepted(alloc, accepted, holds, out) {
+        Ok(report) => Ok(report),
+        Err(fault) => Err(Stop::Run(fault)),
+    }
 }
 
 /// Verifies the program for the map and the tasks, and dispatches its robots over the floor until all stand on their
@@ -108,13 +117,8 @@ pub fn note_report<P: ProgramView>(
 ) -> Result<Option<Step>, NotSent>
     requires done { length done.now ≡ length (P.program fleet.old.accepted.program) }
     requires robot { i < length (P.program fleet.old.accepted.program) }
-    ensures after { OnOk result (fleet.new ≡ record fleet.old {
-      configuration = tick (P.program fleet.old.accepted.program)
-          (all_but (flag_of done.now)) fleet.old.configuration;
-      looked = fleet.new.looked;
-    }) }
-    ensures sent { OnOk result (AreAllReady (P.program fleet.old.accepted.program)
-        fleet.old.configuration (flag_of done.now)) }
+    ensures carried_out { OnOk result (HaveCarriedOut (P.program fleet.old.accepted.program)
+        (flag_of done.now) fleet.old fleet.new) }
     ensures order { IfOk result (λ step.
         step ≡ order_of (P.program fleet.new.accepted.program) fleet.new.configuration i) }
     ensures refused { IfErr result (λ e. IsFirstUnready (P.program fleet.old.accepted.program)

@@ -95,13 +95,17 @@ pub fn excursion_runs()
         ∷ (place_xy 0 0 ∷ []) ∷ []) 2 0 }
 {}
 
-/// One conflict of each kind. Each pair that is refused below runs into one, three of them only while agent 0 is held.
-pub fn conflicts_are_found()
+/// Two agents on one place. Each pair that is refused below comes to that, three of them only while agent 0 is held.
+pub fn vertex_conflicts_are_found()
     ensures vertex { HasVertexConflict (motion blocked_pair []) 1 0 1 }
     ensures vertex_when_held { HasVertexConflict (motion rash_pair ((0 ∷ []) ∷ [])) 1 0 1 }
     ensures vertex_when_held_later { HasVertexConflict
         (motion early_pair ([] ∷ (0 ∷ []) ∷ (0 ∷ []) ∷ [])) 3 0 1 }
     ensures vertex_when_staying { HasVertexConflict (motion hasty_pair ([] ∷ (0 ∷ []) ∷ [])) 2 0 1 }
+{}
+
+/// One conflict of each other kind.
+pub fn conflicts_are_found()
     ensures following { HasFollowingConflict (motion blocked_pair []) 0 1 0 }
     ensures swapping { HasSwappingConflict (motion exchange []) 0 0 1 }
     ensures cycle { HasCycleConflict (motion carousel []) 0 (0 ∷ 1 ∷ 2 ∷ 3 ∷ []) }
@@ -146,6 +150,11 @@ pub fn stays_are_no_visits()
     ensures at_2 { ListsVisits late_pair (place_xy 2 0) (nth_visit 0 2 ∷ nth_visit 1 2 ∷ []) }
     ensures last { ListsVisits staying_pair (place_xy 2 0) (nth_visit 0 1 ∷ nth_visit 1 2 ∷ []) }
     ensures back { ListsVisits sentry (place_xy 0 0) (nth_visit 0 0 ∷ nth_visit 0 3 ∷ []) }
+{}
+
+/// A visit is left by the first move after its stays. The last one is never left: its action would come after the
+/// agent's last.
+pub fn moves_leave_visits()
     ensures left { leaving late_pair (nth_visit 0 0) ≡ nth_action 0 2 }
     ensures left_first { leaving sentry (nth_visit 0 0) ≡ nth_action 0 2 }
     ensures never_left { leaving sentry (nth_visit 0 3) ≡ nth_action 0 5 }

@@ -1,10 +1,10 @@
 //! The command `dispatch`, and its log: a file of a store, behind whose bytes the lines of its reports are put.
 
-ghost use Rattle.std.specs.Prelude.{◌≡◌, OnOk, IfErr, IfSome};
+ghost use Rattle.std.specs.Prelude.{◌≡◌, ◌≢◌, OnOk, IfErr, IfSome};
 ghost use Rattle.fleet_text.specs.Sink.{IsWorking};
 ghost use Rattle.fleet_model.specs.Program.{IsWellFormed};
 ghost use Rattle.fleet_dispatch.specs.{Talk.IsLogged, Dispatch.Dispatches, Session.IsReady, Session.course_in, Session.left_in};
-ghost use Rattle.fleet_cli.specs.{Output.around, Files.IsOwnLog};
+ghost use Rattle.fleet_cli.specs.{Output.around, Files.IsGivenAs, Files.IsOwnLog};
 ghost use Rattle.fleet_cli.specs.DispatchCommand.{log_in, lines_in, ChangesOnlyLog, IsKeptAfter, IsLogFault, answer_of, pace_of, AnswersDispatch};
 
 use crate::fault::{Fault, or_refuse};
@@ -21,7 +21,7 @@ use std::alloc::Global;
 
 /// Begins the log, if one is named, of a dispatch that goes on after the bytes `past`: of one that holds nothing or
 /// just these it cuts off what stands behind the last LF. One that holds something else is refused, and every file is
-/// as it was.
+/// as it was. Want of memory is `Memory`, and a log that cannot be begun is `File` with its name.
 fn begin_log<'a, F: Files>(
     alloc: Global,
     files: &mut F,
@@ -34,6 +34,8 @@ fn begin_log<'a, F: Files>(
         (log_in (F.contents files.new) name.entry ≡ lines_in (F.contents files.old) name.entry) }
     ensures fault { IfErr result (IsLogFault
         (F.contents files.old) (F.contents files.new) name.entry past.now) }
+    ensures refused { IfErr result (λ fault. fault ≢ Fault.Dispatch DispatchFault.OtherLog
+        → IsGivenAs (F.refuses_write files.old) name.entry fault) }
     ensures others { ChangesOnlyLog (F.contents files.old) (F.contents files.new) name.entry }
 {
     let Some(name) = name else {

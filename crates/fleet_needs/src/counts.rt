@@ -3,7 +3,7 @@
 //! one. A lane is a vector of `std::simd`, in a small function of its own, whose proof alone speaks of lanes.
 
 ghost use Rattle.std.specs.Prelude.{◌≡◌, ◌+◌, ◌<◌, ◌≤◌, ℕ, length, max, slice_index, IfOk, get_or};
-ghost use Rattle.fleet_needs.specs.{Counts.AreGreater, Counts.AreWritten, Counts.AreZeros, Counts.CanHold, Counts.IsSet, Counts.are_narrow, Counts.count_from, Counts.counts_of, Kernels.AreJoined};
+ghost use Rattle.fleet_needs.specs.{Counts.AreGreater, Counts.AreMost, Counts.AreWritten, Counts.AreZeros, Counts.CanHold, Counts.IsPut, Counts.IsSet, Counts.are_narrow, Counts.count_from, Counts.counts_of, Counts.from_place, Kernels.AreJoined};
 
 use fleet_model::OutOfMemory;
 use std::alloc::Global;
@@ -59,16 +59,8 @@ impl Counts {
             self.old self.new }
     {
         match (self, other) {
-            (Counts::Narrow(row), Counts::Narrow(counts)) => {
-                let len = row.len();
-                let one = &counts[first..first + len];
-                read_narrow(row, one, &counts[second..second + len]);
-            }
-            (Counts::Wide(row), Counts::Wide(counts)) => {
-                let len = row.len();
-                row.copy_from_slice(&counts[first..first + len]);
-                join_rows(row, &counts[second..second + len]);
-            }
+            (Counts::Narrow(row), Counts::Narrow(all)) => read_narrow(row, all, first, second),
+            (Counts::Wide(row), Counts::Wide(all)) => read_wide(row, all, first, second),
             _ => unreachable!(),
         }
     }
@@ -81,14 +73,8 @@ impl Counts {
             self.old self.new }
     {
         match (self, other) {
-            (Counts::Narrow(row), Counts::Narrow(counts)) => {
-                let end = from + row.len();
-                join_narrow(row, &counts[from..end]);
-            }
-            (Counts::Wide(row), Counts::Wide(counts)) => {
-                let end = from + row.len();
-                join_rows(row, &counts[from..end]);
-            }
+            (Counts::Narrow(row), Counts::Narrow(counts)) => join_narrow(row, counts, from),
+            (Counts::Wide(row), Counts::Wide(counts)) => join_wide(row, counts, from),
             _ => unreachable!(),
         }
     }
@@ -100,38 +86,63 @@ impl Counts {
         ensures { AreWritten from row.now self.old self.new }
     {
         match (self, row) {
-            (Counts::Narrow(counts), Counts::Narrow(row)) => {
-                counts[from..from + row.len()].copy_from_slice(row);
-            }
-            (Counts::Wide(counts), Counts::Wide(row)) => {
-                counts[from..from + row.len()].copy_from_slice(row);
-            }
+            (Counts::Narrow(counts), Counts::Narrow(row)) => write_row(counts, from, row),
+            (Counts::Wide(counts), Counts::Wide(row)) => write_row(counts, from, row),
             _ => unreachable!(),
         }
     }
 }
 
-/// Leaves in `row`, at each place, the greater count of the two rows, which are equally long.
-fn join_narrow(row: &mut [u16], other: &[u16])
-    requires { length other.now ≡ length row.old }
-    ensures { (k : ℕ) → k < length row.old
-        → slice_index row.new k ≡ max (slice_index row.old k) (slice_index other.now k) }
+/// Reads the counts of `row` from others: at each place the greater one of those from two places on.
+fn read_narrow(row: &mut [u16], counts: &[u16], first: usize, second: usize)
+    requires first { first + length row.old ≤ length counts.now }
+    requires second { second + length row.old ≤ length counts.now }
+    ensures { AreMost (from_place counts.now first) (from_place counts.now second) row.old row.new }
 {
+    let one = &counts[first..first + row.len()];
+    let other = &counts[second..second + row.len()];
+    for k in 0..row.len() {
+        row[k] = one[k].max(other[k]);
+    }
+}
+
+/// The same of counts in four bytes each.
+fn read_wide(row: &mut [u32], counts: &[u32], first: usize, second: usize)
+    requires first { first + length row.old ≤ length counts.now }
+    requires second { second + length row.old ≤ length counts.now }
+    ensures { AreMost (from_place counts.now first) (from_place counts.now second) row.old row.new }
+{
+    let end = first + row.len();
+    row.copy_from_slice(&counts[first..end]);
+    join_wide(row, counts, second);
+}
+
+/// Joins counts from a place on into those of `row`: at each place the greater one.
+fn join_narrow(row: &mut [u16], counts: &[u16], from: usize)
+    requires { from + length row.old ≤ length counts.now }
+    ensures { AreMost (slice_index row.old) (from_place counts.now from) row.old row.new }
+{
+    let other = &counts[from..from + row.len()];
     for k in 0..row.len() {
         row[k] = row[k].max(other[k]);
     }
 }
 
-/// Puts into `row`, at each place, the greater count of two rows, all of them equally long.
-fn read_narrow(row: &mut [u16], one: &[u16], other: &[u16])
-    requires one { length one.now ≡ length row.old }
-    requires other { length other.now ≡ length row.old }
-    ensures { (k : ℕ) → k < length row.old
-        → slice_index row.new k ≡ max (slice_index one.now k) (slice_index other.now k) }
+/// The same of counts in four bytes each.
+fn join_wide(row: &mut [u32], counts: &[u32], from: usize)
+    requires { from + length row.old ≤ length counts.now }
+    ensures { AreMost (slice_index row.old) (from_place counts.now from) row.old row.new }
 {
-    for k in 0..row.len() {
-        row[k] = one[k].max(other[k]);
-    }
+    let end = from + row.len();
+    join_rows(row, &counts[from..end]);
+}
+
+/// Writes a row from this place on.
+fn write_row<T: Copy>(counts: &mut [T], from: usize, row: &[T])
+    requires { from + length row.now ≤ length counts.old }
+    ensures { IsPut from row.now counts.old counts.new }
+{
+    counts[from..from + row.len()].copy_from_slice(row);
 }
 
 /// How many counts are joined at once.

@@ -130,11 +130,7 @@ impl CriticalCosts {
         ensures open { IfNone result (IsOpen self.now goal) }
     {
         let costs = &self.rows[usize::from(goal.agent)].costs;
-        let place = goal.count as usize - 1;
-        if place < costs.len() {
-            return Some(costs[place]);
-        }
-        None
+        costs.get(goal.count as usize - 1).copied()
     }
 
     /// An agent waits, and has come so far.

@@ -1,13 +1,7 @@
 -- What is reached, and what is not, by the levels of actions and by what they directly need.
-use Rattle.fleet_needs.proofs.Words.{◌≡◌, ◌≢◌, ℕ, ◌+◌, ◌-◌, ◌<◌, ◌≤◌, Bool, true, false, List, length, get_or, refl, sym, ap, subst, ◌∙◌, arith, inl, inr, ◌⊎◌, Contains, slice_get, Some, None, Option, unwrap_or, cases_lt, cases_eq, false≢true, true≢false, slice_get_within, get_or_from_slice_get, same_Some, ActionId, Await, Program, awaits_before, awaits_of, moves, AreInRange, IsWellFormed, IsAction, Reaches, IsNumbering, awaited, chain_ends_by_step, Reaches-rises, Reaches-last, first_await, IsImplied, IsImpliedFlag, IsUnsettled, AreSettledBy, Vec, Global, ImpliedAwaits, ReachesNeed, IsUpTo, action_before, ByBeforeOr, OfFirst, OfOthers}
+use Rattle.fleet_needs.proofs.Words.{◌≡◌, ◌≢◌, ℕ, ◌+◌, ◌-◌, ◌<◌, ◌≤◌, Bool, true, false, List, length, get_or, refl, sym, ap, subst, ◌∙◌, arith, inl, inr, ◌⊎◌, Contains, slice_get, Some, None, Option, unwrap_or, cases_lt, cases_eq, leb, le-leb, leb-true, false≢true, slice_get_within, get_or_from_slice_get, same_Some, ActionId, Await, Program, awaits_before, awaits_of, moves, AreInRange, IsWellFormed, IsAction, Reaches, IsNumbering, awaited, chain_ends_by_step, Reaches-rises, Reaches-last, first_await, IsImplied, IsImpliedFlag, IsUnsettled, AreSettledBy, Vec, Global, ImpliedAwaits, ReachesNeed, IsUpTo, action_before, ByBeforeOr, OfFirst, OfOthers}
+use Rattle.fleet_needs.specs.Settled.{HasOpenNeed, IsKnown, IsOpenTo}
 use Rattle.fleet_needs.proofs.{AwaitOrder.other_agent, AwaitOrder.known_on, AwaitOrder.implied_by, AwaitOrder.implied_back, Joining.one_of, Joining.own_first, Joining.awaited_action, Joining.step_back, Joining.step_on, RowPlaces.before_with}
-
--- the answer of a search that says yes is not the one that says no
-pub no_is_not_yes : Some false ≡ Some true → ⊥
-no_is_not_yes e = false≢true (same_Some _ _ e)
-
-pub yes_is_not_no : Some true ≡ Some false → ⊥
-yes_is_not_no e = true≢false (same_Some _ _ e)
 
 -- the await of an action
 abbrev pub await_of : ActionId → Await
@@ -37,6 +31,11 @@ module _ (p : Program) (number : ActionId → ℕ) (rising : IsNumbering p numbe
         let ne : a ≢ b = (λ e. omega (arith, lt, ap (λ (x : ActionId). x.number) e)) in
         absurd (omega (arith, rises a b ne r, rises b a (λ e. ne (sym e)) (own_first p b a m.first k (sym same) (omega arith))))
   ]
+
+  -- which by their numbers is known
+  pub own_known : (a b : ActionId) → IsAction p a → IsAction p b → b.agent ≡ a.agent → (x : Bool) → leb a.number b.number ≡ x → IsKnown (Reaches p a b) (IsOpenTo number a b) (Some x)
+  own_known a b k m same true is = own_first p a b k.first m same (leb-true a.number b.number is)
+  own_known a b k m same false is = λ r. grind (arith, is, le-leb a.number b.number (own_only a b k m same r))
 
 -- ---- by what the last action directly needs
 
@@ -79,6 +78,13 @@ need_on p x a but is need = step_on p x a is (by_more p x a (λ k w. k ≢ but) 
 pub need_back : (p : Program) (x a : ActionId) (but : ℕ) → (a.agent ≡ x.agent → ⊥) → length (awaits_of p a.agent a.number) ≤ but → Reaches p x a → ReachesNeed p x a but
 need_back p x a but other all r = by_more p x a (OfFirst (length (awaits_of p a.agent a.number))) (λ k w. k ≢ but) (λ k w at l e. omega (arith, l, e, all)) (step_back p x a (λ e. other (sym e)) r)
 
+-- what is known of it is known of the action
+pub need_known : (p : Program) (level : ActionId → ℕ) (x a : ActionId) (but : ℕ) → IsAction p a → length (awaits_of p a.agent a.number) ≤ but → IsOpenTo level x a
+    → (known : Option Bool) → IsKnown (ReachesNeed p x a but) (HasOpenNeed p level x a but) known → IsKnown (Reaches p x a) (IsOpenTo level x a) known
+need_known p level x a but act all other None is = other
+need_known p level x a but act all other (Some true) is = need_on p x a but act is
+need_known p level x a but act all other (Some false) is = λ r. is (need_back p x a but (λ s. other.0 (sym s)) all r)
+
 -- ---- another action that an action directly needs
 
 module _ (p : Program) (formed : IsWellFormed p) (range : AreInRange p) (a : ActionId) (k : ℕ) (w : Await) (at : slice_get (awaits_of p a.agent a.number) k ≡ Some w) where
@@ -112,10 +118,10 @@ first_next p a some = (let e : a.number + 1 - 1 ≡ a.number = omega arith in om
 
 -- an await, by what is known of it
 pub settled_by : (p : Program) → IsWellFormed p → AreInRange p → (a : ActionId) → 1 ≤ a.number → (k : ℕ) (x : ActionId) → slice_get (awaits_of p a.agent a.number) k ≡ Some (await_of x) → (asked : List Bool) (n : ℕ) (known : Option Bool) → (known ≡ None → get_or asked x.agent false ≡ true)
-    → (known ≡ Some true → ReachesNeed p x a k) → (known ≡ Some false → ReachesNeed p x a k → ⊥) → (IsUnsettled p asked n a k (await_of x) × (unwrap_or known false ≡ true → IsImplied p a (await_of x))) ⊎ IsImpliedFlag p a (await_of x) (unwrap_or known false)
-settled_by p formed range a first k x at asked n None left so not_so = inl (inr (left refl), (λ f. absurd (false≢true f)))
-settled_by p formed range a first k x at asked n (Some true) left so not_so = inr ((λ f. need_implied p formed range a k (await_of x) at first (so refl)), (λ i. refl))
-settled_by p formed range a first k x at asked n (Some false) left so not_so = inr ((λ f. absurd (false≢true f)), (λ i. absurd (not_so refl (implied_need p formed range a k (await_of x) at i))))
+    → (level : ActionId → ℕ) → IsKnown (ReachesNeed p x a k) (HasOpenNeed p level x a k) known → (IsUnsettled p asked n a k (await_of x) × (unwrap_or known false ≡ true → IsImplied p a (await_of x))) ⊎ IsImpliedFlag p a (await_of x) (unwrap_or known false)
+settled_by p formed range a first k x at asked n None left level is = inl (inr (left refl), (λ f. absurd (false≢true f)))
+settled_by p formed range a first k x at asked n (Some true) left level is = inr ((λ f. need_implied p formed range a k (await_of x) at first is), (λ i. refl))
+settled_by p formed range a first k x at asked n (Some false) left level is = inr ((λ f. absurd (false≢true f)), (λ i. absurd (is (implied_need p formed range a k (await_of x) at i))))
 
 -- all actions that come before those of the next agent
 pub upto_next : (p : Program) (i : ℕ) (a : ActionId) → IsAction p a → IsUpTo (i + 1) 0 a → IsUpTo i (moves p i) a

@@ -1,5 +1,5 @@
 -- Awaits for which a few steps back show whether others imply them.
-use Rattle.std.specs.Prelude.{◌≡◌, ◌≢◌, ℕ, ◌<◌, ◌⊎◌, Bool, List, true, false, get_or, slice_get, Some, Vec, vec_len}
+use Rattle.std.specs.Prelude.{◌≡◌, ◌≢◌, ℕ, ◌<◌, ◌⊎◌, Bool, List, true, false, get_or, slice_get, Option, Some, None, Vec, vec_len}
 use Rattle.std.specs.declared.alloc.Global.{Global}
 use Rattle.fleet_needs.specs.Words.{Await, ActionId, Program, IsAction, awaits_of, awaited}
 use Rattle.fleet_needs.specs.Rows.{action_before, ByBeforeOr}
@@ -23,6 +23,12 @@ pub record IsLook (p : Program) (costs : List Finished) (first : Start) : Type 0
   pub levels : AreLevels p costs
   pub action : IsAction p first.action
   pub level : first.level ≡ critical_cost costs first.action
+
+-- what is known of R: that it is so, that it is not, or nothing, and then this
+abbrev pub IsKnown : Type 0 → Type 0 → Option Bool → Type 0
+IsKnown R Open (Some true) = R
+IsKnown R Open (Some false) = R → ⊥
+IsKnown R Open None = Open
 
 -- x reaches the action before a, or what one of its awaits names, but not this one
 abbrev pub ReachesNeed : Program → ActionId → ActionId → ℕ → Type 0

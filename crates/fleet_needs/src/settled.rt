@@ -2,9 +2,9 @@
 //! what is settled, and so how much is left to rows, but not what is answered: the agents of awaits that are left are
 //! asked for, and once most agents are, it is looked back less, the less the shorter rows are.
 
-ghost use Rattle.std.specs.Prelude.{◌≡◌, ◌↔◌, ◌+◌, ◌<◌, ◌≤◌, ℕ, true, false, length, vec_len, take, get_or, slice_get, Some, IfOk, None, IsTrue};
+ghost use Rattle.std.specs.Prelude.{◌≡◌, ◌↔◌, ◌+◌, ◌<◌, ◌≤◌, ℕ, true, false, length, vec_len, take, get_or, slice_get, Some, IfOk, IsTrue};
 ghost use Rattle.fleet_model.specs.{Program.AreInRange, Program.awaits_of, Program.total_awaits, Chain.IsAction, Chain.Reaches};
-ghost use Rattle.fleet_needs.specs.{Flags.AreSettledBy, Implied.first_await, Critical.AreLevels, Critical.critical_cost, Settled.IsAskedIf, Settled.IsLook, Settled.ReachesNeed, Settled.IsOpenTo, Settled.HasOpenNeed};
+ghost use Rattle.fleet_needs.specs.{Flags.AreSettledBy, Implied.first_await, Critical.AreLevels, Critical.critical_cost, Settled.IsAskedIf, Settled.IsKnown, Settled.IsLook, Settled.ReachesNeed, Settled.IsOpenTo, Settled.HasOpenNeed};
 
 use crate::await_places::AwaitPlaces;
 use crate::critical::CriticalCosts;
@@ -36,11 +36,10 @@ pub fn settle_all<P: ProgramView>(
         made.1 (total_awaits (P.program program.now)) made.0) }
 {
     let agents = program.agents();
-    let mut implied = ImpliedAwaits {
-        places: AwaitPlaces::of(alloc, program)?,
-        flags: vec![in alloc; false; total_awaits(program) as usize]?,
-    };
+    let flags = vec![in alloc; false; total_awaits(program) as usize]?;
     let mut asked = vec![in alloc; false; usize::from(agents)]?;
+    let places = AwaitPlaces::of(alloc, program)?;
+    let mut implied = ImpliedAwaits { places, flags };
     for agent in 0..agents {
         let looks = looks_for(&asked);
         settle_agent(program, levels, looks, agent, &mut implied, &mut asked);
@@ -144,8 +143,7 @@ fn latest_await<P: ProgramView>(program: &P, levels: &CriticalCosts, action: Act
     ensures { result < length (awaits_of (P.program program.now) action.agent action.number) }
 {
     let count = program.await_count(action.agent, action.number);
-    let is_one = count < 2;
-    if is_one {
+    if count < 2 {
         return 0;
     }
     let mut latest = 0;
@@ -218,7 +216,6 @@ struct Start {
 /// Whether a chain of needs begins with the first action and ends with the last, if so many steps back from the last
 /// show it. `steps` is one less after each step.
 #[cycle(reaches)]
-#[tactic(auto, using(crate::proofs::Settling::no_is_not_yes, crate::proofs::Settling::yes_is_not_no))]
 fn reaches<P: ProgramView>(
     program: &P,
     levels: &CriticalCosts,
@@ -228,9 +225,8 @@ fn reaches<P: ProgramView>(
 ) -> Option<bool>
     requires look { IsLook (P.program program.now) levels.now first.now }
     requires last { IsAction (P.program program.now) last }
-    ensures yes { result ≡ Some true → Reaches (P.program program.now) first.now.action last }
-    ensures no { result ≡ Some false → Reaches (P.program program.now) first.now.action last → ⊥ }
-    ensures open { result ≡ None → IsOpenTo (critical_cost levels.now) first.now.action last }
+    ensures known { IsKnown (Reaches (P.program program.now) first.now.action last)
+        (IsOpenTo (critical_cost levels.now) first.now.action last) result }
     ensures fewer { steps.new ≤ steps.old }
 {
     let is_own = last.agent == first.action.agent;
@@ -252,7 +248,6 @@ fn reaches<P: ProgramView>(
 /// await `but`, if so many steps back from them show it. `steps` is one less after each step.
 #[cycle(reaches)]
 #[inline(always)]
-#[tactic(auto, using(crate::proofs::Settling::no_is_not_yes, crate::proofs::Settling::yes_is_not_no))]
 fn reaches_need<P: ProgramView>(
     program: &P,
     levels: &CriticalCosts,
@@ -263,12 +258,9 @@ fn reaches_need<P: ProgramView>(
 ) -> Option<bool>
     requires look { IsLook (P.program program.now) levels.now first.now }
     requires action { IsAction (P.program program.now) action }
-    ensures yes { result ≡ Some true
-        → ReachesNeed (P.program program.now) first.now.action action but }
-    ensures no { result ≡ Some false
-        → ReachesNeed (P.program program.now) first.now.action action but → ⊥ }
-    ensures open { result ≡ None → HasOpenNeed (P.program program.now)
-        (critical_cost levels.now) first.now.action action but }
+    ensures known { IsKnown (ReachesNeed (P.program program.now) first.now.action action but)
+        (HasOpenNeed (P.program program.now) (critical_cost levels.now)
+        first.now.action action but) result }
     ensures fewer { steps.new ≤ steps.old }
 {
     let mut known = true;

@@ -5,7 +5,7 @@ use Rattle.fleet_needs.proofs.settled.settle_all.Goals as goal
 pub loop-agent-init : goal.loop-agent-init
 loop-agent-init g c = record {
   agents = omega (arith, c.in_ok-asked.ensures.len, c.from.ensures, c.agents-agents.ensures.count);
-  settled = none_flagged (g.P.ProgramView.program c.args.program.now) _ _ _ c.in_ok-of.ensures (c.in_ok-vec.ensures.items_if_clones_equal (λ y same. same)) c.total_awaits.ensures;
+  settled = none_flagged (g.P.ProgramView.program c.args.program.now) _ _ _ c.in_ok-places.ensures (c.in_ok-flags.ensures.items_if_clones_equal (λ y same. same)) c.total_awaits.ensures;
 }
 
 pub returns : goal.returns

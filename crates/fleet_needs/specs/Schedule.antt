@@ -1,5 +1,6 @@
 -- A schedule of rows, and the counts of rows in their slots.
-use Rattle.std.specs.Prelude.{◌≡◌, ◌≢◌, true, cond, ℕ, ◌+◌, ◌-◌, ◌*◌, ◌^◌, ◌<◌, ◌≤◌, ◌⊎◌, Bool, List, length, slice_index, slice_get, Some}
+use Rattle.std.specs.Prelude.{◌≡◌, ◌≢◌, true, cond, ℕ, ◌+◌, ◌-◌, ◌*◌, ◌^◌, ◌<◌, ◌≤◌, ◌⊎◌, Bool, List, length, slice_index, slice_get, Some, Vec}
+use Rattle.std.specs.declared.alloc.Global.{Global}
 use Rattle.fleet_needs.specs.Words.{ActionId, Await, Program, awaits_of, moves, IsAction, awaited}
 use Rattle.fleet_needs.specs.Block.{HasColumn}
 use Rattle.fleet_needs.specs.Columns.{agents_in}
@@ -91,8 +92,15 @@ pub record IsScheduleBut (p : Program) (flags : List Bool) (s : Schedule) : Type
 
 -- of these rows, those after the first n have slots, and what their joins take
 pub record AreSlottedFrom (x : Joins) (n : ℕ) (m : Slots) : Type 0 where
+  pub upto : n ≤ length (rows_of x)
   pub rows : rows_in m ≡ length (rows_of x) + 1
   pub slotted : AreSlotted (TakesIn x) n n m
+
+-- all rows have slots, so many, in which each stays as long as joins take it
+pub record AreAllSlotted (x : Joins) (outs : Vec ℕ Global) (slots : ℕ) : Type 0 where
+  pub all : length outs.items ≡ length (rows_of x) + 1
+  pub within : (r : ℕ) → r ≤ length (rows_of x) → slice_index outs.items r < slots
+  pub still : (n r : ℕ) → TakesIn x n r → IsStill outs.items r n
 
 -- the slot of row r
 abbrev pub slot_of : Schedule → ℕ → ℕ

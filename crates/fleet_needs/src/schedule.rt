@@ -4,7 +4,7 @@
 
 ghost use Rattle.std.specs.Prelude.{◌≡◌, ◌+◌, ◌++◌, ◌*◌, ◌<◌, ◌≤◌, All, ℕ, true, length, vec_len, IfOk, OnOk, MatchOption};
 ghost use Rattle.fleet_model.specs.{declared.limits.TheConstants.MAX_AGENTS, declared.program.ActionId.ActionId, Program.AreInRange, Program.moves, Chain.IsAction, Chain.awaited};
-ghost use Rattle.fleet_needs.specs.{Implied.AreAwaitPlaces, Joins.AreAllListed, Joins.AreListedTo, Joins.AreStanding, Joins.HasAllRows, Joins.HasRoom, Joins.IsFilled, Joins.IsUpToLast, Joins.action_at, Joins.base_of, Joins.end_of, Joins.need_at, Joins.need_for, Joins.needs_in, Joins.needs_of, Joins.row_of, Joins.rows_of, Keys.need_of_key, Order.AreKeys, Order.IsAwaiting, Order.IsLevelOrder, Order.named_in, Schedule.AreInOrder, Schedule.AreRows, Schedule.AreRowsBut, Schedule.IsSchedule, Schedule.IsScheduleBut, Schedule.IsScheduleOf, Schedule.IsNextJoin, Schedule.IsNextNeed, Schedule.joins_in, Schedule.next_action, Schedule.AreSlottedFrom, Schedule.counts_at_once, Slots.IsFree, Slots.IsHeld, Slots.rows_in, Columns.AreColumns, Columns.IsNextBlock, Columns.agents_in, Columns.column_of};
+ghost use Rattle.fleet_needs.specs.{Implied.AreAwaitPlaces, Joins.AreAllListed, Joins.AreListedTo, Joins.AreStanding, Joins.HasAllRows, Joins.HasRoom, Joins.IsFilled, Joins.IsUpToLast, Joins.action_at, Joins.base_of, Joins.end_of, Joins.need_at, Joins.need_for, Joins.needs_in, Joins.needs_of, Joins.row_of, Joins.rows_of, Keys.need_of_key, Order.AreKeys, Order.IsAwaiting, Order.IsLevelOrder, Order.named_in, Schedule.AreInOrder, Schedule.AreRows, Schedule.AreRowsBut, Schedule.IsSchedule, Schedule.IsScheduleBut, Schedule.IsScheduleOf, Schedule.IsNextJoin, Schedule.IsNextNeed, Schedule.joins_in, Schedule.next_action, Schedule.AreAllSlotted, Schedule.AreSlottedFrom, Schedule.counts_at_once, Slots.IsFree, Slots.IsHeld, Slots.rows_in, Columns.AreColumns, Columns.IsNextBlock, Columns.agents_in, Columns.column_of};
 
 use crate::await_places::AwaitPlaces;
 use crate::level_order::{LevelOrder, action_in, key_of, value_in};
@@ -240,24 +240,11 @@ impl Schedule {
         requires { AreRows (P.program program.now) joins }
         ensures { IfOk result (IsScheduleOf (P.program program.now) joins) }
     {
-        let rows = joins.keys.len();
-        let mut slots = Slots {
-            outs: vec![in alloc; 0; rows + 1]?,
-            owners: Vec::new(alloc),
-            free: Vec::new(alloc),
-        };
-        for n in (0..rows).rev() {
-            slots.settle(&joins, n)?;
-        }
-        slots.hold(0)?;
-        let count = slots.owners.len();
-        if count > u32::MAX as usize {
-            return Err(OutOfMemory);
-        }
+        let (outs, slots) = Slots::of(alloc, &joins)?;
         Ok(Schedule {
             joins,
-            outs: slots.outs,
-            slots: count as u32,
+            outs,
+            slots,
             is_narrow: is_narrow(program),
         })
     }
@@ -459,11 +446,32 @@ pub(crate) struct Slots {
 }
 
 impl Slots {
+    /// The slots of all rows of these joins, and how many slots there are.
+    fn of(alloc: Global, joins: &Joins) -> Result<(Vec<u32>, u32), OutOfMemory>
+        requires { AreInOrder joins.now }
+        ensures { IfOk result (λ made. AreAllSlotted joins.now made.0 made.1) }
+    {
+        let rows = joins.keys.len();
+        let mut slots = Slots {
+            outs: vec![in alloc; 0; rows + 1]?,
+            owners: Vec::new(alloc),
+            free: Vec::new(alloc),
+        };
+        for n in (0..rows).rev() {
+            slots.settle(joins, n)?;
+        }
+        slots.hold(0)?;
+        let count = slots.owners.len();
+        if count > u32::MAX as usize {
+            return Err(OutOfMemory);
+        }
+        Ok((slots.outs, count as u32))
+    }
+
     /// Gives a slot to the row of the join after n others, if no later one took it, and frees the slot: before the row
     /// is made another one may have it. Then gives slots to the rows that the join takes.
     fn settle(&mut self, joins: &Joins, n: usize) -> Result<(), OutOfMemory>
         requires order { AreInOrder joins.now }
-        requires within { n < length (rows_of joins.now) }
         requires slotted { AreSlottedFrom joins.now (n + 1) self.old }
         ensures { OnOk result (AreSlottedFrom joins.now n self.new) }
     {
@@ -472,9 +480,7 @@ impl Slots {
         self.owners[slot as usize] = None;
         self.free.push(slot)?;
         self.hold(joins.base(n))?;
-        let first = joins.end(n);
-        let end = joins.end(n + 1);
-        for x in first..end {
+        for x in joins.end(n)..joins.end(n + 1) {
             self.hold(joins.need(x).row)?;
         }
         Ok(())

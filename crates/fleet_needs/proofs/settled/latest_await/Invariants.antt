@@ -1,5 +1,5 @@
-use Rattle.std.proofs.Common.{◌≡◌, ◌<◌, ◌⊎◌}
+use Rattle.std.proofs.Common.{◌<◌}
 use Rattle.fleet_needs.proofs.settled.latest_await.Given as goal
 
 abbrev pub invariant-loop-k : goal.invariant-loop-k
-invariant-loop-k g l = record { low : (l.latest ≡ 0) ⊎ (l.latest < l.k) }
+invariant-loop-k g l = l.latest < l.count

@@ -1,11 +1,9 @@
-use Rattle.fleet_needs.proofs.Words.{◌+◌, ◌<◌, ◌≤◌, ℕ, arith, ◌∙◌, ap, inl, inr, length, refl, subst, cases_lt, HasSlotNow, Need, TakesIn, need_at, rows_of}
+use Rattle.fleet_needs.proofs.Words.{◌+◌, ℕ, arith, ◌∙◌, ap, inl, inr, refl, subst, cases_lt, HasSlotNow, Need, TakesIn, need_at}
 use Rattle.fleet_needs.proofs.{Counting.count_read, Slotting.held_on, Slotting.join_settled, Slotting.row_ended}
 use Rattle.fleet_needs.proofs.schedule.Slots.settle.Goals as goal
 
 pub hold-requires-2 : goal.hold-requires-2
-hold-requires-2 c =
-    let within : c.args.n < length (rows_of c.args.joins.now) = omega (arith, c.requires.slotted.upto) in
-    omega (arith, c.base.ensures, c.requires.order.sooner c.args.n _ (within, inl refl), c.in_ok-hold.ensures.rows, c.requires.slotted.rows)
+hold-requires-2 c = omega (arith, c.base.ensures, c.requires.order.sooner c.args.n _ (omega (arith, c.requires.slotted.upto), inl refl), c.in_ok-hold.ensures.rows, c.requires.slotted.rows)
 
 pub loop-x-init : goal.loop-x-init
 loop-x-init c =
@@ -13,19 +11,17 @@ loop-x-init c =
     let n = c.args.n in
     let mid = c.hold.new.self in
     let h = c.in_ok-hold-2.ensures in
-    let within : n < length (rows_of s) = omega (arith, c.requires.slotted.upto) in
-    let slot = count_read mid.outs.items (n + 1) (n + 1) c.index-slot.result.now refl (omega (arith, within, c.requires.slotted.rows, c.in_ok-hold.ensures.rows)) c.index-slot.ensures in
+    let slot = count_read mid.outs.items (n + 1) (n + 1) c.index-slot.result.now refl (omega (arith, c.requires.slotted.upto, c.requires.slotted.rows, c.in_ok-hold.ensures.rows)) c.index-slot.ensures in
     record {
       rows = h.rows ∙ c.in_ok-hold.ensures.rows;
-      slotted = held_on (TakesIn s) (n + 1) n c.base.result _ c.hold-2.new.self (omega (arith, c.base.ensures, c.requires.order.sooner n _ (within, inl refl))) h (row_ended (TakesIn s) n c.args.self.now mid c.in_ok-hold.ensures c.push.new.self c.index-slot.result.now slot c.requires.slotted.slotted);
+      slotted = held_on (TakesIn s) (n + 1) n c.base.result _ c.hold-2.new.self (omega (arith, c.base.ensures, c.requires.order.sooner n _ (omega (arith, c.requires.slotted.upto), inl refl))) h (row_ended (TakesIn s) n c.args.self.now mid c.in_ok-hold.ensures c.push.new.self c.index-slot.result.now slot c.requires.slotted.slotted);
       base = subst (HasSlotNow c.hold-2.new.self) c.base.ensures h.here;
       each = λ y from less. absurd (omega (arith, from, less, c.end-x.ensures));
     }
 
 pub hold-requires-in-loop-x : goal.hold-requires-in-loop-x
 hold-requires-in-loop-x c =
-    let within : c.args.n < length (rows_of c.args.joins.now) = omega (arith, c.requires.slotted.upto) in
-    let low = c.requires.order.sooner c.args.n _ (within, inr (c.loop-x.x, omega (arith, c.loop-x.auto.x, c.end-x.ensures), omega (arith, c.loop-x-test.true, c.end-x-end.ensures), refl)) in
+    let low = c.requires.order.sooner c.args.n _ (omega (arith, c.requires.slotted.upto), inr (c.loop-x.x, omega (arith, c.loop-x.auto.x, c.end-x.ensures), omega (arith, c.loop-x-test.true, c.end-x-end.ensures), refl)) in
     omega (arith, ap (λ (y : Need). y.row) c.need.ensures, low, c.loop-x.invariant.rows, c.requires.slotted.rows)
 
 pub loop-x-preserved : goal.loop-x-preserved
@@ -33,8 +29,7 @@ loop-x-preserved c =
     let s = c.args.joins.now in
     let n = c.args.n in
     let x : ℕ = c.loop-x.x in
-    let within : n < length (rows_of s) = omega (arith, c.requires.slotted.upto) in
-    let low = c.requires.order.sooner n _ (within, inr (x, omega (arith, c.loop-x.auto.x, c.end-x.ensures), omega (arith, c.loop-x-test.true, c.end-x-end.ensures), refl)) in
+    let low = c.requires.order.sooner n _ (omega (arith, c.requires.slotted.upto), inr (x, omega (arith, c.loop-x.auto.x, c.end-x.ensures), omega (arith, c.loop-x-test.true, c.end-x-end.ensures), refl)) in
     let is = ap (λ (y : Need). y.row) c.need.ensures in
     let new = c.hold-in-loop-x.new.self in
     let h = c.in_ok-hold-3.ensures in

@@ -1,13 +1,13 @@
-//! What users of the crates call and no command does: on the pair, on a train, and with a growth refused.
+//! Calls of which a growth is refused, each action's reach in a train of agents, and many ticks that are written.
 
 use crate::due::due_bytes;
 use crate::fleets::{
-    HELD_TEXT, HELD_TRACE, PAIR_BYTES, PAIR_HEX, PAIR_MAP, PAIR_SCEN, STAYING_HEX, TRAIN_MAP,
-    VAIN_HEX, train_scen,
+    HELD_TEXT, HELD_TRACE, PAIR_BYTES, PAIR_MAP, PAIR_SCEN, STAYING_BYTES, TRAIN_MAP, VAIN_BYTES,
+    train_scen,
 };
 use fleet_adg::compile;
 use fleet_cli::{AutoFault, Files, MemFiles, auto_run};
-use fleet_code::{EncodeFault, encode, load, read_hex};
+use fleet_code::{EncodeFault, encode, load};
 use fleet_grid::{Grid, read_map};
 use fleet_model::{ActionId, Deps, Program};
 use fleet_plan::{read_plan, write_plan};
@@ -53,8 +53,8 @@ fn list_answer(alloc: Global) -> Option<Vec<u8>> {
 }
 
 /// The program's bytes in version 1, or why it has none.
-fn encode_answer(alloc: Global, hex: &[u8]) -> Option<Vec<u8>> {
-    let program = load(alloc, &read_hex(alloc, hex).ok()?).ok()?;
+fn encode_answer(alloc: Global, bytes: &[u8]) -> Option<Vec<u8>> {
+    let program = load(alloc, bytes).ok()?;
     match encode(alloc, &program) {
         Ok(bytes) => Some(bytes),
         Err(EncodeFault::OutOfMemory) => None,
@@ -71,12 +71,6 @@ fn plan_answer(alloc: Global) -> Option<Vec<u8>> {
     )
     .ok()?;
     write_plan(alloc, &plan).ok()
-}
-
-/// A list of holds that is written.
-fn holds_answer(alloc: Global) -> Option<Vec<u8>> {
-    let held = vec![in alloc; 0, 9, 10].ok()?;
-    write_holds(alloc, &[held, Vec::new(alloc)]).ok()
 }
 
 /// A file that is written over another, and read.
@@ -133,11 +127,9 @@ fn reach_answer(alloc: Global, map: &[u8], scen: &[u8]) -> Option<Vec<u8>> {
 enum Call {
     Auto,
     List,
-    Encode,
     EncodeVain,
     EncodeStaying,
     Plan,
-    Holds,
     File,
     Reach,
 }
@@ -147,41 +139,27 @@ fn answer_of(alloc: Global, call: Call) -> Option<Vec<u8>> {
     match call {
         Call::Auto => auto_answer(alloc),
         Call::List => list_answer(alloc),
-        Call::Encode => encode_answer(alloc, PAIR_HEX),
-        Call::EncodeVain => encode_answer(alloc, VAIN_HEX),
-        Call::EncodeStaying => encode_answer(alloc, STAYING_HEX),
+        Call::EncodeVain => encode_answer(alloc, VAIN_BYTES),
+        Call::EncodeStaying => encode_answer(alloc, STAYING_BYTES),
         Call::Plan => plan_answer(alloc),
-        Call::Holds => holds_answer(alloc),
         Call::File => file_answer(alloc),
         Call::Reach => reach_answer(alloc, PAIR_MAP, PAIR_SCEN),
     }
 }
 
 /// Each call, and what is due.
-const CALLS: [(Call, &[u8]); 9] = [
+const CALLS: [(Call, &[u8]); 7] = [
     (Call::Auto, HELD_TRACE),
     (Call::List, HELD_TEXT),
-    (Call::Encode, PAIR_BYTES),
     (Call::EncodeVain, b"too long"),
     (Call::EncodeStaying, b"dwell"),
     (
         Call::Plan,
         b"0,65535 9,10 99,100 999,1000 9999,10000 65535,0\n3,4\n",
     ),
-    (Call::Holds, b"0 9 10\n-\n"),
     (Call::File, b"bytes"),
     (Call::Reach, b"\x02\x02\0"),
 ];
-
-#[test]
-fn calls_answer(rt: HostRuntime) -> Result<(), Fail> {
-    for one in &CALLS {
-        let (call, due) = *one;
-        let bytes = answer_of(rt.alloc(), call).ok_or("memory")?;
-        due_bytes(&rt, &bytes, due);
-    }
-    Ok(())
-}
 
 /// Whether the answer is due, or memory was lacking.
 fn is_due(answer: Option<&Vec<u8>>, due: &[u8]) -> bool {
@@ -206,7 +184,11 @@ fn is_answered(alloc: Global, call: Call, due: &[u8]) -> bool {
 fn only_memory_may_be_refused(rt: HostRuntime) {
     for one in &CALLS {
         let (call, due) = *one;
-        assert!(rt; is_answered(rt.alloc(), call, due));
+        assert!(rt;
+            is_answered(rt.alloc(), call, due),
+            "{} bytes are due",
+            due.len()
+        );
     }
 }
 

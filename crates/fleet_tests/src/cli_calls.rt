@@ -4,31 +4,27 @@ use crate::due::{Ended, due_bytes, due_end};
 use crate::ends::FailingFiles;
 use crate::fleets::{
     HELD_TRACE, PAIR_BYTES, PAIR_BYTES_2, PAIR_HEX, PAIR_MAP, PAIR_PLAN, PAIR_SCEN, PAIR_TEXT,
-    PAIR_TRACE, SQUARE_MAP, SQUARE_SCEN,
+    PAIR_TRACE,
 };
-use crate::streams::given;
 use fleet_adg::Deps;
 use fleet_cli::{
     AutoRequest, Best, CheckRequest, CompileRequest, Disk, Fault, FileFault, Files, MemFiles,
     MigrateRequest, PlanRequest, ProgramFor, RehearseRequest, Request, RunRequest, Tasks,
     ThinRequest, Tries, WordStop, read_words, run_command, run_hex, run_request,
 };
-use fleet_grid::MapFault;
 use fleet_run::VecOut;
 use std::alloc::{AllocError, Global};
 use std::process::Abort;
 use std::test::Fail;
 
-/// The pair's files, and those of the square.
-const FILES: [(&str, &[u8]); 8] = [
+/// The pair's files, and two of holds.
+const FILES: [(&str, &[u8]); 6] = [
     ("map", PAIR_MAP),
     ("scen", PAIR_SCEN),
     ("plan", PAIR_PLAN),
     ("program", PAIR_BYTES),
     ("holds", b"0\n"),
     ("wrong", b"-\n1 0\n"),
-    ("square.map", SQUARE_MAP),
-    ("square.scen", SQUARE_SCEN),
 ];
 
 fn some_files(alloc: Global) -> Result<MemFiles, Fail> {
@@ -45,7 +41,7 @@ fn due_file(rt: &impl Abort, files: &MemFiles, name: &str, due: &[u8]) {
     due_bytes(rt, files.get(name).unwrap_or(b"none"), due);
 }
 
-/// The words of a line, which are parted by one space.
+/// The words of a line, which blanks part.
 fn words_of(alloc: Global, line: &str) -> Result<Vec<String>, AllocError> {
     let mut words = Vec::new(alloc);
     for word in line.split_whitespace() {
@@ -65,7 +61,7 @@ fn command_answer<F: Files>(alloc: Global, line: &str, files: &mut F) -> Result<
     let words = words_of(alloc, line)?;
     let mut out = VecOut::new(alloc);
     let mut err = VecOut::new(alloc);
-    let mut input = given(PAIR_HEX);
+    let mut input = PAIR_HEX;
     let status = run_command(alloc, &words, &mut input, files, &mut out, &mut err);
     Ok((status, out, err))
 }
@@ -75,38 +71,14 @@ type Row = (&'static str, u8, &'static [u8], &'static [u8]);
 
 const COMPILED: &[u8] = b"agents 2\nmoves 4\nawaits 2\nbytes 40\n";
 
-const INSTANCE: &[u8] = b"map 4 1\nground 4\nagents 2\n0: 1,0 3,0\n1: 0,0 2,0\n";
-
-const CHECKED: &[u8] = b"conflict-free\nagents 2\nsteps 2\n";
-
-const ACCEPTED: &[u8] = b"accepted\nagents 2\nmoves 4\nawaits 2\nchain 3\n";
-
-const TWO_LINES: &[u8] = b"0: 1,0 0,0\n1: 2,0 0,0\n";
-
-const COMMANDS: [Row; 14] = [
-    ("", 0, PAIR_TEXT, b""),
-    ("instance map scen", 0, INSTANCE, b""),
-    ("check map scen plan", 0, CHECKED, b""),
-    ("plan map scen", 0, PAIR_PLAN, b""),
+const COMMANDS: [Row; 3] = [
     ("compile map scen plan out", 0, COMPILED, b""),
-    ("verify map scen program", 0, ACCEPTED, b""),
-    ("run map scen program --holds holds", 0, HELD_TRACE, b""),
     (
         "run map scen program --holds wrong",
         1,
-        TWO_LINES,
+        b"0: 1,0 0,0\n1: 2,0 0,0\n",
         b"run 3 Hold line 2\n",
     ),
-    ("rehearse program", 0, PAIR_TEXT, b""),
-    ("auto map scen", 0, PAIR_TRACE, b""),
-    (
-        "auto square.map square.scen",
-        1,
-        b"",
-        b"search 2 NoPath agent 3\n",
-    ),
-    ("thin map scen program out", 0, b"awaits 2\nawaits 2\n", b""),
-    ("migrate program two", 0, b"bytes 48\n", b""),
     ("run map scen none", 3, b"", b"file none\n"),
 ];
 
@@ -130,7 +102,6 @@ fn commands_are_run(rt: HostRuntime) -> Result<(), Fail> {
     let mut files = some_files(rt.alloc())?;
     run_commands(&rt, rt.alloc(), &mut files)?;
     due_file(&rt, &files, "out", PAIR_BYTES);
-    due_file(&rt, &files, "two", PAIR_BYTES_2);
     Ok(())
 }
 
@@ -153,13 +124,18 @@ const COMPILED_PAIR: ProgramFor<'static> = ProgramFor {
     program: "out",
 };
 
-/// A request, and what it writes.
-type Asked = (Request<'static>, &'static [u8]);
+/// The name of a request, the request, and what it writes.
+type Asked = (&'static str, Request<'static>, &'static [u8]);
+
+const INSTANCE: &[u8] = b"map 4 1\nground 4\nagents 2\n0: 1,0 3,0\n1: 0,0 2,0\n";
+
+const ACCEPTED: &[u8] = b"accepted\nagents 2\nmoves 4\nawaits 2\nchain 3\n";
 
 /// A request of ten commands on the pair's files, and what each writes.
 const REQUESTS: &[Asked] = &[
-    (Request::Instance(PAIR), INSTANCE),
+    ("instance", Request::Instance(PAIR), INSTANCE),
     (
+        "check",
         Request::Check(CheckRequest {
             tasks: Tasks {
                 agents: Some(2),
@@ -171,6 +147,7 @@ const REQUESTS: &[Asked] = &[
         b"conflict-free\nagents 2\nsteps 2\ncost 4\nbound 4\nmoves 4\nwaits 0\n",
     ),
     (
+        "plan",
         Request::Plan(PlanRequest {
             tasks: PAIR,
             horizon: 2,
@@ -182,6 +159,7 @@ const REQUESTS: &[Asked] = &[
         PAIR_PLAN,
     ),
     (
+        "compile",
         Request::Compile(CompileRequest {
             tasks: PAIR,
             plan: "plan",
@@ -191,8 +169,9 @@ const REQUESTS: &[Asked] = &[
         }),
         COMPILED,
     ),
-    (Request::Verify(COMPILED_PAIR), ACCEPTED),
+    ("verify", Request::Verify(COMPILED_PAIR), ACCEPTED),
     (
+        "run",
         Request::Run(RunRequest {
             subject: COMPILED_PAIR,
             holds: Some("holds"),
@@ -200,6 +179,7 @@ const REQUESTS: &[Asked] = &[
         HELD_TRACE,
     ),
     (
+        "rehearse",
         Request::Rehearse(RehearseRequest {
             program: "out",
             holds: None,
@@ -207,6 +187,7 @@ const REQUESTS: &[Asked] = &[
         PAIR_TEXT,
     ),
     (
+        "auto",
         Request::Auto(AutoRequest {
             tasks: PAIR,
             horizon: 1024,
@@ -218,6 +199,7 @@ const REQUESTS: &[Asked] = &[
         PAIR_TRACE,
     ),
     (
+        "thin",
         Request::Thin(ThinRequest {
             subject: COMPILED_PAIR,
             out: "out",
@@ -225,6 +207,7 @@ const REQUESTS: &[Asked] = &[
         b"awaits 2\nawaits 2\n",
     ),
     (
+        "migrate",
         Request::Migrate(MigrateRequest {
             program: "out",
             out: "out",
@@ -237,13 +220,13 @@ const REQUESTS: &[Asked] = &[
 fn due_request(rt: &impl Abort, alloc: Global, row: &Asked, files: &mut impl Files) {
     let mut out = VecOut::new(alloc);
     let mut err = VecOut::new(alloc);
-    let mut input = given(b"");
-    let status = run_request(alloc, &row.0, &mut input, files, &mut out, &mut err);
+    let mut input = PAIR_HEX;
+    let status = run_request(alloc, &row.1, &mut input, files, &mut out, &mut err);
     due_end(
         rt,
-        "request",
+        row.0,
         (status, out.bytes(), err.bytes()),
-        (0, row.1, b""),
+        (0, row.2, b""),
     );
 }
 
@@ -278,94 +261,56 @@ fn is_run(request: &Request<'_>) -> bool {
     (map, scen, program) == ("a", "b", "c") && agents == Some(7) && holds == Some("d")
 }
 
-/// Whether the words of a line ask for the run of a program, are wrong, or ask for help.
-fn reading_of(alloc: Global, line: &str) -> Result<[bool; 3], Fail> {
+/// Whether the words of a line ask for it.
+fn asks_for_run(alloc: Global, line: &str) -> Result<bool, Fail> {
     let words = words_of(alloc, line)?;
-    let reading = match read_words(alloc, &words) {
-        Ok(request) => [is_run(&request), false, false],
-        Err(WordStop::Usage(_)) => [false, true, false],
-        Err(WordStop::Help(_)) => [false, false, true],
-        Err(_) => [false; 3],
+    let is_asked = match read_words(alloc, &words) {
+        Ok(request) => is_run(&request),
+        Err(WordStop::OutOfMemory | WordStop::Usage(_) | WordStop::Help(_)) => false,
     };
-    Ok(reading)
+    Ok(is_asked)
 }
-
-/// A line of words, and how it is read.
-const READINGS: [(&str, [bool; 3]); 3] = [
-    ("run a b c --agents 7 --holds d", [true, false, false]),
-    ("run a b c --agents x", [false, true, false]),
-    ("run --help", [false, false, true]),
-];
 
 #[test]
 fn words_are_read(rt: HostRuntime) -> Result<(), Fail> {
-    for row in &READINGS {
-        let (line, due) = *row;
-        assert!(rt; reading_of(rt.alloc(), line)? == due, "{line}");
-    }
+    assert!(rt; asks_for_run(rt.alloc(), "run a b c --agents 7 --holds d")?);
     Ok(())
 }
 
-/// The run without words ends so on this input.
-fn due_hex(rt: &impl Abort, alloc: Global, rest: &[u8], due: Ended<'_>) {
-    let mut out = VecOut::new(alloc);
-    let mut err = VecOut::new(alloc);
-    let status = run_hex(alloc, &mut given(rest), &mut out, &mut err);
-    due_end(rt, "hexadecimal", (status, out.bytes(), err.bytes()), due);
-}
-
+/// The run without words.
 #[test]
 fn hexadecimal_is_run(rt: HostRuntime) {
-    due_hex(&rt, rt.alloc(), PAIR_HEX, (0, PAIR_TEXT, b""));
-    due_hex(&rt, rt.alloc(), b"", (1, b"", b"load 3 Truncated\n"));
-    due_hex(&rt, rt.alloc(), b"4G", (1, b"", b"hex 2 Digit at 1\n"));
-}
-
-/// This status and this line are due of the refusal.
-fn due_refusal(rt: &impl Abort, alloc: Global, fault: &Fault<'_>, status: u8, line: &[u8]) {
-    let mut err = VecOut::new(alloc);
-    fault.tell(&mut err);
+    let mut out = VecOut::new(rt.alloc());
+    let mut err = VecOut::new(rt.alloc());
+    let mut input = PAIR_HEX;
+    let status = run_hex(rt.alloc(), &mut input, &mut out, &mut err);
     due_end(
-        rt,
-        "refusal",
-        (fault.status(), b"", err.bytes()),
-        (status, b"", line),
+        &rt,
+        "hexadecimal",
+        (status, out.bytes(), err.bytes()),
+        (0, PAIR_TEXT, b""),
     );
 }
 
 #[test]
 fn refusals_are_told(rt: HostRuntime) {
-    let alloc = rt.alloc();
-    due_refusal(&rt, alloc, &Fault::Map(MapFault::Size), 1, b"map 3 Size\n");
-    due_refusal(&rt, alloc, &Fault::Memory, 3, b"memory\n");
-    due_refusal(&rt, alloc, &Fault::File("name"), 3, b"file name\n");
+    let mut err = VecOut::new(rt.alloc());
+    let fault = Fault::File("name");
+    fault.tell(&mut err);
+    due_end(
+        &rt,
+        "refusal",
+        (fault.status(), b"", err.bytes()),
+        (3, b"", b"file name\n"),
+    );
 }
 
-/// Bytes of a file, what is said to be in it, whether it is begun as a log of that, and what is in it then.
-type Begun = (&'static [u8], &'static [u8], bool, &'static [u8]);
-
-fn due_begun(
-    rt: &impl Abort,
-    alloc: Global,
-    files: &mut MemFiles,
-    row: &Begun,
-) -> Result<(), Fail> {
-    let (bytes, past, is_begun, due) = *row;
-    files.put("log", bytes)?;
-    assert!(*rt; files.begin_log(alloc, "log", past)? == is_begun);
-    due_file(rt, files, "log", due);
-    Ok(())
-}
-
-/// A log is cut to its whole lines, and grows behind them; another one stays as it is.
+/// A log is cut to its whole lines, and grows behind them.
 fn begin_and_grow(rt: &impl Abort, alloc: Global, files: &mut MemFiles) -> Result<(), Fail> {
-    due_begun(rt, alloc, files, &(b"bytes", b"byte", false, b"bytes"))?;
-    due_begun(rt, alloc, files, &(b"bytes", b"bytes", true, b""))?;
-    due_begun(rt, alloc, files, &(b"0:1\n0", b"0:1\n0", true, b"0:1\n"))?;
+    files.put("log", b"0:1\n0")?;
+    assert!(*rt; files.begin_log(alloc, "log", b"0:1\n0")?);
     files.append("log", b"0:2\n")?;
-    files.append("new", b"1:1\n")?;
     due_file(rt, files, "log", b"0:1\n0:2\n");
-    due_file(rt, files, "new", b"1:1\n");
     Ok(())
 }
 
@@ -374,19 +319,11 @@ fn logs_are_begun_and_grow(rt: HostRuntime) -> Result<(), Fail> {
     begin_and_grow(&rt, rt.alloc(), &mut MemFiles::new(rt.alloc()))
 }
 
-/// Whether a call on files failed.
-fn has_failed<T: Drop>(done: Result<T, FileFault>) -> bool {
-    matches!(done, Err(FileFault::Failed))
-}
-
 /// No folder of the disk is called so.
 #[test]
 fn the_disk_has_no_such_folder(rt: HostRuntime) {
-    let name = "no/such/folder";
-    let mut disk = Disk::new(&rt);
-    assert!(rt; has_failed(disk.read(rt.alloc(), name)));
-    assert!(rt; has_failed(disk.write(name, b"")));
-    assert!(rt; has_failed(disk.append(name, b"")));
+    let answer = Disk::new(&rt).read(rt.alloc(), "no/such/folder").err();
+    assert!(rt; matches!(answer, Some(FileFault::Failed)));
 }
 
 /// How a plan is compiled over files of which the call after so many fails, and whether OUT is not there then.

@@ -1,4 +1,4 @@
-//! Fleets that are worked out by hand: maps, scenarios, plans, programs in bytes and in hexadecimal, and traces.
+//! Fleets that are worked out by hand: maps, scenarios, plans, programs in bytes and in hexadecimal, traces and orders.
 //! `tests/worked.txt` says what each is.
 
 ghost use Rattle.std.specs.Prelude.{◌≡◌, All, IfOk, length};
@@ -35,17 +35,13 @@ pub const PAIR_BYTES_2: &[u8] = b"MPF2\0\x02\0\x01\0\0\0\x03\0\0\0\0\0\x02\x01\x
 pub const STAYING_BYTES: &[u8] = b"MPF2\0\x02\0\x01\0\0\0\x03\0\0\0\0\0\x04\x01\x01\x04\x04\
 \0\0\0\0\0\x02\0\0\0\0\0\x04\x10\0\0\0\0\0\x01\x01\x10\0\0\0\0\0\x02\x01\x04\x04";
 
+/// .. with a last action of agent 1 that awaits more actions than any agent has.
+pub const VAIN_BYTES: &[u8] = b"MPF2\0\x02\0\x01\0\0\0\x03\0\0\0\0\0\x02\x01\x01\
+\0\0\0\0\0\x02\0\0\0\0\0\x02\x10\0\0\0\0\0\x01\x01\x10\0\0\xFF\xFF\xFF\xFF\x01";
+
 /// Each agent awaits the other.
 pub const DEADLOCK_BYTES: &[u8] = b"MPF1\0\x02\0\x01\0\0\0\x03\0\0\0\x02\x10\0\x01\0\x01\x01\x01\
 \0\0\0\0\0\x02\0\0\0\x02\x10\0\0\0\x01\x01\x01";
-
-/// The pair in version 2, with a last action of agent 1 that awaits more actions than any agent has.
-pub const VAIN_HEX: &[u8] = b"4D504632 0002 0001 0000 0003 0000 00000002 01 01
-    0000 0000 0002 0000 00000002 10 0000 00000001 01 10 0000 FFFFFFFF 01";
-
-/// The pair in version 2, with two stays of each agent after its moves.
-pub const STAYING_HEX: &[u8] = b"4D504632 0002 0001 0000 0003 0000 00000004 01 01 04 04
-    0000 0000 0002 0000 00000004 10 0000 00000001 01 10 0000 00000002 01 04 04";
 
 /// The pair's trace with agent 0 held in the first tick.
 pub const HELD_TRACE: &[u8] = b"0: 1,0 0,0
@@ -93,12 +89,21 @@ chain 3
 held 0
 ";
 
+/// The orders of its dispatch, one at a time.
+pub const PAIR_ORDERS: &[u8] = b"go 0:1 1,0 2,0
+go 0:2 2,0 3,0
+go 1:1 0,0 1,0
+go 1:2 1,0 2,0
+arrived
+agents 2
+moves 4
+reports 3
+";
+
 /// Three agents in a row, each on the heels of the one before it.
 pub const ROW_MAP: &[u8] = b"type octile\nheight 1\nwidth 5\nmap\n.....\n";
 
 pub const ROW_SCEN: &[u8] = b"version 1\n0 m 5 1 2 0 4 0 2\n0 m 5 1 1 0 3 0 2\n0 m 5 1 0 0 2 0 2\n";
-
-pub const ROW_PLAN: &[u8] = b"2,0 3,0 4,0\n1,0 2,0 3,0\n0,0 1,0 2,0\n";
 
 /// Its program with all awaits, and with the last ones alone.
 pub const ALL_BYTES: &[u8] = b"MPF1\0\x03\0\x02\0\0\0\x04\0\0\0\x02\x01\x01\
@@ -114,9 +119,6 @@ pub const SQUARE_MAP: &[u8] = b"type octile\nheight 2\nwidth 2\nmap\n..\n..\n";
 
 pub const SQUARE_SCEN: &[u8] =
     b"version 1\n0 m 2 2 0 0 1 0 1\n0 m 2 2 1 0 1 1 1\n0 m 2 2 1 1 0 1 1\n0 m 2 2 0 1 0 0 1\n";
-
-/// A row of two cells.
-pub const TWO_MAP: &[u8] = b"type t\nheight 1\nwidth 2\nmap\n..\n";
 
 /// A row of 256 cells. Each agent of the train is behind the one before it, and all go 128 cells east.
 pub const TRAIN_MAP: &[u8] = b"type octile

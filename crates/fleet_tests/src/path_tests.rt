@@ -1,4 +1,4 @@
-//! Earliest paths past reserved ones.
+//! Paths that are reserved, and earliest ones past them.
 
 use fleet_grid::read_map;
 use fleet_model::Cell;
@@ -12,21 +12,22 @@ const ROOM: &[u8] = b"type octile\nheight 2\nwidth 3\nmap\n...\n...\n";
 
 const WALL: &[u8] = b"type octile\nheight 1\nwidth 3\nmap\n.@.\n";
 
-/// The paths that the text names, reserved one after another; none if it is empty.
-fn reserved_of(alloc: Global, text: &[u8]) -> Result<Reservations, Fail> {
+/// The paths that the text names, reserved one after another, no path if it is empty; none of that if one does not fit
+/// those before it.
+fn reserved_of(alloc: Global, text: &[u8]) -> Result<Option<Reservations>, Fail> {
     let mut reserved = Reservations::new(alloc);
     if text.is_empty() {
-        return Ok(reserved);
+        return Ok(Some(reserved));
     }
     let plan = read_plan(alloc, text)?;
     for i in 0..plan.agents() {
         let path = plan.path(i);
         if !reserved.fits(path) {
-            return Err(Fail::from("conflict"));
+            return Ok(None);
         }
         reserved.reserve(path)?;
     }
-    Ok(reserved)
+    Ok(Some(reserved))
 }
 
 /// How many steps the earliest path has, if there is one.
@@ -38,7 +39,9 @@ fn steps_of(
     horizon: u16,
 ) -> Result<Option<u32>, Fail> {
     let grid = read_map(alloc, map)?;
-    let reserved = reserved_of(alloc, reserved)?;
+    let Some(reserved) = reserved_of(alloc, reserved)? else {
+        return Err(Fail::from("conflict"));
+    };
     match earliest(alloc, &grid, &reserved, start, goal, horizon) {
         Ok(path) => Ok(Some(path.steps())),
         Err(SearchFault::NoPath) => Ok(None),
@@ -86,10 +89,10 @@ const ROWS: [Row; 9] = [
 fn earliest_paths_are_found(rt: HostRuntime) -> Result<(), Fail> {
     for row in &ROWS {
         let (map, reserved, start, goal, horizon, due) = *row;
-        assert!(rt;
-            steps_of(rt.alloc(), map, reserved, (start, goal), horizon)? == due,
-            "{due:?}"
-        );
+        let found = steps_of(rt.alloc(), map, reserved, (start, goal), horizon)?;
+        assert!(rt; found == due, "{found:?}, due {due:?}");
     }
+    // Two paths that change places do not both fit.
+    assert!(rt; reserved_of(rt.alloc(), b"0,0 1,0\n1,0 0,0")?.is_none());
     Ok(())
 }

@@ -1,23 +1,19 @@
-//! Fleets that are ticked and driven, rehearsals, and the sources and sinks of both.
+//! Fleets that are ticked and driven, a rehearsal that is stuck, and the sources of both.
 
 ghost use Rattle.std.specs.Prelude.{◌≡◌, All, IfOk, length};
 ghost use Rattle.std.specs.List.Sorted.{IsStrictlyIncreasing};
 
 use crate::due::due_bytes;
-use crate::ends::Counter;
-use crate::fleets::{
-    DEADLOCK_BYTES, PAIR_BYTES, PAIR_TEXT, TWO_MAP, accepted_of, pair, pair_fleet, problem, started,
-};
+use crate::fleets::{DEADLOCK_BYTES, accepted_of, pair, pair_fleet, problem, started};
 use fleet_adg::rest;
 use fleet_code::{encode, view};
-use fleet_grid::Grid;
 use fleet_model::{Place, ProgramView};
 use fleet_run::{
-    End, Fleet, HoldList, HoldSource, HoldText, OutFault, Rehearsal, Report, RunFault, SourceFault,
-    Tick, TraceOut, VecOut, WriteOut, drive, rehearse,
+    End, Fleet, HoldList, HoldSource, HoldText, Rehearsal, Report, RunFault, SourceFault, Tick,
+    VecOut, WriteOut, drive, rehearse,
 };
-use fleet_scen::Instance;
 use std::alloc::{AllocError, Global};
+use std::io::sink;
 use std::process::Abort;
 use std::test::Fail;
 
@@ -131,21 +127,7 @@ fn tick_pair<P: ProgramView>(rt: &impl Abort, fleet: &mut Fleet<'_, P>)
     }
 }
 
-#[test]
-fn fleets_are_ticked(rt: HostRuntime) -> Result<(), Fail> {
-    let (grid, instance, program) = pair(rt.alloc())?;
-    let mut fleet = pair_fleet(rt.alloc(), program, &grid, &instance)?;
-    tick_pair(&rt, &mut fleet);
-    assert!(rt; fleet.into_accepted().chain() == 3);
-    Ok(())
-}
-
-/// What is left of the pair when agent 0 has carried out its first action: agent 1 waits no more for that, and for one
-/// action more of agent 0.
-const LEFT_BYTES: &[u8] = b"MPF1\0\x02\0\x02\0\0\0\x03\0\0\0\x01\x01\
-\0\0\0\0\0\x02\0\0\0\x02\x01\x10\0\0\0\x01\x01";
-
-/// .. and when it is finished: both agents stand on their goals.
+/// What is left of the pair when it is finished: both agents stand on their goals.
 const NOTHING_BYTES: &[u8] = b"MPF1\0\x02\0\x03\0\0\0\x03\0\0\0\0\
 \0\x02\0\0\0\x02\0\0\0\0";
 
@@ -155,104 +137,13 @@ fn rest_bytes<P: ProgramView>(alloc: Global, fleet: &Fleet<'_, P>) -> Result<Vec
     Ok(encode(alloc, &left)?)
 }
 
-/// What is left of the pair at its start, after its first tick, and at its end.
-fn due_rests<P: ProgramView>(
-    rt: &impl Abort,
-    alloc: Global,
-    fleet: &mut Fleet<'_, P>,
-) -> Result<(), Fail>
-    requires { length (P.program fleet.old.accepted.program) ≡ 2 }
-{
-    due_bytes(rt, &rest_bytes(alloc, fleet)?, PAIR_BYTES);
-    let _ = fleet.tick(&[false, false]);
-    due_bytes(rt, &rest_bytes(alloc, fleet)?, LEFT_BYTES);
-    let _ = fleet.tick(&[false, false]);
-    let _ = fleet.tick(&[false, false]);
-    due_bytes(rt, &rest_bytes(alloc, fleet)?, NOTHING_BYTES);
-    Ok(())
-}
-
 #[test]
-fn what_is_left_is_a_program(rt: HostRuntime) -> Result<(), Fail> {
+fn fleets_are_ticked(rt: HostRuntime) -> Result<(), Fail> {
     let (grid, instance, program) = pair(rt.alloc())?;
     let mut fleet = pair_fleet(rt.alloc(), program, &grid, &instance)?;
-    due_rests(&rt, rt.alloc(), &mut fleet)
-}
-
-/// A run into a writer that counts its bytes: its report or why it stopped, how many agents were looked at, how many
-/// actions agent 0 has finished, and how many bytes were written.
-type Counted = (Result<Report, RunFault>, u64, u32, u64);
-
-fn counted_drive<P: ProgramView>(fleet: &mut Fleet<'_, P>, holds: &[u8]) -> Result<Counted, Fail>
-    requires { All (λ s. s.count ≡ 0) fleet.old.configuration }
-{
-    let agents = fleet.accepted().program().agents();
-    if agents == 0 {
-        return Err(Fail::from("nobody"));
-    }
-    let mut counter = Counter { bytes: 0 };
-    let mut out = WriteOut::new(&mut counter);
-    let ran = drive(fleet, &mut HoldText::new(holds, agents), &mut out);
-    Ok((ran, fleet.looked(), fleet.count(0), counter.bytes))
-}
-
-fn counted_run(
-    alloc: Global,
-    map: &[u8],
-    scen: &[u8],
-    bytes: &[u8],
-    holds: &[u8],
-) -> Result<Counted, Fail> {
-    let (grid, instance) = problem(alloc, map, scen)?;
-    counted_on(alloc, &grid, &instance, bytes, holds)
-}
-
-fn counted_on(
-    alloc: Global,
-    grid: &Grid,
-    instance: &Instance,
-    bytes: &[u8],
-    holds: &[u8],
-) -> Result<Counted, Fail> {
-    let accepted = accepted_of(alloc, view(alloc, bytes)?, grid, instance)?;
-    let mut fleet = started(alloc, accepted)?;
-    counted_drive(&mut fleet, holds)
-}
-
-/// One agent that goes one step east.
-const STEP_SCEN: &[u8] = b"version 1\n0 m 2 1 0 0 1 0 1\n";
-
-const STEP_BYTES: &[u8] = b"MPF1\0\x01\0\0\0\0\0\x01\0\0\0\x01\x01";
-
-/// Agent 0 is held in 4,194,304 ticks.
-fn most_holds(alloc: Global) -> Result<Vec<u8>, AllocError> {
-    let mut holds = b"0\n".to_vec(alloc)?;
-    for _ in 0..22 {
-        let copy = holds.to_vec(alloc)?;
-        holds.extend_from_slice(&copy)?;
-    }
-    Ok(holds)
-}
-
-/// Why the agent's run under these holds stopped, or its report, and how many actions it has finished.
-fn step_answer(alloc: Global, holds: &[u8]) -> Result<(Result<Report, RunFault>, u32), Fail> {
-    let (ran, _, count, _) = counted_run(alloc, TWO_MAP, STEP_SCEN, STEP_BYTES, holds)?;
-    Ok((ran, count))
-}
-
-/// It is held in as many ticks as a run takes from its source, and in one more.
-#[test]
-fn holds_have_a_limit(rt: HostRuntime) -> Result<(), Fail> {
-    let mut holds = most_holds(rt.alloc())?;
-    let due = Report {
-        agents: 1,
-        ticks: 4_194_305,
-        chain: 1,
-        held: 4_194_304,
-    };
-    assert!(rt; step_answer(rt.alloc(), &holds)? == (Ok(due), 1));
-    holds.extend_from_slice(b"0\n")?;
-    assert!(rt; step_answer(rt.alloc(), &holds)? == (Err(RunFault::HoldLimit), 0));
+    tick_pair(&rt, &mut fleet);
+    due_bytes(&rt, &rest_bytes(rt.alloc(), &fleet)?, NOTHING_BYTES);
+    assert!(rt; fleet.into_accepted().chain() == 3);
     Ok(())
 }
 
@@ -291,6 +182,29 @@ fn crowd_bytes(alloc: Global) -> Result<Vec<u8>, Fail> {
     Ok(bytes)
 }
 
+/// The report of a run with nobody held, or why it stopped, and how many agents were looked at.
+type Looked = (Result<Report, RunFault>, u64);
+
+fn free_drive<P: ProgramView>(fleet: &mut Fleet<'_, P>) -> Result<Looked, Fail>
+    requires { All (λ s. s.count ≡ 0) fleet.old.configuration }
+{
+    let agents = fleet.accepted().program().agents();
+    if agents == 0 {
+        return Err(Fail::from("nobody"));
+    }
+    let mut nowhere = sink();
+    let mut out = WriteOut::new(&mut nowhere);
+    let ran = drive(fleet, &mut HoldText::new(b"", agents), &mut out);
+    Ok((ran, fleet.looked()))
+}
+
+fn free_run(alloc: Global, map: &[u8], scen: &[u8], bytes: &[u8]) -> Result<Looked, Fail> {
+    let (grid, instance) = problem(alloc, map, scen)?;
+    let accepted = accepted_of(alloc, view(alloc, bytes)?, &grid, &instance)?;
+    let mut fleet = started(alloc, accepted)?;
+    free_drive(&mut fleet)
+}
+
 /// A tick looks at nobody but the agents that are ready, and those that await one that moves in it.
 #[test]
 fn standing_agents_are_not_looked_at(rt: HostRuntime) -> Result<(), Fail> {
@@ -298,7 +212,7 @@ fn standing_agents_are_not_looked_at(rt: HostRuntime) -> Result<(), Fail> {
     let map = crowd_map(alloc)?;
     let scen = crowd_scen(alloc)?;
     let bytes = crowd_bytes(alloc)?;
-    let (ran, looked, _, _) = counted_run(alloc, &map, &scen, &bytes, b"")?;
+    let (ran, looked) = free_run(alloc, &map, &scen, &bytes)?;
     let due = Report {
         agents: 1024,
         ticks: 65_535,
@@ -346,66 +260,24 @@ fn sources_give_ticks(rt: HostRuntime) -> Result<(), Fail> {
     Ok(())
 }
 
+/// Each agent awaits the other.
 #[test]
-fn sinks_take_bytes(rt: HostRuntime) -> Result<(), Fail> {
-    let mut out = VecOut::new(rt.alloc());
-    assert!(rt; matches!(out.put(b"bytes"), Ok(1..=5)) && !out.failed());
-    let mut counter = Counter { bytes: 0 };
-    let mut out = WriteOut::new(&mut counter);
-    let taken: Result<usize, OutFault> = out.put(b"bytes");
-    assert!(rt; matches!(taken, Ok(5)) && !out.failed());
-    assert!(rt; counter.bytes == 5);
-    Ok(())
-}
-
-/// How many agents a rehearsal has, how many ticks it took and how many of them were held, and whether it is stuck;
-/// none of that, if the first line of its holds is no tick's.
-type Numbers = Option<(u16, u32, u32, bool)>;
-
-fn rehearse_answer(alloc: Global, bytes: &[u8], holds: &[u8]) -> Result<(VecOut, Numbers), Fail> {
-    let program = view(alloc, bytes)?;
-    let agents = program.agents();
+fn deadlocks_are_rehearsed(rt: HostRuntime) -> Result<(), Fail> {
+    let alloc = rt.alloc();
+    let program = view(alloc, DEADLOCK_BYTES)?;
     let mut out = VecOut::new(alloc);
-    match rehearse(alloc, &program, &mut HoldText::new(holds, agents), &mut out) {
-        Ok(
-            Rehearsal {
-                agents,
-                ticks,
-                held,
-                end,
-            },
-        ) => Ok((out, Some((agents, ticks, held, matches!(end, End::Stuck))))),
-        Err(RunFault::Hold { line: 1 }) => Ok((out, None)),
-        Err(fault) => Err(Fail::from(fault)),
-    }
-}
-
-/// A program and its holds, and the text and the numbers that are due.
-type Rehearsed = (&'static [u8], &'static [u8], &'static [u8], Numbers);
-
-const REHEARSALS: [Rehearsed; 3] = [
-    (PAIR_BYTES, b"", PAIR_TEXT, Some((2, 3, 0, false))),
-    (
-        DEADLOCK_BYTES,
-        b"0 1\n",
+    let ran = rehearse(alloc, &program, &mut HoldText::new(b"0 1\n", 2), &mut out)?;
+    let Rehearsal {
+        agents,
+        ticks,
+        held,
+        end,
+    } = ran;
+    assert!(rt; (agents, ticks, held) == (2, 0, 0) && matches!(end, End::Stuck));
+    due_bytes(
+        &rt,
+        out.bytes(),
         b"0: 1,0 0,0\nagents 2\nticks 0\nheld 0\nstuck\n",
-        Some((2, 0, 0, true)),
-    ),
-    (PAIR_BYTES, b"x", b"0: 1,0 0,0\n", None),
-];
-
-fn due_rehearsed(rt: &impl Abort, alloc: Global, row: &Rehearsed) -> Result<(), Fail> {
-    let (bytes, holds, text, numbers) = *row;
-    let (out, found) = rehearse_answer(alloc, bytes, holds)?;
-    due_bytes(rt, out.bytes(), text);
-    assert!(*rt; found == numbers);
-    Ok(())
-}
-
-#[test]
-fn programs_are_rehearsed(rt: HostRuntime) -> Result<(), Fail> {
-    for row in &REHEARSALS {
-        due_rehearsed(&rt, rt.alloc(), row)?;
-    }
+    );
     Ok(())
 }

@@ -1,21 +1,18 @@
-//! Runs under sources that fail, outputs that fail after some bytes or refuse to hand on what they took, and inputs
-//! that fail after some bytes.
+//! Sinks, runs under sources that fail and into outputs that fail after some bytes, and dispatches whose log fails so.
 
 ghost use Rattle.std.specs.Prelude.{◌≡◌, All, false, length};
 ghost use Rattle.fleet_run.specs.Source.{HasNotFailed};
 ghost use Rattle.fleet_text.specs.Sink.{IsWorking};
 
 use crate::due::due_bytes;
-use crate::fleets::{PAIR_BYTES, PAIR_TEXT, PAIR_TRACE, accepted_pair, pair, pair_fleet};
-use crate::streams::{FailingSource, ShortReader, ShortWriter, given};
-use fleet_cli::{CHUNK, FileFault, read_whole};
-use fleet_code::load;
+use crate::fleets::{PAIR_ORDERS, PAIR_TRACE, accepted_pair, pair, pair_fleet};
+use crate::streams::{FailingSource, ShortWriter};
 use fleet_dispatch::{
-    DispatchFault, NoLog, Outset, Pace, ReportForm, ReportLog, SinkLog, dispatch_logged,
+    DispatchFault, Outset, Pace, ReportForm, ReportLog, SinkLog, dispatch_logged,
 };
 use fleet_model::{Place, ProgramView};
 use fleet_run::{
-    Fleet, HoldSource, HoldText, RunFault, SourceFault, TraceOut, VecOut, WriteOut, drive, rehearse,
+    Fleet, HoldSource, HoldText, OutFault, RunFault, SourceFault, TraceOut, VecOut, WriteOut, drive,
 };
 use fleet_text::{Flush, put_all};
 use std::alloc::Global;
@@ -44,7 +41,7 @@ fn some_ticks(ticks: u8, kind: SourceFault) -> FailingSource
 /// The columns of both agents of the pair after so many ticks in which nobody is held.
 const COLUMNS: [[i32; 2]; 4] = [[1, 0], [2, 0], [3, 1], [3, 2]];
 
-/// How many bytes each line of the pair's texts has up to that of tick 3.
+/// How many bytes each line of the pair's trace has up to that of tick 3.
 const LINE: usize = 11;
 
 /// Why the pair's run stopped, if it did; in which columns the agents stood then, both in the row of the map; and
@@ -83,24 +80,6 @@ fn drive_answer<S: HoldSource, O: TraceOut>(
     Ok(run_of(&mut fleet, source, out))
 }
 
-/// What was written of the pair's rehearsal under a source that fails so after so many ticks, and why it stopped.
-fn rehearse_answer(
-    alloc: Global,
-    ticks: u8,
-    kind: SourceFault,
-) -> Result<(VecOut, Option<RunFault>), Fail> {
-    let program = load(alloc, PAIR_BYTES)?;
-    let mut out = VecOut::new(alloc);
-    let fault = rehearse(alloc, &program, &mut some_ticks(ticks, kind), &mut out).err();
-    Ok((out, fault))
-}
-
-/// The lines of the pair's times up to that after so many ticks.
-fn lines_to(ticks: u8) -> Result<&'static [u8], Fail> {
-    let lines = PAIR_TEXT.get(..(usize::from(ticks) + 1) * LINE);
-    Ok(lines.ok_or("lines")?)
-}
-
 /// After a refusal the lines before it are written, and the fleet has run the ticks before it and goes on.
 fn due_run(
     rt: &impl Abort,
@@ -110,24 +89,13 @@ fn due_run(
     due: RunFault,
 ) -> Result<(), Fail> {
     let columns = COLUMNS.get(usize::from(ticks)).copied().ok_or("columns")?;
+    let lines = PAIR_TRACE
+        .get(..(usize::from(ticks) + 1) * LINE)
+        .ok_or("lines")?;
     let mut out = VecOut::new(alloc);
     let ran = drive_answer(alloc, &mut some_ticks(ticks, kind), &mut out)?;
     assert!(*rt; ran == (Some(due), columns, true), "{ticks}");
-    due_bytes(rt, out.bytes(), lines_to(ticks)?);
-    Ok(())
-}
-
-/// So does a rehearsal.
-fn due_rehearsal(
-    rt: &impl Abort,
-    alloc: Global,
-    ticks: u8,
-    kind: SourceFault,
-    due: RunFault,
-) -> Result<(), Fail> {
-    let (out, fault) = rehearse_answer(alloc, ticks, kind)?;
-    assert!(*rt; fault == Some(due), "{ticks}");
-    due_bytes(rt, out.bytes(), lines_to(ticks)?);
+    due_bytes(rt, out.bytes(), lines);
     Ok(())
 }
 
@@ -141,7 +109,6 @@ fn sources_fail_after_some_ticks(rt: HostRuntime) -> Result<(), Fail> {
             (SourceFault::Text, RunFault::Hold { line }),
         ] {
             due_run(&rt, rt.alloc(), ticks, kind, due)?;
-            due_rehearsal(&rt, rt.alloc(), ticks, kind, due)?;
         }
     }
     Ok(())
@@ -157,42 +124,18 @@ fn writer(alloc: Global, room: usize, flushes: usize, failing: Option<ErrorKind>
     }
 }
 
-/// What a rehearsal of the pair wrote to an output that fails so after so many bytes, and why it stopped, if it did.
-fn cut_rehearsal(
-    alloc: Global,
-    room: usize,
-    failing: Option<ErrorKind>,
-) -> Result<(ShortWriter, Option<RunFault>), Fail> {
-    let program = load(alloc, PAIR_BYTES)?;
-    let mut output = writer(alloc, room, 0, failing);
-    let mut out = WriteOut::new(&mut output);
-    let fault = rehearse(alloc, &program, &mut HoldText::new(b"", 2), &mut out).err();
-    Ok((output, fault))
-}
-
-/// Of a text so many bytes are taken, and it is a fault if that is not all.
-fn due_front(rt: &impl Abort, room: usize, text: &[u8], taken: &[u8], fault: Option<RunFault>) {
-    let due = if room < text.len() {
+/// Of the pair's trace so many bytes are taken, and it is a fault if that is not all.
+fn due_front(rt: &impl Abort, room: usize, taken: &[u8], fault: Option<RunFault>) {
+    let due = if room < PAIR_TRACE.len() {
         Some(RunFault::Write)
     } else {
         None
     };
     assert!(*rt; fault == due, "{room}");
-    due_bytes(rt, taken, text.get(..room).unwrap_or(b"none"));
+    due_bytes(rt, taken, PAIR_TRACE.get(..room).unwrap_or(b"none"));
 }
 
-#[test]
-fn outputs_fail_after_some_bytes(rt: HostRuntime) -> Result<(), Fail> {
-    for failing in WAYS {
-        for room in 0..=PAIR_TEXT.len() {
-            let (output, fault) = cut_rehearsal(rt.alloc(), room, failing)?;
-            due_front(&rt, room, PAIR_TEXT, &output.bytes, fault);
-        }
-    }
-    Ok(())
-}
-
-/// What a run of the pair wrote to such an output, and how it went on.
+/// What a run of the pair wrote to an output that fails so after so many bytes, and how it went on.
 fn cut_run(
     alloc: Global,
     room: usize,
@@ -210,7 +153,7 @@ fn runs_go_on_after_a_failed_output(rt: HostRuntime) -> Result<(), Fail> {
     for failing in WAYS {
         for room in 0..=PAIR_TRACE.len() {
             let (output, (fault, columns, is_there)) = cut_run(rt.alloc(), room, failing)?;
-            due_front(&rt, room, PAIR_TRACE, &output.bytes, fault);
+            due_front(&rt, room, &output.bytes, fault);
             let due = COLUMNS.get(room / LINE).copied().unwrap_or([3, 2]);
             assert!(rt; columns == due && is_there, "{room}");
         }
@@ -218,21 +161,24 @@ fn runs_go_on_after_a_failed_output(rt: HostRuntime) -> Result<(), Fail> {
     Ok(())
 }
 
-/// What was written since the last flush is handed on; if nothing was, there is nothing to hand on.
+/// A sink over memory keeps what it took. What a writer was given since the last flush is handed on; if nothing was,
+/// there is nothing to hand on.
 #[test]
-fn flushes_reach_the_writer(rt: HostRuntime) -> Result<(), Fail> {
+fn sinks_take_bytes(rt: HostRuntime) {
+    let mut memory = VecOut::new(rt.alloc());
+    let taken: Result<usize, OutFault> = memory.put(b"bytes");
+    assert!(rt; matches!(taken, Ok(5)) && !memory.failed());
+    due_bytes(&rt, memory.bytes(), b"bytes");
     let mut output = writer(rt.alloc(), 9, 1, None);
     let mut out = WriteOut::new(&mut output);
     assert!(rt; put_all(&mut out, b"by").is_ok() && out.flush().is_ok() && out.flush().is_ok());
-    assert!(rt; put_all(&mut out, b"tes").is_ok() && out.flush().is_err());
+    assert!(rt; put_all(&mut out, b"tes").is_ok() && out.flush().is_err() && out.failed());
     due_bytes(&rt, &output.bytes, b"bytes");
-    Ok(())
 }
 
-/// Why a dispatch of the pair over these ends, which keeps this log, stopped, if it did.
+/// Why a dispatch of the pair over this output, which keeps this log, stopped, if it did.
 fn logged_answer<L: ReportLog>(
     alloc: Global,
-    mut input: ShortReader<'_>,
     output: &mut ShortWriter,
     log: &mut L,
 ) -> Result<Option<DispatchFault>, Fail>
@@ -240,6 +186,7 @@ fn logged_answer<L: ReportLog>(
 {
     let (grid, instance, program) = pair(alloc)?;
     let accepted = accepted_pair(alloc, program, &grid, &instance)?;
+    let mut input = REPORTS;
     let mut out = WriteOut::new(output);
     let pace = Pace {
         form: ReportForm::Numbered,
@@ -249,62 +196,8 @@ fn logged_answer<L: ReportLog>(
     Ok(dispatch_logged(alloc, accepted, outset, &mut input, &mut out, log).err())
 }
 
-/// .. which keeps none.
-fn dispatch_answer(
-    alloc: Global,
-    input: ShortReader<'_>,
-    output: &mut ShortWriter,
-) -> Result<Option<DispatchFault>, Fail> {
-    logged_answer(alloc, input, output, &mut NoLog)
-}
-
-/// Reports of the pair's robots, and the orders that they are given, which are handed on four times.
+/// Reports of the pair's robots. The orders that they are given are handed on four times.
 const REPORTS: &[u8] = b"0:1\n0:2 1:1\n1:2\n";
-
-const ORDERS: &[u8] = b"go 0:1 1,0 2,0
-go 0:2 2,0 3,0
-go 1:1 0,0 1,0
-go 1:2 1,0 2,0
-arrived
-agents 2
-moves 4
-reports 3
-";
-
-/// How many bytes of the orders are told up to the flush after so many.
-fn told_by_flush(flushes: usize) -> usize {
-    match flushes {
-        0 => 15,
-        1 => 45,
-        2 => 60,
-        _ => ORDERS.len(),
-    }
-}
-
-/// Whether a dispatch whose orders fail after so many bytes, or at the flush after so many, stops for that once it has
-/// told as many, or else goes to its end.
-fn is_cut(alloc: Global, room: usize, flushes: usize) -> Result<bool, Fail> {
-    let mut output = writer(alloc, room, flushes, None);
-    let input = given(REPORTS);
-    let is_told = match dispatch_answer(alloc, input, &mut output)? {
-        None => room == ORDERS.len() && flushes == 4,
-        Some(DispatchFault::Write) => room < ORDERS.len() || flushes < 4,
-        Some(_) => false,
-    };
-    let told = room.min(told_by_flush(flushes));
-    Ok(is_told && ORDERS.starts_with(&output.bytes) && output.bytes.len() == told)
-}
-
-#[test]
-fn orders_fail_after_some_bytes(rt: HostRuntime) -> Result<(), Fail> {
-    for room in 0..=ORDERS.len() {
-        assert!(rt; is_cut(rt.alloc(), room, 4)?, "{room}");
-    }
-    for flushes in 0..4 {
-        assert!(rt; is_cut(rt.alloc(), ORDERS.len(), flushes)?, "{flushes}");
-    }
-    Ok(())
-}
 
 /// How many bytes of the orders are told before the report of this line is logged.
 fn told_before(line: u64) -> usize {
@@ -319,21 +212,20 @@ fn told_before(line: u64) -> usize {
 /// Whether a dispatch whose log fails after so many bytes, or at the flush after so many, stops for that with no order
 /// more, or else goes to its end.
 fn is_unlogged(alloc: Global, room: usize, flushes: usize) -> Result<bool, Fail> {
-    let mut output = writer(alloc, ORDERS.len(), 4, None);
+    let mut output = writer(alloc, PAIR_ORDERS.len(), 4, None);
     let mut kept = writer(alloc, room, flushes, None);
-    let input = given(REPORTS);
     let mut log = SinkLog {
         sink: WriteOut::new(&mut kept),
     };
-    let fault = logged_answer(alloc, input, &mut output, &mut log)?;
+    let fault = logged_answer(alloc, &mut output, &mut log)?;
     let is_stopped = match fault {
-        None => room == REPORTS.len() && flushes == 3 && output.bytes.len() == ORDERS.len(),
+        None => room == REPORTS.len() && flushes == 3 && output.bytes.len() == PAIR_ORDERS.len(),
         Some(DispatchFault::LogWrite { line }) => {
             (room < REPORTS.len() || flushes < 3) && output.bytes.len() == told_before(line)
         }
         Some(_) => false,
     };
-    Ok(is_stopped && REPORTS.starts_with(&kept.bytes) && ORDERS.starts_with(&output.bytes))
+    Ok(is_stopped && REPORTS.starts_with(&kept.bytes) && PAIR_ORDERS.starts_with(&output.bytes))
 }
 
 #[test]
@@ -347,58 +239,5 @@ fn logs_fail_after_some_bytes(rt: HostRuntime) -> Result<(), Fail> {
             "{flushes}"
         );
     }
-    Ok(())
-}
-
-/// Whether an input that fails so after these bytes is not read.
-fn is_unread(alloc: Global, rest: &[u8], failing: ErrorKind) -> bool {
-    let mut input = ShortReader {
-        rest,
-        failing: Some(failing),
-    };
-    matches!(
-        read_whole(alloc, &mut input, &mut [0; CHUNK]),
-        Err(FileFault::Failed)
-    )
-}
-
-/// How many bytes of the orders are told once so many bytes of the reports are heard.
-fn told_after(heard: usize) -> usize {
-    match heard {
-        0..=3 => 15,
-        4..=11 => 45,
-        12..=15 => 60,
-        _ => ORDERS.len(),
-    }
-}
-
-/// Whether a dispatch over such an input stops for that once it has told what is due, or goes to its end once it has
-/// all reports.
-fn is_unheard(alloc: Global, rest: &[u8], failing: ErrorKind) -> Result<bool, Fail> {
-    let input = ShortReader {
-        rest,
-        failing: Some(failing),
-    };
-    let mut output = writer(alloc, ORDERS.len(), 4, None);
-    let is_stopped = match dispatch_answer(alloc, input, &mut output)? {
-        None => rest.len() == REPORTS.len(),
-        Some(DispatchFault::Input) => rest.len() < REPORTS.len(),
-        Some(_) => false,
-    };
-    let told = told_after(rest.len());
-    Ok(is_stopped && ORDERS.starts_with(&output.bytes) && output.bytes.len() == told)
-}
-
-#[test]
-fn inputs_fail_after_some_bytes(rt: HostRuntime) -> Result<(), Fail> {
-    for failing in [ErrorKind::Interrupted, ErrorKind::BrokenPipe] {
-        for len in 0..=REPORTS.len() {
-            let rest = REPORTS.get(..len).unwrap_or(b"none");
-            assert!(rt; is_unread(rt.alloc(), rest, failing), "{len}");
-            assert!(rt; is_unheard(rt.alloc(), rest, failing)?, "{len}");
-        }
-    }
-    let whole = read_whole(rt.alloc(), &mut given(REPORTS), &mut [0; CHUNK])?;
-    due_bytes(&rt, &whole, REPORTS);
     Ok(())
 }

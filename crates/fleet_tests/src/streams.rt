@@ -1,8 +1,8 @@
-//! The ends of a run that fail at a byte or at a call: a source, a writer and a reader.
+//! The ends of a run that fail: a source at a call, and a writer at a byte.
 
 use fleet_run::{HoldSource, SourceFault, clear};
 use std::io;
-use std::io::{ErrorKind, Read, Write};
+use std::io::{ErrorKind, Write};
 
 /// A source that holds nobody for so many ticks, and then fails so.
 #[derive(Drop)]
@@ -67,37 +67,5 @@ impl Write for ShortWriter {
         }
         self.flushes -= 1;
         Ok(())
-    }
-}
-
-/// A reader that gives these bytes one at a time, and then fails so, or ends.
-#[derive(Drop)]
-pub struct ShortReader<'a> {
-    pub rest: &'a [u8],
-    pub failing: Option<ErrorKind>,
-}
-
-/// A reader that gives these bytes, and then ends.
-pub fn given(rest: &[u8]) -> ShortReader<'_> {
-    ShortReader {
-        rest,
-        failing: None,
-    }
-}
-
-impl<'a> Read for ShortReader<'a> {
-    fn read(&mut self, buf: &mut [u8]) -> io::Result<usize> {
-        let Some((byte, rest)) = self.rest.split_first() else {
-            return match self.failing {
-                Some(kind) => Err(io::Error::from(kind)),
-                None => Ok(0),
-            };
-        };
-        let Some(place) = buf.first_mut() else {
-            return Ok(0);
-        };
-        *place = *byte;
-        self.rest = rest;
-        Ok(1)
     }
 }

@@ -1,13 +1,17 @@
-//! Maps, scenarios and plans that are read, and what they say.
+//! Maps, scenarios and plans that are read and written, and what they say.
 
 use crate::due::due_bytes;
-use crate::fleets::{PAIR_MAP, PAIR_PLAN, PAIR_SCEN, SQUARE_MAP, SQUARE_SCEN, checked_of, problem};
-use fleet_grid::{Grid, Key, Lists, MapFault, read_map};
+use crate::fleets::{
+    PAIR_BYTES, PAIR_MAP, PAIR_PLAN, PAIR_SCEN, SQUARE_MAP, SQUARE_SCEN, checked_of, problem,
+};
+use fleet_adg::tasks_of;
+use fleet_code::view;
+use fleet_grid::{Grid, MapFault, read_map, write_map};
 use fleet_model::{Cell, Dir};
 use fleet_plan::{
     Checked, Conflict, Path, Plan, PlanFault, PlanRefusal, TextFault, check, read_plan, write_plan,
 };
-use fleet_scen::{Instance, ScenFault, read_scen};
+use fleet_scen::{Instance, ScenFault, read_scen, write_scen};
 use std::alloc::Global;
 use std::process::Abort;
 use std::test::Fail;
@@ -47,32 +51,6 @@ fn maps_are_read(rt: HostRuntime) -> Result<(), Fail> {
     Ok(())
 }
 
-/// Adds an item to the key's list.
-fn add(lists: &mut Lists<u8>, key: Key, item: u8) -> Result<(), Fail> {
-    lists.change(key, |list| list.push(item))??;
-    Ok(())
-}
-
-/// Each of two keys has what was added to its list, and then what was kept of it.
-fn due_lists(rt: &impl Abort, lists: &mut Lists<u8>) -> Result<(), Fail> {
-    let cell = Key::of_cell(Cell { x: 3, y: 2 });
-    let number = Key::of_number(2 * 1_024 + 4);
-    add(lists, cell, 7)?;
-    add(lists, number, 8)?;
-    add(lists, cell, 9)?;
-    due_bytes(rt, lists.list(cell), &[7, 9]);
-    due_bytes(rt, lists.list(number), &[8]);
-    lists.retain(|item| *item != 7);
-    due_bytes(rt, lists.list(Key::of_number(2 * 1_024 + 3)), &[9]);
-    assert!(*rt; lists.list(Key::of_number(5)).is_empty());
-    Ok(())
-}
-
-#[test]
-fn keys_have_lists(rt: HostRuntime) -> Result<(), Fail> {
-    due_lists(&rt, &mut Lists::new(rt.alloc()))
-}
-
 /// Whether the agent goes from one column to another, in the row of the map.
 fn goes(instance: &Instance, agent: u16, from: u16, to: u16) -> bool {
     agent < instance.agents()
@@ -94,6 +72,22 @@ fn due_agents(rt: &impl Abort, alloc: Global, grid: &Grid) -> Result<(), Fail> {
 fn scenarios_are_read(rt: HostRuntime) -> Result<(), Fail> {
     let grid = read_map(rt.alloc(), PAIR_MAP)?;
     due_agents(&rt, rt.alloc(), &grid)
+}
+
+/// The row without its second cell.
+const WITHOUT: &[u8] = b"type octile\nheight 1\nwidth 7\nmap\n.@@@@.@\n";
+
+/// The tasks of the pair.
+const TASKS: &[u8] = b"version 1\n0\tmap\t4\t1\t1\t0\t3\t0\t0\n0\tmap\t4\t1\t0\t0\t2\t0\t0\n";
+
+#[test]
+fn maps_and_scenarios_are_written(rt: HostRuntime) -> Result<(), Fail> {
+    let alloc = rt.alloc();
+    let text = write_map(alloc, &read_map(alloc, GLYPHS)?, &[Cell { x: 1, y: 0 }])?;
+    due_bytes(&rt, &text, WITHOUT);
+    let tasks = tasks_of(alloc, &view(alloc, PAIR_BYTES)?)?;
+    due_bytes(&rt, &write_scen(alloc, 4, 1, &tasks)?, TASKS);
+    Ok(())
 }
 
 /// Two agents, of which one goes two steps east, and the other waits and then goes one step east.
@@ -129,7 +123,8 @@ fn is_due_path(plan: &Plan, row: &Goes) -> bool {
     }
     for (t, x) in (0..3).zip(columns) {
         let due = Cell { x, y: 0 };
-        if plan.cell(agent, t) != due || plan.path(agent).cell(t) != due {
+        let of_path = plan.path(agent).cell(t);
+        if of_path != due || plan.cell(agent, t) != due {
             return false;
         }
     }

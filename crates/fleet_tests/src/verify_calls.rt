@@ -1,65 +1,24 @@
-//! Programs that are accepted and refused, with the holds that break them, and how far actions reach back.
+//! Programs that are accepted, with their times and whom a broken robot stops, and refused, with the holds that break
+//! them.
 
 ghost use Rattle.fleet_model.specs.declared.geometry.Place.{Place};
 ghost use Rattle.fleet_verify.specs.Broken.{MeetUnordered, IsBrokenBy};
 ghost use Rattle.std.specs.Prelude.{◌≡◌, ◌==◌, if◌then◌else◌, length};
 
 use crate::due::{due_bytes, due_numbers};
-use crate::fleets::{
-    DEADLOCK_BYTES, PAIR_BYTES, PAIR_MAP, PAIR_SCEN, TWO_MAP, accepted_pair, pair, problem,
-};
+use crate::fleets::{PAIR_MAP, PAIR_SCEN, accepted_pair, pair, problem};
 use fleet_cli::Fault;
-use fleet_code::{encode, load, view};
+use fleet_code::{encode, load};
 use fleet_model::{ActionId, Program, ProgramView, Visit};
 use fleet_run::{TraceOut, VecOut, write_holds};
 use fleet_text::put_all;
 use fleet_verify::{
-    Accepted, ActionCosts, OneEach, Reach, Refused, Stretch, Times, VerifyFault, breaking_holds,
+    Accepted, ActionCosts, OneEach, Refused, Stretch, Times, VerifyFault, breaking_holds,
     reached_counts, stopped_agents, verify,
 };
 use std::alloc::Global;
 use std::process::Abort;
 use std::test::Fail;
-
-/// An action of the pair, by its agent and its number, and how many actions of an agent begin a chain to it.
-const REACHED: [(u16, u32, u16, u32); 5] = [
-    (0, 1, 0, 1),
-    (0, 2, 1, 0),
-    (1, 1, 0, 1),
-    (1, 2, 0, 2),
-    (1, 2, 1, 2),
-];
-
-/// How far the actions of the pair reach back.
-fn due_reach(rt: &impl Abort, reach: &Reach) {
-    for row in &REACHED {
-        let (agent, number, of, due) = *row;
-        assert!(*rt;
-            reach.greatest(ActionId { agent, number }, of) == due,
-            "{agent}:{number}"
-        );
-    }
-}
-
-/// What is kept of the pair with its program.
-fn due_accepted<P: ProgramView>(
-    rt: &impl Abort,
-    alloc: Global,
-    accepted: &Accepted<'_, P>,
-) -> Result<(), Fail> {
-    assert!(*rt; accepted.chain() == 3 && accepted.program().agents() == 2);
-    assert!(*rt; accepted.grid().width() == 4 && accepted.instance().agents() == 2);
-    due_reach(rt, &Reach::of(alloc, accepted)?);
-    Ok(())
-}
-
-#[test]
-fn programs_are_accepted(rt: HostRuntime) -> Result<(), Fail> {
-    let (grid, instance) = problem(rt.alloc(), PAIR_MAP, PAIR_SCEN)?;
-    let program = view(rt.alloc(), PAIR_BYTES)?;
-    let accepted = accepted_pair(rt.alloc(), program, &grid, &instance)?;
-    due_accepted(&rt, rt.alloc(), &accepted)
-}
 
 /// The holds that bring two agents onto one cell, as text.
 fn breaking_text<P: ProgramView>(
@@ -93,89 +52,36 @@ fn tell_refused(alloc: Global, refused: Refused<Program>, bytes: &[u8]) -> Resul
     Ok(out)
 }
 
-/// What is told of a program that is refused.
-fn refusal_of(alloc: Global, map: &[u8], scen: &[u8], bytes: &[u8]) -> Result<VecOut, Fail> {
-    let (grid, instance) = problem(alloc, map, scen)?;
+/// What is told of a program for the pair that is refused.
+fn refusal_of(alloc: Global, bytes: &[u8]) -> Result<VecOut, Fail> {
+    let (grid, instance) = problem(alloc, PAIR_MAP, PAIR_SCEN)?;
     match verify(alloc, load(alloc, bytes)?, &grid, &instance) {
         Ok(_) => Err(Fail::from("accepted")),
         Err(refused) => tell_refused(alloc, refused, bytes),
     }
 }
 
-/// A map, a scenario, a program and what is told of it.
-type Refusal = (&'static [u8], &'static [u8], &'static [u8], &'static [u8]);
+/// One agent that stands on 0,0.
+const CELL_BYTES: &[u8] = b"MPF1\0\x01\0\0\0\0\0\0\0\0\0\0";
 
-/// Agent 0 stands where agent 1 goes through.
-const BLOCKED_SCEN: &[u8] = b"version 1\n0 m 4 1 1 0 1 0 0\n0 m 4 1 0 0 2 0 2\n";
-
-const BLOCKED_BYTES: &[u8] = b"MPF1\0\x02\0\x01\0\0\0\x01\0\0\0\0\0\0\0\0\0\x02\0\0\0\x02\x01\x01";
-
-/// Agent 1 of the pair does not wait until agent 0 has left its start.
-const RASH_BYTES: &[u8] = b"MPF1\0\x02\0\x01\0\0\0\x03\0\0\0\x02\x01\x01\
-\0\0\0\0\0\x02\0\0\0\x02\x01\x10\0\0\0\x02\x01";
-
-/// It does not wait for the second action of agent 0.
+/// Agent 1 of the pair does not wait for the second action of agent 0.
 const EARLY_BYTES: &[u8] = b"MPF1\0\x02\0\x01\0\0\0\x03\0\0\0\x02\x01\x01\
 \0\0\0\0\0\x02\0\0\0\x02\x10\0\0\0\x01\x01\x10\0\0\0\x01\x01";
 
-/// One agent that stands on 0,0, and one that goes off the map.
-const CELL_BYTES: &[u8] = b"MPF1\0\x01\0\0\0\0\0\0\0\0\0\0";
-
-const OFF_BYTES: &[u8] = b"MPF1\0\x01\0\0\0\0\0\0\0\0\0\x02\x03\x01";
-
-const TWO_SCEN: &[u8] = b"version 1\n0 m 2 1 0 0 0 0 0\n";
-
-const REFUSALS: [Refusal; 7] = [
-    (PAIR_MAP, PAIR_SCEN, CELL_BYTES, b"verify 2 OtherFleet\n"),
-    (
-        PAIR_MAP,
-        PAIR_SCEN,
-        BLOCKED_BYTES,
-        b"verify 4 Goal agent 0\n",
-    ),
-    (
-        TWO_MAP,
-        TWO_SCEN,
-        OFF_BYTES,
-        b"verify 5 Step agent 0 action 1\n",
-    ),
-    (
-        PAIR_MAP,
-        PAIR_SCEN,
-        DEADLOCK_BYTES,
-        b"verify 7 Cyclic 0:1 1:1\n",
-    ),
-    (
-        PAIR_MAP,
-        PAIR_SCEN,
-        RASH_BYTES,
-        b"0\nverify 8 Unordered cell 1,0 first 0:0 second 1:1\n",
-    ),
-    (
-        PAIR_MAP,
-        BLOCKED_SCEN,
-        BLOCKED_BYTES,
-        b"-\nverify 8 Unordered cell 1,0 first 0:0 second 1:1\n",
-    ),
-    (
-        PAIR_MAP,
-        PAIR_SCEN,
-        EARLY_BYTES,
-        b"-\n0\n0\nverify 8 Unordered cell 2,0 first 0:1 second 1:2\n",
-    ),
-];
-
-fn due_refused(rt: &impl Abort, alloc: Global, row: &Refusal) -> Result<(), Fail> {
-    let (map, scen, bytes, due) = *row;
-    due_bytes(rt, refusal_of(alloc, map, scen, bytes)?.bytes(), due);
-    Ok(())
-}
+const EARLY_TOLD: &[u8] = b"-\n0\n0\nverify 8 Unordered cell 2,0 first 0:1 second 1:2\n";
 
 #[test]
 fn programs_are_refused(rt: HostRuntime) -> Result<(), Fail> {
-    for row in &REFUSALS {
-        due_refused(&rt, rt.alloc(), row)?;
-    }
+    due_bytes(
+        &rt,
+        refusal_of(rt.alloc(), CELL_BYTES)?.bytes(),
+        b"verify 2 OtherFleet\n",
+    );
+    due_bytes(
+        &rt,
+        refusal_of(rt.alloc(), EARLY_BYTES)?.bytes(),
+        EARLY_TOLD,
+    );
     Ok(())
 }
 
@@ -250,51 +156,35 @@ fn due_times<P: ProgramView>(
     due_lists(rt, alloc, &times)
 }
 
-#[test]
-fn critical_paths_are_found(rt: HostRuntime) -> Result<(), Fail> {
-    let (grid, instance, program) = pair(rt.alloc())?;
-    let accepted = accepted_pair(rt.alloc(), program, &grid, &instance)?;
-    due_times(&rt, rt.alloc(), &accepted)
-}
-
-/// The action that each agent never ends, or 0; how many each still ends; and how many agents are stopped.
-type Break = ([u32; 2], [u32; 2], u16);
-
-/// Agent 1 awaits both actions of agent 0, and agent 0 none of agent 1.
-const BREAKS: [Break; 4] = [
-    ([0, 0], [2, 2], 0),
-    ([2, 0], [1, 1], 2),
-    ([1, 0], [0, 0], 2),
-    ([0, 2], [2, 1], 1),
-];
-
-fn due_break<P: ProgramView>(
-    rt: &impl Abort,
-    alloc: Global,
-    accepted: &Accepted<'_, P>,
-    row: &Break,
-) -> Result<(), Fail> {
-    let (breaks, due, stopped) = *row;
-    let counts = reached_counts(alloc, accepted, &breaks)?;
-    due_numbers(rt, &counts, &due);
-    assert!(*rt; stopped_agents(accepted.program(), &counts) == stopped);
-    Ok(())
-}
-
-fn due_breaks<P: ProgramView>(
+/// Agent 0 never ends its second action, and so agent 1 does not end its own.
+fn due_stopped<P: ProgramView>(
     rt: &impl Abort,
     alloc: Global,
     accepted: &Accepted<'_, P>,
 ) -> Result<(), Fail> {
-    for row in &BREAKS {
-        due_break(rt, alloc, accepted, row)?;
-    }
+    let counts = reached_counts(alloc, accepted, &[2, 0])?;
+    due_numbers(rt, &counts, &[1, 1]);
+    assert!(*rt; stopped_agents(accepted.program(), &counts) == 2);
     Ok(())
 }
 
+/// What is kept of the pair with its program, its times, and whom a broken robot stops.
+fn due_accepted<P: ProgramView>(
+    rt: &impl Abort,
+    alloc: Global,
+    accepted: &Accepted<'_, P>,
+) -> Result<(), Fail>
+    requires { length (P.program accepted.now.program) ≡ 2 }
+{
+    assert!(*rt; accepted.chain() == 3 && accepted.program().agents() == 2);
+    assert!(*rt; accepted.grid().width() == 4 && accepted.instance().agents() == 2);
+    due_times(rt, alloc, accepted)?;
+    due_stopped(rt, alloc, accepted)
+}
+
 #[test]
-fn broken_robots_stop_others(rt: HostRuntime) -> Result<(), Fail> {
+fn programs_are_accepted(rt: HostRuntime) -> Result<(), Fail> {
     let (grid, instance, program) = pair(rt.alloc())?;
     let accepted = accepted_pair(rt.alloc(), program, &grid, &instance)?;
-    due_breaks(&rt, rt.alloc(), &accepted)
+    due_accepted(&rt, rt.alloc(), &accepted)
 }

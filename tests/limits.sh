@@ -48,6 +48,11 @@ check 'a path of 65,536 cells' 0 'conflict-free\nagents 1\nsteps 65535\n' '' \
 check '1,000 lines of holds' 0 'agents 2\nticks 1003\nchain 3\nheld 1000\n' '' "yes '0 1' | head -n 1000 > thousand && fleet run $M $S $B --holds thousand | tail -n 4"
 check '4,194,304 lines of holds' 0 'agents 2\nticks 4194307\nchain 3\nheld 4194304\n' '' \
     "yes 0 | head -n 4194304 > many && fleet run $M $S $B --holds many | tail -n 4"
+# One agent that goes one step east, held in as many ticks as a run takes from its source, and in one more.
+check 'one agent held in 4,194,304 ticks' 0 'agents 1\nticks 4194305\nchain 1\nheld 4194304\n' '' \
+    "printf 'type t\nheight 1\nwidth 2\nmap\n..\n' > step.map && printf 'version 1\n0 m 2 1 0 0 1 0 1\n' > step.scen && bytes 4D504631 0001 0000 0000 0001 0000 0001 01 > step &&
+    fleet run step.map step.scen step --holds many | tail -n 4"
+check '.. and in one more' 1 '4194304: 0,0\n' 'run 5 HoldLimit\n' 'echo 0 >> many; fleet run step.map step.scen step --holds many > trace; status=$?; tail -n 1 trace; exit $status'
 moves='BEGIN { m = "00"; while (length(m) < 131072) m = m m; print "4D504631 0041"; for (i = 0; i < 64; i++) print "0000000000000000 FFFF" substr(m, 3); print last }'
 check '4,194,304 moves' 0 'agents 65\nticks 65535\nheld 0\nfinished\n' '' \
     "awk -v last=\"0000000000000000 0040 \$(awk 'BEGIN { while (n++ < 64) printf \"00\" }')\" '$moves' | fleet | tail -n 4"

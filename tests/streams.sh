@@ -160,6 +160,19 @@ done
 echo $bytes:$heard
 EOF
 
+# told_cut WAY COMMAND..: how many lines are told then, and how often that came in a row.
+script told_cut <<'EOF'
+#!/bin/sh
+WAY=$1
+export WAY
+shift
+bytes=$(wc -c < "$input") rest=0
+while [ "$rest" -le "$bytes" ]; do
+    env REST="$rest" LD_PRELOAD="$STREAMS" "$@" 2> told < "$input" | wc -l
+    rest=$((rest + 1))
+done | uniq -c | awk '{ print $1, $2 }'
+EOF
+
 # files_cut WAY VARIABLE COMMAND..: the files that the program opens give (GIVES) or take (TAKES) 0 bytes, or standard
 # output takes so many (ROOM), or the files are put on the disk 0 times (SYNCS), or once more each time until it is done,
 # at most 1,000 times, and then fail in this way. Prints each status and line, and how often they came in a row.
@@ -251,6 +264,7 @@ EOF
     for way in 4 5 11; do
         check "standard input is cut ($way): no words" 0 "$bytes:\n" '' "input=examples/pair.hex input_cut $way fleet"
         check "standard input is cut ($way): dispatch" 0 '16: 16\n' '' "input=lines input_cut $way fleet dispatch $pair"
+        check "standard input is cut ($way): the orders until then" 0 '4 1\n8 3\n4 4\n1 8\n' '' "input=lines told_cut $way fleet dispatch $pair"
     done
 
     # Each file is read to its end, which is seen once there is a byte left to give.

@@ -158,14 +158,14 @@ pair|1|version 1|scen 11 Fewer
 EOF
 
 # fronts FILE COMMAND..: runs a command on each front of the file, from none to all of its bytes. Prints how many agents
-# it counts, or its refusal, and how often that came in a row.
+# or bytes it counts, or its refusal, and how often that came in a row.
 script fronts <<'EOF'
 #!/bin/sh
 file=$1 len=0 all=$(wc -c < "$1")
 shift
 while [ "$len" -le "$all" ]; do
     head -c "$len" "$file" > front
-    if "$@" > got 2> told; then grep agents got; else cat told; fi
+    if "$@" > got 2> told; then grep -E '^(agents|bytes) ' got; else cat told; fi
     len=$((len + 1))
 done | uniq -c | sed 's/^ *//'
 EOF
@@ -174,6 +174,7 @@ check 'each front of a map' 0 '6 map 2 Header line 1\n14 map 2 Header line 2\n8 
 check 'each front of a scenario' 0 '9 scen 2 Version\n2 scen 9 NoAgents\n23 scen 3 Fields line 2\n11 agents 1\n23 scen 3 Fields line 3\n11 agents 2\n' '' \
     'fronts pair.scen fleet instance pair.map front'
 check 'each front of a program' 0 '40 load 3 Truncated\n1 agents 2\n' '' 'fronts pair.program fleet rehearse front'
+check '.. which is loaded' 0 '40 load 3 Truncated\n1 bytes 48\n' '' 'fronts pair.program fleet migrate front out'
 
 # Plans: those that are read are that of the pair.
 while IFS='|' read -r text due; do
@@ -252,6 +253,7 @@ done <<'EOF'
 4D504631000200010000000300000002010100000000000200000002100002000101100000000201|load 7 AwaitAgent at 28
 4D504631000200010000000300000002010100000000000200000002100000000001100000000201|load 9 AwaitCount at 28
 4D504631000200010000000300000002010100000000000200000002100000000105100000000201|load 6 Opcode at 33
+4D504631000200010000000300000002010100000000000200000002100000000101100000000101|agents 2 moves 4 awaits 2
 4D504631000200010000000300000002010100000000000200000002100000000101100000000301|agents 2 moves 4 awaits 2
 4D504631000200010000000300000002010300000000000200000002100000000101100000000201|agents 2 moves 4 awaits 2
 4D 51|load 2 Magic
@@ -290,6 +292,7 @@ while IFS='|' read -r text due; do
 done <<'EOF'
 4D5 \n|hex 3 Odd
 f|hex 3 Odd
+4G|hex 2 Digit at 1
  0 0 0|hex 3 Odd
 4D5g|hex 2 Digit at 3
 4D5G|hex 2 Digit at 3

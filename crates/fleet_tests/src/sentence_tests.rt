@@ -25,10 +25,9 @@ fn put_all<F: Display>(text: &mut String, faults: &[F]) -> Result<(), AllocError
 }
 
 /// .. of all faults of maps, scenarios and plans.
-fn text_sentences(alloc: Global) -> Result<String, AllocError> {
-    let mut text = String::new(alloc);
+fn put_text_faults(text: &mut String) -> Result<(), AllocError> {
     put_all(
-        &mut text,
+        text,
         &[
             MapFault::OutOfMemory,
             MapFault::Header { line: 1 },
@@ -40,7 +39,7 @@ fn text_sentences(alloc: Global) -> Result<String, AllocError> {
         ],
     )?;
     put_all(
-        &mut text,
+        text,
         &[
             ScenFault::OutOfMemory,
             ScenFault::Version,
@@ -56,22 +55,20 @@ fn text_sentences(alloc: Global) -> Result<String, AllocError> {
         ],
     )?;
     put_all(
-        &mut text,
+        text,
         &[
             TextFault::OutOfMemory,
             TextFault::Form { line: 1 },
             TextFault::Length { line: 2 },
             TextFault::AgentCount,
         ],
-    )?;
-    Ok(text)
+    )
 }
 
 /// .. of programs.
-fn program_sentences(alloc: Global) -> Result<String, AllocError> {
-    let mut text = String::new(alloc);
+fn put_program_faults(text: &mut String) -> Result<(), AllocError> {
     put_all(
-        &mut text,
+        text,
         &[
             LoadFault::OutOfMemory,
             LoadFault::Magic,
@@ -86,7 +83,7 @@ fn program_sentences(alloc: Global) -> Result<String, AllocError> {
         ],
     )?;
     put_all(
-        &mut text,
+        text,
         &[
             HexFault::OutOfMemory,
             HexFault::Digit { at: 4 },
@@ -94,21 +91,19 @@ fn program_sentences(alloc: Global) -> Result<String, AllocError> {
         ],
     )?;
     put_all(
-        &mut text,
+        text,
         &[
             EncodeFault::OutOfMemory,
             EncodeFault::TooLong,
             EncodeFault::Dwell,
         ],
-    )?;
-    Ok(text)
+    )
 }
 
 /// .. of plans, and of what is made of them.
-fn plan_sentences(alloc: Global) -> Result<String, AllocError> {
-    let mut text = String::new(alloc);
+fn put_plan_faults(text: &mut String) -> Result<(), AllocError> {
     put_all(
-        &mut text,
+        text,
         &[
             PlanFault::OutOfMemory,
             PlanFault::Agents,
@@ -119,7 +114,7 @@ fn plan_sentences(alloc: Global) -> Result<String, AllocError> {
         ],
     )?;
     put_all(
-        &mut text,
+        text,
         &[
             Conflict::Vertex {
                 time: 9,
@@ -133,24 +128,19 @@ fn plan_sentences(alloc: Global) -> Result<String, AllocError> {
             },
         ],
     )?;
-    put_all(&mut text, &[SearchFault::OutOfMemory, SearchFault::NoPath])?;
+    put_all(text, &[SearchFault::OutOfMemory, SearchFault::NoPath])?;
     put_all(
-        &mut text,
+        text,
         &[PlanStop::OutOfMemory, PlanStop::NoPath { agent: 1 }],
     )?;
-    put_all(
-        &mut text,
-        &[CompileFault::OutOfMemory, CompileFault::TooLong],
-    )?;
-    put_all(&mut text, &[ThinFault::OutOfMemory])?;
-    Ok(text)
+    put_all(text, &[CompileFault::OutOfMemory, CompileFault::TooLong])?;
+    put_all(text, &[ThinFault::OutOfMemory])
 }
 
 /// .. of programs that are not accepted.
-fn verify_sentences(alloc: Global) -> Result<String, AllocError> {
-    let mut text = String::new(alloc);
+fn put_verify_faults(alloc: Global, text: &mut String) -> Result<(), AllocError> {
     put_all(
-        &mut text,
+        text,
         &[
             VerifyFault::OutOfMemory,
             VerifyFault::OtherFleet,
@@ -177,16 +167,14 @@ fn verify_sentences(alloc: Global) -> Result<String, AllocError> {
                 },
             },
         ],
-    )?;
-    Ok(text)
+    )
 }
 
 /// .. of runs and of files.
-fn run_sentences(alloc: Global) -> Result<String, AllocError> {
-    let mut text = String::new(alloc);
-    put_all(&mut text, &[OutOfMemory])?;
+fn put_run_faults(text: &mut String) -> Result<(), AllocError> {
+    put_all(text, &[OutOfMemory])?;
     put_all(
-        &mut text,
+        text,
         &[
             RunFault::OutOfMemory,
             RunFault::Source { tick: 1 },
@@ -196,7 +184,7 @@ fn run_sentences(alloc: Global) -> Result<String, AllocError> {
         ],
     )?;
     put_all(
-        &mut text,
+        text,
         &[
             AutoFault::OutOfMemory,
             AutoFault::Map(MapFault::Size),
@@ -206,15 +194,13 @@ fn run_sentences(alloc: Global) -> Result<String, AllocError> {
             AutoFault::Run(RunFault::Write),
         ],
     )?;
-    put_all(&mut text, &[FileFault::OutOfMemory, FileFault::Failed])?;
-    Ok(text)
+    put_all(text, &[FileFault::OutOfMemory, FileFault::Failed])
 }
 
 /// .. of dispatches, of times and of rests.
-fn dispatch_sentences(alloc: Global) -> Result<String, AllocError> {
-    let mut text = String::new(alloc);
+fn put_dispatch_faults(text: &mut String) -> Result<(), AllocError> {
     put_all(
-        &mut text,
+        text,
         &[
             DispatchFault::OutOfMemory,
             DispatchFault::Form { line: 1 },
@@ -229,19 +215,27 @@ fn dispatch_sentences(alloc: Global) -> Result<String, AllocError> {
         ],
     )?;
     put_all(
-        &mut text,
+        text,
         &[
             TimesFault::OutOfMemory,
             TimesFault::Broken,
             TimesFault::Cost { line: 1 },
             TimesFault::Dead,
         ],
-    )?;
-    Ok(text)
+    )
 }
 
-/// What is said of faults in texts.
-const TEXT_SENTENCES: &[u8] = b"out of memory
+/// .. of all of these.
+fn put_faults(alloc: Global, text: &mut String) -> Result<(), AllocError> {
+    put_text_faults(text)?;
+    put_program_faults(text)?;
+    put_plan_faults(text)?;
+    put_verify_faults(alloc, text)?;
+    put_run_faults(text)?;
+    put_dispatch_faults(text)
+}
+
+const SENTENCES: &[u8] = b"out of memory
 line 1 of the header is missing or has another form
 a side of the map is 0 or above 4096
 there are fewer rows than the header says
@@ -263,10 +257,7 @@ out of memory
 line 1 is no list of cells
 line 2 has more than 65536 cells
 there are not 1 to 1024 agents
-";
-
-/// What is said of faults in program bytes.
-const PROGRAM_SENTENCES: &[u8] = b"out of memory
+out of memory
 the bytes begin neither with MPF1 nor with MPF2
 the bytes end within the program
 the number of agents is 0 or above 1024
@@ -282,10 +273,7 @@ the last digit has no partner
 out of memory
 an agent has more than 65535 actions, or the count of an await is above 65535
 an action of the program stays on its cell
-";
-
-/// What is said of faults in plans.
-const PLAN_SENTENCES: &[u8] = b"out of memory
+out of memory
 the plan has another number of agents than the instance
 agent 1 does not begin on its start
 agent 2 does not end on its goal
@@ -300,10 +288,7 @@ no path of agent 1 arrives by the horizon, past those of the agents before it
 out of memory
 an agent has more than 1000000 actions, or the agents have more than 4194304 together
 out of memory
-";
-
-/// What is said of programs that are not accepted.
-const VERIFY_SENTENCES: &[u8] = b"out of memory
+out of memory
 the program and the instance have different numbers of agents
 agent 1 does not begin on its start
 agent 2 does not end on its goal
@@ -311,10 +296,7 @@ action 4 of agent 3 leads off the passable cells
 action 6 of agent 5 awaits more actions than there are
 some actions need each other
 a visit of a cell does not wait for the one before to be left
-";
-
-/// What is said of runs and of files.
-const RUN_SENTENCES: &[u8] = b"out of memory
+out of memory
 out of memory
 the holds broke off at tick 1
 line 2 of the holds is no tick
@@ -328,10 +310,7 @@ the program: an agent has more than 1000000 actions, or the agents have more tha
 the run: the text cannot be written
 out of memory
 the file cannot be read or written
-";
-
-/// What is said of dispatches, of times and of rests.
-const DISPATCH_SENTENCES: &[u8] = b"out of memory
+out of memory
 line 1 is no report
 line 2 reports an action of agent 3 that is not ordered
 the reports ended before line 4, and actions are left
@@ -349,16 +328,8 @@ what is dead is no agent and its cells
 
 #[test]
 fn faults_have_sentences(rt: HostRuntime) -> Result<(), Fail> {
-    let alloc = rt.alloc();
-    due_bytes(&rt, text_sentences(alloc)?.as_bytes(), TEXT_SENTENCES);
-    due_bytes(&rt, program_sentences(alloc)?.as_bytes(), PROGRAM_SENTENCES);
-    due_bytes(&rt, plan_sentences(alloc)?.as_bytes(), PLAN_SENTENCES);
-    due_bytes(&rt, verify_sentences(alloc)?.as_bytes(), VERIFY_SENTENCES);
-    due_bytes(&rt, run_sentences(alloc)?.as_bytes(), RUN_SENTENCES);
-    due_bytes(
-        &rt,
-        dispatch_sentences(alloc)?.as_bytes(),
-        DISPATCH_SENTENCES,
-    );
+    let mut text = String::new(rt.alloc());
+    put_faults(rt.alloc(), &mut text)?;
+    due_bytes(&rt, text.as_bytes(), SENTENCES);
     Ok(())
 }

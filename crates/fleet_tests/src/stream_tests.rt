@@ -124,15 +124,15 @@ fn writer(alloc: Global, room: usize, flushes: usize, failing: Option<ErrorKind>
     }
 }
 
-/// Of the pair's trace so many bytes are taken, and it is a fault if that is not all.
-fn due_front(rt: &impl Abort, room: usize, taken: &[u8], fault: Option<RunFault>) {
-    let due = if room < PAIR_TRACE.len() {
+/// Of a text so many bytes are taken, and it is a fault if that is not all.
+fn due_front(rt: &impl Abort, room: usize, text: &[u8], taken: &[u8], fault: Option<RunFault>) {
+    let due = if room < text.len() {
         Some(RunFault::Write)
     } else {
         None
     };
     assert!(*rt; fault == due, "{room}");
-    due_bytes(rt, taken, PAIR_TRACE.get(..room).unwrap_or(b"none"));
+    due_bytes(rt, taken, text.get(..room).unwrap_or(b"none"));
 }
 
 /// What a run of the pair wrote to an output that fails so after so many bytes, and how it went on.
@@ -153,7 +153,7 @@ fn runs_go_on_after_a_failed_output(rt: HostRuntime) -> Result<(), Fail> {
     for failing in WAYS {
         for room in 0..=PAIR_TRACE.len() {
             let (output, (fault, columns, is_there)) = cut_run(rt.alloc(), room, failing)?;
-            due_front(&rt, room, &output.bytes, fault);
+            due_front(&rt, room, PAIR_TRACE, &output.bytes, fault);
             let due = COLUMNS.get(room / LINE).copied().unwrap_or([3, 2]);
             assert!(rt; columns == due && is_there, "{room}");
         }

@@ -19,8 +19,8 @@ use std::test::Fail;
 /// One row with each glyph, in lines that end in CR LF, the last one in nothing.
 const GLYPHS: &[u8] = b"type octile\r\nheight 1\r\nwidth 7\r\nmap\r\n.G@OTSW";
 
-/// The row's cells, and those beyond it: ground is at 0, 1 and 5.
-fn due_ground(rt: &impl Abort, grid: &Grid) {
+/// The row's cells, and those beyond it: ground is at 0, 1 and 5. The second cell has a neighbour in the west alone.
+fn due_cells(rt: &impl Abort, grid: &Grid) {
     assert!(*rt; grid.width() == 7 && grid.height() == 1 && grid.ground() == 3);
     for x in 0..9 {
         let is_due = x == 0 || x == 1 || x == 5;
@@ -30,10 +30,6 @@ fn due_ground(rt: &impl Abort, grid: &Grid) {
             "{x}"
         );
     }
-}
-
-/// The second cell has a neighbour in the west alone.
-fn due_neighbours(rt: &impl Abort, grid: &Grid) {
     let second = Cell { x: 1, y: 0 };
     assert!(*rt; matches!(grid.neighbour(second, Dir::West), Some(Cell { x: 0, y: 0 })));
     for dir in [Dir::North, Dir::East, Dir::South] {
@@ -46,8 +42,7 @@ fn maps_are_read(rt: HostRuntime) -> Result<(), Fail> {
     let fault = read_map(rt.alloc(), b"type t\nheight 2\nwidth 3\nmap\n...\n.x.\n").err();
     assert!(rt; matches!(fault, Some(MapFault::Glyph { row: 1, column: 1 })));
     let grid: Grid = read_map(rt.alloc(), GLYPHS)?;
-    due_ground(&rt, &grid);
-    due_neighbours(&rt, &grid);
+    due_cells(&rt, &grid);
     Ok(())
 }
 
@@ -58,20 +53,17 @@ fn goes(instance: &Instance, agent: u16, from: u16, to: u16) -> bool {
         && instance.goal(agent) == Cell { x: to, y: 0 }
 }
 
-/// The pair's agents, all of them, one or three.
-fn due_agents(rt: &impl Abort, alloc: Global, grid: &Grid) -> Result<(), Fail> {
-    let fault = read_scen(alloc, PAIR_SCEN, grid, Some(3)).err();
-    assert!(*rt; matches!(fault, Some(ScenFault::Fewer)));
-    assert!(*rt; read_scen(alloc, PAIR_SCEN, grid, Some(1))?.agents() == 1);
-    let pair: Instance = read_scen(alloc, PAIR_SCEN, grid, None)?;
-    assert!(*rt; pair.agents() == 2 && goes(&pair, 0, 1, 3) && goes(&pair, 1, 0, 2));
-    Ok(())
-}
-
+/// The pair's agents, three of them, one or all.
 #[test]
 fn scenarios_are_read(rt: HostRuntime) -> Result<(), Fail> {
-    let grid = read_map(rt.alloc(), PAIR_MAP)?;
-    due_agents(&rt, rt.alloc(), &grid)
+    let alloc = rt.alloc();
+    let grid = read_map(alloc, PAIR_MAP)?;
+    let fault = read_scen(alloc, PAIR_SCEN, &grid, Some(3)).err();
+    assert!(rt; matches!(fault, Some(ScenFault::Fewer)));
+    assert!(rt; read_scen(alloc, PAIR_SCEN, &grid, Some(1))?.agents() == 1);
+    let pair: Instance = read_scen(alloc, PAIR_SCEN, &grid, None)?;
+    assert!(rt; pair.agents() == 2 && goes(&pair, 0, 1, 3) && goes(&pair, 1, 0, 2));
+    Ok(())
 }
 
 /// The row without its second cell.

@@ -4,7 +4,7 @@
 //! `call_tests` has calls of which a growth is refused, and a train of 128 agents; `path_tests` earliest paths past
 //! reserved ones; `changed_tests` how many texts are read, and refused with each number, that differ in one byte from
 //! the pair's; `sentence_tests` the sentences of faults; `stream_tests` runs and dispatches whose ends fail, which
-//! `streams` has, and that fleets go on after that. `fleets` has their worked fleets, and has them accepted and started.
+//! `streams` has, and that fleets go on then. `fleets` has their worked fleets, and has them accepted and started.
 //!
 //! The other modules call the library as users do: each name of `tests/names.txt`, which is what they are promised, is
 //! imported from the crate that the list names, and each call is made once at concrete types, with ample memory,

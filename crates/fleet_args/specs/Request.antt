@@ -27,9 +27,9 @@ abbrev pub command_and_rest : List Text → Option ((Text × List (Text × Form)
 command_and_rest [] = None
 command_and_rest (word ∷ rest) = option_map (λ c. (c, rest)) (find (λ c. bytes_eq c.0 word) commands)
 
--- the answer is the request that the words ask of the command with whose name they begin, whatever texts hold the names
--- that options take; or a stop for words that this command does not take, or, by the whole command line, that begin with
--- the name of none
+-- the answer is the request that the words ask of the command with whose name they begin, whatever texts hold the
+-- names that options take; or a stop for words that this command does not take, or, by the whole command line, that
+-- begin with the name of none
 abbrev pub ReadsFleet : List Text → Result Request WordStop → Type 0
 ReadsFleet words result = (names : OptionNames) × AreNames names
     × MatchOption (command_and_rest words) (Parses (fleet names) words (λ rows request. ⊥) result)

@@ -3,7 +3,7 @@
 ghost use Rattle.std.specs.Prelude.{◌≡◌, true, find, map, option_map, string_bytes, IfOk};
 ghost use Rattle.std.specs.Str.{bytes_eq};
 ghost use Rattle.clap.specs.Words.{App, app_of, is_simple_and_free, kind_of};
-ghost use Rattle.fleet_args.specs.Commands.{commands, fleet, with_commands};
+ghost use Rattle.fleet_args.specs.Commands.{fleet, with_commands};
 ghost use Rattle.fleet_args.specs.Request.{IsStopOf, Parses, ReadsFleet, command_and_rest};
 ghost use Rattle.fleet_args.specs.{Arguments.own, Arguments.said, Values.AreNames, Values.rows_in};
 

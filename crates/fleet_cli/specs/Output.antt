@@ -8,8 +8,8 @@ use Rattle.fleet_cli.specs.declared.fault.Fault.TheVariants as f
 use Rattle.std.specs.Borrow.{Bor}
 use Rattle.fleet_dispatch.specs.{Talk.Talk, declared.form.ReportForm.ReportForm}
 
--- the command is done with this status, and nothing was reported; or its refusal was reported, whose line the sink took,
--- or failed within it, and the refusal's status is answered
+-- the command is done with this status, and nothing was reported; or its refusal was reported, whose line the sink
+-- took, or failed within it, and the refusal's status is answered
 abbrev pub Finishes : Result ℕ Fault → (err err' : SinkState) → ℕ → Type 0
 Finishes (Ok done) err err' status = (status ≡ done) × IsUnwritten err err'
 Finishes (Err fault) err err' status = Receives err err' (refusal_line fault) × (status ≡ status_of fault)

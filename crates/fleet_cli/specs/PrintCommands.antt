@@ -95,8 +95,8 @@ ReportsRefused p fault out out' (f.File name) =
     × (text : List ℕ) × SpellsBreakingHolds p first second text × FailsAfter out out' text
 ReportsRefused p fault out out' _ = ⊥
 
--- what `verify` answers: `accepted`, then the agents, the moves, the awaits and the longest chain, each with its number;
--- or the bytes are refused, or the program that they spell, which is reported
+-- what `verify` answers: `accepted`, then the agents, the moves, the awaits and the longest chain, each with its
+-- number; or the bytes are refused, or the program that they spell, which is reported
 abbrev pub AnswersVerify : Problem → (out out' : SinkState) → Result ℕ Fault → Type 0
 AnswersVerify problem out out' result =
     AcceptsProgram problem

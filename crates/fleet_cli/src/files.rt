@@ -188,8 +188,8 @@ impl<'r, R: rt::Files> Files for Disk<'r, R> {
         Ok(true)
     }
 
-    /// What is put behind a file is on the disk when it is answered. A file that is not there is refused: a log that was
-    /// moved away while a dispatch runs would go on without its front.
+    /// What is put behind a file is on the disk when it is answered. A file that is not there is refused: a log that
+    /// was moved away while a dispatch runs would go on without its front.
     fn append(&mut self, name: &str, bytes: &[u8]) -> Result<(), FileFault> {
         let mut file = open_to_append(self.runtime, name, false)?;
         put_all(&mut WriteOut::new(&mut file), bytes).or(Err(FileFault::Failed))?;

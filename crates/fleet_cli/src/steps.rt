@@ -106,8 +106,8 @@ pub(crate) struct MadeBytes {
     pub(crate) numbers: PlanNumbers,
 }
 
-/// The bytes that spell the program of the plan that is made for the map and the instance, in version 1, and the numbers
-/// of the plan.
+/// The bytes that spell the program of the plan that is made for the map and the instance, in version 1, and the
+/// numbers of the plan.
 pub(crate) fn made_bytes<'a>(
     alloc: Global,
     grid: &Grid,

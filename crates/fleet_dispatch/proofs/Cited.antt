@@ -34,7 +34,7 @@ unfoldable pub use Rattle.fleet_dispatch.specs.Costs.{cost_line_in}
 pub use Rattle.fleet_dispatch.specs.Dispatch.{AreTaken, Course, counts_by, reports_in, Left, AreHeard, told_by, counts_now, Dispatches, configuration_at, taken_by, turns_of, MayBeTaken, said_before, said_by, taken_now, left_by, StopsAtLine, IsCut, log_turns}
 unfoldable pub use Rattle.fleet_dispatch.specs.Dispatch.{talk_before}
 pub use Rattle.fleet_dispatch.specs.Hearing.{EndsLine, HearsLine}
-pub use Rattle.fleet_dispatch.specs.Lead.{none_done, counts_at, LeadsWell, movers, movers_by, holds_by, IsRun, is_told_by, is_done_by, may_begin_by, first_time, NeverFalls, IsSafelyLed, OrdersAtOnce, MayBeOnOrder, Arrive, is_news, news_by, Rises, is_ordered_at, agent_orders_at, IsToldAt, TellsWhatIsOrdered, resumed, SaysAlike}
+pub use Rattle.fleet_dispatch.specs.Lead.{none_done, counts_at, LeadsWell, movers, movers_by, holds_by, IsRun, is_told_by, is_done_by, may_begin_by, first_time, NeverFalls, IsSafelyLed, OrdersAtOnce, LeadsInTime, MayBeOnOrder, Arrive, is_news, news_by, Rises, is_ordered_at, agent_orders_at, IsToldAt, TellsWhatIsOrdered, resumed, SaysAlike}
 unfoldable pub use Rattle.fleet_dispatch.specs.Lead.{dispatch_of, orders_at, orders_in_run, schedule_of}
 pub use Rattle.fleet_dispatch.specs.Orders.{agent_orders, order_text, name_text}
 unfoldable pub use Rattle.fleet_dispatch.specs.Orders.{new_orders, order_line, closing}
@@ -78,7 +78,7 @@ pub use Rattle.fleet_model.proofs.Chains.{bound_below}
 pub use Rattle.fleet_model.proofs.Tick.{length-run, fails_at, standing_at_tick, standing_at_opening, some_passes, free_moves, other_stays, unready_waits}
 pub use Rattle.fleet_model.specs.Accepted.{IsAcceptedBy}
 pub use Rattle.fleet_model.specs.Chain.{IsAction, DirectlyNeeds, awaited}
-pub use Rattle.fleet_model.specs.Dispatch.{Dispatch, IsCarriedOut, OrdersAwait}
+pub use Rattle.fleet_model.specs.Dispatch.{Dispatch, IsCarriedOut, IsPrompt, OrdersAwait}
 pub use Rattle.fleet_model.specs.Geometry.{stepped, place_of}
 pub use Rattle.fleet_model.specs.Machine.{indices, Configuration, standing_at, count_at, is_ready, Holds, is_among, is_held, run, is_finished, tick, opening, IsReached}
 pub use Rattle.fleet_model.specs.Program.{Program, path, moves, awaits_of, total_moves, step_of, actions_of, IsWellFormed, AreInRange, origin}
@@ -107,7 +107,7 @@ pub use Rattle.fleet_verify.proofs.Claimed.{reports_hold}
 pub use Rattle.fleet_verify.proofs.CriticalPaths.{never_stuck}
 pub use Rattle.fleet_verify.proofs.Paths.{in_reach, step_from, path_step}
 pub use Rattle.fleet_verify.proofs.RunCounts.{count_opening, count_past, run_place, agents_held, start_reached, tick_reached, sum_rises, sum_of_moves}
-pub use Rattle.fleet_verify.proofs.Timed.{no_two_on, ahead_schedule}
+pub use Rattle.fleet_verify.proofs.Timed.{no_two_on, ahead_schedule, ahead_in_time}
 pub use Rattle.fleet_verify.proofs.UnderWay.{on_path}
 pub use Rattle.fleet_verify.proofs.Waiting.{IsReadyTo, ready_says, ready_from, step}
 pub use borrow.Rule.Slice.PartMut.{put_mid, post_of}

@@ -1,5 +1,5 @@
 -- Robots that are led by the orders and reports of a dispatch.
-use Rattle.fleet_dispatch.proofs.Cited.{◌≡◌, ℕ, zero, suc, ◌+◌, ◌-◌, ◌<◌, ◌≤◌, ◌⊎◌, Bool, true, false, List, [], ◌∷◌, length, get_or, take, replicate, Option, Some, None, refl, ap, sym, ◌∙◌, subst, arith, inl, inr, add-one, add-zero, le-leb, leb-true, lt-ltb, option_map, IsTrue, nat_le, position, position_or_len, cases_lt, and_parts, same_Some, take_more, get_or-replicate, length-replicate, get_or_past, length-range_with_len, get_or-range_with_len, position-Some, fails_before_first, Place, ActionId, Task, ComesAfterByChain, IsAcceptedBy, Program, moves, AreInRange, indices, IsAction, DirectlyNeeds, awaited, Schedule, IsBy, IsSchedule, OrdersAwait, IsCarriedOut, no_two_on, ahead_schedule, Reported, Words, Counts, count_of, counts_after, told_to, AreDone, MayBeTold, counts_by, MayBeTaken, AreTaken, none_done, counts_at, is_told_by, is_done_by, may_begin_by, first_time, dispatch_of, schedule_of, NeverFalls, IsSafelyLed, OrdersAtOnce}
+use Rattle.fleet_dispatch.proofs.Cited.{◌≡◌, ℕ, zero, suc, ◌+◌, ◌-◌, ◌<◌, ◌≤◌, ◌⊎◌, Bool, true, false, List, [], ◌∷◌, length, get_or, take, replicate, Option, Some, None, refl, ap, sym, ◌∙◌, subst, arith, inl, inr, add-one, add-zero, le-leb, leb-true, lt-ltb, option_map, IsTrue, nat_le, position, position_or_len, cases_lt, and_parts, same_Some, take_more, get_or-replicate, length-replicate, get_or_past, length-range_with_len, get_or-range_with_len, position-Some, fails_before_first, Place, ActionId, Task, ComesAfterByChain, IsAcceptedBy, Program, moves, AreInRange, indices, IsAction, DirectlyNeeds, awaited, Schedule, IsBy, IsSchedule, OrdersAwait, IsCarriedOut, IsPrompt, no_two_on, ahead_schedule, ahead_in_time, Reported, Words, Counts, count_of, counts_after, told_to, AreDone, MayBeTold, counts_by, MayBeTaken, AreTaken, none_done, counts_at, is_told_by, is_done_by, may_begin_by, first_time, dispatch_of, schedule_of, NeverFalls, IsSafelyLed, OrdersAtOnce, LeadsInTime}
 use Rattle.fleet_dispatch.proofs.Telling.{told_may, told_cannot}
 use Rattle.fleet_dispatch.proofs.Reports.{counts_more}
 use Rattle.fleet_dispatch.proofs.Words.{length_after, after_grows, after_bounded}
@@ -249,3 +249,16 @@ carried_out p clock k reports never_falls taken = obeyed p k reports taken clock
 pub ordered_at_once : (p : Program) → AreInRange p → (clock : ℕ → ℕ) (k : ℕ) (reports : List Words) → 1 ≤ k → NeverFalls clock → AreTaken p k (none_done p) reports
     → OrdersAtOnce p (dispatch_of clock p k reports) (clock 0)
 ordered_at_once p in_range clock k reports some never_falls taken = at_once p k reports taken clock never_falls in_range some
+
+-- ---- they end in time
+
+pub led_in_time : (p : Program) → AreInRange p → (clock : ℕ → ℕ) (k : ℕ) (reports : List Words) → NeverFalls clock → AreTaken p k (none_done p) reports → clock 0 ≡ 0 → 1 ≤ k
+    → LeadsInTime p (dispatch_of clock p k reports)
+led_in_time p in_range clock k reports never_falls taken begins some s stalls report_lag takes timely a t act goes ended =
+    let d = dispatch_of clock p k reports in
+    let prompt : IsPrompt p d s stalls report_lag 0 takes = record {
+      timely = timely;
+      orders = λ b x is _ needs. (let order = ordered_at_once p in_range clock k reports some never_falls taken b x is (omega (arith, begins)) needs in (order.0, order.1, omega (arith, order.2)));
+    } in
+    let end = ahead_in_time p in_range d s stalls report_lag 0 takes prompt a t act goes ended in
+    (end.0, end.1, omega (arith, end.2))

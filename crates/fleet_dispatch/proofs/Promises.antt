@@ -2,7 +2,7 @@
 use Rattle.fleet_dispatch.proofs.Cited.{◌≡◌, ◌≢◌, ℕ, zero, suc, ◌+◌, ◌-◌, ◌<◌, ◌≤◌, ◌++◌, Bool, true, false, cond, List, [], ◌∷◌, length, get_or, sum_by, Option, Some, None, All, refl, ap, sym, ◌∙◌, subst, arith, inl, inr, add-zero, le-leb, leb-true, leb-false, ltb-true, eq-eqb, take_all, IsTrue, nat_le, nat_lt, ◌==◌, if◌then◌else◌, option_map_or, cases_lt, cases_eq, ne_eqb, get_or_past, length-range_with_len, get_or-range_with_len, get_or-map-range_with_len, Any-from_list_any, sum_by-le-sum_by, AllPass-from_list_all, Place, ActionId, Standing, Task, place_of, ComesAfterByChain, IsAcceptedBy, Program, origin, moves, total_moves, path, indices, IsAction, Schedule, IsBy, MayBeOnAt, IsCarriedOut, fails_at, never_stuck, sum_rises, sum_of_moves, Reported, Words, Counts, count_of, said_of, raised, counts_after, Line, words_in, told_to, told_at, is_all_done, new_orders, AreDone, Course, counts_by, told_by, taken_by, reports_in, counts_now, AreTaken, AreHeard, none_done, counts_at, dispatch_of, MayBeOnOrder, Arrive, is_news, news_by, LeadsWell, resumed, SaysAlike}
 use Rattle.fleet_dispatch.proofs.Telling.{told_cannot}
 use Rattle.fleet_dispatch.proofs.Words.{length_after, length_raised, raised_here, raised_grows, after_grows}
-use Rattle.fleet_dispatch.proofs.Leading.{told_low, within, may_told, met_later, told_needs, grows, long, grown, due_told, told_by_time, report_is, safely_led}
+use Rattle.fleet_dispatch.proofs.Leading.{told_low, within, may_told, met_later, told_needs, grows, long, grown, due_told, told_by_time, report_is, safely_led, led_in_time}
 
 -- ---- schedules in which each agent has carried out so many actions and begun no more, at once
 
@@ -233,6 +233,7 @@ module _ (p : Program) (k : ℕ) (reports : List Words) (taken : AreTaken p k (n
   pub leads_well : (passable : Place → Bool) (tasks : List Task) → IsAcceptedBy ComesAfterByChain passable tasks p → LeadsWell passable p k reports
   leads_well passable tasks ok = record {
     safely = λ clock never_falls. safely_led passable tasks p ok clock k reports never_falls taken;
+    in_time = λ clock never_falls. led_in_time p ok.right.in_range clock k reports never_falls taken;
     once = once p k reports taken;
     apart = subst (λ (x : Counts). (i j : ℕ) (q : Place) → i < length p → j < length p → i ≢ j → MayBeOnOrder p k x i q → MayBeOnOrder p k x j q → ⊥) all_now (apart p k reports taken passable tasks ok);
     on_ground = subst (λ (x : Counts). (i : ℕ) (q : Place) → i < length p → MayBeOnOrder p k x i q → IsTrue (passable q)) all_now (on_ground p k reports taken passable tasks ok);

@@ -11,8 +11,8 @@ use Rattle.fleet_model.specs.Run.{AreOnGoals}
 use Rattle.fleet_model.specs.Claims.{holds_of, is_new}
 use Rattle.fleet_machine.specs.Confirmed.{AreAllReady}
 use Rattle.fleet_model.specs.Chain.{IsAction, DirectlyNeeds}
-use Rattle.fleet_model.specs.Schedule.{Schedule, IsBy, IsSchedule, IsSafeSchedule}
-use Rattle.fleet_model.specs.Dispatch.{Dispatch, OrdersAwait, IsCarriedOut}
+use Rattle.fleet_model.specs.Schedule.{Schedule, IsBy, IsSchedule, IsSafeSchedule, EndInTime}
+use Rattle.fleet_model.specs.Dispatch.{Dispatch, OrdersAwait, IsCarriedOut, IsTimely}
 use Rattle.fleet_dispatch.specs.Report.{Words, Counts, count_of, said_of, counts_after, Line}
 use Rattle.fleet_dispatch.specs.declared.form.ReportForm.{ReportForm}
 use Rattle.fleet_dispatch.specs.declared.pace.Pace.{Pace}
@@ -77,6 +77,14 @@ OrdersAtOnce p d start =
     (a : ActionId) (t : ℕ) → IsAction p a → start ≤ t
     → ((b : ActionId) → DirectlyNeeds p a b → IsBy (d.reports b) t) → IsBy (d.orders a) t
 
+-- Robots that are led by these orders and reports end in time, by a clock that begins at 0: if what does not stall ends
+-- within its time of its order and of the action before, and is reported within a lag, it ends within both of all that
+-- it directly needs
+abbrev pub LeadsInTime : Program → Dispatch → Type 0
+LeadsInTime p d =
+    (s : Schedule) (stalls : ActionId → Bool) (report_lag : ℕ) (takes : ActionId → ℕ)
+    → IsTimely p d s stalls report_lag takes → EndInTime p s stalls (λ a. report_lag + takes a)
+
 -- agent i may be on q, wholly or in part: so many of its actions lead it there, all that it has reported and no more
 -- than it is told
 pub record MayBeOnOrder (p : Program) (k : ℕ) (counts : Counts) (i : ℕ) (q : Place) : Type 0 where
@@ -105,6 +113,7 @@ news_by counts (r ∷ reports) = (if is_news counts r then 1 else 0) + news_by (
 -- as they do once all is carried out
 pub record LeadsWell (passable : Place → Bool) (p : Program) (k : ℕ) (reports : List Words) : Type 0 where
   pub safely : (clock : ℕ → ℕ) → NeverFalls clock → IsSafelyLed passable p (dispatch_of clock p k reports)
+  pub in_time : (clock : ℕ → ℕ) → NeverFalls clock → clock 0 ≡ 0 → 1 ≤ k → LeadsInTime p (dispatch_of clock p k reports)
   pub once : (t u i : ℕ) → t ≤ u → u ≤ length reports → i < length p
       → told_to p k (counts_at p reports t) i ≤ told_to p k (counts_at p reports u) i
   pub apart : (i j : ℕ) (q : Place) → i < length p → j < length p → i ≢ j

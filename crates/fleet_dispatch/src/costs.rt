@@ -2,9 +2,8 @@
 
 ghost use Rattle.std.specs.Prelude.{◌≡◌, [], ◌+◌, ◌<◌, ◌≤◌, ◌^◌, ℕ, length, replicate, get_or, IfOk, IfErr, IfSome, List};
 ghost use Rattle.fleet_model.specs.declared.program.ActionId.{ActionId};
-ghost use Rattle.fleet_text.specs.Text.{lines};
 ghost use Rattle.fleet_dispatch.specs.Breaks.{named_action};
-ghost use Rattle.fleet_dispatch.specs.Costs.{whose_of, cost_of, cost_line_of, is_of, cost_line_in, AreCostsOf, IsCostsFault, entry, cost_in, AreLow, AreRowsOf, no_rows, noted, noted_by, lists_of, IsCostOf, with_rows};
+ghost use Rattle.fleet_dispatch.specs.Costs.{whose_of, cost_of, cost_line_of, is_of, cost_line_in, AreCostsOf, IsCostsFault, entry, cost_in, AreRowsOf, no_rows, noted, noted_by, lists_of, IsCostOf, with_rows};
 
 use crate::number::long_number_of;
 use crate::report::Reported;

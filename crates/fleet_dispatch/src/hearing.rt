@@ -1,6 +1,6 @@
 //! How the next line of an input is found and heard.
 
-ghost use Rattle.std.specs.Prelude.{◌≡◌, ◌≤◌, ◌<◌, ◌+◌, length, take, position, Some, None};
+ghost use Rattle.std.specs.Prelude.{◌≡◌, ◌≤◌, ◌+◌, length, take, position, Some, None};
 ghost use Rattle.std.specs.Io.KnownBytes.{prepend_known};
 ghost use Rattle.fleet_text.specs.Text.{is_lf};
 ghost use Rattle.fleet_dispatch.specs.Window.{window_rest};

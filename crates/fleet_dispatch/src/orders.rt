@@ -1,6 +1,6 @@
 //! Orders and closing lines, as text.
 
-ghost use Rattle.std.specs.Prelude.{◌≡◌, ◌+◌, ◌<◌, ◌≤◌, ◌++◌, length, drop, take};
+ghost use Rattle.std.specs.Prelude.{◌≡◌, ◌+◌, ◌≤◌, ◌++◌, length, drop, take};
 ghost use Rattle.fleet_dispatch.specs.Orders.{name_text, order_text, closing};
 ghost use Rattle.fleet_dispatch.specs.ReportText.{word_text};
 ghost use Rattle.fleet_dispatch.specs.Talk.{Tells};

@@ -1,6 +1,6 @@
 //! Reports: which actions robots say that they have carried out.
 
-ghost use Rattle.std.specs.Prelude.{◌≡◌, ◌<◌, ◌≤◌, ◌++◌, ◌∷◌, ◌↔◌, [], length, IfOk, IsTrue, MatchBool};
+ghost use Rattle.std.specs.Prelude.{◌≡◌, ◌≤◌, ◌++◌, ◌∷◌, ◌↔◌, [], length, IfOk, IsTrue, MatchBool};
 ghost use Rattle.fleet_dispatch.specs.Report.{IsBehind, IsRising};
 
 use fleet_model::MAX_AGENTS;

@@ -1,6 +1,6 @@
 //! Where agents are that have not arrived, as text.
 
-ghost use Rattle.std.specs.Prelude.{◌≡◌, ◌+◌, ◌<◌, ◌≤◌, ◌++◌, [], length, drop, take};
+ghost use Rattle.std.specs.Prelude.{◌≡◌, ◌+◌, ◌≤◌, ◌++◌, [], length, drop, take};
 ghost use Rattle.std.specs.Option.{option_map_or};
 ghost use Rattle.fleet_dispatch.specs.Standings.{await_text, standing_text};
 

@@ -174,18 +174,6 @@ impl Machine {
         self.ready.contains(i)
     }
 
-    /// The agents that may finish their next actions.
-    pub fn ready_agents<P: ProgramView>(&self, program: &P) -> &AgentSet
-        requires runs { Runs (P.program program.now) self.now }
-        ensures agents { length result.now ≡ length (P.program program.now) }
-        ensures ready { (i : ℕ) → i < length (P.program program.now)
-            → flag_of result.now i ≡ is_ready (P.program program.now) self.now.configuration i }
-    {
-        // Of the program the contract alone speaks.
-        let _ = program;
-        &self.ready
-    }
-
     /// How many agents the ticks have looked at so far. The count stays at the greatest value once there.
     pub fn looked(&self) -> u64
         ensures { result ≡ self.now.looked }

@@ -3,7 +3,7 @@ use Rattle.std.specs.Prelude.{◌≡◌, ℕ, ◌+◌, Bool, IsFalse, Option, So
 use Rattle.fleet_model.specs.declared.program.Await.{Await}
 use Rattle.fleet_model.specs.declared.program.ActionId.{ActionId}
 use Rattle.fleet_model.specs.Program.{Program, awaits_of}
-use Rattle.fleet_model.specs.Chain.{IsAction, awaited}
+use Rattle.fleet_model.specs.Chain.{IsAction, DirectlyNeeds, awaited}
 use Rattle.fleet_model.specs.Schedule.{Schedule, IsBy, HasEndedBy, BeginsFirst}
 
 -- when each action is ordered, and when its end is reported, if ever
@@ -29,16 +29,21 @@ pub record IsCarriedOut (p : Program) (d : Dispatch) (s : Schedule) : Type 0 whe
   pub ends_first : (a : ActionId) (t : ℕ) → IsAction p a
       → d.reports a ≡ Some t → HasEndedBy s t a
 
--- each end is reported within one lag; what does not stall is ordered within another of the reports that it awaits, and
--- ends within its time of its order and of the end of the agent's action before
-pub record IsPrompt (p : Program) (d : Dispatch) (s : Schedule) (stalls : ActionId → Bool)
-    (report_lag order_lag : ℕ) (takes : ActionId → ℕ) : Type 0 where
-  pub reports : (a : ActionId) (t : ℕ) → IsAction p a
-      → HasEndedBy s t a → IsBy (d.reports a) (t + report_lag)
-  pub orders : (a : ActionId) (t : ℕ) → IsAction p a → IsFalse (stalls a)
-      → ((w : Await) → Contains (awaits_of p a.agent a.number) w → IsBy (d.reports (awaited w)) t)
-      → IsBy (d.orders a) (t + order_lag)
+-- what does not stall ends within its time of its order and of the end of the agent's action before, and each end is
+-- reported within a lag
+pub record IsTimely (p : Program) (d : Dispatch) (s : Schedule) (stalls : ActionId → Bool)
+    (report_lag : ℕ) (takes : ActionId → ℕ) : Type 0 where
   pub ends : (a : ActionId) (t : ℕ) → IsAction p a → IsFalse (stalls a) → IsBy (d.orders a) t
       → ((b : ActionId) → IsAction p b
       → a.agent ≡ b.agent → a.number ≡ b.number + 1 → HasEndedBy s t b)
       → HasEndedBy s (t + takes a) a
+  pub reports : (a : ActionId) (t : ℕ) → IsAction p a
+      → HasEndedBy s t a → IsBy (d.reports a) (t + report_lag)
+
+-- .. and is ordered within another lag of the reports of all that it directly needs
+pub record IsPrompt (p : Program) (d : Dispatch) (s : Schedule) (stalls : ActionId → Bool)
+    (report_lag order_lag : ℕ) (takes : ActionId → ℕ) : Type 0 where
+  pub timely : IsTimely p d s stalls report_lag takes
+  pub orders : (a : ActionId) (t : ℕ) → IsAction p a → IsFalse (stalls a)
+      → ((b : ActionId) → DirectlyNeeds p a b → IsBy (d.reports b) t)
+      → IsBy (d.orders a) (t + order_lag)

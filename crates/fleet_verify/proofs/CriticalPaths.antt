@@ -1,5 +1,5 @@
 -- Critical paths: when actions end by their costs, and that something may always be done.
-use Rattle.fleet_verify.proofs.Words.{◌≡◌, ◌≢◌, ℕ, zero, suc, ◌+◌, ◌-◌, ◌<◌, ◌≤◌, Bool, true, false, List, [], ◌∷◌, ◌++◌, length, get_or, refl, ap, sym, subst, ◌∙◌, arith, inl, inr, ◌⊎◌, Option, Some, None, cond, map, map-id, sum_by, count_by, nat_lt, IsTrue, ◌↔◌, slice_get, reverse, IfSome, IfNone, Contains, cases_lt, reverse-append, get_or_past, length_push, get_or_push, get_or_append_left, append-nil, same_Some, none-some, slice_get_past, slice_get-get_or, slice_get_within, get_or_from_slice_get, option_map_or, AgentProgram, sum_by-append, sum_by-cons, sum_by_push, map-range_with_len_more, ActionId, Await, Program, moves, awaits_of, AreInRange, IsAction, DirectlyNeeds, ChainFrom, Reaches, EndsChainOfCost, IsCriticalCost, IsNumbering, awaited, indices, Schedule, IsSchedule, HasBegunBy, HasEndedBy, NeedsNoStalled, but_last, chain_first, chain_last, chain_join, own_reach, Reaches-trans, ends_dearer, need_action, Reaches-need, Reaches-refl, range_with_len, one_cost, own_cost, critical_cost, level_in, AreEnds, HaveArrivedAt, IsLatest, IsLater, IsAwaitedUntil, IsNeedUntil, LeadsBack, IsWayTo, IsStretchTo, of_agent, IsPathOfCost, IsCriticalPath, EachFits, IsFreeTo, EachFreeTo, AreReached, StopsOthers, is_broken, broken_cost, last_action, first_of, stretch_actions, stretch_between, path_actions, Stretch, LONGEST, IsOwnBefore}
+use Rattle.fleet_verify.proofs.Words.{◌≡◌, ◌≢◌, ℕ, zero, suc, ◌+◌, ◌-◌, ◌<◌, ◌≤◌, Bool, true, false, List, [], ◌∷◌, ◌++◌, length, get_or, refl, ap, sym, subst, ◌∙◌, arith, inl, inr, ◌⊎◌, Option, Some, None, cond, map, map-id, sum_by, count_by, nat_lt, IsTrue, ◌↔◌, slice_get, reverse, IfSome, IfNone, Contains, cases_lt, reverse-append, get_or_past, length_push, get_or_push, get_or_append_left, append-nil, same_Some, none-some, slice_get_past, slice_get-get_or, slice_get_within, get_or_from_slice_get, option_map_or, AgentProgram, sum_by-append, sum_by-cons, sum_by_push, map-range_with_len_more, ActionId, Await, Program, moves, awaits_of, AreInRange, IsAction, DirectlyNeeds, ChainFrom, Reaches, Reaches-first, EndsChainOfCost, IsCriticalCost, IsNumbering, awaited, indices, Schedule, IsSchedule, HasBegunBy, HasEndedBy, NeedsNoStalled, but_last, chain_first, chain_last, chain_join, own_reach, Reaches-trans, ends_dearer, need_action, Reaches-need, Reaches-refl, range_with_len, one_cost, own_cost, critical_cost, level_in, AreEnds, HaveArrivedAt, IsLatest, IsLater, IsAwaitedUntil, IsNeedUntil, LeadsBack, IsWayTo, IsStretchTo, of_agent, IsPathOfCost, IsCriticalPath, EachFits, IsFreeTo, EachFreeTo, AreReached, StopsOthers, is_broken, broken_cost, last_action, first_of, stretch_actions, stretch_between, path_actions, Stretch, LONGEST, IsOwnBefore}
 use Rattle.fleet_verify.proofs.Timed.{critical, ends_in_time, needs_unended, by_or_not}
 use Rattle.fleet_verify.specs.declared.times.Ends.{Ends}
 use Rattle.fleet_verify.specs.declared.times.Ends.TheVariants.{Costs, Levels}
@@ -347,10 +347,10 @@ pub stops_of : (p : Program) → AreInRange p → (number : ActionId → ℕ) �
 stops_of p range number numbered breaks counts h = record {
   in_time = λ s is cost in_time b m act l critical. ends_in_time p cost range number numbered s (is_broken breaks) in_time b m act ((h.each b act).0 l) critical;
   never_ends = λ s is never b act l t ended. beyond b act l (λ a broken r. elim (action-dec a b) [
-    | yes e ↦ never a broken t (subst (HasEndedBy s t) (sym e) ended)
-    | no apart ↦ needs_unended p s is t a b r apart (never a broken) (begun s is b act t ended)
+    | yes e ↦ never a (Reaches-first p a b r) broken t (subst (HasEndedBy s t) (sym e) ended)
+    | no apart ↦ needs_unended p s is t a b r apart (never a (Reaches-first p a b r) broken) (begun s is b act t ended)
   ]);
-  never_begins = λ s is never b act l whole t begun. beyond b act l (λ a broken r. needs_unended p s is t a b r (λ e. whole (subst (λ x. IsTrue (is_broken breaks x)) e broken)) (never a broken) begun);
+  never_begins = λ s is never b act l whole t begun. beyond b act l (λ a broken r. needs_unended p s is t a b r (λ e. whole (subst (λ x. IsTrue (is_broken breaks x)) e broken)) (never a (Reaches-first p a b r) broken) begun);
 }
   where
     beyond : (b : ActionId) → IsAction p b → get_or counts b.agent 0 < b.number → NeedsNoStalled p (is_broken breaks) b → ⊥

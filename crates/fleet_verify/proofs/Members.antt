@@ -1,9 +1,7 @@
 -- Members of lists, and actions and visits that are the same.
-use Rattle.fleet_verify.proofs.Words.{◌≡◌, Bool, true, false, List, [], ◌∷◌, map, refl, sym, ap, ◌∙◌, subst, inl, inr, Contains, ◌⊎◌, filter, ActionId, Visit}
+use Rattle.fleet_verify.proofs.Words.{◌≡◌, Bool, true, false, List, [], ◌∷◌, map, refl, sym, ap, ◌∙◌, subst, inl, inr, Contains, ◌⊎◌, filter, Visit}
 pub use Rattle.fleet_model.proofs.Members.{contains_head, contains_later, contains_none, contains_cases}
-
-pub same_action : (a b : ActionId) → a.agent ≡ b.agent → a.number ≡ b.number → a ≡ b
-same_action a b e g = λ i. record { agent = e i; number = g i }
+pub use Rattle.fleet_needs.proofs.Joining.{same_action}
 
 pub same_visit : (v w : Visit) → v.agent ≡ w.agent → v.position ≡ w.position → v ≡ w
 same_visit v w e g = λ i. record { agent = e i; position = g i }

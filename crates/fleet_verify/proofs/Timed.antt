@@ -210,10 +210,10 @@ module _ (p : Program) (in_range : AreInRange p) (d : Dispatch) (s : Schedule) w
 
   pub ahead_in_time : (stalls : ActionId → Bool) (report_lag order_lag : ℕ) (takes : ActionId → ℕ) → IsPrompt p d s stalls report_lag order_lag takes → EndInTime p s stalls (λ a. report_lag + order_lag + takes a)
   ahead_in_time stalls report_lag order_lag takes prompt a t act goes ended =
-      let order = prompt.orders a (t + report_lag) act goes (λ w h.
-      prompt.reports (awaited w) t (need_action p in_range a (awaited w) act (inr h)) (ended (awaited w) (inr h))) in
+      let order = prompt.orders a (t + report_lag) act goes (λ b need.
+      prompt.timely.reports b t (need_action p in_range a b act need) (ended b need)) in
       by_later (s.ends a) (t + report_lag + order_lag + takes a) (t + (report_lag + order_lag + takes a)) (omega arith)
-      (prompt.ends a (t + report_lag + order_lag) act goes order (λ b also e f.
+      (prompt.timely.ends a (t + report_lag + order_lag) act goes order (λ b also e f.
       by_later (s.ends b) t (t + report_lag + order_lag) (omega arith) (ended b (inl (e, f, also.first)))))
 
 module _ (p : Program) (cost : ActionId → ℕ) where

@@ -62,8 +62,8 @@ pub record IsFoundByAsking (p : Program) (pairs : List OpenPair) (asked : List Q
   pub answers : IfSome found (λ known. AreAnswers p known.questions.items known.flags.items)
   pub questions : IfSome found (λ known. known.questions.items ≡ asked)
 
--- nothing is found if each of the pairs has a chain, and else what is known: answers for all of them, if by these levels
--- each may have one
+-- nothing is found if each of the pairs has a chain, and else what is known: answers for all of them, if by these
+-- levels each may have one
 pub record IsFoundOfPairs (p : Program) (rows : List (List ℕ)) (pairs : List OpenPair) (found : Option Answers) : Type 0 where
   pub chained : IfNone found (All (IsChained p) pairs)
   pub unchained : IfSome found (λ _. ¬ All (IsChained p) pairs)

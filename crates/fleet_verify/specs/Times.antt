@@ -156,9 +156,9 @@ stopped_agents p counts = count_by (λ i. nat_lt (get_or counts i 0) (moves p i)
 pub record StopsOthers (p : Program) (breaks counts : List ℕ) : Type 0 where
   pub in_time : (s : Schedule) → IsSchedule p s → (cost : ActionId → ℕ) → EndInTime p s (is_broken breaks) cost
       → (b : ActionId) (m : ℕ) → IsAction p b → b.number ≤ get_or counts b.agent 0 → IsCriticalCost p cost b m → HasEndedBy s m b
-  pub never_ends : (s : Schedule) → IsSchedule p s → ((a : ActionId) → IsTrue (is_broken breaks a) → (t : ℕ) → HasEndedBy s t a → ⊥)
+  pub never_ends : (s : Schedule) → IsSchedule p s → ((a : ActionId) → IsAction p a → IsTrue (is_broken breaks a) → (t : ℕ) → HasEndedBy s t a → ⊥)
       → (b : ActionId) → IsAction p b → get_or counts b.agent 0 < b.number → (t : ℕ) → HasEndedBy s t b → ⊥
-  pub never_begins : (s : Schedule) → IsSchedule p s → ((a : ActionId) → IsTrue (is_broken breaks a) → (t : ℕ) → HasEndedBy s t a → ⊥)
+  pub never_begins : (s : Schedule) → IsSchedule p s → ((a : ActionId) → IsAction p a → IsTrue (is_broken breaks a) → (t : ℕ) → HasEndedBy s t a → ⊥)
       → (b : ActionId) → IsAction p b → get_or counts b.agent 0 < b.number → (IsTrue (is_broken breaks b) → ⊥) → (t : ℕ) → HasBegunBy s t b → ⊥
 
 -- ---- how it is found: what is broken costs one, and nothing else anything

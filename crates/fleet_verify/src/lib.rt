@@ -23,10 +23,10 @@
 //! laws: their functions do nothing. What `verify` promises stands in the spec `Promises`. `reach` keeps, of an
 //! accepted program, where chains begin (`Reach`): the pieces of `fleet_needs`. `times` has when its actions end at the
 //! soonest (`Times`), by the critical costs of `fleet_needs`, or by the levels if each costs one and the verifier has
-//! kept them (`Levels`), and a chain that takes so long, in stretches of one agent's actions, which `stretch` also writes;
-//! `stopped` how far each agent comes if some actions are never ended: each of these costs one and all others nothing,
-//! so that what costs nothing needs none of them. `fault` has the refusals. `covers` compares two rows of counts, for
-//! callers alone.
+//! kept them (`Levels`), and a chain that takes so long, in stretches of one agent's actions, which `stretch` also
+//! writes; `stopped` how far each agent comes if some actions are never ended: each of these costs one and all others
+//! nothing, so that what costs nothing needs none of them. `fault` has the refusals. `covers` compares two rows of
+//! counts, for callers alone.
 //!
 //! `needed` finds for two visits how many actions of each agent they need, and `breaking` runs the machine, tick by
 //! tick, and says whom each tick holds: those whose next action is not needed.

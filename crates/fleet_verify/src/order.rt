@@ -72,8 +72,7 @@ fn check_cells<P: ProgramView>(
         (λ (c : Cell). get nat_eq violations.now (number_of c)) }
     ensures ok { OnOk result (IsOrderly ComesAfter (P.program program.now)) }
     ensures err { IfErr result (λ f. IsFault (is_passable grid.now) instance.now
-        (P.program program.now) f) }
-    ensures memory { IfErr result (λ f. f ≢ VerifyFault.OutOfMemory) }
+        (P.program program.now) f × (f ≢ VerifyFault.OutOfMemory)) }
 {
     if violations.is_empty() {
         return Ok(());
@@ -102,8 +101,7 @@ fn check_path<P: ProgramView>(
     requires sooner { (i : ℕ) → i < agent → IsPathOrderly ComesAfter (P.program program.now) i }
     ensures ok { OnOk result (IsPathOrderly ComesAfter (P.program program.now) agent) }
     ensures err { IfErr result (λ f. IsFault (is_passable grid.now) instance.now
-        (P.program program.now) f) }
-    ensures memory { IfErr result (λ f. f ≢ VerifyFault.OutOfMemory) }
+        (P.program program.now) f × (f ≢ VerifyFault.OutOfMemory)) }
 {
     let mut cell = program.start(agent);
     check_cell(violations, cell)?;

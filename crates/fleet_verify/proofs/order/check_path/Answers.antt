@@ -6,15 +6,12 @@ use Rattle.fleet_verify.proofs.order.check_path.Goals as goal
 pub returns-in_err-check_cell-clause-err : goal.returns-in_err-check_cell-clause-err
 returns-in_err-check_cell-clause-err g c =
     let e = err_from_is_err_and c.from_residual.result c.from_residual.ensures.1 in
-    rw (e.1, e.2)
-    (broken_fault (is_passable c.args.grid.now) c.args.instance.now (g.P.ProgramView.program c.args.program.now) c.requires.violations.placed (λ d. get nat_eq c.args.violations.now (number_of d)) c.requires.violations.violations c.args.agent 0 c.start-cell.result c.in_err-check_cell.ensures.cell c.requires.before c.requires.violations.all
-    c.requires.agent (omega arith) (starts_on (g.P.ProgramView.program c.args.program.now) c.args.agent c.start-cell.result c.start-cell.ensures) (judged_begins (g.P.ProgramView.program c.args.program.now) c.args.agent c.requires.sooner)
-    c.in_err-check_cell.field-0.0 c.in_err-check_cell.ensures.err)
-
-pub returns-in_err-check_cell-clause-memory : goal.returns-in_err-check_cell-clause-memory
-returns-in_err-check_cell-clause-memory g c =
-    let e = err_from_is_err_and c.from_residual.result c.from_residual.ensures.1 in
-    rw (e.1, e.2) (broken_told c.start-cell.result (get nat_eq c.args.violations.now (number_of c.start-cell.result)) c.in_err-check_cell.field-0.0 c.in_err-check_cell.ensures.err)
+    rw (e.1, e.2) (
+      (broken_fault (is_passable c.args.grid.now) c.args.instance.now (g.P.ProgramView.program c.args.program.now) c.requires.violations.placed (λ d. get nat_eq c.args.violations.now (number_of d)) c.requires.violations.violations c.args.agent 0 c.start-cell.result c.in_err-check_cell.ensures.cell c.requires.before c.requires.violations.all
+          c.requires.agent (omega arith) (starts_on (g.P.ProgramView.program c.args.program.now) c.args.agent c.start-cell.result c.start-cell.ensures) (judged_begins (g.P.ProgramView.program c.args.program.now) c.args.agent c.requires.sooner)
+          c.in_err-check_cell.field-0.0 c.in_err-check_cell.ensures.err),
+      broken_told c.start-cell.result (get nat_eq c.args.violations.now (number_of c.start-cell.result)) c.in_err-check_cell.field-0.0 c.in_err-check_cell.ensures.err,
+    )
 
 pub unwrap-cell-requires : goal.unwrap-cell-requires
 unwrap-cell-requires g c =
@@ -24,16 +21,13 @@ unwrap-cell-requires g c =
 pub returns-in_err-check_cell-2-clause-err : goal.returns-in_err-check_cell-2-clause-err
 returns-in_err-check_cell-2-clause-err g c =
     let e = err_from_is_err_and c.from_residual-in_err-check_cell-2.result c.from_residual-in_err-check_cell-2.ensures.1 in
-    rw (e.1, e.2)
-    (broken_fault (is_passable c.args.grid.now) c.args.instance.now (g.P.ProgramView.program c.args.program.now) c.requires.violations.placed (λ d. get nat_eq c.args.violations.now (number_of d)) c.requires.violations.violations c.args.agent (c.loop-finished.finished + 1) c.unwrap-cell.result c.in_err-check_cell-2.ensures.cell c.requires.before c.requires.violations.all
-    c.requires.agent (omega (arith, c.moves-finished-end.ensures)) (next_cell (is_passable c.args.grid.now) (g.P.ProgramView.program c.args.program.now) c.args.agent c.loop-finished.finished c.loop-finished.cell c.unwrap-cell.result c.step.result c.cell_after.result
-    c.loop-finished.invariant.here c.step.ensures c.unwrap-cell.ensures c.cell_after.ensures.some) c.loop-finished.invariant.judged
-    c.in_err-check_cell-2.field-0.0 c.in_err-check_cell-2.ensures.err)
-
-pub returns-in_err-check_cell-2-clause-memory : goal.returns-in_err-check_cell-2-clause-memory
-returns-in_err-check_cell-2-clause-memory g c =
-    let e = err_from_is_err_and c.from_residual-in_err-check_cell-2.result c.from_residual-in_err-check_cell-2.ensures.1 in
-    rw (e.1, e.2) (broken_told c.unwrap-cell.result (get nat_eq c.args.violations.now (number_of c.unwrap-cell.result)) c.in_err-check_cell-2.field-0.0 c.in_err-check_cell-2.ensures.err)
+    rw (e.1, e.2) (
+      (broken_fault (is_passable c.args.grid.now) c.args.instance.now (g.P.ProgramView.program c.args.program.now) c.requires.violations.placed (λ d. get nat_eq c.args.violations.now (number_of d)) c.requires.violations.violations c.args.agent (c.loop-finished.finished + 1) c.unwrap-cell.result c.in_err-check_cell-2.ensures.cell c.requires.before c.requires.violations.all
+          c.requires.agent (omega (arith, c.moves-finished-end.ensures)) (next_cell (is_passable c.args.grid.now) (g.P.ProgramView.program c.args.program.now) c.args.agent c.loop-finished.finished c.loop-finished.cell c.unwrap-cell.result c.step.result c.cell_after.result
+          c.loop-finished.invariant.here c.step.ensures c.unwrap-cell.ensures c.cell_after.ensures.some) c.loop-finished.invariant.judged
+          c.in_err-check_cell-2.field-0.0 c.in_err-check_cell-2.ensures.err),
+      broken_told c.unwrap-cell.result (get nat_eq c.args.violations.now (number_of c.unwrap-cell.result)) c.in_err-check_cell-2.field-0.0 c.in_err-check_cell-2.ensures.err,
+    )
 
 pub loop-finished-init : goal.loop-finished-init
 loop-finished-init g c =

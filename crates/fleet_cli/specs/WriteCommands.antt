@@ -12,7 +12,7 @@ use Rattle.fleet_code.specs.{Spelling.SpellsShortest, Spelling.SpellsIn, Spellin
 use Rattle.fleet_text.specs.Sink.{SinkState}
 use Rattle.fleet_cli.specs.{Files.Store, Output.count_lines, Output.AnswersOut, Steps.AcceptsProgram, Steps.IsAcceptRefusal, Steps.IsLoadRefusal}
 use Rattle.fleet_args.specs.declared.{commands.CompileRequest.CompileRequest, commands.ThinRequest.ThinRequest, commands.MigrateRequest.MigrateRequest, commands.RestRequest.RestRequest}
-use Rattle.fleet_cli.specs.declared.{files.FileTexts.FileTexts, fault.Fault.Fault, steps.Problem.Problem, write_commands.Rest.Rest}
+use Rattle.fleet_cli.specs.declared.{files.FileTexts.FileTexts, fault.Fault.Fault, steps.Problem.Problem, write_commands.RestTexts.RestTexts}
 use Rattle.fleet_cli.specs.PrintCommands.{IsFreePlan, IsPlanRefusal}
 use Rattle.fleet_cli.specs.declared.fault.Fault.TheVariants as f
 use Rattle.fleet_scen.specs.{ScenText.IsScenText, ScenWriting.scen_text}
@@ -107,37 +107,44 @@ IsMapAround g dead name text = IfSome name (λ _. text ≡ map_text (ground_with
 abbrev pub AreOthers : Ground → List Task → Option DeadRobot → Option (Bor (List ℕ)) → List ℕ → Type 0
 AreOthers g tasks dead name text = IfSome name (λ _. text ≡ scen_text g.width g.height (tasks_without dead tasks))
 
--- What is left of the program is its rest after the log, from where the agents stand to the same goals, which is
--- accepted for that; the one text stands for its tasks, and the bytes spell it, in version 1 if that has bytes for it.
--- Around a dead robot there are the map in which its cells are blocked and the tasks of the others
-pub record LeavesRest (g : Ground) (p : Program) (log : List ℕ) (r : RestRequest) (made : Rest) : Type 0 where
-  pub left : IsRestOf p log made.program
-  pub tasks : tasks_of made.program ≡ rest_tasks (cell_at left.standings) p
-  pub accepted : IsAccepted (is_passable g) (tasks_of made.program) made.program
-  pub written : made.scen.items ≡ scen_text g.width g.height (tasks_of made.program)
-  pub stands : IsScenText made.scen.items g None (tasks_of made.program)
-  pub spelled : SpellsShortest made.bytes.items made.program
-  pub robot : Option DeadRobot
-  pub dead : IsDead g (length made.program) r.without robot
-  pub around : IsMapAround g robot r.map_out made.map.items
-  pub rest_of_them : AreOthers g (tasks_of made.program) robot r.others_out made.others.items
+-- what is left of the program is its rest after the log, from where the agents stand to the same goals, which is
+-- accepted for that
+pub record LeavesRest (g : Ground) (p : Program) (log : List ℕ) (q : Program) : Type 0 where
+  pub left : IsRestOf p log q
+  pub tasks : tasks_of q ≡ rest_tasks (cell_at left.standings) p
+  pub accepted : IsAccepted (is_passable g) (tasks_of q) q
 
 -- so of the program that is accepted for the problem
-abbrev pub RestsAccepted : Problem → RestRequest → Rest → Type 0
-RestsAccepted problem r made = AcceptsProgram problem (λ p chain. LeavesRest problem.grid p problem.texts.log.items r made)
+abbrev pub LeavesProgram : Problem → Program → Type 0
+LeavesProgram problem q = AcceptsProgram problem (λ p chain. LeavesRest problem.grid p problem.texts.log.items q)
 
--- the bytes of the problem are refused; or the log is, for the program that is accepted, or what is named as dead, for
--- its rest; or memory ran out
+-- the bytes of the problem are refused; or the log is, for the program that is accepted; or memory ran out
+abbrev pub IsLeavingRefusal : Problem → Fault → Type 0
+IsLeavingRefusal problem fault = IsAcceptRefusal problem fault ⊎ AcceptsProgram problem (λ p chain. IsRestFault p problem.texts.log.items fault)
+
+-- the one text stands for the tasks of what is left, and the bytes spell it, in version 1 if that has bytes for it.
+-- Around a dead robot there are the map in which its cells are blocked and the tasks of the others
+pub record AreRestTexts (g : Ground) (q : Program) (robot : Option DeadRobot) (r : RestRequest) (texts : RestTexts) : Type 0 where
+  pub written : texts.scen.items ≡ scen_text g.width g.height (tasks_of q)
+  pub stands : IsScenText texts.scen.items g None (tasks_of q)
+  pub spelled : SpellsShortest texts.bytes.items q
+  pub around : IsMapAround g robot r.map_out texts.map.items
+  pub rest_of_them : AreOthers g (tasks_of q) robot r.others_out texts.others.items
+
+-- this is left of the problem's program, with these texts, around the dead robot that is named
+abbrev pub LeavesTexts : Problem → RestRequest → Program × RestTexts → Type 0
+LeavesTexts problem r made =
+    LeavesProgram problem made.0 × ((robot : Option DeadRobot) × IsDead problem.grid (length made.0) r.without robot × AreRestTexts problem.grid made.0 robot r made.1)
+
+-- nothing is left; or what is named as dead is no robot of what is left
 abbrev pub IsRestRefusal : Problem → RestRequest → Fault → Type 0
 IsRestRefusal problem r fault =
-    IsAcceptRefusal problem fault
-    ⊎ AcceptsProgram problem
-    (λ p chain. IsRestFault p problem.texts.log.items fault ⊎ ((q : Program) × IsRestOf p problem.texts.log.items q × IsDeadRefusal problem.grid (length q) r.without fault))
+    IsLeavingRefusal problem fault ⊎ ((q : Program) × LeavesProgram problem q × IsDeadRefusal problem.grid (length q) r.without fault)
 
 -- What `rest` answers. The rest was made, and the files were written so; or there was a refusal before anything is
 -- written, and every file is as before
 abbrev pub AnswersRest : (files after : Option Store) → RestRequest → Problem → (out out' : SinkState) → Result ℕ Fault → Type 0
 AnswersRest files after r problem =
-    AnswersOut files after (RestsAccepted problem r) (IsRestRefusal problem r)
-    (λ made. (Some r.scen_out, made.scen.items) ∷ (r.map_out, made.map.items) ∷ (r.others_out, made.others.items) ∷ (Some r.program_out, made.bytes.items) ∷ [])
-    (λ made. numbers_text (length made.program) (total_moves made.program) (total_awaits made.program) made.bytes.items)
+    AnswersOut {A = Program × RestTexts} files after (LeavesTexts problem r) (IsRestRefusal problem r)
+    (λ made. (Some r.scen_out, made.1.scen.items) ∷ (r.map_out, made.1.map.items) ∷ (r.others_out, made.1.others.items) ∷ (Some r.program_out, made.1.bytes.items) ∷ [])
+    (λ made. numbers_text (length made.0) (total_moves made.0) (total_awaits made.0) made.1.bytes.items)

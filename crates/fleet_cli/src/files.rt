@@ -1,6 +1,6 @@
 //! Inputs and files, read whole; stores of files, the disk, and the files that a command names.
 
-ghost use Rattle.std.specs.Prelude.{◌≡◌, ◌≤◌, ◌+◌, ◌↔◌, Err, IfOk, IfErr, IfSome, IsTrue, OnOk, length};
+ghost use Rattle.std.specs.Prelude.{◌≡◌, ◌≤◌, ◌+◌, ◌↔◌, Err, IfOk, IfErr, IfSome, IsTrue, MatchResult, OnOk, length};
 ghost use Rattle.fleet_cli.specs.Files.{Store, HoldsBytes, IsUnreadable, AreUnchanged, ChangesOnly, Replaces, IsOwnLog, BeginsLog, PutsBehind, whole_lines, IsGivenAs, IsUnread, IsGiven, given_name, given_names, AreTexts};
 ghost use Rattle.fleet_cli.specs.Output.{WritesGiven};
 
@@ -241,13 +241,29 @@ pub(crate) struct FileNames<'a> {
 }
 
 /// What those files hold; nothing of a file that is not named.
-#[derive(Drop)]
 pub(crate) struct FileTexts {
     pub(crate) map: Vec<u8>,
     pub(crate) scen: Vec<u8>,
     pub(crate) subject: Vec<u8>,
     pub(crate) holds: Vec<u8>,
     pub(crate) log: Vec<u8>,
+}
+
+impl Drop for FileTexts {
+    fn drop(self) {
+        let FileTexts {
+            map,
+            scen,
+            subject,
+            holds,
+            log,
+        } = self;
+        drop(map);
+        drop(scen);
+        drop(subject);
+        drop(holds);
+        drop(log);
+    }
 }
 
 /// The bytes of the file, none if no file is named. Want of memory is `Memory`, and a file that cannot be read is
@@ -279,8 +295,8 @@ pub(crate) fn read_files<'a, F: Files>(
     files: &mut F,
     names: FileNames<'a>,
 ) -> Result<FileTexts, Fault<'a>>
-    ensures texts { IfOk result (AreTexts (F.contents files.old) names.entry) }
-    ensures fault { IfErr result (IsUnread (F.contents files.old) (given_names names.entry)) }
+    ensures read { MatchResult result (AreTexts (F.contents files.old) names.entry)
+        (IsUnread (F.contents files.old) (given_names names.entry)) }
     ensures kept { AreUnchanged (F.contents files.old) (F.contents files.new) }
 {
     let map = read_given(alloc, files, names.tasks.map(|tasks| tasks.map))?;

@@ -3,7 +3,10 @@
 
 ghost use Rattle.std.specs.Prelude.{◌≡◌, ◌<◌, IfOk, IfErr, IfSome, length};
 ghost use Rattle.fleet_text.specs.Sink.{IsWorking};
-ghost use Rattle.fleet_cli.specs.WriteCommands.{AnswersCompile, AnswersThin, AnswersMigrate, IsDead, IsDeadRefusal, IsMapAround, AreOthers, RestsAccepted, IsRestRefusal, AnswersRest};
+ghost use Rattle.fleet_cli.specs.WriteCommands.{AnswersCompile, AnswersThin, AnswersMigrate, IsDead, IsDeadRefusal, IsMapAround, AreOthers, AreRestTexts, LeavesProgram, IsLeavingRefusal, AnswersRest};
+ghost use Rattle.fleet_model.specs.Accepted.{IsAccepted};
+ghost use Rattle.fleet_grid.specs.Ground.{is_passable};
+ghost use Rattle.fleet_adg.specs.Remaining.{tasks_of};
 
 use crate::fault::{Fault, or_refuse};
 use crate::files::{FileTexts, Files};
@@ -13,7 +16,7 @@ use fleet_args::{CompileRequest, MigrateRequest, RestRequest, ThinRequest};
 use fleet_code::{encode_shortest, encode2, load};
 use fleet_dispatch::{DeadRobot, TimesFault, dead_robot_of, standings_after};
 use fleet_grid::{Grid, write_map};
-use fleet_model::{Program, ProgramView, Task, total_awaits, total_moves};
+use fleet_model::{OutOfMemory, Program, ProgramView, Task, total_awaits, total_moves};
 use fleet_plan::{check, read_plan};
 use fleet_scen::{a_written_scenario_is_read, write_scen};
 use fleet_text::Flush;
@@ -95,11 +98,10 @@ pub(crate) fn do_migrate<'a, F: Files, O: Flush>(
     write_out(files, &[(Some(request.out), &migrated)], out, &counts)
 }
 
-/// What is left of a program, the text of its tasks and the bytes that spell it; and around a dead robot, as far as
-/// they are asked for, the text of the map and that of the tasks of the others.
+/// What is written of a program that is left: the text of its tasks and the bytes that spell it; and around a dead
+/// robot, as far as they are asked for, the text of the map and that of the tasks of the others.
 #[derive(Drop)]
-struct Rest {
-    program: Program,
+struct RestTexts {
     scen: Vec<u8>,
     map: Vec<u8>,
     others: Vec<u8>,
@@ -127,36 +129,33 @@ fn dead_in<'a>(
 }
 
 /// The text of the map, in which the cells of the dead robot are blocked, if it is asked for.
-fn map_around<'a>(
+fn map_around(
     alloc: Global,
     grid: &Grid,
     dead: Option<DeadRobot>,
     name: Option<&str>,
-) -> Result<Vec<u8>, Fault<'a>>
-    ensures map { IfOk result (λ text. IsMapAround grid.now dead name.entry text.items) }
-    ensures fault { IfErr result (λ e. e ≡ Fault.Memory) }
+) -> Result<Vec<u8>, OutOfMemory>
+    ensures { IfOk result (λ text. IsMapAround grid.now dead name.entry text.items) }
 {
     if name.is_none() {
         return Ok(Vec::new(alloc));
     }
-    let text = match dead {
+    match dead {
         Some(DeadRobot { first, second, .. }) => write_map(alloc, grid, &[first, second]),
         None => write_map(alloc, grid, &[]),
-    };
-    Ok(text?)
+    }
 }
 
 /// The text of the tasks of all but the dead robot's agent, if it is asked for.
-fn others_around<'a>(
+fn others_around(
     alloc: Global,
     grid: &Grid,
     tasks: Vec<Task>,
     dead: Option<DeadRobot>,
     name: Option<&str>,
-) -> Result<Vec<u8>, Fault<'a>>
+) -> Result<Vec<u8>, OutOfMemory>
     requires { IfSome dead (λ d. d.agent < length tasks.items) }
-    ensures scen { IfOk result (λ text. AreOthers grid.now tasks.items dead name.entry text.items) }
-    ensures fault { IfErr result (λ e. e ≡ Fault.Memory) }
+    ensures { IfOk result (λ text. AreOthers grid.now tasks.items dead name.entry text.items) }
 {
     if name.is_none() {
         return Ok(Vec::new(alloc));
@@ -165,38 +164,47 @@ fn others_around<'a>(
     if let Some(dead) = dead {
         others.remove(usize::from(dead.agent));
     }
-    Ok(write_scen(alloc, grid.width(), grid.height(), &others)?)
+    write_scen(alloc, grid.width(), grid.height(), &others)
 }
 
-/// What is left of the problem's program, and what is asked for around a dead robot.
-fn rest_program<'a>(
-    alloc: Global,
-    request: &RestRequest<'_>,
-    problem: &Problem,
-) -> Result<Rest, Fault<'a>>
-    ensures made { IfOk result (RestsAccepted problem.now request.now) }
-    ensures fault { IfErr result (IsRestRefusal problem.now request.now) }
+/// What is left of the problem's program after the reports of its log.
+fn program_left<'a>(alloc: Global, problem: &Problem) -> Result<Program, Fault<'a>>
+    ensures left { IfOk result (LeavesProgram problem.now) }
+    ensures fault { IfErr result (IsLeavingRefusal problem.now) }
 {
     accepted_tasks_are_an_instance();
-    a_written_scenario_is_read();
     let accepted = accept(alloc, problem)?;
     let standings = or_refuse!(
         standings_after(alloc, accepted.program(), &problem.texts.log),
         Fault::Dispatch
     );
     let program = rest(alloc, &accepted, &standings)?;
-    let grid = &problem.grid;
+    Ok(program)
+}
+
+/// What is written of a program that is left, and of what is asked for around a dead robot.
+fn texts_left(
+    alloc: Global,
+    request: &RestRequest<'_>,
+    grid: &Grid,
+    program: &Program,
+    dead: Option<DeadRobot>,
+) -> Result<RestTexts, OutOfMemory>
+    requires accepted { IsAccepted (is_passable grid.now) (tasks_of program.now) program.now }
+    requires dead { IfSome dead (λ d. d.agent < length program.now) }
+    ensures { IfOk result (AreRestTexts grid.now program.now dead request.now) }
+{
+    accepted_tasks_are_an_instance();
+    a_written_scenario_is_read();
     // What is left has few agents, and a map that is read is no larger than one that can be written.
     let _agents = program.agents();
-    let _width = grid.width();
-    let dead = dead_in(request.without, grid, &program)?;
+    let (width, height) = (grid.width(), grid.height());
     let map = map_around(alloc, grid, dead, request.map_out)?;
-    let tasks = tasks_of(alloc, &program)?;
-    let scen = write_scen(alloc, grid.width(), grid.height(), &tasks)?;
+    let tasks = tasks_of(alloc, program)?;
+    let scen = write_scen(alloc, width, height, &tasks)?;
     let others = others_around(alloc, grid, tasks, dead, request.others_out)?;
-    let bytes = encode_shortest(alloc, &program)?;
-    Ok(Rest {
-        program,
+    let bytes = encode_shortest(alloc, program)?;
+    Ok(RestTexts {
         scen,
         map,
         others,
@@ -219,21 +227,23 @@ pub(crate) fn do_rest<'a, F: Files, O: Flush>(
     ensures { AnswersRest (F.contents files.old) (F.contents files.new) request.now problem.now
         (O.state out.old) (O.state out.new) result }
 {
-    let rest = rest_program(alloc, request, problem)?;
+    let program = program_left(alloc, problem)?;
+    let dead = dead_in(request.without, &problem.grid, &program)?;
+    let texts = texts_left(alloc, request, &problem.grid, &program, dead)?;
     write_out(
         files,
         &[
-            (Some(request.scen_out), &rest.scen),
-            (request.map_out, &rest.map),
-            (request.others_out, &rest.others),
-            (Some(request.program_out), &rest.bytes),
+            (Some(request.scen_out), &texts.scen),
+            (request.map_out, &texts.map),
+            (request.others_out, &texts.others),
+            (Some(request.program_out), &texts.bytes),
         ],
         out,
         &[
-            ("agents", rest.program.agents() as u64),
-            ("moves", total_moves(&rest.program) as u64),
-            ("awaits", total_awaits(&rest.program) as u64),
-            ("bytes", rest.bytes.len() as u64),
+            ("agents", program.agents() as u64),
+            ("moves", total_moves(&program) as u64),
+            ("awaits", total_awaits(&program) as u64),
+            ("bytes", texts.bytes.len() as u64),
         ],
     )
 }

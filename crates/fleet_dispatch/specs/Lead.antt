@@ -106,11 +106,11 @@ abbrev pub news_by : Counts → List Words → ℕ
 news_by counts [] = 0
 news_by counts (r ∷ reports) = (if is_news counts r then 1 else 0) + news_by (counts_after counts r) reports
 
--- What is promised of a dispatch that took these reports, k orders of an agent ahead. No order is taken back, so each
--- action is ordered once; agents that stand where they have reported to be, or are anywhere on what they are told, have
--- no place in common, and each such place is passable; while an action is left some agent has an order that it has not
--- reported; at most as many reports say something new as there are actions, and after as many all stand on their goals,
--- as they do once all is carried out
+-- What is promised of a dispatch that took these reports, k orders of an agent ahead. Robots that carry out its orders
+-- are safe, and end in time. No order is taken back, so each action is ordered once; agents that stand where they have
+-- reported to be, or are anywhere on what they are told, have no place in common, and each such place is passable;
+-- while an action is left some agent has an order that it has not reported; at most as many reports say something new
+-- as there are actions, and after as many all stand on their goals, as they do once all is carried out
 pub record LeadsWell (passable : Place → Bool) (p : Program) (k : ℕ) (reports : List Words) : Type 0 where
   pub safely : (clock : ℕ → ℕ) → NeverFalls clock → IsSafelyLed passable p (dispatch_of clock p k reports)
   pub in_time : (clock : ℕ → ℕ) → NeverFalls clock → clock 0 ≡ 0 → 1 ≤ k → LeadsInTime p (dispatch_of clock p k reports)

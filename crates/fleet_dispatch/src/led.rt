@@ -20,13 +20,13 @@ ghost use Rattle.fleet_dispatch.specs.Lead.{none_done, dispatch_of, schedule_of,
 /// Whatever robots do that carry out the orders of a dispatch, each once, in turn and after it was given, and whose
 /// reports come after the ends of their actions, is a schedule of the program, so they are safe, however many orders
 /// are given ahead. They may do so: to begin when ordered and after the action before, and to end when reported, is
-/// such a schedule. No order waits longer than it has to. No order is taken back, agents are apart wherever their
-/// orders lead them, some agent always has an order, and at the end all stand on their goals (`well`). The orders that
-/// are told are those of that dispatch (`told`). With one order at a time it is the run of the machine in which with
-/// each report all others are held (`machine`). A dispatch that begins where the lines of another have led says the
-/// orders that are open, and then what the other would say that had heard these lines; what both heard could be heard
-/// by one (`together`), so what is promised after any reports is promised after those of both. A replay of what was
-/// logged leads where the talk has led (`kept`).
+/// such a schedule. No order waits longer than it has to, so they end in time. No order is taken back, agents are apart
+/// wherever their orders lead them, some agent always has an order, and at the end all stand on their goals (`well`).
+/// The orders that are told are those of that dispatch (`told`). With one order at a time it is the run of the machine
+/// in which with each report all others are held (`machine`). A dispatch that begins where the lines of another have
+/// led says the orders that are open, and then what the other would say that had heard these lines; what both heard
+/// could be heard by one (`together`), so what is promised after any reports is promised after those of both. A replay
+/// of what was logged leads where the talk has led (`kept`).
 pub fn dispatches_lead_safely()
     ensures safely { (passable : Place → Bool) (tasks : List Task) (p : Program)
         → IsAcceptedBy ComesAfterByChain passable tasks p

@@ -34,7 +34,6 @@ pub struct DispatchReport {
 
 /// A dispatch under way: what is carried out and told, the last report, room for the orders, for a line of the log and
 /// for where all agents are, and how many reports were taken.
-#[derive(Drop)]
 pub struct Session {
     progress: Progress,
     report: Report,
@@ -42,6 +41,24 @@ pub struct Session {
     line: Vec<u8>,
     answer: Vec<u8>,
     taken: u32,
+}
+
+impl Drop for Session {
+    fn drop(self) {
+        let Session {
+            progress,
+            report,
+            row,
+            line,
+            answer,
+            taken: _,
+        } = self;
+        drop(progress);
+        drop(report);
+        drop(row);
+        drop(line);
+        drop(answer);
+    }
 }
 
 /// A session that begins where the agents have carried out so much, by so many reports. It fails only if memory is

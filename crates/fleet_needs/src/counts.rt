@@ -10,10 +10,18 @@ use std::alloc::Global;
 use std::simd::prelude::*;
 
 /// Counts, in two bytes each or in four.
-#[derive(Drop)]
 pub(crate) enum Counts {
     Narrow(Vec<u16>),
     Wide(Vec<u32>),
+}
+
+impl Drop for Counts {
+    fn drop(self) {
+        match self {
+            Counts::Narrow(counts) => drop(counts),
+            Counts::Wide(counts) => drop(counts),
+        }
+    }
 }
 
 impl Counts {

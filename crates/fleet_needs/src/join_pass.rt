@@ -40,11 +40,22 @@ fn clear_own(columns: &Columns, row: &mut Counts, agent: u16)
 }
 
 /// The rows of a schedule in the columns of one block, slot by slot.
-#[derive(Drop)]
 pub struct SlotRows<'a> {
     pub(crate) schedule: &'a Schedule,
     pub(crate) columns: Columns,
     counts: Counts,
+}
+
+impl Drop for SlotRows<'_> {
+    fn drop(self) {
+        let SlotRows {
+            schedule: _,
+            columns,
+            counts,
+        } = self;
+        drop(columns);
+        drop(counts);
+    }
 }
 
 impl<'a> SlotRows<'a> {

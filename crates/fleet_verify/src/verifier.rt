@@ -192,26 +192,13 @@ fn fault_if_stuck<P: ProgramView>(
 }
 
 /// A program that is accepted for a map and an instance, which it keeps with it. Only `verify` makes one.
+#[derive(Drop)]
 pub struct Accepted<'g, P: ProgramView> {
     program: P,
     grid: &'g Grid,
     instance: &'g Instance,
     chain: u32,
     levels: Option<Levels>,
-}
-
-impl<P: ProgramView + Drop> Drop for Accepted<'_, P> {
-    fn drop(self) {
-        let Accepted {
-            program,
-            grid: _,
-            instance: _,
-            chain: _,
-            levels,
-        } = self;
-        drop(program);
-        drop(levels);
-    }
 }
 
 impl<'g, P: ProgramView> Model for Accepted<'g, P> {

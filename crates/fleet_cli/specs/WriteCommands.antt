@@ -136,7 +136,7 @@ abbrev pub LeavesTexts : Problem → RestRequest → Program × RestTexts → Ty
 LeavesTexts problem r made =
     LeavesProgram problem made.0 × ((robot : Option DeadRobot) × IsDead problem.grid (length made.0) r.without robot × AreRestTexts problem.grid made.0 robot r made.1)
 
--- nothing is left; or what is named as dead is no robot of what is left
+-- no program is left, or memory ran out; or what is named as dead is no robot of the program that is left
 abbrev pub IsRestRefusal : Problem → RestRequest → Fault → Type 0
 IsRestRefusal problem r fault =
     IsLeavingRefusal problem fault ⊎ ((q : Program) × LeavesProgram problem q × IsDeadRefusal problem.grid (length q) r.without fault)

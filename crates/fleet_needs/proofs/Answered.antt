@@ -1,5 +1,5 @@
 -- Answers of questions, one after another.
-use Rattle.fleet_needs.proofs.Words.{◌≡◌, ◌≢◌, ℕ, ◌+◌, ◌<◌, ◌≤◌, Bool, false, length, get_or, sym, ap, subst, ◌∙◌, arith, inl, inr, ◌⊎◌, nat_lt, None, Vec, Global, slice_get_within, get_or_from_slice_get, cases_lt, cases_eq, ltb-true, lt-ltb, Program, IsColumn, IsQuestion, AreAnswersIn, HasColumn, IsAnswer, column_of, AreOwn, StandsFor, AreCounts, AreRowCounts, AreAnsweredFrom, IsAnswering, IsByRow, joins_in, joins_of, IsToCome, listed_at, no_question, question_at, question_of, questions_in, unlisted, Columns, Schedule, Answering, Question, RowQuestion}
+use Rattle.fleet_needs.proofs.Words.{◌≡◌, ◌≢◌, ℕ, ◌+◌, ◌<◌, ◌≤◌, Bool, true, false, List, length, get_or, set, get_or-set_same, get_or-set_other, slice_get-get_or, IsAskedFor, IsFirstIn, sym, ap, subst, ◌∙◌, arith, inl, inr, ◌⊎◌, nat_lt, None, Vec, Global, slice_get_within, get_or_from_slice_get, cases_lt, cases_eq, ltb-true, lt-ltb, Program, IsColumn, IsQuestion, AreAnswersIn, HasColumn, IsAnswer, column_of, AreOwn, StandsFor, AreCounts, AreRowCounts, AreAnsweredFrom, IsAnswering, IsByRow, joins_in, joins_of, IsToCome, listed_at, no_question, question_at, question_of, questions_in, unlisted, Columns, Schedule, Answering, Question, RowQuestion}
 use Rattle.fleet_needs.proofs.Joining.{own_column}
 
 -- ---- the questions of a row, one after another
@@ -87,3 +87,20 @@ answer_is p columns q f own is h k has count mine other = (
           subst (λ (j : ℕ). IsColumn p q.last j count) (sym e) (subst (λ (v : ℕ). IsColumn p q.last q.last.agent v) (sym (mine e)) here)
       | inr ne ↦ subst (λ (v : ℕ). IsColumn p q.last q.first.agent v) (sym (other ne)) ((h q.first.agent k has).0 ne)
     ]
+
+-- the agent of one question more is flagged
+pub asked_more : (questions : List Question) (asked : List Bool) (n j : ℕ) → n < length questions → j < length asked → j ≡ (question_of questions n).first.agent
+    → ((i : ℕ) → get_or asked i false ≡ true → IsFirstIn questions i) → ((k : ℕ) → k < n → IsAskedFor asked (question_of questions k))
+    → ((i : ℕ) → get_or (set asked j true) i false ≡ true → IsFirstIn questions i) × ((k : ℕ) → k < n + 1 → IsAskedFor (set asked j true) (question_of questions k))
+asked_more questions asked n j some within is only flagged = (
+  (λ i e. elim (cases_eq i j) [
+    | inl same ↦ (n, question_of questions n, slice_get-get_or questions n no_question some, sym (same ∙ is))
+    | inr ne ↦ only i (sym (get_or-set_other asked j i true false ne) ∙ e)
+  ]),
+  (λ k l. let i = (question_of questions k).first.agent in elim (cases_eq i j) [
+    | inl same ↦ ap (λ (x : ℕ). get_or (set asked j true) x false) same ∙ get_or-set_same asked j true false within
+    | inr ne ↦
+        let other : k ≢ n = λ e. ne (ap (λ (x : ℕ). (question_of questions x).first.agent) e ∙ sym is) in
+        get_or-set_other asked j i true false ne ∙ flagged k (omega (arith, l, other))
+  ]),
+)

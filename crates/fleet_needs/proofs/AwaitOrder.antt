@@ -2,7 +2,7 @@
 use Rattle.fleet_needs.proofs.Words.{◌≡◌, ◌≢◌, ℕ, ◌+◌, ◌-◌, ◌<◌, ◌≤◌, Bool, false, List, length, take, get_or, set, map, sym, ap, ◌∙◌, arith, inl, inr, ◌⊎◌, slice_get, Some, sum_by, cases_eq, cases_order, slice_get_within, get_or_from_slice_get, get_or-map, length-map, get_or-set_same, get_or-set_other, sum_by-take-le, same_Some, length-set, true, ActionId, Action, Await, AgentProgram, Program, awaits_of, total_awaits, IsAction, first_await, AreFlagsBut, IsImplied, IsImpliedFlag, ImpliedAwaits, flags_of, refl, subst, Contains, nat_le, leb-true, le-leb, slice_get-get_or, AreInRange, AreAwaits, Reaches, awaited, Reaches-last, action_before, ByBeforeOr, IsJoined, OfOthers}
 use Rattle.std.specs.List.Sorted.{IsStrictlyIncreasing}
 use Rattle.std.proofs.lemmas.List.Kept.{AllPairs-from_increasing}
-use Rattle.fleet_needs.proofs.RowPlaces.{before_with, before_rises, row_end, totals_rise}
+use Rattle.fleet_needs.proofs.JoinLaws.{before_with, before_rises, row_end, totals_rise}
 
 -- in a list in strictly rising order of agent each await is of a lower agent than all later ones
 pub await_below : (awaits : List Await) → IsStrictlyIncreasing (map (λ w. w.agent) awaits) → (k m : ℕ) (v w : Await) → slice_get awaits k ≡ Some v → slice_get awaits m ≡ Some w → k < m → v.agent < w.agent

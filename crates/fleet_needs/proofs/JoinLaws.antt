@@ -1,6 +1,53 @@
--- The rows that stand for actions, by their places.
-use Rattle.fleet_needs.proofs.Words.{◌≡◌, ◌≢◌, ℕ, ◌+◌, ◌-◌, ◌<◌, ◌≤◌, All, Vec, Global, List, length, set, slice_index, sym, ap, subst, ◌∙◌, arith, inl, inr, ◌⊎◌, cases_lt, cases_eq, get_or-set_same, get_or-set_other, ActionId, Program, awaits_of, IsAction, IsAwaiting, row_first, row_place, AreAllNoted, HasAllRows, IsRow, IsRowOrNone, StandsFor, IsUpToLast, IsFilled, no_action}
-use Rattle.fleet_needs.proofs.RowPlaces.{row_less, row_own, row_rises, row_within}
+-- Rows: their places, which of them stand for actions, and what they are joined of, one row after another.
+use Rattle.fleet_needs.proofs.Words.{◌≡◌, ℕ, ◌+◌, ◌-◌, ◌<◌, ◌≤◌, length, take, subst, arith, inl, inr, sum_by, cases_order, sum_by-take-le, Action, ActionId, AgentProgram, Program, actions_of, agent_awaits, awaits_before, awaits_of, total_awaits, actions_more, awaits_more, IsUpToLast, IsAction, row_first, row_place, ◌≢◌, All, Vec, Global, List, set, slice_index, sym, ap, ◌∙◌, ◌⊎◌, cases_lt, cases_eq, get_or-set_same, get_or-set_other, IsAwaiting, AreAllNoted, HasAllRows, IsRow, IsRowOrNone, StandsFor, IsFilled, no_action, [], ◌∷◌, ◌++◌, map, take_more, get_or-map, get_or_append_left, get_or_push, length_push, length-map, AreListedTo, action_at, action_before, action_of_key, need_for, need_of_key, needs_in, needs_of, row_of, rows_of, value_of_key, Joins, Need, RowTable}
+use Rattle.fleet_needs.proofs.Counting.{sums_rise}
+use Rattle.std.proofs.{lemmas.List.flat_map_more, lemmas.List.length-append, Math.Seq.map-set_same}
+use Rattle.std.specs.List.{flat_map}
+
+module _ (p : Program) where
+  pub before_rises : (i m n : ℕ) → m ≤ n → awaits_before p i m ≤ awaits_before p i n
+  before_rises i m n = sums_rise (λ (s : Action). length s.awaits) (actions_of p i) m n
+
+  -- one action more
+  pub before_with : (i n : ℕ) → 1 ≤ n → awaits_before p i n ≡ awaits_before p i (n - 1) + length (awaits_of p i n)
+  before_with i n some = (let e : n - 1 + 1 ≡ n = omega arith in subst (λ (k : ℕ). awaits_before p i k ≡ awaits_before p i (n - 1) + length (awaits_of p i k)) e (actions_more p i (n - 1)))
+
+  -- the places of an agent's rows stand before those of the next
+  pub row_end : (a : ActionId) → row_place p a < total_awaits (take (a.agent + 1) p) + (a.agent + 1)
+  row_end a =
+      let all : awaits_before p a.agent a.number ≤ agent_awaits p a.agent = sum_by-take-le (λ (s : Action). length s.awaits) (actions_of p a.agent) a.number in
+      omega (arith, all, awaits_more p a.agent)
+
+  pub totals_rise : (i j : ℕ) → i ≤ j → total_awaits (take i p) ≤ total_awaits (take j p)
+  totals_rise = sums_rise (λ (a : AgentProgram). sum_by (λ (s : Action). length s.awaits) a.actions) p
+
+  pub row_within : (a : ActionId) → IsUpToLast p a → row_place p a < total_awaits p + length p
+  row_within a up =
+      let most : total_awaits (take (a.agent + 1) p) ≤ total_awaits p = sum_by-take-le (λ (x : AgentProgram). sum_by (λ (s : Action). length s.awaits) x.actions) p (a.agent + 1) in
+      omega (arith, row_end a, most, up.agent)
+
+  pub row_before : (a : ActionId) (j : ℕ) → a.agent < j → row_place p a < row_first p j
+  row_before a j less = (let up = totals_rise (a.agent + 1) j (omega (arith, less)) in omega (arith, row_end a, up, less))
+
+  -- they rise with the actions of the agent
+  pub row_rises : (i m n : ℕ) → m ≤ n → row_place p (record { agent = i; number = m }) ≤ row_place p (record { agent = i; number = n })
+  row_rises i m n le = omega (arith, before_rises i m n le)
+
+  -- an action that awaits something has a greater one than those before
+  pub row_less : (i m n : ℕ) → m < n → 1 ≤ length (awaits_of p i n) → row_place p (record { agent = i; number = m }) < row_place p (record { agent = i; number = n })
+  row_less i m n less some = omega (arith, before_with i n (omega (arith, less)), some, before_rises i m (n - 1) (omega (arith, less)))
+
+  -- what stands between those of an agent is of the agent
+  pub row_own : (b a : ActionId) → row_first p a.agent ≤ row_place p b → row_place p b ≤ row_place p a → b.agent ≡ a.agent
+  row_own b a from upto = elim (cases_order b.agent a.agent) [
+    | inl e ↦ e
+    | inr (inl less) ↦ absurd (omega (arith, row_before b a.agent less, from))
+    | inr (inr more) ↦ absurd (omega (arith, row_before a b.agent more, upto, row_rises b.agent 0 b.number (omega arith)))
+  ]
+
+-- an action of the program is up to the last one of its agent
+pub upto : (p : Program) (a : ActionId) → IsAction p a → IsUpToLast p a
+upto p a is = record { agent = is.agent; last = is.last }
 
 -- what stands for an action is one of the rows, or none
 pub stands_within : (p : Program) (rows : List ActionId) (r i n : ℕ) → StandsFor p rows r i n → r ≤ length rows
@@ -107,3 +154,41 @@ module _ (p : Program) (rows : List ActionId) (awaiting : All (IsAwaiting p) row
             ]);
         row = row;
       })
+
+-- what the rows of these actions need, with those of one more
+needs_next : (p : Program) (m : RowTable) (rows : List ActionId) (n : ℕ) → n < length rows → flat_map (needs_of p m) (take (n + 1) rows) ≡ flat_map (needs_of p m) (take n rows) ++ needs_of p m (action_at rows n)
+needs_next p m rows n l = ap (flat_map (needs_of p m)) (take_more rows n no_action l) ∙ sym (flat_map_more (needs_of p m) [] (take n rows) (action_at rows n))
+
+pub needs_more : (p : Program) (m : RowTable) (rows : List ActionId) (n : ℕ) → n < length rows → length (flat_map (needs_of p m) (take (n + 1) rows)) ≡ length (flat_map (needs_of p m) (take n rows)) + length (awaits_of p (action_at rows n).agent (action_at rows n).number)
+needs_more p m rows n l =
+    let a : ActionId = action_at rows n in
+    omega (arith, ap (λ (xs : List Need). length xs) (needs_next p m rows n l), length-append (flat_map (needs_of p m) (take n rows)) (needs_of p m a), length-map (awaits_of p a.agent a.number) (need_for p m))
+
+-- one row more
+module _ (p : Program) (m : RowTable) (old new : Joins) (n key : ℕ) (l : n < length (rows_of old)) (put : new.keys.items ≡ set old.keys.items n key) (named : action_of_key key ≡ action_at (rows_of old) n) (base : value_of_key key ≡ row_of p m (action_before (action_at (rows_of old) n)))
+    (more : needs_in new.awaits ≡ needs_in old.awaits ++ needs_of p m (action_at (rows_of old) n)) (push : new.ends.items ≡ old.ends.items ++ length new.awaits.items ∷ []) (h : AreListedTo p (rows_of old) m n old) where
+  abbrev rows : List ActionId
+  rows = rows_of old
+
+  within : n < length old.keys.items
+  within = omega (arith, l, length-map old.keys.items action_of_key)
+
+  all : needs_in new.awaits ≡ flat_map (needs_of p m) (take (n + 1) rows)
+  all = more ∙ ap (λ (xs : List Need). xs ++ needs_of p m (action_at rows n)) h.awaits ∙ sym (needs_next p m rows n l)
+
+  pub listed_more : AreListedTo p rows m (n + 1) new
+  listed_more = record {
+    same = ap (map action_of_key) put ∙ map-set_same action_of_key old.keys.items n key 0 (named ∙ get_or-map action_of_key old.keys.items n 0 no_action within);
+    bases = λ i less. ap (λ (xs : List ℕ). value_of_key (slice_index xs i)) put ∙ elim (cases_eq i n) [
+      | inl e ↦ ap (λ (j : ℕ). value_of_key (slice_index (set old.keys.items n key) j)) e ∙ ap value_of_key (get_or-set_same old.keys.items n key 0 within) ∙ base ∙ ap (λ (j : ℕ). row_of p m (action_before (action_at rows j))) (sym e)
+      | inr ne ↦ ap value_of_key (get_or-set_other old.keys.items n i key 0 ne) ∙ h.bases i (omega (arith, less, ne))
+    ];
+    awaits = all;
+    all = ap (λ (xs : List ℕ). length xs) push ∙ length_push old.ends.items (length new.awaits.items) ∙ ap (λ (k : ℕ). k + 1) h.all;
+    ends = λ i le. ap (λ (xs : List ℕ). slice_index xs i) push ∙ elim (cases_lt n i) [
+      | inr sooner ↦ get_or_append_left old.ends.items (length new.awaits.items ∷ []) 0 i (omega (arith, sooner, h.all)) ∙ h.ends i sooner
+      | inl last ↦
+          let e : n + 1 ≡ i = omega (arith, last, le) in
+          get_or_push old.ends.items (length new.awaits.items) 0 i (h.all ∙ e) ∙ sym (length-map new.awaits.items need_of_key) ∙ ap (λ (xs : List Need). length xs) all ∙ ap (λ (k : ℕ). length (flat_map (needs_of p m) (take k rows))) e
+    ];
+  }

@@ -1,7 +1,7 @@
 -- What is reached, and what is not, by the levels of actions and by what they directly need.
 use Rattle.fleet_needs.proofs.Words.{◌≡◌, ◌≢◌, ℕ, ◌+◌, ◌-◌, ◌<◌, ◌≤◌, Bool, true, false, List, length, get_or, refl, sym, ap, subst, ◌∙◌, arith, inl, inr, ◌⊎◌, Contains, slice_get, Some, None, Option, unwrap_or, cases_lt, cases_eq, leb, le-leb, leb-true, false≢true, slice_get_within, get_or_from_slice_get, same_Some, ActionId, Await, Program, awaits_before, awaits_of, moves, AreInRange, IsWellFormed, IsAction, Reaches, IsNumbering, awaited, chain_ends_by_step, Reaches-rises, Reaches-last, first_await, IsImplied, IsImpliedFlag, IsUnsettled, AreSettledBy, Vec, Global, ImpliedAwaits, ReachesNeed, IsUpTo, action_before, ByBeforeOr, OfFirst, OfOthers}
 use Rattle.fleet_needs.specs.Settled.{HasOpenNeed, IsKnown, IsOpenTo}
-use Rattle.fleet_needs.proofs.{AwaitOrder.other_agent, AwaitOrder.known_on, AwaitOrder.implied_by, AwaitOrder.implied_back, Joining.one_of, Joining.own_first, Joining.awaited_action, Joining.step_back, Joining.step_on, RowPlaces.before_with}
+use Rattle.fleet_needs.proofs.{AwaitOrder.other_agent, AwaitOrder.known_on, AwaitOrder.implied_by, AwaitOrder.implied_back, Joining.one_of, Joining.own_first, Joining.awaited_action, Joining.step_back, Joining.step_on, JoinLaws.before_with}
 
 -- the await of an action
 abbrev pub await_of : ActionId → Await

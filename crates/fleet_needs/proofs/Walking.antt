@@ -1,7 +1,29 @@
--- Agents that go on as far as their awaits allow: that each step is right, and that they come to the end.
-use Rattle.fleet_needs.proofs.Words.{◌≡◌, ℕ, suc, ◌+◌, ◌-◌, ◌*◌, ◌<◌, ◌≤◌, List, [], ◌∷◌, ◌++◌, length, max, set, get_or, refl, sym, ap, subst, ◌∙◌, arith, inl, inr, ◌⊎◌, slice_get, slice_get-get_or, same_Some, Some, sum_by, cases_lt, cases_eq, mul-le, get_or-set_same, get_or-set_other, length-set, slice_get_within, get_or_from_slice_get, get_or_append_left, get_or_push, length_push, sum_by-cons, sum_by-set, ActionId, AgentProgram, Await, Program, moves, awaits_of, total_moves, AreInRange, IsAction, DirectlyNeeds, IsCriticalCost, awaited, ends_alone, ends_dearer, need_action, own_reach, Reaches-rises, Finished, IsNumberedTo, IsNotedCost, critical_cost, no_row, noted_in, row_in, after, CostsUpTo, IsGreatestTo, IsRun, IsCostWalk, HasGoneOn, IsUnmet, IsOpen, MAX_COST, MAX_LEVEL}
+-- The costs of critical paths, and agents that go on as far as their awaits allow: each step is right, to the end.
+use Rattle.fleet_needs.proofs.Words.{◌≡◌, ℕ, ◌+◌, ◌≤◌, List, [], ◌∷◌, refl, ap, arith, sum_by, ActionId, Program, IsAction, DirectlyNeeds, ChainFrom, IsCriticalCost, but_last, ends_alone, suc, ◌-◌, ◌*◌, ◌<◌, ◌++◌, length, max, set, get_or, sym, subst, ◌∙◌, inl, inr, ◌⊎◌, slice_get, slice_get-get_or, same_Some, Some, cases_lt, cases_eq, mul-le, get_or-set_same, get_or-set_other, length-set, slice_get_within, get_or_from_slice_get, get_or_append_left, get_or_push, length_push, sum_by-cons, sum_by-set, AgentProgram, Await, moves, awaits_of, total_moves, AreInRange, awaited, ends_dearer, need_action, own_reach, Reaches-rises, Finished, IsNumberedTo, IsNotedCost, critical_cost, no_row, noted_in, row_in, after, CostsUpTo, IsGreatestTo, IsRun, IsCostWalk, HasGoneOn, IsUnmet, IsOpen, MAX_COST, MAX_LEVEL}
 use Rattle.fleet_model.specs.Chain.{EndsChainOfCost}
-use Rattle.fleet_needs.proofs.Costing.{bound_of, bound_on}
+
+module _ (p : Program) (cost : ActionId → ℕ) where
+  -- no chain that ends with the action costs more
+  abbrev pub IsBound : ActionId → ℕ → Type 0
+  IsBound b m = (a : ActionId) (cs : List ActionId) → ChainFrom p a cs b → sum_by cost (a ∷ cs) ≤ m
+
+  pub bound_of : (b : ActionId) (m : ℕ) → IsCriticalCost p cost b m → IsBound b m
+  bound_of b m c a cs h = c.most (sum_by cost (a ∷ cs)) (a, cs, h, refl)
+
+  -- what bounds the chains of all that the action directly needs, bounds its own with its cost
+  pub bound_on : (b : ActionId) (m : ℕ) → ((d : ActionId) → DirectlyNeeds p b d → (a : ActionId) (cs : List ActionId) → ChainFrom p a cs d → sum_by cost (a ∷ cs) ≤ m)
+      → (a : ActionId) (cs : List ActionId) → ChainFrom p a cs b → sum_by cost (a ∷ cs) ≤ m + cost b
+  bound_on b m each a [] h = let e : cost a ≡ cost b = ap cost h.1 in omega arith
+  bound_on b m each a (c ∷ cs) h =
+      let r = but_last p a c cs b h in omega (arith, r.total cost, each r.before r.needs a r.others r.chain)
+
+  -- an action has one such cost
+  pub one_cost : (b : ActionId) (m n : ℕ) → IsCriticalCost p cost b m → IsCriticalCost p cost b n → m ≡ n
+  one_cost b m n c d = omega (arith, c.most n d.some, d.most m c.some)
+
+  -- .. which is no less than its own
+  pub own_cost : (b : ActionId) (m : ℕ) → IsAction p b → IsCriticalCost p cost b m → cost b ≤ m
+  own_cost b m act c = c.most (cost b) (ends_alone p cost b act)
 
 -- ---- how far an agent has come
 

@@ -19,15 +19,3 @@ pub record AreColumns (asked : List Bool) (from : ℕ) (columns : Columns) : Typ
   pub chosen : (j : ℕ) → from ≤ j → j < columns.end → get_or asked j false ≡ true → column_of columns j ≢ None
   pub within : (j k : ℕ) → column_of columns j ≡ Some k → k < columns.width
   pub apart : (i j k : ℕ) → column_of columns i ≡ Some k → column_of columns j ≡ Some k → i ≡ j
-
--- the blocks that are left: for each agent whether it is asked for, and the agent below whom all that are have had a
--- column
-pub record BlocksLeft : Type 0 where
-  pub asked : List Bool
-  pub from : ℕ
-
--- the next block has these columns, and the blocks after it are left
-pub record IsNextBlock (old new : BlocksLeft) (columns : Columns) : Type 0 where
-  pub chosen : AreColumns old.asked old.from columns
-  pub asked : new.asked ≡ old.asked
-  pub from : new.from ≡ columns.end

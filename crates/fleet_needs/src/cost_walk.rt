@@ -1,6 +1,5 @@
-//! Agents that go on as far as their awaits allow, and the costs of the critical paths of what they have finished:
-//! while an agent waits, the one that it waits for goes on. Of each action the sum of its own cost and of the greatest
-//! that is noted of what it needs is noted, in eight bytes.
+//! Agents that go on as far as their awaits allow; while one waits, the one that it waits for goes on. Of each action
+//! that is finished the sum of its own cost and of the greatest that is noted of what it needs is noted.
 
 ghost use Rattle.std.specs.Prelude.{◌≤◌, ℕ, IfOk, OnOk, IfNone, IfSome};
 ghost use Rattle.fleet_model.specs.Chain.{IsAction, awaited};
@@ -13,8 +12,7 @@ use std::alloc::Global;
 /// An action has an instruction for each await, of which there are fewer than agents, and one for its step.
 const MOST_INSTRUCTIONS: u16 = MAX_AGENTS as u16;
 
-/// The agent goes on with its next action: past all of its awaits, and then it has finished it, and its cost is noted;
-/// or to an await that is not met.
+/// The agent goes on past all awaits of its next action, finishes it and notes its cost; or to an await that is unmet.
 fn advance<P: ProgramView, C: ActionCosts>(
     program: &P,
     costs: &C,

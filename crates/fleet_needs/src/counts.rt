@@ -1,6 +1,5 @@
 //! The counts of rows, kept in two bytes each if all of a schedule fit in these, and else in four. Those of two bytes
-//! are joined in a plain loop, and those of four lane by lane, eight at a time, and then those that are left, one by
-//! one. A lane is a vector of `std::simd`, in a small function of its own, whose proof alone speaks of lanes.
+//! are joined in a plain loop, those of four by lanes of eight (`std::simd`, in its own function), the rest singly.
 
 ghost use Rattle.std.specs.Prelude.{◌≡◌, ◌+◌, ◌<◌, ◌≤◌, ℕ, length, max, slice_index, IfOk, get_or};
 ghost use Rattle.fleet_needs.specs.{Counts.AreGreater, Counts.AreMost, Counts.AreWritten, Counts.AreZeros, Counts.CanHold, Counts.IsPut, Counts.IsSet, Counts.are_narrow, Counts.count_from, Counts.counts_of, Counts.from_place, Kernels.AreJoined};

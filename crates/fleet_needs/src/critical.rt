@@ -1,6 +1,5 @@
-//! The cost of the critical path of each action: the greatest cost of a chain of needs that ends with it. What an
-//! action costs may be the time that it takes (Kelley and Walker 1959), or one if it matters and nothing if not. If
-//! each costs one, that is its level.
+//! The cost of the critical path of each action: the greatest cost of a chain of needs that ends with it. An action
+//! may cost its time (Kelley and Walker 1959), or one if it matters and nothing if not. At one each it is the level.
 
 ghost use Rattle.std.specs.Prelude.{◌≡◌, ℕ, ◌<◌, ◌≤◌, ◌-◌, ◌++◌, ◌∷◌, [], IfOk, IfNone, IfSome, OnOk, length, set};
 ghost use Rattle.fleet_model.specs.{declared.program.ActionId.ActionId, Chain.IsAction, Chain.awaited};
@@ -53,8 +52,7 @@ pub struct Stage {
     pub greatest: u64,
 }
 
-/// What an agent has finished: the costs of the critical paths of its first actions, in eight bytes each; and how far
-/// it has come with the next one.
+/// The costs of the critical paths of the actions that an agent has finished, in eight bytes each, and its stage.
 #[derive(Drop)]
 pub struct CostRow {
     costs: Vec<u64>,

@@ -1,16 +1,16 @@
 //! Awaits that others imply: what is left open of them after a few steps back is flagged by rows, in which the agents
 //! that are asked for alone have a column. An action without a row awaits nothing or has flags that are set already.
 
-ghost use Rattle.std.specs.Prelude.{◌≡◌, ◌<◌, ◌+◌, Some, length, slice_get, IfOk, OnOk};
-ghost use Rattle.fleet_model.specs.{declared.program.Await.Await, Program.AreInRange, Program.awaits_of, Chain.IsAction};
-ghost use Rattle.fleet_needs.specs.{Critical.IsNumberedTo, Implied.IsImpliedFlag, Joins.HasRowUnlessSet, Schedule.AreColumnsOf, Schedule.IsSchedule, Schedule.joins_of, Columns.AreColumns, Flags.AreImplied, Flags.AreSettled, Flags.flags_of, Flags.AreFlaggedIn, Flags.AreFlaggedTo, JoinPass.IsHalfMade};
+ghost use Rattle.std.specs.Prelude.{◌≡◌, ◌<◌, ◌≤◌, ◌+◌, Some, length, slice_get, IfOk, OnOk};
+ghost use Rattle.fleet_model.specs.{declared.program.ActionId.ActionId, declared.program.Await.Await, Program.AreInRange, Program.awaits_of, Chain.IsAction};
+ghost use Rattle.fleet_needs.specs.{Critical.AreLevels, Critical.IsNumberedTo, Critical.critical_cost, Implied.IsImpliedFlag, Joins.HasRowUnlessSet, Schedule.AreColumnsOf, Schedule.IsSchedule, Schedule.joins_of, Columns.AreColumns, Flags.AreImplied, Flags.AreSettled, Flags.flags_of, Flags.AreFlaggedIn, Flags.AreFlaggedTo, JoinPass.IsHalfMade};
 
 use crate::await_places::AwaitPlaces;
 use crate::counts::Counts;
 use crate::critical::CriticalCosts;
 use crate::join_pass::SlotRows;
 use crate::level_order::LevelOrder;
-use crate::schedule::{Blocks, Columns, Schedule};
+use crate::schedule::{Columns, Schedule};
 use crate::settled::{is_any, settle_all};
 use fleet_model::{ActionId, OutOfMemory, ProgramView};
 use std::alloc::Global;
@@ -38,8 +38,7 @@ impl ImpliedAwaits {
 }
 
 /// Which awaits of the program others imply: those whose awaited action begins a chain of needs that ends with another
-/// action which the same action directly needs. No level of the program is greater than `most`. A few steps back settle
-/// most awaits, and rows those that are left.
+/// action which the same action directly needs. No level is greater than `most`. Rows flag what steps back leave open.
 pub fn implied_awaits<P: ProgramView>(
     alloc: Global,
     program: &P,
@@ -53,14 +52,33 @@ pub fn implied_awaits<P: ProgramView>(
     if !is_any(&asked) {
         return Ok(implied);
     }
-    let order = LevelOrder::by_levels(alloc, program, levels, &implied.flags)?;
-    let schedule = Schedule::by_order(alloc, program, order, &implied.flags)?;
-    flag_all(alloc, program, &schedule, &asked, &mut implied)?;
+    flag_left(alloc, program, levels, &asked, &mut implied)?;
     Ok(implied)
 }
 
+/// Flags by rows the awaits that are left open, which are for the asked agents. The levels are let go.
+fn flag_left<P: ProgramView>(
+    alloc: Global,
+    program: &P,
+    levels: CriticalCosts,
+    asked: &[bool],
+    implied: &mut ImpliedAwaits,
+) -> Result<(), OutOfMemory>
+    requires range { AreInRange (P.program program.now) }
+    requires levels { AreLevels (P.program program.now) levels }
+    requires most { (a : ActionId) → IsAction (P.program program.now) a
+        → critical_cost levels a ≤ u32.MAX }
+    requires asked { length asked.now ≡ length (P.program program.now) }
+    requires settled { AreSettled (P.program program.now) asked.now implied.old }
+    ensures { OnOk result (AreImplied (P.program program.now) implied.new) }
+{
+    let order = LevelOrder::by_levels(alloc, program, levels, &implied.flags)?;
+    let schedule = Schedule::by_order(alloc, program, order, &implied.flags)?;
+    flag_all(alloc, program, &schedule, asked, implied)
+}
+
 /// Flags the awaits for the asked agents, block by block, each with as many columns as there is room for.
-#[tactic(auto, using(crate::proofs::NextBlock::columns_of, crate::proofs::NextBlock::fewer_left))]
+#[tactic(auto, using(crate::proofs::Counting::columns_of, crate::proofs::Counting::fewer_left))]
 fn flag_all<P: ProgramView>(
     alloc: Global,
     program: &P,
@@ -76,8 +94,10 @@ fn flag_all<P: ProgramView>(
         (flags_of implied.old) (joins_of schedule.now) }
     ensures { OnOk result (AreImplied (P.program program.now) implied.new) }
 {
-    let mut blocks = Blocks::of(program, schedule, asked);
-    while let Some(columns) = blocks.next_block(alloc)? {
+    let _ = program.agents();
+    let mut from = 0;
+    while let Some(columns) = Columns::next(alloc, schedule, asked, from)? {
+        from = columns.end;
         flag_block(alloc, program, schedule, columns, asked, implied)?;
     }
     Ok(())

@@ -59,8 +59,7 @@ impl Drop for SlotRows<'_> {
 }
 
 impl<'a> SlotRows<'a> {
-    /// The rows of a schedule in these columns, none of which is made yet, and a row of zeros, which can be one of
-    /// them.
+    /// The rows of a schedule in these columns, none of which is made yet, and a row of zeros for one of them.
     pub(crate) fn begin<P: ProgramView>(
         alloc: Global,
         program: &P,
@@ -100,8 +99,7 @@ impl<'a> SlotRows<'a> {
         self.schedule.outs[r] as usize * width
     }
 
-    /// Makes the row of all that the action of the join after n others directly needs, but for the count of each
-    /// awaited action's own agent.
+    /// Makes the row of all that the join after n others directly needs, but for the count of each awaited agent.
     pub(crate) fn join_others<P: ProgramView>(&self, program: &P, n: usize, row: &mut Counts)
         requires range { AreInRange (P.program program.now) }
         requires rows { AreRowsTo (P.program program.now) self.now n }

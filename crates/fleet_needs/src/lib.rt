@@ -2,16 +2,14 @@
 //! awaits others imply; and what the dearest of these chains cost.
 //!
 //! - `await_places`: where awaits and rows are found in lists that go agent by agent, action by action.
-//! - `cost_walk`: agents that go on as far as their awaits allow, without ticks; `critical` hands out what costs it has
-//!   noted, or levels.
+//! - `cost_walk`: agents that go on as far as their awaits allow, without ticks; `critical` hands out their costs.
 //! - `level_order`: the actions that add a chain, with their levels. An action that awaits nothing adds none, nor does
 //!   one with one await that is known to be implied. Any levels will do: another `OrderSource` may know others.
 //! - `schedule`: the rows, made once for all blocks of columns. What is listed, sorted by level, are the joins: each
 //!   has a row of its own, and the row of any other action is that of its agent's action before. Row 0 is of no action,
 //!   and stands for those before their agent's first row, to which no chain leads from another agent. A row is joined
 //!   of those that stand for the action before and for the awaited actions: these are of lower levels, so they are made
-//!   before. Which rows stand for actions is looked up by their places (`Standing`), once: blocks read what joins take
-//!   in its order.
+//!   before. Which rows stand for actions is looked up once (`Standing`): blocks read what joins take in its order.
 //! - `join_pass`: the rows, made in that order in the columns of one block, in two steps: first of the rows of all that
 //!   its action needs, and then, for each await, with the awaited action's own number. A row in its slot has 0 in the
 //!   column of its own agent, so after the first step the count of each awaited agent is that of all needs but this

@@ -7,7 +7,7 @@ ghost use Rattle.fleet_needs.specs.{Asked.AreAnswersIn, Asked.AreAskedFor, Asked
 use crate::counts::Counts;
 use crate::join_pass::SlotRows;
 use crate::level_order::OrderSource;
-use crate::schedule::{Blocks, Columns, Joins, Schedule, Standing};
+use crate::schedule::{Columns, Joins, Schedule, Standing};
 use fleet_model::{ActionId, OutOfMemory, ProgramView};
 use std::alloc::Global;
 
@@ -20,8 +20,7 @@ pub struct Question {
 }
 
 /// For each question, in their order, whether no chain of needs begins with its first action and ends with its last.
-/// The order of the actions is made only if there is a question. Rows of counts are kept as long as some action is
-/// still to take them.
+/// The order of the actions is made only if there is a question. Rows are kept as long as some action takes them.
 pub fn answer_questions<P: ProgramView, S: OrderSource + Drop>(
     alloc: Global,
     program: &P,
@@ -45,7 +44,7 @@ pub fn answer_questions<P: ProgramView, S: OrderSource + Drop>(
 }
 
 /// The answers to the questions, block by block, each with as many columns as there is room for.
-#[tactic(auto, using(crate::proofs::NextBlock::columns_of, crate::proofs::NextBlock::fewer_left))]
+#[tactic(auto, using(crate::proofs::Counting::columns_of, crate::proofs::Counting::fewer_left))]
 fn answer_all<P: ProgramView>(
     alloc: Global,
     program: &P,
@@ -59,8 +58,10 @@ fn answer_all<P: ProgramView>(
 {
     let mut answering = answering;
     let asked = asked_agents(alloc, program, answering.questions)?;
-    let mut blocks = Blocks::of(program, schedule, &asked);
-    while let Some(columns) = blocks.next_block(alloc)? {
+    let _ = program.agents();
+    let mut from = 0;
+    while let Some(columns) = Columns::next(alloc, schedule, &asked, from)? {
+        from = columns.end;
         answer_block(alloc, program, schedule, columns, &mut answering)?;
     }
     Ok(answering.flags)

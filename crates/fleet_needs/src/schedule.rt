@@ -1,10 +1,9 @@
 //! A schedule of rows, made once for all blocks of columns: which rows are made, in which order, which stand for other
-//! actions, of which rows each is joined, the slot in which it is kept, and the columns of the blocks, one after
-//! another.
+//! actions, of which rows each is joined, the slot in which it is kept, and the columns of each block.
 
 ghost use Rattle.std.specs.Prelude.{◌≡◌, ◌+◌, ◌++◌, ◌*◌, ◌<◌, ◌≤◌, All, ℕ, true, length, vec_len, IfOk, OnOk, MatchOption};
 ghost use Rattle.fleet_model.specs.{declared.limits.TheConstants.MAX_AGENTS, declared.program.ActionId.ActionId, Program.AreInRange, Program.moves, Chain.IsAction, Chain.awaited};
-ghost use Rattle.fleet_needs.specs.{Implied.AreAwaitPlaces, Joins.AreAllListed, Joins.AreListedTo, Joins.AreStanding, Joins.HasAllRows, Joins.HasRoom, Joins.IsFilled, Joins.IsUpToLast, Joins.action_at, Joins.base_of, Joins.end_of, Joins.need_at, Joins.need_for, Joins.needs_in, Joins.needs_of, Joins.row_of, Joins.rows_of, Keys.need_of_key, Order.AreKeys, Order.IsAwaiting, Order.IsLevelOrder, Order.named_in, Schedule.AreInOrder, Schedule.AreRows, Schedule.AreRowsBut, Schedule.IsSchedule, Schedule.IsScheduleBut, Schedule.IsScheduleOf, Schedule.IsNextJoin, Schedule.IsNextNeed, Schedule.joins_in, Schedule.next_action, Schedule.AreAllSlotted, Schedule.AreSlottedFrom, Schedule.counts_at_once, Slots.IsFree, Slots.IsHeld, Slots.rows_in, Columns.AreColumns, Columns.IsNextBlock, Columns.agents_in, Columns.column_of};
+ghost use Rattle.fleet_needs.specs.{Implied.AreAwaitPlaces, Joins.AreAllListed, Joins.AreListedTo, Joins.AreStanding, Joins.HasAllRows, Joins.HasRoom, Joins.IsFilled, Joins.IsUpToLast, Joins.action_at, Joins.base_of, Joins.end_of, Joins.need_at, Joins.need_for, Joins.needs_in, Joins.needs_of, Joins.row_of, Joins.rows_of, Keys.need_of_key, Order.AreKeys, Order.IsAwaiting, Order.IsLevelOrder, Order.named_in, Schedule.AreInOrder, Schedule.AreRows, Schedule.AreRowsBut, Schedule.IsSchedule, Schedule.IsScheduleBut, Schedule.IsScheduleOf, Schedule.IsNextJoin, Schedule.IsNextNeed, Schedule.joins_in, Schedule.next_action, Schedule.AreAllSlotted, Schedule.AreSlottedFrom, Schedule.counts_at_once, Slots.IsFree, Slots.IsHeld, Slots.rows_in, Columns.AreColumns, Columns.agents_in, Columns.column_of};
 
 use crate::await_places::AwaitPlaces;
 use crate::level_order::{LevelOrder, action_in, key_of, value_in};
@@ -18,13 +17,11 @@ const COUNTS: u32 = 655_360;
 /// The least number of columns of a block.
 const LEAST_COLUMNS: u32 = 8;
 
-/// So many counts of two bytes the compiled loop joins at once. Where a block may have as many columns, the most that
-/// it may have is a multiple of this.
+/// So many counts of two bytes the compiled loop joins at once: a block of as many columns has a multiple of this.
 const WHOLE_COLUMNS: u32 = 16;
 
 /// A row that is made: that of an action, joined of the row that stands for the agent's action before (`base`) and of
-/// those that stand for the actions that it awaits. Rows count from 1, in the order in which they are made; row 0 is
-/// that of no action.
+/// those that stand for the actions that it awaits. Rows count from 1, as they are made; row 0 is that of no action.
 #[derive(Clone, Copy)]
 pub(crate) struct Join {
     pub(crate) action: ActionId,
@@ -61,8 +58,7 @@ fn need_in(key: u64) -> Need
 pub(crate) struct Joins {
     /// For each row a key: its action, and beside it the row that stands for the agent's action before.
     keys: Vec<u64>,
-    /// A key for each await of these actions, one row after another: the awaited action, and beside it the row that
-    /// stands for it.
+    /// A key for each await of these actions, row after row: the awaited action, and beside it the row that is its.
     awaits: Vec<u64>,
     /// Where the awaits of each row end, from row 0 on, which has none.
     ends: Vec<u32>,
@@ -214,8 +210,7 @@ impl Drop for Schedule {
 }
 
 impl Schedule {
-    /// The schedule of a program whose actions have this order. Those may have no rows whose awaits are flagged in
-    /// `implied`.
+    /// The schedule of a program whose actions have this order. Those whose awaits are all `implied` may have no rows.
     pub(crate) fn by_order<P: ProgramView>(
         alloc: Global,
         program: &P,
@@ -297,8 +292,7 @@ impl Schedule {
         self.joins.need(join.first + k)
     }
 
-    /// How many columns a block has at most: as many as there is room for in all slots, but at least 8, and no more
-    /// than a program may have agents.
+    /// How many columns a block has at most: as there is room for in all slots, from 8 up to the most agents there are.
     pub(crate) fn columns_at_once(&self) -> u16
         ensures least { LEAST_COLUMNS ≤ result }
         ensures most { result ≤ MAX_AGENTS }
@@ -433,8 +427,7 @@ fn fill(noted: &mut Vec<u32>)
 }
 
 /// Slots for rows, which are given from the last row back to the first: what takes a row is made after it, so a row
-/// that has no slot yet when another takes it is taken there for the last time. Row 0 is never made: it has one from
-/// the beginning on.
+/// that has no slot yet when another takes it is taken there for the last time. Row 0, never made, always has one.
 #[derive(Drop)]
 pub(crate) struct Slots {
     /// For each row, from row 0 on, its slot, once it has one.
@@ -532,8 +525,7 @@ pub struct Columns {
 }
 
 impl Columns {
-    /// Columns for the next flagged agents from this one on, as many as there are but at most `most`. `asked` has a
-    /// flag for each agent.
+    /// Columns for the next agents from this one on that are flagged in `asked`, at most `most`.
     pub fn choose(
         alloc: Global,
         asked: &[bool],
@@ -564,68 +556,30 @@ impl Columns {
         })
     }
 
+    /// The columns of the next block, as many as there is room for, from this agent on; `None` if no agent is left.
+    pub(crate) fn next(
+        alloc: Global,
+        schedule: &Schedule,
+        asked: &[bool],
+        from: u16,
+    ) -> Result<Option<Columns>, OutOfMemory>
+        requires { length asked.now ≤ MAX_AGENTS }
+        ensures { IfOk result (λ next. MatchOption next (length asked.now ≤ from)
+            (AreColumns asked.now from)) }
+    {
+        if usize::from(from) >= asked.len() {
+            return Ok(None);
+        }
+        let most = schedule.columns_at_once();
+        let columns = Columns::choose(alloc, asked, from, most)?;
+        Ok(Some(columns))
+    }
+
     /// The column of an agent, if it has one.
     pub fn of(&self, agent: u16) -> Option<u16>
         requires { agent < agents_in self.now }
         ensures { result ≡ column_of self.now agent }
     {
         self.of_agent[usize::from(agent)]
-    }
-}
-
-/// The blocks that are left, each with as many columns as the schedule has room for.
-#[derive(Drop)]
-pub struct Blocks<'a> {
-    schedule: &'a Schedule,
-    /// For each agent whether it is asked for.
-    asked: &'a [bool],
-    agents: u16,
-    /// All asked agents below this one have had a column.
-    from: u16,
-}
-
-impl<'a> Model for Blocks<'a> {
-    ghost use Rattle.std.specs.Prelude.{◌≡◌, ◌≤◌, length};
-    ghost use Rattle.fleet_model.specs.declared.limits.TheConstants.{MAX_AGENTS};
-    ghost use Rattle.fleet_needs.specs.Columns.{BlocksLeft};
-
-    ghost Value = { BlocksLeft };
-
-    ghost view = { λ m. record { asked = m.asked.now; from = m.from } };
-
-    ghost invariant = { λ m. (m.agents ≡ length m.asked.now) × (m.agents ≤ MAX_AGENTS) };
-}
-
-impl<'a> Blocks<'a> {
-    /// All blocks for the flagged agents.
-    pub(crate) fn of<P: ProgramView>(
-        program: &P,
-        schedule: &'a Schedule,
-        asked: &'a [bool],
-    ) -> Blocks<'a>
-        requires { length asked.now ≡ length (P.program program.now) }
-        ensures asked { result.asked ≡ asked.now }
-        ensures from { result.from ≡ 0 }
-    {
-        Blocks {
-            schedule,
-            asked,
-            agents: program.agents(),
-            from: 0,
-        }
-    }
-
-    /// The columns of the next block, or `None` once each asked agent has had one.
-    pub(crate) fn next_block(&mut self, alloc: Global) -> Result<Option<Columns>, OutOfMemory>
-        ensures { IfOk result (λ next. MatchOption next (length self.old.asked ≤ self.old.from)
-            (IsNextBlock self.old self.new)) }
-    {
-        if self.from >= self.agents {
-            return Ok(None);
-        }
-        let most = self.schedule.columns_at_once();
-        let columns = Columns::choose(alloc, self.asked, self.from, most)?;
-        self.from = columns.end;
-        Ok(Some(columns))
     }
 }

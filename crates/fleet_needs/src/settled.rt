@@ -1,6 +1,5 @@
-//! Awaits for which a few steps back from their action show whether others imply them. How far is looked back decides
-//! what is settled, and so how much is left to rows, but not what is answered: the agents of awaits that are left are
-//! asked for, and once most agents are, it is looked back less, the less the shorter rows are.
+//! Awaits for which a few steps back from their action show whether others imply them. The agents of those left open
+//! are asked for; once most are, it is looked back less: that decides how much is left to rows, but no answer.
 
 ghost use Rattle.std.specs.Prelude.{◌≡◌, ◌↔◌, ◌+◌, ◌<◌, ◌≤◌, ℕ, true, false, length, vec_len, take, get_or, slice_get, Some, IfOk, IsTrue};
 ghost use Rattle.fleet_model.specs.{Program.AreInRange, Program.awaits_of, Program.total_awaits, Chain.IsAction, Chain.Reaches};
@@ -54,8 +53,7 @@ pub fn is_any(asked: &[bool]) -> bool
     asked.contains(&true)
 }
 
-/// How many actions are looked at for one await: fewer once most agents are asked for, since rows answer for all these,
-/// so a look is worth it only if it may spare a long row.
+/// How many actions are looked at for one await: fewer once most agents are asked for, for whom rows answer anyway.
 fn looks_for(asked: &[bool]) -> u8
     ensures { result ≤ LOOKS }
 {
@@ -158,9 +156,8 @@ fn latest_await<P: ProgramView>(program: &P, levels: &CriticalCosts, action: Act
     latest
 }
 
-/// Whether an action awaits the first one, or a later one of that one's agent. Its awaits are listed by agents, and
-/// those before the place `from`, which rises, are taken to be of agents before that agent: so it has to be asked for
-/// agents in their order. Otherwise it may say no where it is so.
+/// Whether an action awaits the first one, or a later one of that one's agent. It is asked for agents in their order,
+/// as its awaits are listed, and looks from the place `from` on, which rises: else it may say no where it is so.
 fn is_needed<P: ProgramView>(program: &P, first: ActionId, action: ActionId, from: &mut u16) -> bool
     requires range { AreInRange (P.program program.now) }
     requires first { IsAction (P.program program.now) first }

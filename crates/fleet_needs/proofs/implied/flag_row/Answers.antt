@@ -30,3 +30,7 @@ pub returns : goal.returns
 returns g c =
     let m = c.args.rows.now in
     row_flagged (g.P.ProgramView.program c.args.program.now) m.schedule.now c.args.asked.now m.columns c.args.n c.loop-k.k _ (row_here _ _ _ _ c.requires.joined.join) (omega (arith, c.loop-k-test.false, c.join_after-join.ensures.count, c.loop-k.auto.k-end)) c.loop-k.implied c.loop-k.invariant
+
+pub get-requires : goal.get-requires
+get-requires g c =
+    omega (arith, c.requires.joined.join.columns.within _ _ (sym c.of.ensures ∙ c.in-Some.is), c.requires.joined.join.width, c.from.ensures)

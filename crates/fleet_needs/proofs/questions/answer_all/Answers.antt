@@ -1,11 +1,12 @@
-use Rattle.fleet_needs.proofs.Words.{rules, ◌≤◌, ◌∙◌, List, Bool, length, ap, arith, subst, AreAnswersIn, Question}
+use Rattle.fleet_needs.proofs.Words.{arith, rules, subst, ◌≤◌, vec_len, List, AreAnswersIn, Question, ◌∙◌}
 use Rattle.fleet_needs.proofs.Answered.{answered_end}
 use Rattle.fleet_needs.proofs.questions.answer_all.Goals as goal
 
 pub returns : goal.returns
 returns g c =
-    let p = g.P.ProgramView.program c.args.program.now in
-    let blocks = c.loop-asked.blocks in
-    let over : length blocks.asked ≤ blocks.from = search rules in
-    subst (λ (qs : List Question). AreAnswersIn p qs c.loop-asked.answering.flags) c.loop-asked.invariant.same
-    (answered_end p c.args.schedule.now blocks.from c.loop-asked.answering (omega (arith, over, c.in_ok-asked.ensures.agents, ap (λ (xs : List Bool). length xs) (c.loop-asked.invariant.asked ∙ c.of-blocks.ensures.asked ∙ c.deref.ensures.value))) c.loop-asked.invariant.answers)
+    let over : vec_len c.in_ok-asked.asked ≤ c.loop-asked.from = search rules in
+    subst (λ (qs : List Question). AreAnswersIn (g.P.ProgramView.program c.args.program.now) qs c.loop-asked.answering.flags) c.loop-asked.invariant.same
+    (answered_end _ c.args.schedule.now c.loop-asked.from c.loop-asked.answering (omega (arith, over, c.in_ok-asked.ensures.agents)) c.loop-asked.invariant.answers)
+
+pub loop-asked-preserved : goal.loop-asked-preserved
+loop-asked-preserved g c = record { answers = c.in_ok-answer_block.ensures.answers; same = c.in_ok-answer_block.ensures.same ∙ c.loop-asked.invariant.same }

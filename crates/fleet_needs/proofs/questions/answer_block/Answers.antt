@@ -34,3 +34,9 @@ answer_row-requires-clause-answers g c =
       };
       due = λ n from l. omega arith;
     })
+
+pub loop-n-preserved : goal.loop-n-preserved
+loop-n-preserved g c =
+    let was = c.loop-n.invariant in
+    let row = c.answer_row-in-loop-n.ensures in
+    record { pass = rw (was.pass.schedule, was.pass.columns) at c.finish_row.ensures.pass; answers = rw (c.finish_row.ensures.pass.columns ∙ was.pass.columns) at row.answers; same = row.same ∙ was.same }

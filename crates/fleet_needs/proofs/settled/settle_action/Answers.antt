@@ -1,4 +1,4 @@
-use Rattle.fleet_needs.proofs.Words.{◌≡◌, ◌+◌, ℕ, set, refl, sym, ap, ◌∙◌, arith, inl, inr, is_some, not-false, Some, true, false, flags_of, critical_cost, first_await, ReachesNeed}
+use Rattle.fleet_needs.proofs.Words.{◌≡◌, ◌+◌, ℕ, set, refl, sym, ap, ◌∙◌, arith, inl, inr, is_some, not-false, flags_of, critical_cost, first_await, ReachesNeed}
 use Rattle.fleet_needs.specs.Settled.{HasOpenNeed, IsKnown}
 use Rattle.fleet_needs.proofs.{AwaitOrder.known_put, Settling.need_by, Settling.settled_by, Settling.settled_on, Settling.await_of, Settling.first_next}
 use Rattle.fleet_needs.proofs.settled.settle_action.Goals.{then-is_passed, else-is_passed, then-is_other, else-is_other}

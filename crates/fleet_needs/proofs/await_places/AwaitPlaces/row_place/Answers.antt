@@ -1,5 +1,5 @@
 use Rattle.std.proofs.Common.{◌<◌, length, sym, arith}
-use Rattle.fleet_needs.proofs.{Counting.count_read, RowPlaces.row_within}
+use Rattle.fleet_needs.proofs.{Counting.count_read, JoinLaws.row_within}
 use Rattle.fleet_needs.proofs.await_places.AwaitPlaces.row_place.Goals as goal
 
 pub returns-clause-within : goal.returns-clause-within

@@ -1,5 +1,5 @@
 use Rattle.fleet_needs.proofs.Words.{◌+◌, arith, unit_cost, critical_cost, ends_dearer, ends_within}
-use Rattle.fleet_needs.proofs.Costing.{own_cost}
+use Rattle.fleet_needs.proofs.Walking.{own_cost}
 use Rattle.fleet_needs.proofs.critical.CriticalCosts.levels.Goals as goal
 
 pub of-requires : goal.of-requires

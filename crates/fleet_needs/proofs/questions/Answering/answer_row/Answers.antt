@@ -34,3 +34,7 @@ loop-self-preserved g c =
       ];
       same = elim c.match-of.branch [ in-Some w ↦ ap (λ (y : Answering). y.questions.now) w.self-is ∙ c.loop-self.invariant.same | in_default w ↦ ap (λ (y : Answering). y.questions.now) w.self-is ∙ c.loop-self.invariant.same ];
     }
+
+pub count_for-count-requires : goal.count_for-count-requires
+count_for-count-requires g c =
+    omega (arith, c.requires.columns.within _ _ (sym c.of.ensures ∙ c.in-Some.is), c.requires.row.width, c.from.ensures)

@@ -105,6 +105,15 @@ fn changed_programs_are_read_alike(rt: HostRuntime) -> Result<(), Fail> {
     Ok(())
 }
 
+/// The program of the bytes is written as these in version 2 alone.
+fn due_version_2(rt: &impl Abort, alloc: Global, bytes: &[u8]) -> Result<(), Fail> {
+    let program = load(alloc, bytes)?;
+    assert!(*rt; matches!(encode(alloc, &program).err(), Some(EncodeFault::TooLong)));
+    let again = encode2(alloc, &program)?;
+    assert!(*rt; again.as_slice() == bytes);
+    Ok(())
+}
+
 /// One agent that goes to and fro 65,536 times: version 1 has two bytes for the number of its moves.
 #[test]
 fn long_programs_have_version_2_alone(rt: HostRuntime) -> Result<(), Fail> {
@@ -113,10 +122,5 @@ fn long_programs_have_version_2_alone(rt: HostRuntime) -> Result<(), Fail> {
     for _ in 0..32_768 {
         bytes.extend_from_slice(b"\x01\x03")?;
     }
-    let program = load(alloc, &bytes)?;
-    assert!(rt; matches!(encode(alloc, &program).err(), Some(EncodeFault::TooLong)));
-    let again = encode2(alloc, &program)?;
-    assert!(rt; again.len() == 65_554);
-    assert!(rt; again.as_slice() == bytes.as_slice());
-    Ok(())
+    due_version_2(&rt, alloc, &bytes)
 }

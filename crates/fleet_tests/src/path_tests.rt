@@ -1,6 +1,6 @@
 //! Paths that are reserved, and earliest ones past them.
 
-use fleet_grid::read_map;
+use fleet_grid::{Grid, read_map};
 use fleet_model::Cell;
 use fleet_plan::read_plan;
 use fleet_search::{Reservations, SearchFault, earliest};
@@ -35,14 +35,25 @@ fn steps_of(
     alloc: Global,
     map: &[u8],
     reserved: &[u8],
-    (start, goal): (Cell, Cell),
+    ends: (Cell, Cell),
     horizon: u16,
 ) -> Result<Option<u32>, Fail> {
     let grid = read_map(alloc, map)?;
     let Some(reserved) = reserved_of(alloc, reserved)? else {
         return Err(Fail::from("conflict"));
     };
-    match earliest(alloc, &grid, &reserved, start, goal, horizon) {
+    steps_past(alloc, &grid, &reserved, ends, horizon)
+}
+
+/// .. past these.
+fn steps_past(
+    alloc: Global,
+    grid: &Grid,
+    reserved: &Reservations,
+    (start, goal): (Cell, Cell),
+    horizon: u16,
+) -> Result<Option<u32>, Fail> {
+    match earliest(alloc, grid, reserved, start, goal, horizon) {
         Ok(path) => Ok(Some(path.steps())),
         Err(SearchFault::NoPath) => Ok(None),
         Err(SearchFault::OutOfMemory) => Err(Fail::from("memory")),

@@ -106,9 +106,14 @@ fn due_thinned<P: ProgramView>(
     Ok(())
 }
 
+/// The row's program with all awaits is accepted, and thinned.
+fn due_row(rt: &impl Abort, alloc: Global, grid: &Grid, instance: &Instance) -> Result<(), Fail> {
+    let accepted = accepted_of(alloc, view(alloc, ALL_BYTES)?, grid, instance)?;
+    due_thinned(rt, alloc, &accepted)
+}
+
 #[test]
 fn programs_are_thinned(rt: HostRuntime) -> Result<(), Fail> {
     let (grid, instance) = problem(rt.alloc(), ROW_MAP, ROW_SCEN)?;
-    let accepted = accepted_of(rt.alloc(), view(rt.alloc(), ALL_BYTES)?, &grid, &instance)?;
-    due_thinned(&rt, rt.alloc(), &accepted)
+    due_row(&rt, rt.alloc(), &grid, &instance)
 }

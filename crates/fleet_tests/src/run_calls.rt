@@ -7,11 +7,13 @@ use crate::due::due_bytes;
 use crate::fleets::{DEADLOCK_BYTES, accepted_of, pair, pair_fleet, problem, started};
 use fleet_adg::rest;
 use fleet_code::{encode, view};
+use fleet_grid::Grid;
 use fleet_model::{Place, ProgramView};
 use fleet_run::{
     End, Fleet, HoldList, HoldSource, HoldText, Rehearsal, Report, RunFault, SourceFault, Tick,
     VecOut, WriteOut, drive, rehearse,
 };
+use fleet_scen::Instance;
 use std::alloc::{AllocError, Global};
 use std::io::sink;
 use std::process::Abort;
@@ -137,14 +139,26 @@ fn rest_bytes<P: ProgramView>(alloc: Global, fleet: &Fleet<'_, P>) -> Result<Vec
     Ok(encode(alloc, &left)?)
 }
 
+/// The pair's ticks, what is left after them, and its chain.
+fn due_ticks<P: ProgramView + Drop>(
+    rt: &impl Abort,
+    alloc: Global,
+    fleet: Fleet<'_, P>,
+) -> Result<(), Fail>
+    requires { length (P.program fleet.accepted.program) ≡ 2 }
+{
+    let mut fleet = fleet;
+    tick_pair(rt, &mut fleet);
+    due_bytes(rt, &rest_bytes(alloc, &fleet)?, NOTHING_BYTES);
+    assert!(*rt; fleet.into_accepted().chain() == 3);
+    Ok(())
+}
+
 #[test]
 fn fleets_are_ticked(rt: HostRuntime) -> Result<(), Fail> {
     let (grid, instance, program) = pair(rt.alloc())?;
-    let mut fleet = pair_fleet(rt.alloc(), program, &grid, &instance)?;
-    tick_pair(&rt, &mut fleet);
-    due_bytes(&rt, &rest_bytes(rt.alloc(), &fleet)?, NOTHING_BYTES);
-    assert!(rt; fleet.into_accepted().chain() == 3);
-    Ok(())
+    let fleet = pair_fleet(rt.alloc(), program, &grid, &instance)?;
+    due_ticks(&rt, rt.alloc(), fleet)
 }
 
 /// A row of 1,025 cells.
@@ -198,21 +212,22 @@ fn free_drive<P: ProgramView>(fleet: &mut Fleet<'_, P>) -> Result<Looked, Fail>
     Ok((ran, fleet.looked()))
 }
 
-fn free_run(alloc: Global, map: &[u8], scen: &[u8], bytes: &[u8]) -> Result<Looked, Fail> {
-    let (grid, instance) = problem(alloc, map, scen)?;
-    let accepted = accepted_of(alloc, view(alloc, bytes)?, &grid, &instance)?;
+fn free_run(alloc: Global, grid: &Grid, instance: &Instance, bytes: &[u8]) -> Result<Looked, Fail> {
+    let accepted = accepted_of(alloc, view(alloc, bytes)?, grid, instance)?;
     let mut fleet = started(alloc, accepted)?;
     free_drive(&mut fleet)
+}
+
+/// The run of the crowd.
+fn crowd_run(alloc: Global) -> Result<Looked, Fail> {
+    let (grid, instance) = problem(alloc, &crowd_map(alloc)?, &crowd_scen(alloc)?)?;
+    free_run(alloc, &grid, &instance, &crowd_bytes(alloc)?)
 }
 
 /// A tick looks at nobody but the agents that are ready, and those that await one that moves in it.
 #[test]
 fn standing_agents_are_not_looked_at(rt: HostRuntime) -> Result<(), Fail> {
-    let alloc = rt.alloc();
-    let map = crowd_map(alloc)?;
-    let scen = crowd_scen(alloc)?;
-    let bytes = crowd_bytes(alloc)?;
-    let (ran, looked) = free_run(alloc, &map, &scen, &bytes)?;
+    let (ran, looked) = crowd_run(rt.alloc())?;
     let due = Report {
         agents: 1024,
         ticks: 65_535,

@@ -54,16 +54,19 @@ fn goes(instance: &Instance, agent: u16, from: u16, to: u16) -> bool {
 }
 
 /// The pair's agents, three of them, one or all.
+fn due_scenarios(rt: &impl Abort, alloc: Global, grid: &Grid) -> Result<(), Fail> {
+    let fault = read_scen(alloc, PAIR_SCEN, grid, Some(3)).err();
+    assert!(*rt; matches!(fault, Some(ScenFault::Fewer)));
+    assert!(*rt; read_scen(alloc, PAIR_SCEN, grid, Some(1))?.agents() == 1);
+    let pair: Instance = read_scen(alloc, PAIR_SCEN, grid, None)?;
+    assert!(*rt; pair.agents() == 2 && goes(&pair, 0, 1, 3) && goes(&pair, 1, 0, 2));
+    Ok(())
+}
+
 #[test]
 fn scenarios_are_read(rt: HostRuntime) -> Result<(), Fail> {
-    let alloc = rt.alloc();
-    let grid = read_map(alloc, PAIR_MAP)?;
-    let fault = read_scen(alloc, PAIR_SCEN, &grid, Some(3)).err();
-    assert!(rt; matches!(fault, Some(ScenFault::Fewer)));
-    assert!(rt; read_scen(alloc, PAIR_SCEN, &grid, Some(1))?.agents() == 1);
-    let pair: Instance = read_scen(alloc, PAIR_SCEN, &grid, None)?;
-    assert!(rt; pair.agents() == 2 && goes(&pair, 0, 1, 3) && goes(&pair, 1, 0, 2));
-    Ok(())
+    let grid = read_map(rt.alloc(), PAIR_MAP)?;
+    due_scenarios(&rt, rt.alloc(), &grid)
 }
 
 /// The row without its second cell.
@@ -75,8 +78,13 @@ const TASKS: &[u8] = b"version 1\n0\tmap\t4\t1\t1\t0\t3\t0\t0\n0\tmap\t4\t1\t0\t
 #[test]
 fn maps_and_scenarios_are_written(rt: HostRuntime) -> Result<(), Fail> {
     let alloc = rt.alloc();
-    let text = write_map(alloc, &read_map(alloc, GLYPHS)?, &[Cell { x: 1, y: 0 }])?;
-    due_bytes(&rt, &text, WITHOUT);
+    let grid = read_map(alloc, GLYPHS)?;
+    due_bytes(
+        &rt,
+        &write_map(alloc, &grid, &[Cell { x: 1, y: 0 }])?,
+        WITHOUT,
+    );
+    drop(grid);
     let tasks = tasks_of(alloc, &view(alloc, PAIR_BYTES)?)?;
     due_bytes(&rt, &write_scen(alloc, 4, 1, &tasks)?, TASKS);
     Ok(())

@@ -8,14 +8,13 @@ use Rattle.fleet_needs.specs.Counts.{counts_of, count_from, are_narrow}
 use Rattle.fleet_needs.specs.Joins.{AreOwn, AreRising, AreStanding, HasAllRows, HasRowUnlessSet, RowTable, StandsFor, action_at, base_of, end_of, need_at, rows_of}
 use Rattle.fleet_needs.specs.Order.{IsAwaiting}
 use Rattle.fleet_needs.specs.Rows.{IsColumn}
-use Rattle.fleet_needs.specs.Slots.{AreSlotted, IsStill, rows_in}
+use Rattle.fleet_needs.specs.Slots.{AreSlotted, IsStill, SlotTable, rows_in}
 use Rattle.fleet_needs.specs.declared.counts.Counts.{Counts}
 use Rattle.fleet_needs.specs.declared.schedule.Columns.{Columns}
 use Rattle.fleet_needs.specs.declared.schedule.Join.{Join}
 use Rattle.fleet_needs.specs.declared.schedule.Joins.{Joins}
 use Rattle.fleet_needs.specs.declared.schedule.Need.{Need}
 use Rattle.fleet_needs.specs.declared.schedule.Schedule.{Schedule}
-use Rattle.fleet_needs.specs.declared.schedule.Slots.{Slots}
 use Rattle.fleet_needs.specs.declared.schedule.TheConstants.{COUNTS}
 use Rattle.fleet_needs.specs.declared.join_pass.SlotRows.{SlotRows}
 
@@ -91,7 +90,7 @@ pub record IsScheduleBut (p : Program) (flags : List Bool) (s : Schedule) : Type
   pub passed : HasRowUnlessSet p flags (joins_of s)
 
 -- of these rows, those after the first n have slots, and what their joins take
-pub record AreSlottedFrom (x : Joins) (n : ℕ) (m : Slots) : Type 0 where
+pub record AreSlottedFrom (x : Joins) (n : ℕ) (m : SlotTable) : Type 0 where
   pub upto : n ≤ length (rows_of x)
   pub rows : rows_in m ≡ length (rows_of x) + 1
   pub slotted : AreSlotted (TakesIn x) n n m

@@ -431,11 +431,18 @@ fn fill(noted: &mut Vec<u32>)
 #[derive(Drop)]
 pub(crate) struct Slots {
     /// For each row, from row 0 on, its slot, once it has one.
-    pub(crate) outs: Vec<u32>,
+    outs: Vec<u32>,
     /// For each slot, the row that has it.
-    pub(crate) owners: Vec<Option<u32>>,
-    /// Slots that are free.
+    owners: Vec<Option<u32>>,
     free: Vec<u32>,
+}
+
+impl Model for Slots {
+    ghost use Rattle.fleet_needs.specs.Slots.{SlotTable};
+
+    ghost Value = { SlotTable };
+
+    ghost view = { λ m. record { outs = m.outs.items; owners = m.owners.items } };
 }
 
 impl Slots {

@@ -1,20 +1,20 @@
-use Rattle.fleet_needs.proofs.Words.{◌+◌, ℕ, arith, ◌∙◌, ap, inl, inr, refl, subst, cases_lt, HasSlotNow, Need, TakesIn, need_at}
+use Rattle.fleet_needs.proofs.Words.{◌+◌, ℕ, arith, ◌∙◌, ap, inl, inr, refl, subst, sym, cases_lt, HasSlotNow, Need, TakesIn, need_at, rows_in}
 use Rattle.fleet_needs.proofs.{Counting.count_read, Slotting.held_on, Slotting.join_settled, Slotting.row_ended}
 use Rattle.fleet_needs.proofs.schedule.Slots.settle.Goals as goal
 
 pub hold-requires-2 : goal.hold-requires-2
-hold-requires-2 c = omega (arith, c.base.ensures, c.requires.order.sooner c.args.n _ (omega (arith, c.requires.slotted.upto), inl refl), c.in_ok-hold.ensures.rows, c.requires.slotted.rows)
+hold-requires-2 c = omega (arith, c.base.ensures, c.requires.order.sooner c.args.n _ (omega (arith, c.requires.slotted.upto), inl refl), c.in_ok-hold.ensures.rows, ap rows_in c.self.view_is, c.requires.slotted.rows)
 
 pub loop-x-init : goal.loop-x-init
 loop-x-init c =
     let s = c.args.joins.now in
     let n = c.args.n in
-    let mid = c.hold.new.self in
+    let mid = rw (sym c.self.view_is) at c.in_ok-hold.ensures in
     let h = c.in_ok-hold-2.ensures in
-    let slot = count_read mid.outs.items (n + 1) (n + 1) c.index-slot.result.now refl (omega (arith, c.requires.slotted.upto, c.requires.slotted.rows, c.in_ok-hold.ensures.rows)) c.index-slot.ensures in
+    let slot = count_read c.self.inside.outs.items (n + 1) (n + 1) c.index-slot.result.now refl (omega (arith, c.requires.slotted.upto, c.requires.slotted.rows, mid.rows)) c.index-slot.ensures in
     record {
-      rows = h.rows ∙ c.in_ok-hold.ensures.rows;
-      slotted = held_on (TakesIn s) (n + 1) n c.base.result _ c.hold-2.new.self (omega (arith, c.base.ensures, c.requires.order.sooner n _ (omega (arith, c.requires.slotted.upto), inl refl))) h (row_ended (TakesIn s) n c.args.self.now mid c.in_ok-hold.ensures c.push.new.self c.index-slot.result.now slot c.requires.slotted.slotted);
+      rows = h.rows ∙ mid.rows;
+      slotted = held_on (TakesIn s) (n + 1) n c.base.result _ c.hold-2.new.self (omega (arith, c.base.ensures, c.requires.order.sooner n _ (omega (arith, c.requires.slotted.upto), inl refl))) h (row_ended (TakesIn s) n c.args.self.now _ mid c.index-slot.result.now slot c.requires.slotted.slotted);
       base = subst (HasSlotNow c.hold-2.new.self) c.base.ensures h.here;
       each = λ y from less. absurd (omega (arith, from, less, c.end-x.ensures));
     }

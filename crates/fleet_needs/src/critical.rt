@@ -1,5 +1,5 @@
 //! The cost of the critical path of each action: the greatest cost of a chain of needs that ends with it. An action
-//! may cost its time (Kelley and Walker 1959), or one if it matters and nothing if not. At one each it is the level.
+//! may cost its time (Kelley and Walker 1959), or one if it matters, else nothing. If each costs one, it is the level.
 
 ghost use Rattle.std.specs.Prelude.{◌≡◌, ℕ, ◌<◌, ◌≤◌, ◌-◌, ◌++◌, ◌∷◌, [], IfOk, IfNone, IfSome, OnOk, length, set};
 ghost use Rattle.fleet_model.specs.{declared.program.ActionId.ActionId, Chain.IsAction, Chain.awaited};

@@ -17,7 +17,7 @@ const COUNTS: u32 = 655_360;
 /// The least number of columns of a block.
 const LEAST_COLUMNS: u32 = 8;
 
-/// So many counts of two bytes the compiled loop joins at once: a block of as many columns has a multiple of this.
+/// So many counts of two bytes the compiled loop joins at once: `columns_at_once` is less, or a multiple of this.
 const WHOLE_COLUMNS: u32 = 16;
 
 /// A row that is made: that of an action, joined of the row that stands for the agent's action before (`base`) and of
@@ -58,7 +58,7 @@ fn need_in(key: u64) -> Need
 pub(crate) struct Joins {
     /// For each row a key: its action, and beside it the row that stands for the agent's action before.
     keys: Vec<u64>,
-    /// A key for each await of these actions, row after row: the awaited action, and beside it the row that is its.
+    /// A key for each await of these actions, row after row: the awaited action, and the row that stands for it.
     awaits: Vec<u64>,
     /// Where the awaits of each row end, from row 0 on, which has none.
     ends: Vec<u32>,
@@ -292,7 +292,7 @@ impl Schedule {
         self.joins.need(join.first + k)
     }
 
-    /// How many columns a block has at most: as there is room for in all slots, from 8 up to the most agents there are.
+    /// How many columns a block has at most: as many as all slots have room for, but at least 8.
     pub(crate) fn columns_at_once(&self) -> u16
         ensures least { LEAST_COLUMNS ≤ result }
         ensures most { result ≤ MAX_AGENTS }

@@ -16,6 +16,7 @@ FLEET = $(BUILT)
 LIBRARY = $(shell command -v cc > /dev/null && command -v objcopy > /dev/null && echo crates/fleet_c/out/library)
 ARCHIVE = $(LIBRARY:%=%/libfleet.a)
 SIDE_BY_SIDE = awk -v script=$(1) -v jobs=$(JOBS) -v crate=$(2) -f tools/checks.awk crates.txt | $(MAKE) -j $(if $(filter 1,$(JOBS)),2,$(JOBS)) -f -
+TRY = JOBS=$(JOBS) python3 tests/edits.py
 SOURCES = crates.txt $(shell find crates -path '*/out' -prune -o \( -name '*.rt' -o -name '*.antt' \) -print)
 
 WAREHOUSE = examples/warehouse.map examples/warehouse.scen
@@ -26,18 +27,19 @@ MAKEFLAGS += --no-builtin-rules
 # Where make install puts things.
 TO = $(DESTDIR)$(PREFIX)
 
-.PHONY: help lib look test checks examples edits neutral numbers demo picture definitions transcripts install
+.PHONY: help lib look test checks examples must-fail edits neutral numbers demo picture definitions transcripts install
 
 help:
 	@echo 'make look                  runs the program on examples within two minutes, with nothing proved'
 	@echo 'make demo                  builds the program (the first time 12 to 28 minutes on four processors) and shows it on examples'
 	@echo 'make lib                   builds libfleet for callers in C, C++, Rust and Python, and its header, in $(LIBRARY)'
 	@echo 'make install PREFIX=DIR    puts the program at DIR/bin/fleet ($(PREFIX) where none is given), and libfleet in DIR/lib'
-	@echo 'make test                  the gate: proofs, tests, edits that must fail, and then the examples'
+	@echo 'make test                  the gate: proofs, tests, edits that must fail and the examples'
 	@echo 'make checks                proves all that fleet stands on and keeps the work, so that rt check and make prove only what changes then'
 	@echo 'make examples              runs the program on every example of the documents, on transcripts and tables, and on files and streams at their limits'
 	@echo 'make examples FLEET=PATH   the same of another program'
-	@echo 'make edits                 tries more edits that must fail, those of tests/edits, which would cost the gate too much'
+	@echo 'make must-fail             tries the edits that must fail, those of tests/must-fail, which is part of the gate'
+	@echo 'make edits                 tries more of them, those of tests/edits'
 	@echo 'make neutral               tries changes that mean nothing, those of tests/neutral, which the prover has to take'
 	@echo 'make numbers               compares the numbers of 10,000 plans at random with a count of another hand'
 	@echo 'make picture               draws the film and the chart of the README anew, docs/warehouse.svg and docs/waits.svg'
@@ -49,7 +51,7 @@ look:
 
 test:
 	rt ci
-	@$(MAKE) --no-print-directory examples
+	@$(MAKE) --no-print-directory -j 2 -O must-fail examples
 
 # Proves the crates below the program, each after those that it uses, and builds the program: those that changed since
 # they were proved so and those above them, or where `make checks` kept its work, what has changed of each. What the
@@ -77,11 +79,14 @@ $(ARCHIVE): $(SOURCES) include/fleet.h tools/lib.sh
 examples: $(FLEET) $(ARCHIVE)
 	@sh tests/examples.sh $(FLEET) $(LIBRARY)
 
-edits:
-	@sh tests/edits.sh
+must-fail: $(BUILT)
+	@$(TRY) must-fail
 
-neutral:
-	@sh tests/neutral.sh
+edits: $(BUILT)
+	@$(TRY) edits
+
+neutral: $(BUILT)
+	@$(TRY) neutral
 
 numbers: $(FLEET)
 	@sh tests/numbers.sh $(FLEET)

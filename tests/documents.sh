@@ -53,9 +53,8 @@ alike 'docs/PROVED.md has the lines of definitions: tools/believed.sh' 'table of
 
 # The text that an edit changes stands once in its file: of the edits of the gate, and of those of `make edits` and of
 # `make neutral`.
-for edit in "$root"/crates/*/must-fail/*.edit "$root"/tests/edits/*/*.edit "$root"/tests/neutral/*/*.edit; do
-    crate=${edit%/*}
-    awk -v at="$root/crates/$(basename "${crate%/must-fail}")" '
+for edit in "$root"/tests/must-fail/*/*.edit "$root"/tests/edits/*/*.edit "$root"/tests/neutral/*/*.edit; do
+    awk -v at="$root/crates/$(basename "${edit%/*}")" '
         sub(/^file: /, "") { path = at "/" $0 }
         sub(/^old: /, "") {
             found = 0
@@ -68,23 +67,15 @@ for edit in "$root"/crates/*/must-fail/*.edit "$root"/tests/edits/*/*.edit "$roo
         }' "$edit"
 done > "$work/out"
 : > "$work/want.out"
-alike 'each edit changes a text that stands once' 'edits of crates/*/must-fail, tests/edits and tests/neutral' none
+alike 'each edit changes a text that stands once' 'edits of tests/must-fail, tests/edits and tests/neutral' none
 
-# A neutral edit says the function in which its text stands, by the path that the check prints.
-for edit in "$root"/tests/neutral/*/*.edit; do
-    awk -v at="$root/crates/$(basename "${edit%/*}")" '
-        sub(/^check: /, "") { named = name = $0; sub(/.*::/, "", name) }
-        sub(/^file: /, "") {
-            found = 0
-            path = at "/" $0
-            while ((getline line < path) > 0)
-                found = found || line ~ ("fn " name "[(<]")
-            close(path)
-            gsub(/^src\/|\.rt$/, "")
-            gsub("/", "::")
-            if (!found || ($0 != "main" && $0 != "lib" && index(named, $0 "::") != 1))
-                print FILENAME ": " named
-        }' "$edit"
+# It says the functions that it changes, by the paths that the check prints.
+for edit in "$root"/tests/must-fail/*/*.edit "$root"/tests/edits/*/*.edit "$root"/tests/neutral/*/*.edit; do
+    sed -n 's/^check: //p' "$edit" > "$work/checks"
+    [ -s "$work/checks" ] || echo "$edit: names none"
+    while read -r path; do
+        grep -rqE "fn ${path##*::}[(<]" "$root/crates/$(basename "${edit%/*}")/src" || echo "$edit: $path"
+    done < "$work/checks"
 done > "$work/out"
 : > "$work/want.out"
-alike 'each edit of tests/neutral names a function of its file' 'edits of tests/neutral against crates/*/src' none
+alike 'each edit names functions of its crate' 'edits of tests/must-fail, tests/edits and tests/neutral against crates/*/src' none

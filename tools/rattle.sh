@@ -20,5 +20,8 @@ for crate in $(sed -n "s/^$name\( [a-z]*\)*://p" ../../crates.txt); do
     [ -d "../$crate" ] || built=$kit/rlibs
     set -- "$@" --extern "$crate=$built/$crate.rlib"
 done
+if grep -q "^$name staticlib:" ../../crates.txt; then
+    set -- "$@" --crate-type staticlib
+fi
 exec "$kit/bin/rattle" "$verb" "$@" --antt-project "$kit/rattle/logic/antt-project.json" --logic-built "$kit/logic_built" \
     --links "$name="

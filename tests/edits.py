@@ -1,0 +1,329 @@
+#!/usr/bin/env python3
+"""Tries changed bodies, and says of which the prover takes.
+
+    tests/edits.py must-fail [CRATE..]    wrong bodies that the gate tries: each has to be refused
+    tests/edits.py edits [CRATE..]        more of these
+    tests/edits.py neutral [CRATE..]      changes that mean nothing: all but a few have to be proved
+
+Each stands in a file tests/KIND/CRATE/NAME.edit, with lines `check: MODULE::FUNCTION` for the functions that it
+changes, then `file: PATH`, and pairs of lines `old: TEXT` and `new: TEXT`; each old text stands in that file once.
+
+A function is checked alone, over the libraries that were built below its crate. The functions of its crate that it
+calls are taken at their contracts: their bodies are cut out, with a hole for a proof. What is changed in functions of
+their own goes into one check, and once more into one of its own where what it calls was changed too. What `edits`
+tries, and what the gate does, is checked as it stands as well: were a function refused for what was cut, its edits
+would show nothing. JOBS=N checks so many side by side; LOGS=FOLDER keeps what the prover says.
+"""
+import os
+import re
+import shutil
+import subprocess
+import sys
+import tempfile
+from concurrent.futures import ThreadPoolExecutor
+from dataclasses import dataclass
+from itertools import accumulate
+from pathlib import Path
+
+ROOT = Path(__file__).resolve().parent.parent
+# So many changes that mean nothing may be refused.
+MOST_REFUSED = 4
+# How a line begins that declares a function, a type, or methods of one.
+FUNCTION = re.compile(r'( *)(?:pub(?:\(\w+\))? )?(?:unsafe )?(?:extern "C" )?fn (\w+)')
+TYPE = re.compile(r"^(?:pub(?:\(\w+\))? )?(?:struct|enum) (\w+)", re.M)
+BLOCK = re.compile(r"(?:pub )?(impl|trait)\b(.*)")
+HOLE = """use Rattle.{crate}.proofs.{path}.Statement.{{statement}}
+
+pub {name}_spec : {{M : Type 1}} → statement M
+{name}_spec 𝓤 𝓛 𝓜 𝓡 w = ?
+"""
+# What the prover says of a proof that names what an edit took away.
+NAMES = re.compile(r"has no field|is not in scope|has no `|was not admitted")
+
+
+@dataclass
+class Edit:
+    name: str
+    checks: list[str]
+    # The file, the old text and the new one.
+    changes: list[tuple[str, str, str]]
+
+
+@dataclass
+class Body:
+    """A function's body: its path, as a check prints it, and its first line and the one behind its last."""
+
+    path: str
+    begin: int
+    end: int
+
+
+def read_edit(file):
+    checks, changes, path, old = [], [], None, None
+    for line in file.read_text(encoding="utf-8").split("\n"):
+        key, _, text = line.partition(": ")
+        if key == "check":
+            checks.append(text)
+        elif key == "file":
+            path = text
+        elif key == "old":
+            old = text
+        elif line.startswith("new:"):
+            changes.append((path, old, line[len("new: ") :]))
+    return Edit(file.stem, checks, changes)
+
+
+def words(text):
+    """The names in a type: its own, and those of what it is given, but not of what these are given."""
+    while re.search(r"<[^<>]*<[^<>]*>", text):
+        text = re.sub(r"(<[^<>]*)<[^<>]*>", r"\1", text)
+    return [it for it in re.findall(r"(?:\w+::)*('?\w+)", text) if not it.startswith("'")]
+
+
+def owner(line, module, homes):
+    """The path of the type or trait whose methods the block holds, or None if it goes by another name."""
+    kind, head = BLOCK.match(line).groups()
+    head = head.split(" where ")[0].rstrip("{ ")
+    if kind == "trait":
+        return [*module, words(head)[0]]
+    while head.startswith("<"):
+        depth = list(accumulate((it == "<") - (it == ">") for it in head))
+        head = head[depth.index(0) + 1 :]
+    trait, _, of = head.strip().rpartition(" for ")
+    name, *given = words(of)
+    home = homes.get(name)
+    if of.startswith("&") or home is None or trait and home != module:
+        return None
+    if trait:
+        return [*home, name + "".join(words(trait) if trait != "Drop" else "")]
+    # A letter is a parameter of the block's own.
+    return [*home, "+".join([name, *given]) if any(len(it) > 1 for it in given) else name]
+
+
+def begin_of(lines, at, indent):
+    """The line that opens the body of the function of this line, or None if it has none, or an empty one."""
+    for begin in range(at, lines.index("", at)):
+        if lines[begin] == indent + "{" or re.match(rf"{indent}\S.* {{$", lines[begin]):
+            return begin
+    return None
+
+
+def is_on_cycle(lines, at):
+    """Whether the function of this line calls itself through others."""
+    while at and re.match(r" *(#\[|//)", lines[at - 1]):
+        at -= 1
+        if "cycle(" in lines[at]:
+            return True
+    return False
+
+
+def bodies(text, module, homes):
+    """The bodies of the functions of a file that `rt fmt` laid out, but for those on a cycle of calls."""
+    lines, found, block, at = text.split("\n"), [], None, 0
+    while at < len(lines):
+        function = FUNCTION.match(lines[at])
+        if BLOCK.match(lines[at]):
+            block = owner(lines[at], module, homes)
+        begin = function and begin_of(lines, at, function[1])
+        if begin is not None:
+            indent, name = function.groups()
+            path, end = block if indent else module, lines.index(indent + "}", begin)
+            if path is not None and not is_on_cycle(lines, at):
+                found.append(Body("::".join([*path, name]), begin + 1, end))
+            at = end
+        at += 1
+    return found
+
+
+def modules(folder):
+    """The source files of the crate in the folder, with the paths of their modules; its types, with those of theirs."""
+    files, homes = {}, {}
+    for file in (folder / "src").rglob("*.rt"):
+        parts = file.relative_to(folder / "src").with_suffix("").parts
+        files[file] = [it for it in parts if it not in ("lib", "main", "mod")]
+        for name in TYPE.findall(file.read_text(encoding="utf-8")):
+            homes[name] = files[file]
+    return files, homes
+
+
+def cut(folder, crate, kept):
+    """Cuts out the bodies of the crate in the folder but for those that are kept, and gives each a hole for a proof."""
+    files, homes = modules(folder)
+    for file, module in files.items():
+        text = file.read_text(encoding="utf-8")
+        lines = text.split("\n")
+        for body in reversed(bodies(text, module, homes)):
+            if body.path in kept:
+                continue
+            lines[body.begin : body.end] = ["unreachable!()"]
+            parts = body.path.split("::")
+            proof = folder.joinpath("proofs", *parts)
+            shutil.rmtree(proof, ignore_errors=True)
+            proof.mkdir(parents=True)
+            hole = HOLE.format(crate=crate, path=".".join(parts), name=parts[-1])
+            (proof / "Proof.antt").write_text(hole, encoding="utf-8")
+        file.write_text("\n".join(lines), encoding="utf-8")
+
+
+def change(folder, edit):
+    """Makes the changes of an edit, and answers a text that does not stand once in what is left, or None."""
+    for path, old, new in edit.changes:
+        text = (folder / path).read_text(encoding="utf-8")
+        if text.count(old) != 1:
+            return old
+        (folder / path).write_text(text.replace(old, new), encoding="utf-8")
+    return None
+
+
+def furnish(room, crate):
+    """A repository with one crate, over the libraries of the others."""
+    shutil.copy(ROOT / "crates.txt", room)
+    shutil.copytree(ROOT / "tools", room / "tools")
+    for other in (ROOT / "crates").iterdir():
+        here = room / "crates" / other.name
+        here.mkdir(parents=True)
+        if other.name == crate:
+            for part in ("src", "specs", "proofs"):
+                if (other / part).is_dir():
+                    shutil.copytree(other / part, here / part)
+        elif (other / "out").is_dir():
+            (here / "out").symlink_to(other / "out")
+
+
+def check(crate, edits, checks):
+    """What the prover says of each of the functions once the edits are made, and all that it says."""
+    with tempfile.TemporaryDirectory() as room:
+        furnish(Path(room), crate)
+        folder = Path(room, "crates", crate)
+        cut(folder, crate, checks)
+        for edit in edits:
+            lost = change(folder, edit)
+            if lost:
+                return {}, f"error: {edit.name}: this does not stand once in the functions that it names: {lost}"
+        words = ["sh", "tools/rattle.sh", crate, "check", "--allow-holes"]
+        for it in checks:
+            words += ["--only", it]
+        ran = subprocess.run(words, cwd=room, stdin=subprocess.DEVNULL, capture_output=True, text=True)
+    log = ran.stdout + ran.stderr
+    return dict(re.findall(rf"^fn {crate}::(\S+): (.*)", log, re.M)), log
+
+
+def refusal(path, said):
+    """The goals at which a function is refused, apart from what it calls, or None where it is not."""
+    goals = re.search(r"`search` did not prove (.*?)(?:; it calls|$)", said[path])
+    if goals:
+        return goals[1]
+    stands = re.search(r"^not proved; it stands on (.*?), which antt refuses", said[path])
+    others = tuple(f".{it.replace('::', '.')}." for it in said if it != path)
+    told = [it for it in stands[1].split(", ") if not any(other in it for other in others)] if stands else []
+    return ", ".join(told) or None
+
+
+def is_proved(path, said):
+    """Whether all that is left of a function's proof are the holes in place of others' proofs."""
+    holes = said[path].removeprefix("depends on a hole in ")
+    if holes == said[path]:
+        return holes == "no holes"
+    same = re.search(r"(, and in )?the same \d+ declarations as `\w+::(.*)`$", holes)
+    named = holes[: same.start()] if same else holes
+    is_cut = all(re.fullmatch(r"`\S+\.Proof\.\w+_spec`", it) for it in named.split(", ") if it)
+    return is_cut and (not same or is_proved(same[2], said))
+
+
+def is_by_name(path, said, log):
+    """Whether a function is refused at no goal, but as its proof names what was taken away."""
+    if not said[path].startswith("not proved"):
+        return False
+    told = re.findall(rf"^\./proofs/{path.replace('::', '/')}/\w+\.antt:[0-9:]* error: (.*)", log, re.M)
+    return told != [] and all(NAMES.search(it) for it in told)
+
+
+def rounds(edits):
+    """The edits in as few lists as go, none of which has two of one function."""
+    lists = []
+    for edit in edits:
+        fit = [it for it in lists if not any(set(edit.checks) & set(other.checks) for other in it)]
+        if not fit:
+            lists.append([])
+        (fit or lists[-1:])[0].append(edit)
+    return lists
+
+
+def edits_of(kind, crate):
+    return [read_edit(it) for it in sorted((ROOT / "tests" / kind / crate).glob("*.edit"))]
+
+
+def functions(edits):
+    """The functions that are changed."""
+    return sorted({path for it in edits for path in it.checks})
+
+
+def tasks(kind, crate):
+    """The checks of a crate: its name, the edits that are made, and the functions that are asked for."""
+    edits = edits_of(kind, crate)
+    made = [(crate, them, functions(them)) for them in rounds(edits)]
+    if kind == "edits":
+        made.insert(0, (crate, [], functions(edits + edits_of("must-fail", crate))))
+    return made
+
+
+def judge(kind, edit, said, log):
+    """Whether what came of an edit is what is due, or None where it was not judged, and what to say of it."""
+    lacking = next((it for it in edit.checks if it not in said), None)
+    if lacking:
+        why = re.search(r"^.*\berror.*", log, re.M)
+        return None, f"NOT TRIED: nothing is said of {lacking}: {why[0] if why else log[-300:]}"
+    by_name = [it for it in edit.checks if is_by_name(it, said, log)]
+    goals = [refusal(it, said) for it in edit.checks if it not in by_name]
+    if any(goals):
+        return kind != "neutral", f"refused at {'; '.join(it for it in goals if it)}"
+    if by_name:
+        return False, "refused BY A NAME alone, which was taken away: this shows nothing"
+    if all(is_proved(it, said) for it in edit.checks):
+        return kind == "neutral", "proved" if kind == "neutral" else "NOT REFUSED"
+    # What it calls is refused, so that not all of its own goals were tried.
+    return None, f"NOT TRIED: {'; '.join(said[it] for it in edit.checks)}"
+
+
+def stands(crate, checks):
+    """The functions that are not proved as they stand, over what is cut out, each with what is said of it."""
+    said, log = check(crate, [], checks)
+    if not said:
+        return [(crate, log[-300:])]
+    return [(it, said.get(it, log[-300:])) for it in checks if it not in said or not is_proved(it, said)]
+
+
+def outcomes(kind, crate, edits, checks):
+    """What came of edits that were tried together, and once more alone where that did not tell: whether it is what is
+    due, and what to say."""
+    if not edits:
+        return [(False, f"{kind} {crate}: NOT PROVED as it stands: {it}: {text}") for it, text in stands(crate, checks)]
+    said, log = check(crate, edits, checks)
+    if "LOGS" in os.environ:
+        Path(os.environ["LOGS"], f"{crate}.{edits[0].name}.log").write_text(log, encoding="utf-8")
+    lines = []
+    for edit in edits:
+        is_due, text = judge(kind, edit, said, log)
+        if is_due is None and len(edits) > 1:
+            is_due, text = judge(kind, edit, *check(crate, [edit], edit.checks))
+        lines.append((bool(is_due), f"{kind} {crate}/{edit.name}: {text}"))
+    return lines
+
+
+def main(kind, *crates):
+    folder = ROOT / "tests" / kind
+    todo = [task for crate in crates or sorted(it.name for it in folder.iterdir()) for task in tasks(kind, crate)]
+    counts = {True: 0, False: 0}
+    with ThreadPoolExecutor(int(os.environ.get("JOBS", "1"))) as pool:
+        for lines in pool.map(lambda it: outcomes(kind, *it), todo):
+            for is_due, line in lines:
+                counts[is_due] += 1
+                print(line, flush=True)
+    print(f"{kind}: {counts[True]} {'proved' if kind == 'neutral' else 'refused'}, {counts[False]} not")
+    return counts[False] > (MOST_REFUSED if kind == "neutral" else 0)
+
+
+if __name__ == "__main__":
+    if len(sys.argv) < 2 or sys.argv[1] not in ("must-fail", "edits", "neutral"):
+        sys.exit(__doc__)
+    sys.exit(main(*sys.argv[1:]))

@@ -25,6 +25,8 @@ cp "$fleet" "$work/bin/fleet" && chmod 755 "$work/bin/fleet" || exit 2
 PATH=$work/bin:$PATH
 LC_ALL=C
 export PATH LC_ALL
+# Of a make that runs several jobs a compiler would say that it cannot join them.
+unset MAKEFLAGS MFLAGS
 passed=0 failed=0 skipped=0
 room=$work/room
 cc=${CC:-cc}

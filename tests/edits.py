@@ -10,9 +10,9 @@ changes, then `file: PATH`, and pairs of lines `old: TEXT` and `new: TEXT`; each
 
 A function is checked alone, over the libraries that were built below its crate. The functions of its crate that it
 calls are taken at their contracts: their bodies are cut out, with a hole for a proof. What is changed in functions of
-their own goes into one check, and once more into one of its own where what it calls was changed too. What `edits`
-tries, and what the gate does, is checked as it stands as well: were a function refused for what was cut, its edits
-would show nothing. JOBS=N checks so many side by side; LOGS=FOLDER keeps what the prover says.
+their own goes into one check, and once more into one of its own where what it calls was changed too. The functions
+that wrong bodies are tried of are checked as they stand, too: were one refused for what was cut, its edits would show
+nothing. JOBS=N checks so many side by side; LOGS=FOLDER keeps what the prover says.
 """
 import os
 import re
@@ -200,10 +200,10 @@ def check(crate, edits, checks):
             lost = change(folder, edit)
             if lost:
                 return {}, f"error: {edit.name}: this does not stand once in the functions that it names: {lost}"
-        words = ["sh", "tools/rattle.sh", crate, "check", "--allow-holes"]
+        command = ["sh", "tools/rattle.sh", crate, "check", "--allow-holes"]
         for it in checks:
-            words += ["--only", it]
-        ran = subprocess.run(words, cwd=room, stdin=subprocess.DEVNULL, capture_output=True, text=True)
+            command += ["--only", it]
+        ran = subprocess.run(command, cwd=room, stdin=subprocess.DEVNULL, capture_output=True, text=True)
     log = ran.stdout + ran.stderr
     return dict(re.findall(rf"^fn {crate}::(\S+): (.*)", log, re.M)), log
 
@@ -249,10 +249,6 @@ def rounds(edits):
     return lists
 
 
-def edits_of(kind, crate):
-    return [read_edit(it) for it in sorted((ROOT / "tests" / kind / crate).glob("*.edit"))]
-
-
 def functions(edits):
     """The functions that are changed."""
     return sorted({path for it in edits for path in it.checks})
@@ -260,11 +256,9 @@ def functions(edits):
 
 def tasks(kind, crate):
     """The checks of a crate: its name, the edits that are made, and the functions that are asked for."""
-    edits = edits_of(kind, crate)
-    made = [(crate, them, functions(them)) for them in rounds(edits)]
-    if kind == "edits":
-        made.insert(0, (crate, [], functions(edits + edits_of("must-fail", crate))))
-    return made
+    edits = [read_edit(it) for it in sorted((ROOT / "tests" / kind / crate).glob("*.edit"))]
+    made = rounds(edits) if kind == "neutral" else [[], *rounds(edits)]
+    return [(crate, them, functions(them or edits)) for them in made]
 
 
 def judge(kind, edit, said, log):

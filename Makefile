@@ -31,7 +31,7 @@ TO = $(DESTDIR)$(PREFIX)
 
 help:
 	@echo 'make look                  runs the program on examples within two minutes, with nothing proved'
-	@echo 'make demo                  builds the program (the first time 12 to 28 minutes on four processors) and shows it on examples'
+	@echo 'make demo                  builds the program (the first time 11 to 28 minutes on four processors) and shows it on examples'
 	@echo 'make lib                   builds libfleet for callers in C, C++, Rust and Python, and its header, in $(LIBRARY)'
 	@echo 'make install PREFIX=DIR    puts the program at DIR/bin/fleet ($(PREFIX) where none is given), and libfleet in DIR/lib'
 	@echo 'make test                  the gate: proofs, tests, edits that must fail and the examples'
@@ -58,7 +58,7 @@ test:
 # prover says goes to a file.
 $(BUILT): $(SOURCES)
 	@mkdir -p $(@D)
-	@echo 'Proving the crates and building fleet: the first time 12 to 28 minutes on four processors. The lines of the prover go to $(LOG).'
+	@echo 'Proving the crates and building fleet: the first time 11 to 28 minutes on four processors. The lines of the prover go to $(LOG).'
 	@if [ -d crates/fleet_cli/out/incremental ]; then $(CHECKED); else $(PROVED); fi > $(LOG) 2>&1 || { $(FAILED); exit 1; }
 	@touch $@
 

@@ -2,8 +2,8 @@
 # Proves a crate from nothing and builds it, over the statements alone of the crates below it, which were proved so:
 #     tools/prove.sh CRATE [FLAG..]
 # A check that keeps its work reads all proofs of those once more, which takes a third of its time. What was proved so
-# before is left, if no file of the crate has changed since, and nothing below it was proved anew. What the gate asks besides a proof
-# (HANDLES, contracts that no call can meet) is left to it.
+# before is left, if no file of the crate has changed since, and nothing below it was proved anew. What the gate asks
+# besides a proof (HANDLES, contracts that no call can meet) is left to it.
 
 root=$(cd "$(dirname "$0")/.." && pwd) || exit 2
 kit=$(dirname "$(rt doc)")

@@ -1,5 +1,5 @@
 -- Counts that are read, where rows of them stand, blocks of columns, and sums over the first ones of a list.
-use Rattle.fleet_needs.proofs.Words.{◌≢◌, ℕ, ◌+◌, ◌*◌, ◌<◌, ◌≤◌, List, take, subst, arith, inl, inr, ◌⊎◌, cases_order, mul-le, sum_by, take-take, sum_by-take-le, ◌≡◌, length, replicate, slice_index, ap, ◌∙◌, cases_lt, get_or-replicate, get_or_past, length-replicate, get_or_read, get_or, ◌-◌, Bool, refl, Option, Some, None, Program, HasColumn, AreColumns, column_of, Columns}
+use Rattle.fleet_needs.proofs.Words.{◌≢◌, ℕ, ◌+◌, ◌*◌, ◌<◌, ◌≤◌, List, take, subst, arith, inl, inr, ◌⊎◌, cases_order, mul-le, sum_by, take-take, sum_by-take-le, ◌≡◌, length, replicate, slice_index, ap, ◌∙◌, cases_lt, get_or-replicate, get_or_past, length-replicate, get_or_read, get_or, Bool, refl, Option, Some, None, Program, HasColumn, AreColumns, column_of, Columns}
 use Rattle.fleet_needs.specs.Schedule.{AreColumnsOf}
 
 -- a count that is read at a place
@@ -31,10 +31,6 @@ outside w x y k n l = elim (cases_order x y) [
   | inr (inl less) ↦ (let r : x * w + w ≤ y * w = row_ends w x y less in inl (omega arith))
   | inr (inr more) ↦ (let r : y * w + w ≤ x * w = row_ends w y x more in inr (omega arith))
 ]
-
--- fewer agents are left
-pub fewer_left : (asked : List Bool) (from : ℕ) (columns : Columns) → AreColumns asked from columns → length asked - columns.end < length asked - from
-fewer_left asked from columns h = omega (arith, h.on, h.end)
 
 -- the columns are of agents of the program
 pub columns_of : (p : Program) (asked : List Bool) (from : ℕ) (columns : Columns) → length asked ≡ length p → AreColumns asked from columns → AreColumnsOf p columns

@@ -66,9 +66,10 @@ pub record AreAnsweredBut (p : Program) (s : Schedule) (Left : ℕ → Question 
 abbrev pub AreAnsweredFrom : Program → Schedule → ℕ → Answering → Type 0
 AreAnsweredFrom p s from m = AreAnsweredBut p s (λ n q. from ≤ q.first.agent) m
 
--- they are still the same questions
-pub record HasAnswered (p : Program) (s : Schedule) (from : ℕ) (old new : Answering) : Type 0 where
-  pub answers : AreAnsweredFrom p s from new
+-- .. below the end, which is beyond this one; they are still the same questions
+pub record HasAnswered (p : Program) (s : Schedule) (from end : ℕ) (old new : Answering) : Type 0 where
+  pub on : from < end
+  pub answers : AreAnsweredFrom p s end new
   pub same : questions_in new ≡ questions_in old
 
 -- in a block of columns those are left that are of a later block, or are still to come

@@ -30,7 +30,7 @@ IsFirstIn questions i = (k : ℕ) × (q : Question) × (slice_get questions k �
 
 -- of the flags, one for each agent of the program, those of the agents of the questions' first actions are set, and no
 -- others
-pub record AreAskedFor (p : Program) (questions : List Question) (asked : Vec Bool Global) : Type 0 where
-  pub agents : length asked.items ≡ length p
-  pub each : All (IsAskedFor asked.items) questions
-  pub only : (i : ℕ) → get_or asked.items i false ≡ true → IsFirstIn questions i
+pub record AreAskedFor (p : Program) (questions : List Question) (asked : List Bool) : Type 0 where
+  pub agents : length asked ≡ length p
+  pub each : All (IsAskedFor asked) questions
+  pub only : (i : ℕ) → get_or asked i false ≡ true → IsFirstIn questions i

@@ -1,7 +1,8 @@
 -- A pass over the rows of a schedule: the row that is next.
-use Rattle.std.specs.Prelude.{◌≡◌, ◌≢◌, ℕ, ◌<◌, List, length, slice_index}
+use Rattle.std.specs.Prelude.{◌≡◌, ◌≢◌, ℕ, ◌<◌, Bool, List, length, slice_index}
 use Rattle.fleet_needs.specs.Words.{ActionId, Program, awaits_of}
 use Rattle.fleet_needs.specs.Block.{HasColumn}
+use Rattle.fleet_needs.specs.Columns.{AreColumns}
 use Rattle.fleet_needs.specs.Rows.{IsJoined, OfOthers}
 use Rattle.fleet_needs.specs.Counts.{counts_of, AreAlike}
 use Rattle.fleet_needs.specs.Schedule.{joins_in, next_action, AreCounts, IsSchedule, AreColumnsOf, AreRowsTo, IsRowFor}
@@ -51,7 +52,9 @@ pub record IsPass (p : Program) (s : Schedule) (block : Columns) (m : SlotRows) 
   pub row : IsRowFor m counts
   pub rows : AreRowsTo p m n
 
--- none is made yet, and the row has zeros
-pub record IsBegun (p : Program) (s : Schedule) (block : Columns) (m : SlotRows) (counts : Counts) : Type 0 where
-  pub pass : IsPass p s block m 0 counts
+-- none is made yet, in a block of the asked agents from this one on, and the row has zeros
+pub record IsBegun (p : Program) (s : Schedule) (asked : List Bool) (from : ℕ) (m : SlotRows) (counts : Counts) : Type 0 where
+  pub first : m.columns.first ≡ from
+  pub block : AreColumns asked m.columns.first m.columns
+  pub pass : IsPass p s m.columns m 0 counts
   pub zeros : (k : ℕ) → slice_index (counts_of counts) k ≡ 0

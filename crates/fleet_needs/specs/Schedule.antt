@@ -1,7 +1,7 @@
 -- A schedule of rows, and the counts of rows in their slots.
 use Rattle.std.specs.Prelude.{◌≡◌, ◌≢◌, true, cond, ℕ, ◌+◌, ◌-◌, ◌*◌, ◌^◌, ◌<◌, ◌≤◌, ◌⊎◌, Bool, List, length, slice_index, slice_get, Some, Vec}
 use Rattle.std.specs.declared.alloc.Global.{Global}
-use Rattle.fleet_needs.specs.Words.{ActionId, Await, Program, awaits_of, moves, IsAction, awaited}
+use Rattle.fleet_needs.specs.Words.{ActionId, Await, Program, awaits_of, moves, AreInRange, IsAction, awaited}
 use Rattle.fleet_needs.specs.Block.{HasColumn}
 use Rattle.fleet_needs.specs.Columns.{agents_in}
 use Rattle.fleet_needs.specs.Counts.{counts_of, count_from, are_narrow}
@@ -57,13 +57,14 @@ pub record IsJoinFor (p : Program) (x : Joins) (n : ℕ) (a : ActionId) : Type 0
   pub count : end_of x (n + 1) ≡ end_of x n + length (awaits_of p a.agent a.number)
   pub awaits : (k : ℕ) (w : Await) → slice_get (awaits_of p a.agent a.number) k ≡ Some w → IsNeedFor p (rows_of x) w (need_at x (end_of x n + k))
 
--- each action that adds a chain has a row, and each row is joined so
+-- each action that adds a chain has a row, and each row is joined so; awaits name actions of the program
 pub record AreRows (p : Program) (x : Joins) : Type 0 where
   pub order : AreInOrder x
   pub joins : (n : ℕ) → n < length (rows_of x) → IsJoinFor p x n (action_at (rows_of x) n)
   pub rows : HasAllRows p (rows_of x)
   pub rising : AreRising (rows_of x)
   pub own : AreOwn p
+  pub range : AreInRange p
 
 -- each action has a row there, or flags that are set for all its awaits; and rows stand for all actions
 pub record AreRowsBut (p : Program) (flags : List Bool) (x : Joins) (m : RowTable) : Type 0 where

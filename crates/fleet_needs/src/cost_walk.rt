@@ -76,16 +76,17 @@ pub(crate) fn reach<P: ProgramView, C: ActionCosts>(
     let mut goals = Vec::new(alloc);
     let mut last = goal;
     loop {
-        if walk.noted(last).is_none() {
-            if let Some(awaited) = advance(program, costs, walk, last.agent)? {
-                goals.push(last)?;
-                last = awaited;
+        match walk.noted(last) {
+            None => {
+                if let Some(awaited) = advance(program, costs, walk, last.agent)? {
+                    goals.push(last)?;
+                    last = awaited;
+                }
             }
-        } else {
-            match goals.pop() {
+            Some(_) => match goals.pop() {
                 Some(before) => last = before,
                 None => return Ok(()),
-            }
+            },
         }
     }
 }

@@ -3,14 +3,14 @@
 
 ghost use Rattle.std.specs.Prelude.{◌≡◌, ◌<◌, ◌≤◌, ◌+◌, Some, length, slice_get, IfOk, OnOk};
 ghost use Rattle.fleet_model.specs.{declared.program.ActionId.ActionId, declared.program.Await.Await, Program.AreInRange, Program.awaits_of, Chain.IsAction};
-ghost use Rattle.fleet_needs.specs.{Critical.AreLevels, Critical.IsNumberedTo, Critical.critical_cost, Implied.IsImpliedFlag, Joins.HasRowUnlessSet, Schedule.AreColumnsOf, Schedule.IsSchedule, Schedule.joins_of, Columns.AreColumns, Flags.AreImplied, Flags.AreSettled, Flags.flags_of, Flags.AreFlaggedIn, Flags.AreFlaggedTo, JoinPass.IsHalfMade};
+ghost use Rattle.fleet_needs.specs.{Critical.AreLevels, Critical.IsNumberedTo, Critical.critical_cost, Implied.IsImpliedFlag, Schedule.IsSchedule, Columns.AreColumns, Flags.AreImplied, Flags.AreSettled, Flags.AreFlaggedIn, Flags.AreFlaggedTo, JoinPass.IsHalfMade};
 
 use crate::await_places::AwaitPlaces;
 use crate::counts::Counts;
 use crate::critical::CriticalCosts;
 use crate::join_pass::SlotRows;
 use crate::level_order::LevelOrder;
-use crate::schedule::{Columns, Schedule};
+use crate::schedule::Schedule;
 use crate::settled::{is_any, settle_all};
 use fleet_model::{ActionId, OutOfMemory, ProgramView};
 use std::alloc::Global;
@@ -49,14 +49,12 @@ pub fn implied_awaits<P: ProgramView>(
 {
     let levels = CriticalCosts::levels(alloc, program, most)?;
     let (mut implied, asked) = settle_all(alloc, program, &levels)?;
-    if !is_any(&asked) {
-        return Ok(implied);
-    }
     flag_left(alloc, program, levels, &asked, &mut implied)?;
     Ok(implied)
 }
 
-/// Flags by rows the awaits that are left open, which are for the asked agents. The levels are let go.
+/// Flags by rows the awaits that are left open, which are for the asked agents, if any is: block by block, each with as
+/// many columns as there is room for. The levels are let go.
 fn flag_left<P: ProgramView>(
     alloc: Global,
     program: &P,
@@ -72,62 +70,41 @@ fn flag_left<P: ProgramView>(
     requires settled { AreSettled (P.program program.now) asked.now implied.old }
     ensures { OnOk result (AreImplied (P.program program.now) implied.new) }
 {
+    if !is_any(asked) {
+        return Ok(());
+    }
     let order = LevelOrder::by_levels(alloc, program, levels, &implied.flags)?;
     let schedule = Schedule::by_order(alloc, program, order, &implied.flags)?;
-    flag_all(alloc, program, &schedule, asked, implied)
-}
-
-/// Flags the awaits for the asked agents, block by block, each with as many columns as there is room for.
-#[tactic(auto, using(crate::proofs::Counting::columns_of, crate::proofs::Counting::fewer_left))]
-fn flag_all<P: ProgramView>(
-    alloc: Global,
-    program: &P,
-    schedule: &Schedule,
-    asked: &[bool],
-    implied: &mut ImpliedAwaits,
-) -> Result<(), OutOfMemory>
-    requires range { AreInRange (P.program program.now) }
-    requires schedule { IsSchedule (P.program program.now) schedule.now }
-    requires asked { length asked.now ≡ length (P.program program.now) }
-    requires settled { AreSettled (P.program program.now) asked.now implied.old }
-    requires passed { HasRowUnlessSet (P.program program.now)
-        (flags_of implied.old) (joins_of schedule.now) }
-    ensures { OnOk result (AreImplied (P.program program.now) implied.new) }
-{
-    let _ = program.agents();
     let mut from = 0;
-    while let Some(columns) = Columns::next(alloc, schedule, asked, from)? {
-        from = columns.end;
-        flag_block(alloc, program, schedule, columns, asked, implied)?;
+    while usize::from(from) < asked.len() {
+        from = flag_block(alloc, program, &schedule, asked, from, implied)?;
     }
     Ok(())
 }
 
-/// Flags the awaits for the asked agents of a block, row by row.
+/// Flags the awaits for the asked agents of the next block, row by row, and answers where that ends.
 fn flag_block<P: ProgramView>(
     alloc: Global,
     program: &P,
     schedule: &Schedule,
-    columns: Columns,
     asked: &[bool],
+    from: u16,
     implied: &mut ImpliedAwaits,
-) -> Result<(), OutOfMemory>
-    requires range { AreInRange (P.program program.now) }
+) -> Result<u16, OutOfMemory>
     requires schedule { IsSchedule (P.program program.now) schedule.now }
-    requires columns { AreColumnsOf (P.program program.now) columns }
-    requires block { AreColumns asked.now columns.first columns }
-    requires flags { AreFlaggedTo (P.program program.now)
-        schedule.now asked.now columns.first implied.old }
-    ensures { OnOk result (AreFlaggedTo (P.program program.now)
-        schedule.now asked.now columns.end implied.new) }
+    requires asked { length asked.now ≡ length (P.program program.now) }
+    requires from { from < length asked.now }
+    requires flags { AreFlaggedTo (P.program program.now) schedule.now asked.now from implied.old }
+    ensures { IfOk result (λ end. (from < end)
+        × AreFlaggedTo (P.program program.now) schedule.now asked.now end implied.new) }
 {
-    let (mut rows, mut row) = SlotRows::begin(alloc, program, schedule, columns)?;
+    let (mut rows, mut row) = SlotRows::begin(alloc, program, schedule, asked, from)?;
     for n in 0..schedule.rows() {
         rows.join_others(program, n, &mut row);
         flag_row(program, &rows, n, &row, asked, implied);
         rows.finish_row(program, n, &mut row);
     }
-    Ok(())
+    Ok(rows.columns.end)
 }
 
 /// Flags the awaits of an action whose agents have a column: whether others imply them.
@@ -139,7 +116,6 @@ fn flag_row<P: ProgramView>(
     asked: &[bool],
     implied: &mut ImpliedAwaits,
 )
-    requires range { AreInRange (P.program program.now) }
     requires joined { IsHalfMade (P.program program.now) rows.now n row.now }
     requires block { AreColumns asked.now rows.now.columns.first rows.now.columns }
     requires flags { AreFlaggedIn (P.program program.now)

@@ -2,8 +2,7 @@
 //! their slots, and kept in its own slot.
 
 ghost use Rattle.std.specs.Prelude.{◌≡◌, ◌+◌, ◌<◌, ℕ, length, max, IfOk, ◌-◌, ◌*◌, ◌≤◌, Some};
-ghost use Rattle.fleet_needs.specs.{Columns.agents_in, Block.HasColumn, Counts.counts_of, Counts.CanHold, Schedule.IsSchedule, Schedule.AreColumnsOf, Schedule.AreRowsTo, Schedule.IsRowFor, Schedule.joins_in, Schedule.slot_of, JoinPass.HasOwnSet, JoinPass.IsBegun, JoinPass.IsHalfMade, JoinPass.IsMade, JoinPass.IsPass};
-ghost use Rattle.fleet_model.specs.Program.{AreInRange};
+ghost use Rattle.fleet_needs.specs.{Columns.agents_in, Block.HasColumn, Counts.counts_of, Counts.CanHold, Schedule.IsSchedule, Schedule.AreRowsTo, Schedule.IsRowFor, Schedule.joins_in, Schedule.slot_of, JoinPass.HasOwnSet, JoinPass.IsBegun, JoinPass.IsHalfMade, JoinPass.IsMade, JoinPass.IsPass};
 
 use crate::counts::Counts;
 use crate::schedule::{Columns, Schedule};
@@ -59,20 +58,23 @@ impl Drop for SlotRows<'_> {
 }
 
 impl<'a> SlotRows<'a> {
-    /// The rows of a schedule in these columns, none of which is made yet, and a row of zeros for one of them.
+    /// The rows of a schedule in the columns of the next block, for the agents from this one on that are flagged in
+    /// `asked`, as many as there is room for. None is made yet; beside them stands a row of zeros for one of them.
     pub(crate) fn begin<P: ProgramView>(
         alloc: Global,
         program: &P,
         schedule: &'a Schedule,
-        columns: Columns,
+        asked: &[bool],
+        from: u16,
     ) -> Result<(SlotRows<'a>, Counts), OutOfMemory>
         requires schedule { IsSchedule (P.program program.now) schedule.now }
-        requires columns { AreColumnsOf (P.program program.now) columns }
+        requires asked { length asked.now ≡ length (P.program program.now) }
+        requires from { from < length asked.now }
         ensures { IfOk result (λ m.
-            IsBegun (P.program program.now) schedule.now columns m.0 m.1) }
+            IsBegun (P.program program.now) schedule.now asked.now from m.0 m.1) }
     {
-        // Of the program the contract alone speaks.
-        let _ = program;
+        let _ = program.agents();
+        let columns = Columns::choose(alloc, asked, from, schedule.columns_at_once())?;
         let width = usize::from(columns.width);
         let room = schedule.slots as usize * width;
         let counts = Counts::zeros(alloc, room, schedule.is_narrow)?;
@@ -101,7 +103,6 @@ impl<'a> SlotRows<'a> {
 
     /// Makes the row of all that the join after n others directly needs, but for the count of each awaited agent.
     pub(crate) fn join_others<P: ProgramView>(&self, program: &P, n: usize, row: &mut Counts)
-        requires range { AreInRange (P.program program.now) }
         requires rows { AreRowsTo (P.program program.now) self.now n }
         requires next { n < joins_in self.now.schedule.now }
         requires row { IsRowFor self.now row.old }
@@ -123,9 +124,7 @@ impl<'a> SlotRows<'a> {
 
     /// Makes the row of the action of what `join_others` has left in `row`, and keeps it in its slot.
     pub(crate) fn finish_row<P: ProgramView>(&mut self, program: &P, n: usize, row: &mut Counts)
-        requires range { AreInRange (P.program program.now) }
-        requires pass { IsPass (P.program program.now)
-            self.old.schedule.now self.old.columns self.old n row.old }
+        requires rows { AreRowsTo (P.program program.now) self.old n }
         requires joined { IsHalfMade (P.program program.now) self.old n row.old }
         ensures pass { IsPass (P.program program.now)
             self.old.schedule.now self.old.columns self.new (n + 1) row.new }

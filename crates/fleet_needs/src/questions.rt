@@ -1,8 +1,8 @@
 //! Questions for chains, answered agent by agent, by the rows of a block.
 
-ghost use Rattle.std.specs.Prelude.{◌≡◌, ◌≢◌, ◌+◌, ◌<◌, length, slice_index, All, IfOk, OnOk};
+ghost use Rattle.std.specs.Prelude.{◌≡◌, ◌≢◌, ◌+◌, ◌<◌, length, slice_index, All, IfOk};
 ghost use Rattle.fleet_model.specs.Program.{AreInRange};
-ghost use Rattle.fleet_needs.specs.{Asked.AreAnswersIn, Asked.AreAskedFor, Asked.IsQuestion, Schedule.IsSchedule, Schedule.AreColumnsOf, Block.HasItsColumn, Answering.AreAnsweredFrom, Answering.HasAnswered, Answering.IsAnswering, Answering.IsRowAt, Answering.AreListedFor, Answering.questions_in, Counts.counts_of, Joins.AreOwn, Joins.AreStanding, Joins.rows_of};
+ghost use Rattle.fleet_needs.specs.{Asked.AreAnswersIn, Asked.AreAskedFor, Asked.IsQuestion, Schedule.IsSchedule, Schedule.AreColumnsOf, Answering.AreAnsweredFrom, Answering.HasAnswered, Answering.IsAnswering, Answering.IsRowAt, Answering.AreListedFor, Answering.questions_in, Counts.counts_of, Joins.AreOwn, Joins.AreStanding, Joins.rows_of};
 
 use crate::counts::Counts;
 use crate::join_pass::SlotRows;
@@ -44,47 +44,42 @@ pub fn answer_questions<P: ProgramView, S: OrderSource + Drop>(
 }
 
 /// The answers to the questions, block by block, each with as many columns as there is room for.
-#[tactic(auto, using(crate::proofs::Counting::columns_of, crate::proofs::Counting::fewer_left))]
 fn answer_all<P: ProgramView>(
     alloc: Global,
     program: &P,
     schedule: &Schedule,
     answering: Answering<'_>,
 ) -> Result<Vec<bool>, OutOfMemory>
-    requires range { AreInRange (P.program program.now) }
     requires schedule { IsSchedule (P.program program.now) schedule.now }
     requires answers { AreAnsweredFrom (P.program program.now) schedule.now 0 answering }
     ensures { IfOk result (AreAnswersIn (P.program program.now) (questions_in answering.entry)) }
 {
     let mut answering = answering;
     let asked = asked_agents(alloc, program, answering.questions)?;
-    let _ = program.agents();
     let mut from = 0;
-    while let Some(columns) = Columns::next(alloc, schedule, &asked, from)? {
-        from = columns.end;
-        answer_block(alloc, program, schedule, columns, &mut answering)?;
+    while usize::from(from) < asked.len() {
+        from = answer_block(alloc, program, schedule, &asked, from, &mut answering)?;
     }
     Ok(answering.flags)
 }
 
-/// Answers the questions whose first agents have a column, row by row.
+/// Answers the questions whose first agents have a column in the next block, row by row; answers where that ends.
 fn answer_block<P: ProgramView>(
     alloc: Global,
     program: &P,
     schedule: &Schedule,
-    columns: Columns,
+    asked: &[bool],
+    from: u16,
     answering: &mut Answering<'_>,
-) -> Result<(), OutOfMemory>
-    requires range { AreInRange (P.program program.now) }
+) -> Result<u16, OutOfMemory>
     requires schedule { IsSchedule (P.program program.now) schedule.now }
-    requires columns { AreColumnsOf (P.program program.now) columns }
-    requires block { All (HasItsColumn columns) (questions_in answering.old) }
-    requires answers { AreAnsweredFrom (P.program program.now)
-        schedule.now columns.first answering.old }
-    ensures { OnOk result (HasAnswered (P.program program.now)
-        schedule.now columns.end answering.old answering.new) }
+    requires asked { AreAskedFor (P.program program.now) (questions_in answering.old) asked.now }
+    requires from { from < length asked.now }
+    requires answers { AreAnsweredFrom (P.program program.now) schedule.now from answering.old }
+    ensures { IfOk result (λ end. HasAnswered (P.program program.now)
+        schedule.now from end answering.old answering.new) }
 {
-    let (mut rows, mut row) = SlotRows::begin(alloc, program, schedule, columns)?;
+    let (mut rows, mut row) = SlotRows::begin(alloc, program, schedule, asked, from)?;
     answering.next = 0;
     answering.answer_row(program, schedule, &rows.columns, &row, 0);
     for n in 0..schedule.rows() {
@@ -92,7 +87,7 @@ fn answer_block<P: ProgramView>(
         rows.finish_row(program, n, &mut row);
         answering.answer_row(program, schedule, &rows.columns, &row, n + 1);
     }
-    Ok(())
+    Ok(rows.columns.end)
 }
 
 /// Flags the agents whose columns are asked for.
@@ -102,7 +97,8 @@ fn asked_agents<P: ProgramView>(
     questions: &[Question],
 ) -> Result<Vec<bool>, OutOfMemory>
     requires { All (IsQuestion (P.program program.now)) questions.now }
-    ensures { IfOk result (AreAskedFor (P.program program.now) questions.now) }
+    ensures { IfOk result (λ asked.
+        AreAskedFor (P.program program.now) questions.now asked.items) }
 {
     let mut asked = vec![in alloc; false; usize::from(program.agents())]?;
     for question in questions {

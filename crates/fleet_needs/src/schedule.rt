@@ -1,9 +1,9 @@
 //! A schedule of rows, made once for all blocks of columns: which rows are made, in which order, which stand for other
 //! actions, of which rows each is joined, the slot in which it is kept, and the columns of each block.
 
-ghost use Rattle.std.specs.Prelude.{◌≡◌, ◌+◌, ◌++◌, ◌*◌, ◌<◌, ◌≤◌, All, ℕ, true, length, vec_len, IfOk, OnOk, MatchOption};
-ghost use Rattle.fleet_model.specs.{declared.limits.TheConstants.MAX_AGENTS, declared.program.ActionId.ActionId, Program.AreInRange, Program.moves, Chain.IsAction, Chain.awaited};
-ghost use Rattle.fleet_needs.specs.{Implied.AreAwaitPlaces, Joins.AreAllListed, Joins.AreListedTo, Joins.AreStanding, Joins.HasAllRows, Joins.HasRoom, Joins.IsFilled, Joins.IsUpToLast, Joins.action_at, Joins.base_of, Joins.end_of, Joins.need_at, Joins.need_for, Joins.needs_in, Joins.needs_of, Joins.row_of, Joins.rows_of, Keys.need_of_key, Order.AreKeys, Order.IsAwaiting, Order.IsLevelOrder, Order.named_in, Schedule.AreInOrder, Schedule.AreRows, Schedule.AreRowsBut, Schedule.IsSchedule, Schedule.IsScheduleBut, Schedule.IsScheduleOf, Schedule.IsNextJoin, Schedule.IsNextNeed, Schedule.joins_in, Schedule.next_action, Schedule.AreAllSlotted, Schedule.AreSlottedFrom, Schedule.counts_at_once, Slots.IsFree, Slots.IsHeld, Slots.rows_in, Columns.AreColumns, Columns.agents_in, Columns.column_of};
+ghost use Rattle.std.specs.Prelude.{◌≡◌, ◌+◌, ◌++◌, ◌*◌, ◌<◌, ◌≤◌, All, ℕ, true, length, vec_len, IfOk, OnOk};
+ghost use Rattle.fleet_model.specs.{declared.limits.TheConstants.MAX_AGENTS, declared.program.ActionId.ActionId, Program.AreInRange, Program.moves, Chain.IsAction};
+ghost use Rattle.fleet_needs.specs.{Implied.AreAwaitPlaces, Joins.AreAllListed, Joins.AreListedTo, Joins.AreStanding, Joins.HasAllRows, Joins.HasRoom, Joins.IsFilled, Joins.IsUpToLast, Joins.action_at, Joins.base_of, Joins.end_of, Joins.need_at, Joins.needs_in, Joins.needs_of, Joins.row_of, Joins.rows_of, Order.AreKeys, Order.IsAwaiting, Order.IsLevelOrder, Order.named_in, Schedule.AreInOrder, Schedule.AreRows, Schedule.AreRowsBut, Schedule.IsSchedule, Schedule.IsScheduleBut, Schedule.IsScheduleOf, Schedule.IsNextJoin, Schedule.IsNextNeed, Schedule.joins_in, Schedule.next_action, Schedule.AreAllSlotted, Schedule.AreSlottedFrom, Schedule.counts_at_once, Slots.IsFree, Slots.IsHeld, Slots.rows_in, Columns.AreColumns, Columns.agents_in, Columns.column_of};
 
 use crate::await_places::AwaitPlaces;
 use crate::level_order::{LevelOrder, action_in, key_of, value_in};
@@ -37,20 +37,6 @@ pub(crate) struct Join {
 pub(crate) struct Need {
     pub(crate) row: u32,
     pub(crate) wait: Await,
-}
-
-/// The need of which a key says the row, beside the action that is waited for.
-fn need_in(key: u64) -> Need
-    ensures { result ≡ need_of_key key }
-{
-    let ActionId { agent, number } = action_in(key);
-    Need {
-        row: value_in(key),
-        wait: Await {
-            agent,
-            count: number,
-        },
-    }
 }
 
 /// The rows of a program: those of the actions that add a chain, each after all rows that it is joined of.
@@ -169,7 +155,15 @@ impl Joins {
         requires { place < vec_len self.now.awaits }
         ensures { result ≡ need_at self.now place }
     {
-        need_in(self.awaits[place])
+        let key = self.awaits[place];
+        let ActionId { agent, number } = action_in(key);
+        Need {
+            row: value_in(key),
+            wait: Await {
+                agent,
+                count: number,
+            },
+        }
     }
 }
 
@@ -278,7 +272,6 @@ impl Schedule {
 
     /// Need `k` of the join after n others.
     pub(crate) fn need<P: ProgramView>(&self, program: &P, n: usize, join: &Join, k: usize) -> Need
-        requires range { AreInRange (P.program program.now) }
         requires schedule { IsSchedule (P.program program.now) self.now }
         requires within { n < joins_in self.now }
         requires join { IsNextJoin (P.program program.now)
@@ -379,20 +372,6 @@ impl Standing {
         self.rows[self.places.row_place(program, action)].saturating_sub(1)
     }
 
-    /// The key of what is needed by a wait for an action.
-    fn key_for<P: ProgramView>(&self, program: &P, wait: Await) -> u64
-        requires room { HasRoom (P.program program.now) self.now }
-        requires action { IsAction (P.program program.now) (awaited wait) }
-        ensures { need_of_key result ≡ need_for (P.program program.now) self.now wait }
-    {
-        let _ = program.agents();
-        let action = ActionId {
-            agent: wait.agent,
-            number: wait.count,
-        };
-        key_of(action, self.row_of(program, action))
-    }
-
     /// Lists the keys of what the action needs by its awaits.
     fn list_awaits<P: ProgramView>(
         &self,
@@ -406,9 +385,14 @@ impl Standing {
         ensures { OnOk result (needs_in keys.new
             ≡ needs_in keys.old ++ needs_of (P.program program.now) self.now action) }
     {
+        let _ = program.agents();
         for k in 0..program.await_count(action.agent, action.number) {
             let wait = program.await_at(action.agent, action.number, k);
-            keys.push(self.key_for(program, wait))?;
+            let awaited = ActionId {
+                agent: wait.agent,
+                number: wait.count,
+            };
+            keys.push(key_of(awaited, self.row_of(program, awaited)))?;
         }
         Ok(())
     }
@@ -561,25 +545,6 @@ impl Columns {
             first: from,
             end,
         })
-    }
-
-    /// The columns of the next block, as many as there is room for, from this agent on; `None` if no agent is left.
-    pub(crate) fn next(
-        alloc: Global,
-        schedule: &Schedule,
-        asked: &[bool],
-        from: u16,
-    ) -> Result<Option<Columns>, OutOfMemory>
-        requires { length asked.now ≤ MAX_AGENTS }
-        ensures { IfOk result (λ next. MatchOption next (length asked.now ≤ from)
-            (AreColumns asked.now from)) }
-    {
-        if usize::from(from) >= asked.len() {
-            return Ok(None);
-        }
-        let most = schedule.columns_at_once();
-        let columns = Columns::choose(alloc, asked, from, most)?;
-        Ok(Some(columns))
     }
 
     /// The column of an agent, if it has one.

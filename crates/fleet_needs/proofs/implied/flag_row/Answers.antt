@@ -14,6 +14,7 @@ loop-k-preserved g c =
     let counts = counts_of c.args.row.now in
     let a = next_action m.schedule.now c.args.n in
     let k = c.loop-k.k in
+    let range = c.requires.joined.join.schedule.made.range in
     let w = c.need.result.wait in
     let ws = awaits_of p a.agent a.number in
     let at = c.need.ensures.await in
@@ -21,7 +22,7 @@ loop-k-preserved g c =
     let flag : Bool = nat_le w.count c.get.result in
     let count : c.get.result ≡ slice_index counts c.in-Some.column = c.get.ensures ∙ ap (slice_index counts) c.from.ensures in
     let known : Contains ws w = (k, slice_get_within ws k w at, get_or_from_slice_get ws k w w at) in
-    let right = flagged p c.requires.range a w known (c.agents.ensures.well_formed.awaits a.agent a.number) (slice_index counts c.in-Some.column) (c.requires.joined.others w.agent c.in-Some.column (sym c.of.ensures ∙ c.in-Some.is) (c.requires.range a.agent a.number w known).other) is.first in
+    let right = flagged p range a w known (c.agents.ensures.well_formed.awaits a.agent a.number) (slice_index counts c.in-Some.column) (c.requires.joined.others w.agent c.in-Some.column (sym c.of.ensures ∙ c.in-Some.is) (range a.agent a.number w known).other) is.first in
     let place : c.first.result + k ≡ first_await p a + k = omega (arith, c.first.ensures.place, ap (first_await p) c.join_after-join.ensures.of) in
     flag_put p m.schedule.now c.args.asked.now m.columns c.args.n k a (row_here p m c.args.n c.args.row.now c.requires.joined.join) w at c.loop-k.implied _ flag is (subst (IsImpliedFlag p a w) (ap (nat_le w.count) (sym count)) right) refl (ap (λ (n : ℕ). set (flags_of c.loop-k.implied) n flag) place)
     c.loop-k.invariant

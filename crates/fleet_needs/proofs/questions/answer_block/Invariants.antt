@@ -1,9 +1,10 @@
-use Rattle.fleet_needs.proofs.Words.{◌≡◌, ◌+◌, IsPass, IsAnswering, questions_in}
+use Rattle.fleet_needs.proofs.Words.{◌≡◌, ◌+◌, ◌<◌, IsPass, IsAnswering, questions_in}
 use Rattle.fleet_needs.proofs.questions.answer_block.Given as goal
 
 abbrev pub invariant-loop-n : goal.invariant-loop-n
 invariant-loop-n g l = record {
-  pass : IsPass (g.P.ProgramView.program l.program) l.schedule l.fn.columns l.rows l.n l.row;
-  answers : IsAnswering (g.P.ProgramView.program l.program) l.schedule l.fn.columns (l.n + 1) l.answering;
+  on : l.from < l.rows.columns.end;
+  pass : IsPass (g.P.ProgramView.program l.program) l.schedule l.rows.columns l.rows l.n l.row;
+  answers : IsAnswering (g.P.ProgramView.program l.program) l.schedule l.rows.columns (l.n + 1) l.answering;
   same : questions_in l.answering ≡ questions_in l.fn.answering;
 }

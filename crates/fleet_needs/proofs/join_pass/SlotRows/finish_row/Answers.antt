@@ -5,7 +5,7 @@ use Rattle.fleet_needs.proofs.join_pass.SlotRows.finish_row.Goals as goal
 pub loop-k-init : goal.loop-k-init
 loop-k-init g c =
     let m = c.args.self.now in
-    record { row = c.requires.pass.row; own = own_first (g.P.ProgramView.program c.args.program.now) m.columns (next_action m.schedule.now c.args.n) (counts_of c.args.row.now) c.requires.joined.others }
+    record { row = c.requires.joined.fits; own = own_first (g.P.ProgramView.program c.args.program.now) m.columns (next_action m.schedule.now c.args.n) (counts_of c.args.row.now) c.requires.joined.others }
 
 pub loop-k-preserved : goal.loop-k-preserved
 loop-k-preserved g c =
@@ -13,14 +13,14 @@ loop-k-preserved g c =
     let need = c.need.ensures in
     record {
       row = row_alike m c.loop-k.row c.raise_own.new.row c.raise_own.ensures.alike c.loop-k.invariant.row;
-      own = own_next (g.P.ProgramView.program c.args.program.now) m.columns (next_action m.schedule.now c.args.n) c.loop-k.k c.need.result.wait need.await (counts_of c.loop-k.row) (counts_of c.raise_own.new.row) c.requires.pass.rows.schedule.made.own need.action
+      own = own_next (g.P.ProgramView.program c.args.program.now) m.columns (next_action m.schedule.now c.args.n) c.loop-k.k c.need.result.wait need.await (counts_of c.loop-k.row) (counts_of c.raise_own.new.row) c.requires.rows.schedule.made.own need.action
           c.raise_own.ensures.own c.raise_own.ensures.others c.loop-k.invariant.own;
     }
 
 pub raise_own-requires-clause-hold : goal.raise_own-requires-clause-hold
 raise_own-requires-clause-hold g c =
     let w = c.need.result.wait in
-    held (g.P.ProgramView.program c.args.program.now) c.args.self.now c.args.n c.loop-k.row c.requires.pass.rows c.loop-k.invariant.row w.agent w.count c.need.ensures.action.agent c.need.ensures.action.last
+    held (g.P.ProgramView.program c.args.program.now) c.args.self.now c.args.n c.loop-k.row c.requires.rows c.loop-k.invariant.row w.agent w.count c.need.ensures.action.agent c.need.ensures.action.last
 
 pub returns : goal.returns
 returns g c =
@@ -37,7 +37,7 @@ returns g c =
         schedule = refl;
         columns = refl;
         row = record { width = row.width; narrow = row.narrow };
-        rows = rows_more p m c.args.n c.place-place.result c.clear_own.new.row c.write.new.self c.requires.pass.rows c.place-place.ensures.is row.width c.write.ensures made;
+        rows = rows_more p m c.args.n c.place-place.result c.clear_own.new.row c.write.new.self c.requires.rows c.place-place.ensures.is row.width c.write.ensures made;
       };
-      made = record { join = record { schedule = c.requires.pass.rows.schedule; columns = c.requires.pass.rows.columns; next = c.requires.joined.join.next; width = row.width }; whole = made };
+      made = record { join = record { schedule = c.requires.rows.schedule; columns = c.requires.rows.columns; next = c.requires.joined.join.next; width = row.width }; whole = made };
     }

@@ -9,10 +9,11 @@ Each stands in a file tests/KIND/CRATE/NAME.edit, with lines `check: MODULE::FUN
 changes, then `file: PATH`, and pairs of lines `old: TEXT` and `new: TEXT`; each old text stands in that file once.
 
 A function is checked alone, over the libraries that were built below its crate. The functions of its crate that it
-calls are taken at their contracts: their bodies are cut out, with a hole for a proof. What is changed in functions of
-their own goes into one check, and once more into one of its own where what it calls was changed too. The functions
-that wrong bodies are tried of are checked as they stand, too: were one refused for what was cut, its edits would show
-nothing. JOBS=N checks so many side by side; LOGS=FOLDER keeps what the prover says.
+calls are taken at their contracts: their bodies are cut out, with a hole for a proof. An edit is made in a copy of the
+function beside it, so that those of a crate go into one check, with the functions as they stand: were one refused for
+what was cut, its edits would show nothing. Where a function cannot be copied, as it is one of a trait's, or calls
+itself, its edit is made in place: those of different functions in one check, and once more alone where what one calls
+was changed too. JOBS=N checks so many side by side; LOGS=FOLDER keeps what the prover says.
 """
 import os
 import re
@@ -21,7 +22,7 @@ import subprocess
 import sys
 import tempfile
 from concurrent.futures import ThreadPoolExecutor
-from dataclasses import dataclass
+from dataclasses import dataclass, replace
 from itertools import accumulate
 from pathlib import Path
 
@@ -51,11 +52,16 @@ class Edit:
 
 @dataclass
 class Body:
-    """A function's body: its path, as a check prints it, and its first line and the one behind its last."""
+    """A function's body: its path, as a check prints it, the file, the first line of all that is said of the function,
+    and of the body the first line and the one behind the last. `is_alone`: it is none of a trait's, and does not call
+    itself."""
 
     path: str
+    file: Path
+    head: int
     begin: int
     end: int
+    is_alone: bool
 
 
 def read_edit(file):
@@ -117,19 +123,28 @@ def is_on_cycle(lines, at):
     return False
 
 
-def bodies(text, module, homes):
+def head_of(lines, at):
+    """The first line of what is said of the function of this line."""
+    while at and lines[at - 1] and (lines[at - 1].lstrip().startswith("//") or not lines[at - 1].endswith("{")):
+        at -= 1
+    return at
+
+
+def bodies(file, module, homes):
     """The bodies of the functions of a file that `rt fmt` laid out, but for those on a cycle of calls."""
-    lines, found, block, at = text.split("\n"), [], None, 0
+    lines, found, block, is_trait, at = file.read_text(encoding="utf-8").split("\n"), [], None, False, 0
     while at < len(lines):
         function = FUNCTION.match(lines[at])
         if BLOCK.match(lines[at]):
             block = owner(lines[at], module, homes)
+            is_trait = BLOCK.match(lines[at])[1] == "trait" or " for " in lines[at]
         begin = function and begin_of(lines, at, function[1])
         if begin is not None:
             indent, name = function.groups()
             path, end = block if indent else module, lines.index(indent + "}", begin)
             if path is not None and not is_on_cycle(lines, at):
-                found.append(Body("::".join([*path, name]), begin + 1, end))
+                is_alone = not (indent and is_trait) and not re.search(rf"\b{name}\(", "\n".join(lines[begin + 1 : end]))
+                found.append(Body("::".join([*path, name]), file, head_of(lines, at), begin + 1, end, is_alone))
             at = end
         at += 1
     return found
@@ -146,23 +161,26 @@ def modules(folder):
     return files, homes
 
 
+def functions_in(folder):
+    """The bodies of the functions of the crate in the folder."""
+    files, homes = modules(folder)
+    return [body for file, module in files.items() for body in bodies(file, module, homes)]
+
+
 def cut(folder, crate, kept):
     """Cuts out the bodies of the crate in the folder but for those that are kept, and gives each a hole for a proof."""
-    files, homes = modules(folder)
-    for file, module in files.items():
-        text = file.read_text(encoding="utf-8")
-        lines = text.split("\n")
-        for body in reversed(bodies(text, module, homes)):
-            if body.path in kept:
-                continue
-            lines[body.begin : body.end] = ["unreachable!()"]
-            parts = body.path.split("::")
-            proof = folder.joinpath("proofs", *parts)
-            shutil.rmtree(proof, ignore_errors=True)
-            proof.mkdir(parents=True)
-            hole = HOLE.format(crate=crate, path=".".join(parts), name=parts[-1])
-            (proof / "Proof.antt").write_text(hole, encoding="utf-8")
-        file.write_text("\n".join(lines), encoding="utf-8")
+    for body in reversed(functions_in(folder)):
+        if body.path in kept:
+            continue
+        lines = body.file.read_text(encoding="utf-8").split("\n")
+        lines[body.begin : body.end] = ["unreachable!()"]
+        body.file.write_text("\n".join(lines), encoding="utf-8")
+        parts = body.path.split("::")
+        proof = folder.joinpath("proofs", *parts)
+        shutil.rmtree(proof, ignore_errors=True)
+        proof.mkdir(parents=True)
+        hole = HOLE.format(crate=crate, path=".".join(parts), name=parts[-1])
+        (proof / "Proof.antt").write_text(hole, encoding="utf-8")
 
 
 def change(folder, edit):
@@ -173,6 +191,45 @@ def change(folder, edit):
             return old
         (folder / path).write_text(text.replace(old, new), encoding="utf-8")
     return None
+
+
+def said_of(body):
+    """All that is said of a function, its body with it."""
+    lines = body.file.read_text(encoding="utf-8").split("\n")
+    return "\n".join(lines[body.head : body.end + 1])
+
+
+def copies(folder, edit):
+    """The functions that an edit changes, each with what is said of it, before and once it is made, or None if it cannot
+    be made in copies."""
+    found = {it.path: it for it in functions_in(folder) if it.path in edit.checks and it.is_alone}
+    if len(found) < len(edit.checks):
+        return None
+    texts = {path: said_of(it) for path, it in found.items()}
+    for file, old, new in edit.changes:
+        homes = [path for path, it in found.items() if it.file == folder / file and texts[path].count(old) == 1]
+        if len(homes) != 1:
+            return None
+        texts[homes[0]] = texts[homes[0]].replace(old, new)
+    return [(it, said_of(it), texts[path]) for path, it in found.items()]
+
+
+def copied(folder, edit, name):
+    """Puts copies of the functions that an edit changes beside them, with its changes, their names with this behind
+    them, and copies of what their proofs answer."""
+    for body, stands, text in copies(folder, edit):
+        *parts, last = body.path.split("::")
+        text = re.sub(rf"\bfn {last}\b", f"fn {last}{name}", text, count=1)
+        whole = body.file.read_text(encoding="utf-8")
+        body.file.write_text(whole.replace(stands, f"{stands}\n\n{text}"), encoding="utf-8")
+        proof = folder.joinpath("proofs", *parts)
+        if (proof / last).is_dir():
+            shutil.copytree(proof / last, proof / f"{last}{name}")
+        for file in (proof / f"{last}{name}").rglob("*.antt"):
+            answers = file.read_text(encoding="utf-8")
+            answers = re.sub(rf"\b{re.escape('.'.join([*parts, last]))}\.", f"{'.'.join([*parts, last])}{name}.", answers)
+            file.write_text(re.sub(rf"\b{last}_spec\b", f"{last}{name}_spec", answers), encoding="utf-8")
+    return replace(edit, checks=[it + name for it in edit.checks])
 
 
 def furnish(room, crate):
@@ -190,22 +247,28 @@ def furnish(room, crate):
             (here / "out").symlink_to(other / "out")
 
 
-def check(crate, edits, checks):
-    """What the prover says of each of the functions once the edits are made, and all that it says."""
+def check(crate, alone, stand, edits):
+    """Has copies of functions checked for the edits `alone`, and the functions `stand` after the other edits: answers
+    the first with the names of the copies, what is said of each function, and all that is said."""
     with tempfile.TemporaryDirectory() as room:
         furnish(Path(room), crate)
         folder = Path(room, "crates", crate)
+        alone = [copied(folder, it, f"_edit{k}") for k, it in enumerate(alone)]
+        checks = [*stand, *functions(alone)]
         cut(folder, crate, checks)
         for edit in edits:
             lost = change(folder, edit)
             if lost:
-                return {}, f"error: {edit.name}: this does not stand once in the functions that it names: {lost}"
+                return alone, {}, f"error: {edit.name}: this does not stand once in the functions that it names: {lost}"
         command = ["sh", "tools/rattle.sh", crate, "check", "--allow-holes"]
         for it in checks:
             command += ["--only", it]
         ran = subprocess.run(command, cwd=room, stdin=subprocess.DEVNULL, capture_output=True, text=True)
     log = ran.stdout + ran.stderr
-    return dict(re.findall(rf"^fn {crate}::(\S+): (.*)", log, re.M)), log
+    if "LOGS" in os.environ:
+        name = ".".join([crate, *(it.name for it in [*alone, *edits][:1]), "log"])
+        Path(os.environ["LOGS"], name).write_text(log, encoding="utf-8")
+    return alone, dict(re.findall(rf"^fn {crate}::(\S+): (.*)", log, re.M)), log
 
 
 def refusal(path, said):
@@ -255,10 +318,14 @@ def functions(edits):
 
 
 def tasks(kind, crate):
-    """The checks of a crate: its name, the edits that are made, and the functions that are asked for."""
+    """The checks of a crate: its name, the edits that are made in copies, the functions that are asked for beside them,
+    and the edits that are made in these."""
+    folder = ROOT / "crates" / crate
     edits = [read_edit(it) for it in sorted((ROOT / "tests" / kind / crate).glob("*.edit"))]
-    made = rounds(edits) if kind == "neutral" else [[], *rounds(edits)]
-    return [(crate, them, functions(them or edits)) for them in made]
+    alone = [it for it in edits if copies(folder, it)]
+    first = (crate, alone, [] if kind == "neutral" else functions(edits), [])
+    made = [(crate, [], functions(them), them) for them in rounds([it for it in edits if it not in alone])]
+    return [it for it in [first, *made] if it[1] or it[2]]
 
 
 def judge(kind, edit, said, log):
@@ -279,28 +346,19 @@ def judge(kind, edit, said, log):
     return None, f"NOT TRIED: {'; '.join(said[it] for it in edit.checks)}"
 
 
-def stands(crate, checks):
-    """The functions that are not proved as they stand, over what is cut out, each with what is said of it."""
-    said, log = check(crate, [], checks)
-    if not said:
-        return [(crate, log[-300:])]
-    return [(it, said.get(it, log[-300:])) for it in checks if it not in said or not is_proved(it, said)]
-
-
-def outcomes(kind, crate, edits, checks):
+def outcomes(kind, crate, alone, stand, edits):
     """What came of edits that were tried together, and once more alone where that did not tell: whether it is what is
-    due, and what to say."""
-    if not edits:
-        return [(False, f"{kind} {crate}: NOT PROVED as it stands: {it}: {text}") for it, text in stands(crate, checks)]
-    said, log = check(crate, edits, checks)
-    if "LOGS" in os.environ:
-        Path(os.environ["LOGS"], f"{crate}.{edits[0].name}.log").write_text(log, encoding="utf-8")
+    due, and what to say; and which functions are not proved as they stand."""
+    alone, said, log = check(crate, alone, stand, edits)
     lines = []
-    for edit in edits:
+    for edit in [*alone, *edits]:
         is_due, text = judge(kind, edit, said, log)
         if is_due is None and len(edits) > 1:
-            is_due, text = judge(kind, edit, *check(crate, [edit], edit.checks))
+            is_due, text = judge(kind, edit, *check(crate, [], edit.checks, [edit])[1:])
         lines.append((bool(is_due), f"{kind} {crate}/{edit.name}: {text}"))
+    for it in [] if edits else stand:
+        if it not in said or not is_proved(it, said):
+            lines.append((False, f"{kind} {crate}: NOT PROVED as it stands: {it}: {said.get(it, log[-300:])}"))
     return lines
 
 

@@ -17,12 +17,12 @@ module _ (p : Program) (s : Schedule) (columns : Columns) (m : Answering) (row :
   -- it is answered, or its agent has no column
   pub told_on : (flags : Vec Bool Global) → length flags.items ≡ length m.flags.items → ((k : ℕ) → k ≢ x.place → get_or flags.items k false ≡ get_or m.flags.items k false)
       → IsAnswer p (question_of (questions_in m) x.place) (get_or flags.items x.place false) ⊎ ((column_of columns (question_of (questions_in m) x.place).first.agent ≡ None) × (get_or flags.items x.place false ≡ get_or m.flags.items x.place false))
-      → IsAnswering p s columns row (record { questions = m.questions; rows = m.rows; flags = flags; next = m.next + 1 })
+      → IsAnswering p s columns row (record { questions = m.questions; asked = m.asked; rows = m.rows; flags = flags; next = m.next + 1 })
   told_on flags all others here = record {
     block = h.block;
     answers = record {
       questions = h.answers.questions;
-      listed = record { each = h.answers.listed.each; all = h.answers.listed.all; sorted = h.answers.listed.sorted; flags = all ∙ h.answers.listed.flags };
+      listed = record { each = h.answers.listed.each; all = h.answers.listed.all; sorted = h.answers.listed.sorted; flags = all ∙ h.answers.listed.flags; asked = h.answers.listed.asked };
       told = λ n l. elim (cases_eq (listed_at m n).place x.place) [
         | inr ne ↦ still n l (others (listed_at m n).place ne) (λ e. absurd (ne (ap (λ (k : ℕ). (listed_at m k).place) e ∙ ap (λ (y : RowQuestion). y.place) (sym at))))
         | inl e ↦ elim here [

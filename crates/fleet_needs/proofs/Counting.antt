@@ -1,5 +1,7 @@
 -- Counts that are read, where rows of them stand, blocks of columns, and sums over the first ones of a list.
-use Rattle.fleet_needs.proofs.Words.{◌≢◌, ℕ, ◌+◌, ◌*◌, ◌<◌, ◌≤◌, List, take, subst, arith, inl, inr, ◌⊎◌, cases_order, mul-le, sum_by, take-take, sum_by-take-le, ◌≡◌, length, replicate, slice_index, ap, ◌∙◌, cases_lt, get_or-replicate, get_or_past, length-replicate, get_or_read, get_or, Bool, refl, Option, Some, None, Program, HasColumn, AreColumns, column_of, Columns}
+use Rattle.std.specs.Prelude.{cond, count_by}
+use Rattle.std.proofs.lemmas.List.Sums.{count_by_more_yes}
+use Rattle.fleet_needs.proofs.Words.{true, false, false≢true, sym, ◌≢◌, ℕ, ◌+◌, ◌*◌, ◌<◌, ◌≤◌, List, take, subst, arith, inl, inr, ◌⊎◌, cases_order, mul-le, sum_by, take-take, sum_by-take-le, ◌≡◌, length, replicate, slice_index, ap, ◌∙◌, cases_lt, get_or-replicate, get_or_past, length-replicate, get_or_read, get_or, Bool, refl, Option, Some, None, Program, HasColumn, AreColumns, column_of, Columns}
 use Rattle.fleet_needs.specs.Schedule.{AreColumnsOf}
 
 -- a count that is read at a place
@@ -15,6 +17,13 @@ always_at x n i = elim (cases_lt i n) [
 
 pub none_at : (n i : ℕ) → slice_index (replicate n 0) i ≡ 0
 none_at n i = always_at 0 n i
+
+-- if none of them is set, no flag is
+pub none_set : (flags : List Bool) → count_by (λ flag. flag) flags ≡ 0 → (i : ℕ) → get_or flags i false ≡ true → ⊥
+none_set flags none i set = elim (cases_lt i (length flags)) [
+  | inl l ↦ omega (arith, none, sum_by-take-le (λ flag. cond flag 1 0) flags (i + 1), count_by_more_yes (λ flag. flag) flags i false l set)
+  | inr past ↦ false≢true (sym (get_or_past flags i false past) ∙ set)
+]
 
 -- more of a list have as much together, or more
 pub sums_rise : {X : Type 0} (f : X → ℕ) (xs : List X) (i j : ℕ) → i ≤ j → sum_by f (take i xs) ≤ sum_by f (take j xs)

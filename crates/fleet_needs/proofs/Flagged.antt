@@ -1,6 +1,7 @@
 -- The flags of awaits, one action and one block more.
+use Rattle.std.specs.Prelude.{count_by}
 use Rattle.fleet_needs.proofs.Words.{None, ◌≡◌, ℕ, ◌+◌, ◌-◌, ◌≤◌, Bool, true, false, List, length, get_or, replicate, length-replicate, set, sym, ap, subst, ◌∙◌, arith, inl, inr, ◌⊎◌, slice_get, Some, cases_lt, cases_eq, false≢true, slice_get_within, slice_get-get_or, same_Some, ActionId, Await, Program, awaits_of, total_awaits, AreInRange, IsAction, column_of, AreColumns, Columns, Schedule, IsImpliedFlag, first_await, AreAwaitPlaces, AreSettled, AreSettledTo, AreSure, AreSet, IsLeftOut, IsLeftIn, AreFlaggedIn, AreFlaggedTo, AreImplied, flags_of, ImpliedAwaits, HasRowUnlessSet, IsRow, IsPassed, joins_in, joins_of, next_action}
-use Rattle.fleet_needs.proofs.{AwaitOrder.flag_within, AwaitOrder.known_on, AwaitOrder.known_put, Counting.always_at, Joining.awaited_action, Joining.adds_none_if_implied}
+use Rattle.fleet_needs.proofs.{AwaitOrder.flag_within, AwaitOrder.known_on, AwaitOrder.known_put, Counting.always_at, Counting.none_set, Joining.awaited_action, Joining.adds_none_if_implied}
 
 -- no flag is set yet
 pub none_flagged : (p : Program) (asked : List Bool) (m : ImpliedAwaits) (n : ℕ) → AreAwaitPlaces p m.places → flags_of m ≡ replicate n false → n ≡ total_awaits p → AreSettledTo p asked 0 m
@@ -19,8 +20,8 @@ none_past : (p : Program) (a : ActionId) (k : ℕ) (w : Await) → IsAction p a 
 none_past p a k w is at past = omega (arith, past, flag_within p a is, slice_get_within (awaits_of p a.agent a.number) k w at)
 
 -- if no agent is asked for, all flags say whether their await is implied
-pub flagged_if_none : (p : Program) (asked : List Bool) (m : ImpliedAwaits) → ((j : ℕ) → get_or asked j false ≡ false) → AreSettled p asked m → AreImplied p m
-flagged_if_none p asked m none = known_on p _ _ m (λ a is k w at left. elim left [ inl past ↦ none_past p a k w is at past | inr set ↦ false≢true (sym (none w.agent) ∙ set) ])
+pub flagged_if_none : (p : Program) (asked : List Bool) (m : ImpliedAwaits) → count_by (λ (flag : Bool). flag) asked ≡ 0 → AreSettled p asked m → AreImplied p m
+flagged_if_none p asked m none = known_on p _ _ m (λ a is k w at left. elim left [ inl past ↦ none_past p a k w is at past | inr set ↦ none_set asked none w.agent set ])
 
 -- ---- the awaits that are left
 

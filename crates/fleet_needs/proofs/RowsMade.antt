@@ -33,19 +33,13 @@ made_counts p schedule columns n count made i b s =
     counts_row p schedule columns (n + 1) i b s count (omega arith) (subst (λ (x : ℕ). AreCounts p columns (next_action schedule x).agent (next_action schedule x).number count) e made)
 
 -- the counts in the slot of a row that the next join takes, from this place on
-pub counts_at : (p : Program) (m : SlotRows) (n : ℕ) → AreRowsTo p m n → (r place : ℕ) → TakesIn m.schedule.now.joins n r → place ≡ slot_of m.schedule.now r * m.columns.width → (i b : ℕ) → StandsThere p m.schedule.now r i b → AreCounts p m.columns i b (count_from m.counts place)
+pub counts_at : (p : Program) (m : SlotRows) (n : ℕ) → AreRowsTo p m n → (r place : ℕ) → TakesIn m.schedule.joins n r → place ≡ slot_of m.schedule r * m.columns.width → (i b : ℕ) → StandsThere p m.schedule r i b → AreCounts p m.columns i b (count_from m.counts place)
 counts_at p m n rows r place takes is i b s = subst (λ (x : ℕ). AreCounts p m.columns i b (count_from m.counts x)) (sym is) (rows.right r (rows.schedule.made.order.sooner n r takes) (rows.schedule.still n r takes) i b s)
 
 -- no row is made, and all counts are zeros
-pub rows_none : (p : Program) (m : SlotRows) → IsSchedule p m.schedule.now → AreColumnsOf p m.columns → length (counts_of m.counts) ≡ m.schedule.now.slots * m.columns.width → are_narrow m.counts ≡ m.schedule.now.is_narrow
+pub rows_none : (p : Program) (m : SlotRows) → IsSchedule p m.schedule → AreColumnsOf p m.columns → length (counts_of m.counts) ≡ m.schedule.slots * m.columns.width → are_narrow m.counts ≡ m.schedule.is_narrow
     → ((k : ℕ) → slice_index (counts_of m.counts) k ≡ 0) → AreRowsTo p m 0
-rows_none p m schedule columns room narrow zeros = record {
-  schedule = schedule;
-  columns = columns;
-  room = room;
-  narrow = narrow;
-  right = λ r upto still i b s. counts_none p m.schedule.now m.columns r i b s (count_in_slot m r) (omega arith) (λ k. zeros _);
-}
+rows_none p m schedule columns room narrow zeros = record { schedule = schedule; columns = columns; room = room; narrow = narrow; right = λ r upto still i b s. counts_none p m.schedule m.columns r i b s (count_in_slot m r) (omega arith) (λ k. zeros _) }
 
 -- a row of these counts
 pub counts_same : (p : Program) (columns : Columns) (i b : ℕ) (f g : ℕ → ℕ) → ((j k : ℕ) → HasColumn columns j k → g k ≡ f k) → AreCounts p columns i b f → AreCounts p columns i b g
@@ -93,11 +87,11 @@ module _ (p : Program) (s : Schedule) (is : IsSchedule p s) (n : ℕ) (l : n < j
 -- ---- the row of a join, as it is made
 
 module _ (p : Program) (m : SlotRows) (n : ℕ) (row : Counts) (is : IsJoinRow p m n row) where
-  pub row_of_action : IsAction p (next_action m.schedule.now n)
+  pub row_of_action : IsAction p (next_action m.schedule n)
   row_of_action = (is.schedule.made.joins n is.next).is.action
 
-  pub row_here : IsRow (joins_of m.schedule.now) (n + 1) (next_action m.schedule.now n)
-  row_here = record { some = omega arith; upto = omega (arith, is.next); of = (let e : n + 1 - 1 ≡ n = omega arith in ap (next_action m.schedule.now) e) }
+  pub row_here : IsRow (joins_of m.schedule) (n + 1) (next_action m.schedule n)
+  row_here = record { some = omega arith; upto = omega (arith, is.next); of = (let e : n + 1 - 1 ≡ n = omega arith in ap (next_action m.schedule) e) }
 
 -- ---- the row of an action, await by await
 
@@ -168,18 +162,18 @@ row_alike m old new alike fits = record { width = alike.all ∙ fits.width; narr
 
 -- ---- one row more in its slot
 
-module _ (p : Program) (old : SlotRows) (n place : ℕ) (row counts : Counts) (rows : AreRowsTo p old n) (at : place ≡ slot_of old.schedule.now (n + 1) * old.columns.width) (width : length (counts_of row) ≡ old.columns.width)
-    (put : AreWritten place row old.counts counts) (made : AreCounts p old.columns (next_action old.schedule.now n).agent (next_action old.schedule.now n).number (slice_index (counts_of row))) where
+module _ (p : Program) (old : SlotRows) (n place : ℕ) (row counts : Counts) (rows : AreRowsTo p old n) (at : place ≡ slot_of old.schedule (n + 1) * old.columns.width) (width : length (counts_of row) ≡ old.columns.width)
+    (put : AreWritten place row old.counts counts) (made : AreCounts p old.columns (next_action old.schedule n).agent (next_action old.schedule n).number (slice_index (counts_of row))) where
   abbrev new : SlotRows
   new = record { schedule = old.schedule; columns = old.columns; counts = counts }
 
-  newest : AreRowCounts p old.schedule.now old.columns (n + 1) (count_in_slot new (n + 1))
+  newest : AreRowCounts p old.schedule old.columns (n + 1) (count_in_slot new (n + 1))
   newest i b s =
       counts_same p old.columns i b (slice_index (counts_of row)) (count_in_slot new (n + 1)) (λ j k has. ap (λ (x : ℕ). count_from counts x k) (sym at) ∙ put.row k (let l = rows.columns.within j k has in omega (arith, l, width)))
-      (made_counts p old.schedule.now old.columns n (slice_index (counts_of row)) made i b s)
+      (made_counts p old.schedule old.columns n (slice_index (counts_of row)) made i b s)
 
-  kept : (r : ℕ) → slot_of old.schedule.now r ≢ slot_of old.schedule.now (n + 1) → (k : ℕ) → k < old.columns.width → count_in_slot new r k ≡ count_in_slot old r k
-  kept r ne k l = elim (outside old.columns.width (slot_of old.schedule.now r) (slot_of old.schedule.now (n + 1)) k ne l) [
+  kept : (r : ℕ) → slot_of old.schedule r ≢ slot_of old.schedule (n + 1) → (k : ℕ) → k < old.columns.width → count_in_slot new r k ≡ count_in_slot old r k
+  kept r ne k l = elim (outside old.columns.width (slot_of old.schedule r) (slot_of old.schedule (n + 1)) k ne l) [
     | inl below ↦ put.before _ (omega (arith, at, below))
     | inr above ↦ put.after _ (omega (arith, at, above, width))
   ]
@@ -191,7 +185,7 @@ module _ (p : Program) (old : SlotRows) (n place : ℕ) (row counts : Counts) (r
     room = put.alike.all ∙ rows.room;
     narrow = put.alike.narrow ∙ rows.narrow;
     right = λ r upto still. elim (cases_lt n r) [
-      | inl last ↦ (let e : n + 1 ≡ r = omega arith in subst (λ (x : ℕ). AreRowCounts p old.schedule.now old.columns x (count_in_slot new x)) e newest)
+      | inl last ↦ (let e : n + 1 ≡ r = omega arith in subst (λ (x : ℕ). AreRowCounts p old.schedule old.columns x (count_in_slot new x)) e newest)
       | inr sooner ↦ λ i b s. counts_same p old.columns i b (count_in_slot old r) (count_in_slot new r) (λ j k has. kept r (λ e. still (n + 1) (omega arith) (omega arith) (sym e)) k (rows.columns.within j k has))
           (rows.right r sooner (λ m from l. still m from (omega arith)) i b s)
     ];

@@ -99,11 +99,7 @@ module _ (p : Program) (cost : ActionId → ℕ) where
             let same : length row.costs ≡ n = omega (arith, l, high, count) in
             subst (IsNotedCost p cost (after i n)) (sym (get_or_push row.costs m 0 n same)) (subst (λ (k : ℕ). IsNotedCost p cost (after i k) m) same here)
       ];
-      next = record {
-        within = omega arith;
-        at = at ∙ ap (λ (n : ℕ). offset i n 0) (sym count);
-        greatest = subst (λ (n : ℕ). IsGreatestTo p cost (after i n) 0 m) (sym count) (greatest_own i (length row.costs + 1) m (inr (omega arith, here)));
-      };
+      next = record { within = omega arith; at = at ∙ ap (λ (n : ℕ). offset i n 0) (sym count); greatest = subst (λ (n : ℕ). IsGreatestTo p cost (after i n) 0 m) (sym count) (greatest_own i (length row.costs + 1) m (inr (omega arith, here))) };
     }
       where
         count : length (row.costs ++ m ∷ []) ≡ length row.costs + 1

@@ -2,16 +2,16 @@
 use Rattle.std.specs.Prelude.{◌≡◌, ◌⊎◌, ℕ, ◌<◌, ◌≤◌, false, All, List, length, get_or, slice_index}
 use Rattle.std.specs.List.Sorted.{IsNonDecreasingBy}
 use Rattle.fleet_needs.specs.Words.{ActionId, Program}
-use Rattle.fleet_needs.specs.Asked.{IsQuestion}
+use Rattle.fleet_needs.specs.Asked.{IsQuestion, AreAskedFor}
 use Rattle.fleet_needs.specs.Block.{HasItsColumn, IsAnswer}
 use Rattle.fleet_needs.specs.Joins.{StandsFor}
-use Rattle.fleet_needs.specs.Schedule.{joins_of, AreRowCounts}
+use Rattle.fleet_needs.specs.Schedule.{joins_of, AreRowCounts, IsSchedule}
 use Rattle.fleet_needs.specs.Counts.{counts_of}
 use Rattle.fleet_needs.specs.declared.counts.Counts.{Counts}
 use Rattle.fleet_needs.specs.declared.questions.Answering.{Answering}
 use Rattle.fleet_needs.specs.declared.questions.Question.{Question}
 use Rattle.fleet_needs.specs.declared.questions.RowQuestion.{RowQuestion}
-use Rattle.fleet_needs.specs.declared.schedule.Columns.{Columns}
+use Rattle.fleet_needs.specs.declared.join_pass.Columns.{Columns}
 use Rattle.fleet_needs.specs.declared.schedule.Schedule.{Schedule}
 
 -- what is read past the questions
@@ -44,12 +44,13 @@ listed_at m n = get_or m.rows.items n unlisted
 abbrev pub question_at : Answering → ℕ → Question
 question_at m n = question_of (questions_in m) (listed_at m n).place
 
--- all questions are listed, in the order of rows that stand for their last actions
+-- all questions are listed, in the order of rows that stand for their last actions, and their agents are asked for
 pub record AreListed (p : Program) (joins : List ActionId) (m : Answering) : Type 0 where
   pub each : All (IsByRow p joins (questions_in m)) m.rows.items
   pub all : (k : ℕ) → k < length (questions_in m) → (n : ℕ) × (n < length m.rows.items) × ((listed_at m n).place ≡ k)
   pub sorted : IsNonDecreasingBy (λ x. x.row) m.rows.items
   pub flags : length m.flags.items ≡ length (questions_in m)
+  pub asked : AreAskedFor p (questions_in m) m.asked.items
 
 -- .. and these are the questions
 pub record AreListedFor (p : Program) (joins : List ActionId) (these : List Question) (m : Answering) : Type 0 where
@@ -68,6 +69,7 @@ AreAnsweredFrom p s from m = AreAnsweredBut p s (λ n q. from ≤ q.first.agent)
 
 -- .. below the end, which is beyond this one; they are still the same questions
 pub record HasAnswered (p : Program) (s : Schedule) (from end : ℕ) (old new : Answering) : Type 0 where
+  pub schedule : IsSchedule p s
   pub on : from < end
   pub answers : AreAnsweredFrom p s end new
   pub same : questions_in new ≡ questions_in old

@@ -2,7 +2,7 @@
 use Rattle.std.specs.Prelude.{◌≡◌, ◌≢◌, ℕ, ◌<◌, ◌≤◌, Bool, true, Some, None, ◌↔◌}
 use Rattle.fleet_needs.specs.Words.{Program, Reaches}
 use Rattle.fleet_needs.specs.Columns.{column_of}
-use Rattle.fleet_needs.specs.declared.schedule.Columns.{Columns}
+use Rattle.fleet_needs.specs.declared.join_pass.Columns.{Columns}
 use Rattle.fleet_needs.specs.declared.questions.Question.{Question}
 
 -- agent j has column k

@@ -1,6 +1,6 @@
 -- The columns of one block of rows.
 use Rattle.std.specs.Prelude.{◌≡◌, ◌≢◌, ℕ, ◌<◌, ◌≤◌, Bool, true, false, List, length, get_or, Option, Some, None}
-use Rattle.fleet_needs.specs.declared.schedule.Columns.{Columns}
+use Rattle.fleet_needs.specs.declared.join_pass.Columns.{Columns}
 
 -- of how many agents the columns tell
 abbrev pub agents_in : Columns → ℕ

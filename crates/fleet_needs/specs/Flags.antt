@@ -5,7 +5,7 @@ use Rattle.fleet_needs.specs.Words.{Await, ActionId, Program, total_awaits}
 use Rattle.fleet_needs.specs.Joins.{IsRow}
 use Rattle.fleet_needs.specs.Schedule.{joins_of}
 use Rattle.fleet_needs.specs.declared.schedule.Schedule.{Schedule}
-use Rattle.fleet_needs.specs.declared.schedule.Columns.{Columns}
+use Rattle.fleet_needs.specs.declared.join_pass.Columns.{Columns}
 use Rattle.fleet_needs.specs.Implied.{AreAwaitPlaces, IsImplied, IsImpliedFlag, EachFlag, first_await}
 use Rattle.fleet_needs.specs.declared.implied.ImpliedAwaits.{ImpliedAwaits}
 

@@ -6,7 +6,7 @@ use Rattle.fleet_needs.specs.Columns.{AreColumns}
 use Rattle.fleet_needs.specs.Rows.{IsJoined, OfOthers}
 use Rattle.fleet_needs.specs.Counts.{counts_of, AreAlike}
 use Rattle.fleet_needs.specs.Schedule.{joins_in, next_action, AreCounts, IsSchedule, AreColumnsOf, AreRowsTo, IsRowFor}
-use Rattle.fleet_needs.specs.declared.schedule.Columns.{Columns}
+use Rattle.fleet_needs.specs.declared.join_pass.Columns.{Columns}
 use Rattle.fleet_needs.specs.declared.counts.Counts.{Counts}
 use Rattle.fleet_needs.specs.declared.schedule.Schedule.{Schedule}
 use Rattle.fleet_needs.specs.declared.join_pass.SlotRows.{SlotRows}
@@ -29,25 +29,25 @@ AreWhole p columns a row = AreCounts p columns a.agent a.number (slice_index row
 
 -- the row is one of these rows, that of the join after n others, and has a count for each column
 pub record IsJoinRow (p : Program) (m : SlotRows) (n : ℕ) (row : Counts) : Type 0 where
-  pub schedule : IsSchedule p m.schedule.now
+  pub schedule : IsSchedule p m.schedule
   pub columns : AreColumnsOf p m.columns
-  pub next : n < joins_in m.schedule.now
+  pub next : n < joins_in m.schedule
   pub width : length (counts_of row) ≡ m.columns.width
 
 -- .. half made: of all that its action directly needs, but for the count of each awaited action's own agent
 pub record IsHalfMade (p : Program) (m : SlotRows) (n : ℕ) (row : Counts) : Type 0 where
   pub fits : IsRowFor m row
   pub join : IsJoinRow p m n row
-  pub others : AreOthers p m.columns (next_action m.schedule.now n) (counts_of row)
+  pub others : AreOthers p m.columns (next_action m.schedule n) (counts_of row)
 
 -- .. or made, with these counts too
 pub record IsMade (p : Program) (m : SlotRows) (n : ℕ) (row : Counts) : Type 0 where
   pub join : IsJoinRow p m n row
-  pub whole : AreWhole p m.columns (next_action m.schedule.now n) (counts_of row)
+  pub whole : AreWhole p m.columns (next_action m.schedule n) (counts_of row)
 
 -- the rows are of this schedule and these columns, the first n of them are made, and the row can be one of them
 pub record IsPass (p : Program) (s : Schedule) (block : Columns) (m : SlotRows) (n : ℕ) (counts : Counts) : Type 0 where
-  pub schedule : m.schedule.now ≡ s
+  pub schedule : m.schedule ≡ s
   pub columns : m.columns ≡ block
   pub row : IsRowFor m counts
   pub rows : AreRowsTo p m n

@@ -10,8 +10,7 @@ use crate::counts::Counts;
 use crate::critical::CriticalCosts;
 use crate::join_pass::SlotRows;
 use crate::level_order::LevelOrder;
-use crate::schedule::Schedule;
-use crate::settled::{is_any, settle_all};
+use crate::settled::{count_asked, settle_all};
 use fleet_model::{ActionId, OutOfMemory, ProgramView};
 use std::alloc::Global;
 
@@ -70,14 +69,14 @@ fn flag_left<P: ProgramView>(
     requires settled { AreSettled (P.program program.now) asked.now implied.old }
     ensures { OnOk result (AreImplied (P.program program.now) implied.new) }
 {
-    if !is_any(asked) {
+    if count_asked(asked) == 0 {
         return Ok(());
     }
     let order = LevelOrder::by_levels(alloc, program, levels, &implied.flags)?;
-    let schedule = Schedule::by_order(alloc, program, order, &implied.flags)?;
+    let mut rows = SlotRows::by_order(alloc, program, order, &implied.flags)?;
     let mut from = 0;
     while usize::from(from) < asked.len() {
-        from = flag_block(alloc, program, &schedule, asked, from, implied)?;
+        from = flag_block(alloc, program, &mut rows, asked, from, implied)?;
     }
     Ok(())
 }
@@ -86,22 +85,24 @@ fn flag_left<P: ProgramView>(
 fn flag_block<P: ProgramView>(
     alloc: Global,
     program: &P,
-    schedule: &Schedule,
+    rows: &mut SlotRows,
     asked: &[bool],
     from: u16,
     implied: &mut ImpliedAwaits,
 ) -> Result<u16, OutOfMemory>
-    requires schedule { IsSchedule (P.program program.now) schedule.now }
+    requires schedule { IsSchedule (P.program program.now) rows.old.schedule }
     requires asked { length asked.now ≡ length (P.program program.now) }
     requires from { from < length asked.now }
-    requires flags { AreFlaggedTo (P.program program.now) schedule.now asked.now from implied.old }
+    requires flags { AreFlaggedTo
+        (P.program program.now) rows.old.schedule asked.now from implied.old }
     ensures { IfOk result (λ end. (from < end)
-        × AreFlaggedTo (P.program program.now) schedule.now asked.now end implied.new) }
+        × IsSchedule (P.program program.now) rows.new.schedule
+        × AreFlaggedTo (P.program program.now) rows.new.schedule asked.now end implied.new) }
 {
-    let (mut rows, mut row) = SlotRows::begin(alloc, program, schedule, asked, from)?;
-    for n in 0..schedule.rows() {
+    let mut row = rows.begin(alloc, program, asked, from)?;
+    for n in 0..rows.schedule.rows() {
         rows.join_others(program, n, &mut row);
-        flag_row(program, &rows, n, &row, asked, implied);
+        flag_row(program, rows, n, &row, asked, implied);
         rows.finish_row(program, n, &mut row);
     }
     Ok(rows.columns.end)
@@ -119,9 +120,9 @@ fn flag_row<P: ProgramView>(
     requires joined { IsHalfMade (P.program program.now) rows.now n row.now }
     requires block { AreColumns asked.now rows.now.columns.first rows.now.columns }
     requires flags { AreFlaggedIn (P.program program.now)
-        rows.now.schedule.now asked.now rows.now.columns n 0 implied.old }
+        rows.now.schedule asked.now rows.now.columns n 0 implied.old }
     ensures { AreFlaggedIn (P.program program.now)
-        rows.now.schedule.now asked.now rows.now.columns (n + 1) 0 implied.new }
+        rows.now.schedule asked.now rows.now.columns (n + 1) 0 implied.new }
 {
     let _ = program.agents();
     // Of who is asked for the contract alone speaks.

@@ -1,13 +1,68 @@
-//! A pass over the rows of a schedule, in the columns of one block: each is made of rows whose counts are still in
-//! their slots, and kept in its own slot.
+//! The rows of a schedule, which has the room of one block of columns after another, and the pass over them in a block:
+//! each is made of rows whose counts are still in their slots, and kept in its own slot.
 
+ghost use Rattle.fleet_model.specs.{declared.limits.TheConstants.MAX_AGENTS, Program.AreInRange};
 ghost use Rattle.std.specs.Prelude.{◌≡◌, ◌+◌, ◌<◌, ℕ, length, max, IfOk, ◌-◌, ◌*◌, ◌≤◌, Some};
-ghost use Rattle.fleet_needs.specs.{Columns.agents_in, Block.HasColumn, Counts.counts_of, Counts.CanHold, Schedule.IsSchedule, Schedule.AreRowsTo, Schedule.IsRowFor, Schedule.joins_in, Schedule.slot_of, JoinPass.HasOwnSet, JoinPass.IsBegun, JoinPass.IsHalfMade, JoinPass.IsMade, JoinPass.IsPass};
+ghost use Rattle.fleet_needs.specs.{Columns.AreColumns, Columns.agents_in, Columns.column_of, Order.IsLevelOrder, Block.HasColumn, Counts.counts_of, Counts.CanHold, Schedule.AreRows, Schedule.IsSchedule, Schedule.IsScheduleBut, Schedule.IsScheduleOf, Schedule.AreRowsTo, Schedule.IsRowFor, Schedule.joins_in, Schedule.slot_of, JoinPass.HasOwnSet, JoinPass.IsBegun, JoinPass.IsHalfMade, JoinPass.IsMade, JoinPass.IsPass};
 
 use crate::counts::Counts;
-use crate::schedule::{Columns, Schedule};
-use fleet_model::{OutOfMemory, ProgramView};
+use crate::level_order::LevelOrder;
+use crate::schedule::{Joins, Schedule, Slots, is_narrow};
+use fleet_model::{MAX_AGENTS, OutOfMemory, ProgramView};
 use std::alloc::Global;
+
+/// Which column of a block belongs to an agent.
+#[derive(Drop)]
+pub struct Columns {
+    of_agent: Vec<Option<u16>>,
+    /// How many columns the block has.
+    pub(crate) width: u16,
+    /// All asked agents from this one on have a column ..
+    pub(crate) first: u16,
+    /// .. that are below this one.
+    pub end: u16,
+}
+
+impl Columns {
+    /// Columns for the next agents from this one on that are flagged in `asked`, at most `most`.
+    pub fn choose(
+        alloc: Global,
+        asked: &[bool],
+        from: u16,
+        most: u16,
+    ) -> Result<Columns, OutOfMemory>
+        requires agents { length asked.now ≤ MAX_AGENTS }
+        requires from { from < length asked.now }
+        requires some { 1 ≤ most }
+        ensures columns { IfOk result (AreColumns asked.now from) }
+        ensures few { IfOk result (λ columns. columns.width ≤ most) }
+    {
+        let mut of_agent = vec![in alloc; None; asked.len()]?;
+        let mut width = 0;
+        let mut end = from;
+        while usize::from(end) < asked.len() && width < most {
+            if asked[usize::from(end)] {
+                of_agent[usize::from(end)] = Some(width);
+                width += 1;
+            }
+            end += 1;
+        }
+        Ok(Columns {
+            of_agent,
+            width,
+            first: from,
+            end,
+        })
+    }
+
+    /// The column of an agent, if it has one.
+    pub fn of(&self, agent: u16) -> Option<u16>
+        requires { agent < agents_in self.now }
+        ensures { result ≡ column_of self.now agent }
+    {
+        self.of_agent[usize::from(agent)]
+    }
+}
 
 /// Raises the count in the agent's own column, if it has one, to the number of an action.
 fn raise_own(columns: &Columns, row: &mut Counts, agent: u16, number: u32)
@@ -38,60 +93,102 @@ fn clear_own(columns: &Columns, row: &mut Counts, agent: u16)
     }
 }
 
-/// The rows of a schedule in the columns of one block, slot by slot.
-pub struct SlotRows<'a> {
-    pub(crate) schedule: &'a Schedule,
+/// The rows of a schedule in the columns of one block after another, slot by slot.
+pub struct SlotRows {
+    pub(crate) schedule: Schedule,
     pub(crate) columns: Columns,
     counts: Counts,
 }
 
-impl Drop for SlotRows<'_> {
+impl Drop for SlotRows {
     fn drop(self) {
         let SlotRows {
-            schedule: _,
+            schedule,
             columns,
             counts,
         } = self;
+        drop(schedule);
         drop(columns);
         drop(counts);
     }
 }
 
-impl<'a> SlotRows<'a> {
-    /// The rows of a schedule in the columns of the next block, for the agents from this one on that are flagged in
-    /// `asked`, as many as there is room for. None is made yet; beside them stands a row of zeros for one of them.
-    pub(crate) fn begin<P: ProgramView>(
+impl SlotRows {
+    /// The rows of a program whose actions have this order. Those whose awaits are all `implied` may have none.
+    pub(crate) fn by_order<P: ProgramView>(
         alloc: Global,
         program: &P,
-        schedule: &'a Schedule,
+        order: LevelOrder,
+        implied: &[bool],
+    ) -> Result<SlotRows, OutOfMemory>
+        requires range { AreInRange (P.program program.now) }
+        requires order { IsLevelOrder (P.program program.now) implied.now order }
+        ensures { IfOk result
+            (λ m. IsScheduleBut (P.program program.now) implied.now m.schedule) }
+    {
+        let (joins, standing) = Joins::of(alloc, program, order, implied)?;
+        drop(standing);
+        SlotRows::of(alloc, program, joins)
+    }
+
+    /// These rows, each with a slot, and no column yet.
+    pub(crate) fn of<P: ProgramView>(
+        alloc: Global,
+        program: &P,
+        joins: Joins,
+    ) -> Result<SlotRows, OutOfMemory>
+        requires { AreRows (P.program program.now) joins }
+        ensures { IfOk result (λ m. IsScheduleOf (P.program program.now) joins m.schedule) }
+    {
+        let (outs, slots) = Slots::of(alloc, &joins)?;
+        Ok(SlotRows {
+            schedule: Schedule {
+                joins,
+                outs,
+                slots,
+                is_narrow: is_narrow(program),
+            },
+            columns: Columns {
+                of_agent: Vec::new(alloc),
+                width: 0,
+                first: 0,
+                end: 0,
+            },
+            counts: Counts::Wide(Vec::new(alloc)),
+        })
+    }
+
+    /// Takes the columns of the next block, for the agents from this one on that are flagged in `asked`, as many as
+    /// there is room for. None of the rows is made yet; answers a row of zeros for one of them.
+    pub(crate) fn begin<P: ProgramView>(
+        &mut self,
+        alloc: Global,
+        program: &P,
         asked: &[bool],
         from: u16,
-    ) -> Result<(SlotRows<'a>, Counts), OutOfMemory>
-        requires schedule { IsSchedule (P.program program.now) schedule.now }
+    ) -> Result<Counts, OutOfMemory>
+        requires schedule { IsSchedule (P.program program.now) self.old.schedule }
         requires asked { length asked.now ≡ length (P.program program.now) }
         requires from { from < length asked.now }
-        ensures { IfOk result (λ m.
-            IsBegun (P.program program.now) schedule.now asked.now from m.0 m.1) }
+        ensures { IfOk result
+            (IsBegun (P.program program.now) self.old.schedule asked.now from self.new) }
     {
         let _ = program.agents();
-        let columns = Columns::choose(alloc, asked, from, schedule.columns_at_once())?;
-        let width = usize::from(columns.width);
-        let room = schedule.slots as usize * width;
-        let counts = Counts::zeros(alloc, room, schedule.is_narrow)?;
-        let row = Counts::zeros(alloc, width, schedule.is_narrow)?;
-        let rows = SlotRows {
-            schedule,
-            columns,
-            counts,
-        };
-        Ok((rows, row))
+        // The room of the block before is let go first.
+        self.counts = Counts::Wide(Vec::new(alloc));
+        self.columns = Columns::choose(alloc, asked, from, self.schedule.columns_at_once())?;
+        let width = usize::from(self.columns.width);
+        let room = self.schedule.slots as usize * width;
+        self.counts = Counts::zeros(alloc, room, self.schedule.is_narrow)?;
+        let row = Counts::zeros(alloc, width, self.schedule.is_narrow)?;
+        Ok(row)
     }
 
     /// Where the counts of a row that is made, or is the next, stand in its slot.
     fn place<P: ProgramView>(&self, program: &P, n: usize, r: usize) -> usize
         requires rows { AreRowsTo (P.program program.now) self.now n }
-        requires within { r ≤ joins_in self.now.schedule.now }
-        ensures is { result ≡ slot_of self.now.schedule.now r * self.now.columns.width }
+        requires within { r ≤ joins_in self.now.schedule }
+        ensures is { result ≡ slot_of self.now.schedule r * self.now.columns.width }
         ensures within { result + self.now.columns.width ≤ length (counts_of self.now.counts) }
     {
         // Of the program, and of how many rows are made, the contract alone speaks.
@@ -104,7 +201,7 @@ impl<'a> SlotRows<'a> {
     /// Makes the row of all that the join after n others directly needs, but for the count of each awaited agent.
     pub(crate) fn join_others<P: ProgramView>(&self, program: &P, n: usize, row: &mut Counts)
         requires rows { AreRowsTo (P.program program.now) self.now n }
-        requires next { n < joins_in self.now.schedule.now }
+        requires next { n < joins_in self.now.schedule }
         requires row { IsRowFor self.now row.old }
         ensures { IsHalfMade (P.program program.now) self.now n row.new }
     {
@@ -127,7 +224,7 @@ impl<'a> SlotRows<'a> {
         requires rows { AreRowsTo (P.program program.now) self.old n }
         requires joined { IsHalfMade (P.program program.now) self.old n row.old }
         ensures pass { IsPass (P.program program.now)
-            self.old.schedule.now self.old.columns self.new (n + 1) row.new }
+            self.old.schedule self.old.columns self.new (n + 1) row.new }
         ensures made { IsMade (P.program program.now) self.new n row.new }
     {
         let join = self.schedule.join_after(program, n);

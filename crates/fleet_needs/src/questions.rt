@@ -2,12 +2,12 @@
 
 ghost use Rattle.std.specs.Prelude.{◌≡◌, ◌≢◌, ◌+◌, ◌<◌, length, slice_index, All, IfOk};
 ghost use Rattle.fleet_model.specs.Program.{AreInRange};
-ghost use Rattle.fleet_needs.specs.{Asked.AreAnswersIn, Asked.AreAskedFor, Asked.IsQuestion, Schedule.IsSchedule, Schedule.AreColumnsOf, Answering.AreAnsweredFrom, Answering.HasAnswered, Answering.IsAnswering, Answering.IsRowAt, Answering.AreListedFor, Answering.questions_in, Counts.counts_of, Joins.AreOwn, Joins.AreStanding, Joins.rows_of};
+ghost use Rattle.fleet_needs.specs.{Asked.AreAnswersIn, Asked.IsQuestion, Schedule.IsSchedule, Schedule.AreColumnsOf, Answering.AreAnsweredFrom, Answering.HasAnswered, Answering.IsAnswering, Answering.IsRowAt, Answering.AreListedFor, Answering.questions_in, Counts.counts_of, Joins.AreOwn, Joins.AreStanding, Joins.rows_of};
 
 use crate::counts::Counts;
 use crate::join_pass::SlotRows;
 use crate::level_order::OrderSource;
-use crate::schedule::{Columns, Joins, Schedule, Standing};
+use crate::schedule::{Joins, Standing};
 use fleet_model::{ActionId, OutOfMemory, ProgramView};
 use std::alloc::Global;
 
@@ -39,26 +39,26 @@ pub fn answer_questions<P: ProgramView, S: OrderSource + Drop>(
     let (joins, standing) = Joins::of(alloc, program, order, &[])?;
     let answering = Answering::of(alloc, program, &joins, &standing, questions)?;
     drop(standing);
-    let schedule = Schedule::of(alloc, program, joins)?;
-    answer_all(alloc, program, &schedule, answering)
+    let rows = SlotRows::of(alloc, program, joins)?;
+    answer_all(alloc, program, rows, answering)
 }
 
 /// The answers to the questions, block by block, each with as many columns as there is room for.
 fn answer_all<P: ProgramView>(
     alloc: Global,
     program: &P,
-    schedule: &Schedule,
+    rows: SlotRows,
     answering: Answering<'_>,
 ) -> Result<Vec<bool>, OutOfMemory>
-    requires schedule { IsSchedule (P.program program.now) schedule.now }
-    requires answers { AreAnsweredFrom (P.program program.now) schedule.now 0 answering }
+    requires schedule { IsSchedule (P.program program.now) rows.schedule }
+    requires answers { AreAnsweredFrom (P.program program.now) rows.schedule 0 answering }
     ensures { IfOk result (AreAnswersIn (P.program program.now) (questions_in answering.entry)) }
 {
     let mut answering = answering;
-    let asked = asked_agents(alloc, program, answering.questions)?;
+    let mut rows = rows;
     let mut from = 0;
-    while usize::from(from) < asked.len() {
-        from = answer_block(alloc, program, schedule, &asked, from, &mut answering)?;
+    while usize::from(from) < answering.asked.len() {
+        from = answer_block(alloc, program, &mut rows, from, &mut answering)?;
     }
     Ok(answering.flags)
 }
@@ -67,44 +67,26 @@ fn answer_all<P: ProgramView>(
 fn answer_block<P: ProgramView>(
     alloc: Global,
     program: &P,
-    schedule: &Schedule,
-    asked: &[bool],
+    rows: &mut SlotRows,
     from: u16,
     answering: &mut Answering<'_>,
 ) -> Result<u16, OutOfMemory>
-    requires schedule { IsSchedule (P.program program.now) schedule.now }
-    requires asked { AreAskedFor (P.program program.now) (questions_in answering.old) asked.now }
-    requires from { from < length asked.now }
-    requires answers { AreAnsweredFrom (P.program program.now) schedule.now from answering.old }
+    requires schedule { IsSchedule (P.program program.now) rows.old.schedule }
+    requires from { from < length answering.old.asked.items }
+    requires answers { AreAnsweredFrom
+        (P.program program.now) rows.old.schedule from answering.old }
     ensures { IfOk result (λ end. HasAnswered (P.program program.now)
-        schedule.now from end answering.old answering.new) }
+        rows.new.schedule from end answering.old answering.new) }
 {
-    let (mut rows, mut row) = SlotRows::begin(alloc, program, schedule, asked, from)?;
+    let mut row = rows.begin(alloc, program, &answering.asked, from)?;
     answering.next = 0;
-    answering.answer_row(program, schedule, &rows.columns, &row, 0);
-    for n in 0..schedule.rows() {
+    answering.answer_row(program, rows, &row, 0);
+    for n in 0..rows.schedule.rows() {
         rows.join_others(program, n, &mut row);
         rows.finish_row(program, n, &mut row);
-        answering.answer_row(program, schedule, &rows.columns, &row, n + 1);
+        answering.answer_row(program, rows, &row, n + 1);
     }
     Ok(rows.columns.end)
-}
-
-/// Flags the agents whose columns are asked for.
-fn asked_agents<P: ProgramView>(
-    alloc: Global,
-    program: &P,
-    questions: &[Question],
-) -> Result<Vec<bool>, OutOfMemory>
-    requires { All (IsQuestion (P.program program.now)) questions.now }
-    ensures { IfOk result (λ asked.
-        AreAskedFor (P.program program.now) questions.now asked.items) }
-{
-    let mut asked = vec![in alloc; false; usize::from(program.agents())]?;
-    for question in questions {
-        asked[usize::from(question.first.agent)] = true;
-    }
-    Ok(asked)
 }
 
 /// A question by its place among all, and the row that stands for its last action.
@@ -118,6 +100,8 @@ pub(crate) struct RowQuestion {
 #[derive(Drop)]
 pub(crate) struct Answering<'a> {
     questions: &'a [Question],
+    /// The agents whose columns are asked for: those of the first actions.
+    asked: Vec<bool>,
     rows: Vec<RowQuestion>,
     flags: Vec<bool>,
     /// How many of them have come in this block.
@@ -144,15 +128,19 @@ impl<'a> Answering<'a> {
         if count > u32::MAX as usize {
             return Err(OutOfMemory);
         }
+        let mut asked = vec![in alloc; false; usize::from(program.agents())]?;
         let mut rows = Vec::with_capacity(alloc, count)?;
         for k in 0..count {
-            let row = standing.row_of(program, questions[k].last);
+            let Question { first, last } = questions[k];
+            asked[usize::from(first.agent)] = true;
+            let row = standing.row_of(program, last);
             let place = k as u32;
             rows.push(RowQuestion { row, place })?;
         }
         rows.sort_unstable_by_key(|question| question.row);
         Ok(Answering {
             questions,
+            asked,
             rows,
             flags: vec![in alloc; false; count]?,
             next: 0,
@@ -163,27 +151,26 @@ impl<'a> Answering<'a> {
     fn answer_row<P: ProgramView>(
         &mut self,
         program: &P,
-        schedule: &Schedule,
-        columns: &Columns,
+        rows: &SlotRows,
         row: &Counts,
         number: usize,
     )
         requires own { AreOwn (P.program program.now) }
-        requires columns { AreColumnsOf (P.program program.now) columns.now }
-        requires row { IsRowAt (P.program program.now) schedule.now columns.now number row.now }
+        requires columns { AreColumnsOf (P.program program.now) rows.now.columns }
+        requires row { IsRowAt (P.program program.now)
+            rows.now.schedule rows.now.columns number row.now }
         requires answers { IsAnswering (P.program program.now)
-            schedule.now columns.now number self.old }
+            rows.now.schedule rows.now.columns number self.old }
         ensures answers { IsAnswering (P.program program.now)
-            schedule.now columns.now (number + 1) self.new }
+            rows.now.schedule rows.now.columns (number + 1) self.new }
         ensures same { questions_in self.new ≡ questions_in self.old }
     {
-        // Of the program and the schedule the contract alone speaks.
+        // Of the program the contract alone speaks.
         let _ = program;
-        let _ = schedule;
         while self.next < self.rows.len() && self.rows[self.next].row as usize == number {
             let place = self.rows[self.next].place as usize;
             let question = self.questions[place];
-            if let Some(k) = columns.of(question.first.agent) {
+            if let Some(k) = rows.columns.of(question.first.agent) {
                 let count = count_for(row, usize::from(k), question);
                 self.flags[place] = count < question.first.number;
             }

@@ -1,9 +1,9 @@
 //! A schedule of rows, made once for all blocks of columns: which rows are made, in which order, which stand for other
-//! actions, of which rows each is joined, the slot in which it is kept, and the columns of each block.
+//! actions, of which rows each is joined, and the slot in which it is kept.
 
 ghost use Rattle.std.specs.Prelude.{◌≡◌, ◌+◌, ◌++◌, ◌*◌, ◌<◌, ◌≤◌, All, ℕ, true, length, vec_len, IfOk, OnOk};
 ghost use Rattle.fleet_model.specs.{declared.limits.TheConstants.MAX_AGENTS, declared.program.ActionId.ActionId, Program.AreInRange, Program.moves, Chain.IsAction};
-ghost use Rattle.fleet_needs.specs.{Implied.AreAwaitPlaces, Joins.AreAllListed, Joins.AreListedTo, Joins.AreStanding, Joins.HasAllRows, Joins.HasRoom, Joins.IsFilled, Joins.IsUpToLast, Joins.action_at, Joins.base_of, Joins.end_of, Joins.need_at, Joins.needs_in, Joins.needs_of, Joins.row_of, Joins.rows_of, Order.AreKeys, Order.IsAwaiting, Order.IsLevelOrder, Order.named_in, Schedule.AreInOrder, Schedule.AreRows, Schedule.AreRowsBut, Schedule.IsSchedule, Schedule.IsScheduleBut, Schedule.IsScheduleOf, Schedule.IsNextJoin, Schedule.IsNextNeed, Schedule.joins_in, Schedule.next_action, Schedule.AreAllSlotted, Schedule.AreSlottedFrom, Schedule.counts_at_once, Slots.IsFree, Slots.IsHeld, Slots.rows_in, Columns.AreColumns, Columns.agents_in, Columns.column_of};
+ghost use Rattle.fleet_needs.specs.{Implied.AreAwaitPlaces, Joins.AreAllListed, Joins.AreListedTo, Joins.AreStanding, Joins.HasAllRows, Joins.HasRoom, Joins.IsFilled, Joins.IsUpToLast, Joins.action_at, Joins.base_of, Joins.end_of, Joins.need_at, Joins.needs_in, Joins.needs_of, Joins.row_of, Joins.rows_of, Order.AreKeys, Order.IsAwaiting, Order.IsLevelOrder, Order.named_in, Schedule.AreInOrder, Schedule.AreRows, Schedule.AreRowsBut, Schedule.IsSchedule, Schedule.IsNextJoin, Schedule.IsNextNeed, Schedule.joins_in, Schedule.next_action, Schedule.AreAllSlotted, Schedule.AreSlottedFrom, Schedule.counts_at_once, Slots.IsFree, Slots.IsHeld, Slots.rows_in};
 
 use crate::await_places::AwaitPlaces;
 use crate::level_order::{LevelOrder, action_in, key_of, value_in};
@@ -180,8 +180,9 @@ fn named<P: ProgramView>(program: &P, keys: &Vec<u64>, n: usize) -> ActionId
 }
 
 /// The rows of a program, with the slots in which they are kept.
+#[derive(Drop)]
 pub struct Schedule {
-    joins: Joins,
+    pub(crate) joins: Joins,
     /// For each row, from row 0 on, its slot.
     pub(crate) outs: Vec<u32>,
     /// How many slots there are.
@@ -190,54 +191,7 @@ pub struct Schedule {
     pub(crate) is_narrow: bool,
 }
 
-impl Drop for Schedule {
-    fn drop(self) {
-        let Schedule {
-            joins,
-            outs,
-            slots: _,
-            is_narrow: _,
-        } = self;
-        drop(joins);
-        drop(outs);
-    }
-}
-
 impl Schedule {
-    /// The schedule of a program whose actions have this order. Those whose awaits are all `implied` may have no rows.
-    pub(crate) fn by_order<P: ProgramView>(
-        alloc: Global,
-        program: &P,
-        order: LevelOrder,
-        implied: &[bool],
-    ) -> Result<Schedule, OutOfMemory>
-        requires range { AreInRange (P.program program.now) }
-        requires order { IsLevelOrder (P.program program.now) implied.now order }
-        ensures { IfOk result (IsScheduleBut (P.program program.now) implied.now) }
-    {
-        let (joins, standing) = Joins::of(alloc, program, order, implied)?;
-        drop(standing);
-        Schedule::of(alloc, program, joins)
-    }
-
-    /// The schedule of these rows.
-    pub(crate) fn of<P: ProgramView>(
-        alloc: Global,
-        program: &P,
-        joins: Joins,
-    ) -> Result<Schedule, OutOfMemory>
-        requires { AreRows (P.program program.now) joins }
-        ensures { IfOk result (IsScheduleOf (P.program program.now) joins) }
-    {
-        let (outs, slots) = Slots::of(alloc, &joins)?;
-        Ok(Schedule {
-            joins,
-            outs,
-            slots,
-            is_narrow: is_narrow(program),
-        })
-    }
-
     /// How many rows are made.
     pub(crate) fn rows(&self) -> usize
         ensures { result ≡ joins_in self.now }
@@ -303,7 +257,7 @@ impl Schedule {
 }
 
 /// Whether counts take two bytes each: if these hold the number of each action.
-fn is_narrow<P: ProgramView>(program: &P) -> bool
+pub(crate) fn is_narrow<P: ProgramView>(program: &P) -> bool
     ensures { result ≡ true → (i : ℕ) → i < length (P.program program.now)
         → moves (P.program program.now) i ≤ u16.MAX }
 {
@@ -431,7 +385,7 @@ impl Model for Slots {
 
 impl Slots {
     /// The slots of all rows of these joins, and how many slots there are.
-    fn of(alloc: Global, joins: &Joins) -> Result<(Vec<u32>, u32), OutOfMemory>
+    pub(crate) fn of(alloc: Global, joins: &Joins) -> Result<(Vec<u32>, u32), OutOfMemory>
         requires { AreInOrder joins.now }
         ensures { IfOk result (λ made. AreAllSlotted joins.now made.0 made.1) }
     {
@@ -500,58 +454,5 @@ impl Slots {
         }
         self.owners.push(None)?;
         Ok(slot as u32)
-    }
-}
-
-/// Which column of a block belongs to an agent.
-#[derive(Drop)]
-pub struct Columns {
-    of_agent: Vec<Option<u16>>,
-    /// How many columns the block has.
-    pub(crate) width: u16,
-    /// All asked agents from this one on have a column ..
-    pub(crate) first: u16,
-    /// .. that are below this one.
-    pub end: u16,
-}
-
-impl Columns {
-    /// Columns for the next agents from this one on that are flagged in `asked`, at most `most`.
-    pub fn choose(
-        alloc: Global,
-        asked: &[bool],
-        from: u16,
-        most: u16,
-    ) -> Result<Columns, OutOfMemory>
-        requires agents { length asked.now ≤ MAX_AGENTS }
-        requires from { from < length asked.now }
-        requires some { 1 ≤ most }
-        ensures columns { IfOk result (AreColumns asked.now from) }
-        ensures few { IfOk result (λ columns. columns.width ≤ most) }
-    {
-        let mut of_agent = vec![in alloc; None; asked.len()]?;
-        let mut width = 0;
-        let mut end = from;
-        while usize::from(end) < asked.len() && width < most {
-            if asked[usize::from(end)] {
-                of_agent[usize::from(end)] = Some(width);
-                width += 1;
-            }
-            end += 1;
-        }
-        Ok(Columns {
-            of_agent,
-            width,
-            first: from,
-            end,
-        })
-    }
-
-    /// The column of an agent, if it has one.
-    pub fn of(&self, agent: u16) -> Option<u16>
-        requires { agent < agents_in self.now }
-        ensures { result ≡ column_of self.now agent }
-    {
-        self.of_agent[usize::from(agent)]
     }
 }

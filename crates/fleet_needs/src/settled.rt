@@ -1,7 +1,7 @@
 //! Awaits for which a few steps back from their action show whether others imply them. The agents of those left open
 //! are asked for; once most are, it is looked back less: that decides how much is left to rows, but no answer.
 
-ghost use Rattle.std.specs.Prelude.{◌≡◌, ◌↔◌, ◌+◌, ◌<◌, ◌≤◌, ℕ, true, false, length, vec_len, take, get_or, slice_get, Some, IfOk, IsTrue};
+ghost use Rattle.std.specs.Prelude.{◌≡◌, ◌+◌, ◌<◌, ◌≤◌, ℕ, true, false, length, vec_len, take, get_or, slice_get, Some, IfOk, IsTrue, count_by};
 ghost use Rattle.fleet_model.specs.{Program.AreInRange, Program.awaits_of, Program.total_awaits, Chain.IsAction, Chain.Reaches};
 ghost use Rattle.fleet_needs.specs.{Flags.AreSettledBy, Implied.first_await, Critical.AreLevels, Critical.critical_cost, Settled.IsAskedIf, Settled.IsKnown, Settled.IsLook, Settled.ReachesNeed, Settled.IsOpenTo, Settled.HasOpenNeed};
 
@@ -46,19 +46,25 @@ pub fn settle_all<P: ProgramView>(
     Ok((implied, asked))
 }
 
-/// Whether some agent is flagged.
-pub fn is_any(asked: &[bool]) -> bool
-    ensures { (result ≡ false) ↔ ((k : ℕ) → get_or asked.now k false ≡ false) }
+/// How many agents are flagged.
+#[tactic(auto, using(std::proofs::lemmas::List::Sums::count_by_more_yes, std::proofs::lemmas::List::Sums::count_by_more_no))]
+pub fn count_asked(asked: &[bool]) -> usize
+    ensures { result ≡ count_by (λ flag. flag) asked.now }
 {
-    asked.contains(&true)
+    let mut count = 0;
+    for flag in asked {
+        if *flag {
+            count += 1;
+        }
+    }
+    count
 }
 
 /// How many actions are looked at for one await: fewer once most agents are asked for, for whom rows answer anyway.
 fn looks_for(asked: &[bool]) -> u8
     ensures { result ≤ LOOKS }
 {
-    let flagged = asked.iter().filter(|flag| **flag).count();
-    if flagged > asked.len() / 2 {
+    if count_asked(asked) > asked.len() / 2 {
         (asked.len() / COUNTS_A_LOOK).min(LESS_LOOKS) as u8
     } else {
         LOOKS

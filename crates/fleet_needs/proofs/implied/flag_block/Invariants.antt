@@ -5,6 +5,6 @@ abbrev pub invariant-loop-n : goal.invariant-loop-n
 invariant-loop-n g l = record {
   first : l.rows.columns.first ≡ l.from;
   block : AreColumns l.asked l.rows.columns.first l.rows.columns;
-  pass : IsPass (g.P.ProgramView.program l.program) l.schedule l.rows.columns l.rows l.n l.row;
-  flags : AreFlaggedIn (g.P.ProgramView.program l.program) l.schedule l.asked l.rows.columns l.n 0 l.implied;
+  pass : IsPass (g.P.ProgramView.program l.program) l.fn.rows.schedule l.rows.columns l.rows l.n l.row;
+  flags : AreFlaggedIn (g.P.ProgramView.program l.program) l.rows.schedule l.asked l.rows.columns l.n 0 l.implied;
 }

@@ -5,7 +5,7 @@ use Rattle.fleet_needs.proofs.join_pass.SlotRows.finish_row.Goals as goal
 pub loop-k-init : goal.loop-k-init
 loop-k-init g c =
     let m = c.args.self.now in
-    record { row = c.requires.joined.fits; own = own_first (g.P.ProgramView.program c.args.program.now) m.columns (next_action m.schedule.now c.args.n) (counts_of c.args.row.now) c.requires.joined.others }
+    record { row = c.requires.joined.fits; own = own_first (g.P.ProgramView.program c.args.program.now) m.columns (next_action m.schedule c.args.n) (counts_of c.args.row.now) c.requires.joined.others }
 
 pub loop-k-preserved : goal.loop-k-preserved
 loop-k-preserved g c =
@@ -13,7 +13,7 @@ loop-k-preserved g c =
     let need = c.need.ensures in
     record {
       row = row_alike m c.loop-k.row c.raise_own.new.row c.raise_own.ensures.alike c.loop-k.invariant.row;
-      own = own_next (g.P.ProgramView.program c.args.program.now) m.columns (next_action m.schedule.now c.args.n) c.loop-k.k c.need.result.wait need.await (counts_of c.loop-k.row) (counts_of c.raise_own.new.row) c.requires.rows.schedule.made.own need.action
+      own = own_next (g.P.ProgramView.program c.args.program.now) m.columns (next_action m.schedule c.args.n) c.loop-k.k c.need.result.wait need.await (counts_of c.loop-k.row) (counts_of c.raise_own.new.row) c.requires.rows.schedule.made.own need.action
           c.raise_own.ensures.own c.raise_own.ensures.others c.loop-k.invariant.own;
     }
 
@@ -26,7 +26,7 @@ pub returns : goal.returns
 returns g c =
     let p = g.P.ProgramView.program c.args.program.now in
     let m = c.args.self.now in
-    let a = next_action m.schedule.now c.args.n in
+    let a = next_action m.schedule c.args.n in
     let join = c.join_after-join.ensures in
     let whole : c.loop-k.k ≡ length (awaits_of p a.agent a.number) = omega (arith, c.loop-k-test.false, join.count, c.loop-k.auto.k-end) in
     let row = row_alike m c.loop-k.row c.clear_own.new.row c.clear_own.ensures.alike c.loop-k.invariant.row in
@@ -41,3 +41,9 @@ returns g c =
       };
       made = record { join = record { schedule = c.requires.rows.schedule; columns = c.requires.rows.columns; next = c.requires.joined.join.next; width = row.width }; whole = made };
     }
+
+pub clear_own-requires-clause-within : goal.clear_own-requires-clause-within
+clear_own-requires-clause-within g c = λ j k is. omega (arith, c.requires.rows.columns.within j k is, c.loop-k.invariant.row.width)
+
+pub raise_own-requires-clause-within : goal.raise_own-requires-clause-within
+raise_own-requires-clause-within g c = λ j k is. omega (arith, c.requires.rows.columns.within j k is, c.loop-k.invariant.row.width)

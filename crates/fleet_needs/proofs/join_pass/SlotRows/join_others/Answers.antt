@@ -6,7 +6,7 @@ pub loop-k-init : goal.loop-k-init
 loop-k-init g c =
     let p = g.P.ProgramView.program c.args.program.now in
     let m = c.args.self.now in
-    let a = next_action m.schedule.now c.args.n in
+    let a = next_action m.schedule c.args.n in
     let join = c.join_after-join.ensures in
     let need = c.need-first.ensures in
     let w = c.need-first.result.wait in
@@ -29,7 +29,7 @@ loop-k-preserved g c =
     let place = c.place-in-loop-k.result in
     record {
       row = record { width = c.join.ensures.alike.all ∙ was.row.width; narrow = c.join.ensures.alike.narrow ∙ was.row.narrow };
-      others = others_next p m.columns (next_action m.schedule.now c.args.n) c.loop-k.k w need.await (slice_index (counts_of c.loop-k.row)) (count_from m.counts place) (slice_index (counts_of c.join.new.self))
+      others = others_next p m.columns (next_action m.schedule c.args.n) c.loop-k.k w need.await (slice_index (counts_of c.loop-k.row)) (count_from m.counts place) (slice_index (counts_of c.join.new.self))
           (counts_at p m c.args.n c.requires.rows c.need-need.result.row place need.row c.place-in-loop-k.ensures.is w.agent w.count need.stands)
           (λ j k has. c.join.ensures.counts k (let l = c.requires.rows.columns.within j k has in omega (arith, l, was.row.width))) was.others;
     }
@@ -38,7 +38,7 @@ pub returns : goal.returns
 returns g c =
     let p = g.P.ProgramView.program c.args.program.now in
     let m = c.args.self.now in
-    let a = next_action m.schedule.now c.args.n in
+    let a = next_action m.schedule c.args.n in
     let join = c.join_after-join.ensures in
     let whole : c.loop-k.k ≡ length (awaits_of p a.agent a.number) = omega (arith, c.loop-k-test.false, join.count, join.some, c.loop-k.auto.k-end) in
     record {

@@ -1,5 +1,5 @@
 use Rattle.fleet_needs.proofs.Words.{◌≡◌, ◌<◌, ◌≤◌, ◌-◌, true, false, length, get_or, Some, None, ℕ, ◌≢◌}
-use Rattle.fleet_needs.proofs.schedule.Columns.choose.Given as goal
+use Rattle.fleet_needs.proofs.join_pass.Columns.choose.Given as goal
 
 abbrev pub invariant-loop-of_agent : goal.invariant-loop-of_agent
 invariant-loop-of_agent l = record {

@@ -1,5 +1,0 @@
-use Rattle.std.proofs.lemmas.Result.{IfOk-weaker}
-use Rattle.fleet_needs.proofs.schedule.Schedule.by_order.Goals as goal
-
-pub returns : goal.returns
-returns g c = IfOk-weaker c.of-2.result _ _ (λ s made. record { schedule = made.schedule; passed = rw made.joins c.in_ok-joins.ensures.passed }) c.of-2.ensures

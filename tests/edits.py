@@ -52,9 +52,8 @@ class Edit:
 
 @dataclass
 class Body:
-    """A function's body: its path, as a check prints it, the file, the first line of all that is said of the function,
-    and of the body the first line and the one behind the last. `is_alone`: it is none of a trait's, and does not call
-    itself."""
+    """A function's body: its path, as a check prints it, its file, the first line of the function's comment, the body's
+    first line, and the one behind its last. `is_alone`: it is none of a trait's, and does not call itself."""
 
     path: str
     file: Path
@@ -124,7 +123,7 @@ def is_on_cycle(lines, at):
 
 
 def head_of(lines, at):
-    """The first line of what is said of the function of this line."""
+    """The first line of the comment and the attributes of the function of this line."""
     while at and lines[at - 1] and (lines[at - 1].lstrip().startswith("//") or not lines[at - 1].endswith("{")):
         at -= 1
     return at
@@ -143,7 +142,8 @@ def bodies(file, module, homes):
             indent, name = function.groups()
             path, end = block if indent else module, lines.index(indent + "}", begin)
             if path is not None and not is_on_cycle(lines, at):
-                is_alone = not (indent and is_trait) and not re.search(rf"\b{name}\(", "\n".join(lines[begin + 1 : end]))
+                calls_itself = re.search(rf"\b{name}\(", "\n".join(lines[begin + 1 : end]))
+                is_alone = not (indent and is_trait) and not calls_itself
                 found.append(Body("::".join([*path, name]), file, head_of(lines, at), begin + 1, end, is_alone))
             at = end
         at += 1
@@ -193,41 +193,41 @@ def change(folder, edit):
     return None
 
 
-def said_of(body):
-    """All that is said of a function, its body with it."""
+def text_of(body):
+    """A function's text, with its comment and its contract."""
     lines = body.file.read_text(encoding="utf-8").split("\n")
     return "\n".join(lines[body.head : body.end + 1])
 
 
 def copies(folder, edit):
-    """The functions that an edit changes, each with what is said of it, before and once it is made, or None if it cannot
-    be made in copies."""
+    """The functions that an edit changes, each with its text before and after it, or None if there can be no copies."""
     found = {it.path: it for it in functions_in(folder) if it.path in edit.checks and it.is_alone}
     if len(found) < len(edit.checks):
         return None
-    texts = {path: said_of(it) for path, it in found.items()}
+    texts = {path: text_of(it) for path, it in found.items()}
     for file, old, new in edit.changes:
         homes = [path for path, it in found.items() if it.file == folder / file and texts[path].count(old) == 1]
         if len(homes) != 1:
             return None
         texts[homes[0]] = texts[homes[0]].replace(old, new)
-    return [(it, said_of(it), texts[path]) for path, it in found.items()]
+    return [(it, text_of(it), texts[path]) for path, it in found.items()]
 
 
 def copied(folder, edit, name):
     """Puts copies of the functions that an edit changes beside them, with its changes, their names with this behind
     them, and copies of what their proofs answer."""
-    for body, stands, text in copies(folder, edit):
+    for body, before, after in copies(folder, edit):
         *parts, last = body.path.split("::")
-        text = re.sub(rf"\bfn {last}\b", f"fn {last}{name}", text, count=1)
+        path = ".".join([*parts, last])
+        after = re.sub(rf"\bfn {last}\b", f"fn {last}{name}", after, count=1)
         whole = body.file.read_text(encoding="utf-8")
-        body.file.write_text(whole.replace(stands, f"{stands}\n\n{text}"), encoding="utf-8")
+        body.file.write_text(whole.replace(before, f"{before}\n\n{after}"), encoding="utf-8")
         proof = folder.joinpath("proofs", *parts)
         if (proof / last).is_dir():
             shutil.copytree(proof / last, proof / f"{last}{name}")
         for file in (proof / f"{last}{name}").rglob("*.antt"):
             answers = file.read_text(encoding="utf-8")
-            answers = re.sub(rf"\b{re.escape('.'.join([*parts, last]))}\.", f"{'.'.join([*parts, last])}{name}.", answers)
+            answers = re.sub(rf"\b{re.escape(path)}\.", f"{path}{name}.", answers)
             file.write_text(re.sub(rf"\b{last}_spec\b", f"{last}{name}_spec", answers), encoding="utf-8")
     return replace(edit, checks=[it + name for it in edit.checks])
 

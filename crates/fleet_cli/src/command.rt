@@ -74,7 +74,7 @@ fn names_of<'a>(request: &Request<'a>) -> FileNames<'a>
 fn answer_problem<'a, R: ReportsTo<O>, F: Files, O: Flush>(
     alloc: Global,
     request: &Request<'a>,
-    problem: Problem,
+    problem: &mut Problem,
     input: &mut R,
     files: &mut F,
     out: &mut O,
@@ -83,21 +83,21 @@ fn answer_problem<'a, R: ReportsTo<O>, F: Files, O: Flush>(
     requires working { IsWorking (O.state out.old) }
     ensures { AnswersProblem (around (F.contents files.old) (F.contents files.new)
         (input.new ≡ input.old) (out.new ≡ out.old)
-        (IsLogged R.talks input.old out.old input.new out.new)) request.now problem
+        (IsLogged R.talks input.old out.old input.new out.new)) request.now problem.old
         (O.state out.old) (O.state out.new) result }
 {
     match request {
-        Request::Instance(_) => do_instance(&problem, out),
-        Request::Check(q) => do_check(alloc, q, &problem, out),
+        Request::Instance(_) => do_instance(problem, out),
+        Request::Check(q) => do_check(alloc, q, problem, out),
         Request::Plan(q) => do_plan(alloc, q, problem, out),
         Request::Compile(q) => do_compile(alloc, q, problem, files, out),
-        Request::Verify(_) => do_verify(alloc, &problem, out),
-        Request::Run(_) => do_run(alloc, &problem, out),
-        Request::Auto(q) => do_auto(alloc, q, &problem, out),
-        Request::Thin(q) => do_thin(alloc, q, &problem, files, out),
-        Request::Dispatch(q) => do_dispatch(alloc, q, &problem, input, files, out),
-        Request::Times(q) => do_times(alloc, q, &problem, out),
-        Request::Rest(q) => do_rest(alloc, q, &problem, files, out),
+        Request::Verify(_) => do_verify(alloc, problem, out),
+        Request::Run(_) => do_run(alloc, problem, out),
+        Request::Auto(q) => do_auto(alloc, q, problem, out),
+        Request::Thin(q) => do_thin(alloc, q, problem, files, out),
+        Request::Dispatch(q) => do_dispatch(alloc, q, problem, input, files, out),
+        Request::Times(q) => do_times(alloc, q, problem, out),
+        Request::Rest(q) => do_rest(alloc, q, problem, files, out),
         // The request is about tasks.
         Request::Rehearse(_) | Request::Migrate(_) | Request::List(_) => unreachable!(),
     }
@@ -120,8 +120,8 @@ fn answer_request<'a, R: ReportsTo<O>, F: Files, O: Flush>(
         (names_of request.now).tasks (O.state out.old) (O.state out.new) result }
 {
     if let Some(tasks) = names_of(request).tasks {
-        let problem = problem_of(alloc, texts, tasks)?;
-        return answer_problem(alloc, request, problem, input, files, out);
+        let mut problem = problem_of(alloc, texts, tasks)?;
+        return answer_problem(alloc, request, &mut problem, input, files, out);
     }
     match request {
         Request::Rehearse(_) => rehearse_bytes(alloc, &texts.subject, &texts.holds, out),

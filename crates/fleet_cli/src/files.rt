@@ -266,6 +266,17 @@ impl Drop for FileTexts {
     }
 }
 
+/// The texts of no files.
+pub(crate) fn no_texts(alloc: Global) -> FileTexts {
+    FileTexts {
+        map: Vec::new(alloc),
+        scen: Vec::new(alloc),
+        subject: Vec::new(alloc),
+        holds: Vec::new(alloc),
+        log: Vec::new(alloc),
+    }
+}
+
 /// The bytes of the file, none if no file is named. Want of memory is `Memory`, and a file that cannot be read is
 /// `File` with its name.
 fn read_given<'a, F: Files>(
@@ -299,18 +310,13 @@ pub(crate) fn read_files<'a, F: Files>(
         (IsUnread (F.contents files.old) (given_names names.entry)) }
     ensures kept { AreUnchanged (F.contents files.old) (F.contents files.new) }
 {
-    let map = read_given(alloc, files, names.tasks.map(|tasks| tasks.map))?;
-    let scen = read_given(alloc, files, names.tasks.map(|tasks| tasks.scen))?;
-    let subject = read_given(alloc, files, names.subject)?;
-    let holds = read_given(alloc, files, names.holds)?;
-    let log = read_given(alloc, files, names.log)?;
-    Ok(FileTexts {
-        map,
-        scen,
-        subject,
-        holds,
-        log,
-    })
+    let mut texts = no_texts(alloc);
+    texts.map = read_given(alloc, files, names.tasks.map(|tasks| tasks.map))?;
+    texts.scen = read_given(alloc, files, names.tasks.map(|tasks| tasks.scen))?;
+    texts.subject = read_given(alloc, files, names.subject)?;
+    texts.holds = read_given(alloc, files, names.holds)?;
+    texts.log = read_given(alloc, files, names.log)?;
+    Ok(texts)
 }
 
 /// Writes the bytes to the file, if one is named. Want of memory is `Memory`, and a write that failed is `File` with

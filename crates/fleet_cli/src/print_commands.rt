@@ -8,7 +8,7 @@ ghost use Rattle.fleet_model.specs.declared.program.ActionId.{ActionId};
 ghost use Rattle.fleet_verify.specs.Broken.{IsBrokenBy};
 
 use crate::fault::{Fault, or_refuse};
-use crate::files::FileTexts;
+use crate::files::{FileTexts, no_texts};
 use crate::steps::{Problem, accept, hand_on, plan_by, put_counts, put_report, view_program};
 use fleet_args::{CheckRequest, PlanRequest, TimesRequest};
 use fleet_dispatch::{breaks_of, costs_of};
@@ -143,13 +143,13 @@ pub(crate) fn do_check<'a, O: Flush>(
 pub(crate) fn do_plan<'a, O: Flush>(
     alloc: Global,
     request: &PlanRequest<'a>,
-    problem: Problem,
+    problem: &mut Problem,
     out: &mut O,
 ) -> Result<u8, Fault<'a>>
     requires { IsWorking (O.state out.old) }
-    ensures { AnswersPlan request.now problem (O.state out.old) (O.state out.new) result }
+    ensures { AnswersPlan request.now problem.old (O.state out.old) (O.state out.new) result }
 {
-    drop(problem.texts);
+    problem.texts = no_texts(alloc);
     let (grid, instance) = (&problem.grid, &problem.instance);
     let found = plan_by(alloc, grid, instance, request.horizon, request.tries)?;
     let text = write_plan(alloc, found.checked.plan())?;

@@ -27,11 +27,23 @@ use fleet_verify::{Accepted, VerifyFault, verify};
 use std::alloc::Global;
 
 /// The texts of a command about tasks, and the map and the instance for which they stand.
-#[derive(Drop)]
 pub(crate) struct Problem {
     pub(crate) texts: FileTexts,
     pub(crate) grid: Grid,
     pub(crate) instance: Instance,
+}
+
+impl Drop for Problem {
+    fn drop(self) {
+        let Problem {
+            texts,
+            grid,
+            instance,
+        } = self;
+        drop(texts);
+        drop(grid);
+        drop(instance);
+    }
 }
 
 /// The problem for which the texts of these tasks stand.

@@ -1,7 +1,7 @@
 //! The commands that write a program to a file, and then print its numbers: `compile`, `thin`, `migrate`, and `rest`,
 //! which writes what is left of a program after the reports of a log.
 
-ghost use Rattle.std.specs.Prelude.{◌≡◌, ◌<◌, IfOk, IfErr, IfSome, length};
+ghost use Rattle.std.specs.Prelude.{◌<◌, IfOk, IfErr, IfSome, length};
 ghost use Rattle.fleet_text.specs.Sink.{IsWorking};
 ghost use Rattle.fleet_cli.specs.WriteCommands.{AnswersCompile, AnswersThin, AnswersMigrate, IsDead, IsDeadRefusal, IsMapAround, AreOthers, AreRestTexts, LeavesProgram, IsLeavingRefusal, AnswersRest};
 ghost use Rattle.fleet_model.specs.Accepted.{IsAccepted};
@@ -9,7 +9,7 @@ ghost use Rattle.fleet_grid.specs.Ground.{is_passable};
 ghost use Rattle.fleet_adg.specs.Remaining.{tasks_of};
 
 use crate::fault::{Fault, or_refuse};
-use crate::files::{FileTexts, Files};
+use crate::files::{FileTexts, Files, no_texts};
 use crate::steps::{Problem, accept, write_out};
 use fleet_adg::{accepted_tasks_are_an_instance, compile_bytes, rest, tasks_of, thin_bytes};
 use fleet_args::{CompileRequest, MigrateRequest, RestRequest, ThinRequest};
@@ -28,16 +28,16 @@ use std::alloc::Global;
 pub(crate) fn do_compile<'a, F: Files, O: Flush>(
     alloc: Global,
     request: &CompileRequest<'a>,
-    problem: Problem,
+    problem: &mut Problem,
     files: &mut F,
     out: &mut O,
 ) -> Result<u8, Fault<'a>>
     requires { IsWorking (O.state out.old) }
-    ensures { AnswersCompile (F.contents files.old) (F.contents files.new) request.now problem
+    ensures { AnswersCompile (F.contents files.old) (F.contents files.new) request.now problem.old
         (O.state out.old) (O.state out.new) result }
 {
     let read = or_refuse!(read_plan(alloc, &problem.texts.subject), Fault::Text);
-    drop(problem.texts);
+    problem.texts = no_texts(alloc);
     let checked = match check(alloc, read, &problem.grid, &problem.instance) {
         Ok(checked) => checked,
         Err(refusal) => return Err(Fault::Check(refusal.fault)),

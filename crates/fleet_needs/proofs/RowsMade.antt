@@ -1,5 +1,5 @@
 -- The counts of rows that are made of rows in their slots.
-use Rattle.fleet_needs.proofs.Words.{◌≡◌, ◌≢◌, ℕ, ◌+◌, ◌-◌, ◌*◌, ◌<◌, ◌≤◌, List, length, max, get_or, slice_get-get_or, slice_index, sym, ap, subst, ◌∙◌, arith, inl, inr, slice_get, Some, cases_lt, cases_eq, ActionId, Await, Program, AreInRange, awaits_of, moves, IsAction, awaited, HasColumn, counts_of, are_narrow, CanHold, AreAlike, AreWritten, Reaches, IsColumn, IsJoined, ByBeforeOr, OfOthers, action_before, Columns, SlotRows, Schedule, IsJoinRow, Counts, IsRow, AreOwn, IsJoinFor, IsNeedFor, TakesIn, joins_in, joins_of, next_action, base_of, end_of, need_at, IsSchedule, AreColumnsOf, AreCounts, AreRowsTo, IsRowFor, StandsThere, IsNextJoin, IsNextNeed, AreRowCounts, count_from, count_in_slot, slot_of, Join, Need, StandsFor}
+use Rattle.fleet_needs.proofs.Words.{◌≡◌, ◌≢◌, ℕ, ◌+◌, ◌-◌, ◌*◌, ◌<◌, ◌≤◌, List, length, max, get_or, slice_get-get_or, slice_index, sym, ap, subst, ◌∙◌, arith, inl, inr, slice_get, Some, cases_lt, cases_eq, ActionId, Await, Program, AreInRange, awaits_of, moves, IsAction, awaited, HasColumn, counts_of, from_place, made_row, are_narrow, CanHold, AreKept, AreWritten, Reaches, IsColumn, IsJoined, ByBeforeOr, OfOthers, action_before, Columns, SlotRows, Schedule, Counts, IsRow, AreOwn, IsJoinFor, IsNeedFor, TakesIn, joins_in, joins_of, next_action, base_of, end_of, need_at, IsSchedule, AreColumnsOf, AreCounts, AreRowsTo, StandsThere, IsNextJoin, IsNextNeed, AreRowCounts, count_from, count_in_slot, slot_of, Join, Need, StandsFor}
 use Rattle.fleet_needs.proofs.{Counting.outside, Joining.quiet_on, Joining.column_stays, Joining.column_none, Joining.IsOwnTo, Joining.some_first, Joining.some_more, Joining.some_same, Joining.part_all, Joining.own_column, Joining.awaited_action}
 
 -- ---- what row r stands for
@@ -36,10 +36,14 @@ made_counts p schedule columns n count made i b s =
 pub counts_at : (p : Program) (m : SlotRows) (n : ℕ) → AreRowsTo p m n → (r place : ℕ) → TakesIn m.schedule.joins n r → place ≡ slot_of m.schedule r * m.columns.width → (i b : ℕ) → StandsThere p m.schedule r i b → AreCounts p m.columns i b (count_from m.counts place)
 counts_at p m n rows r place takes is i b s = subst (λ (x : ℕ). AreCounts p m.columns i b (count_from m.counts x)) (sym is) (rows.right r (rows.schedule.made.order.sooner n r takes) (rows.schedule.still n r takes) i b s)
 
+-- the rows are as they were, while only the row that is made has changed
+pub rows_kept : (p : Program) (m : SlotRows) (n : ℕ) (counts : Counts) → AreKept m.counts counts → AreRowsTo p m n → AreRowsTo p (record m { counts = counts }) n
+rows_kept p m n counts kept rows = record { schedule = rows.schedule; columns = rows.columns; room = ap (λ (xs : List ℕ). length xs) kept.all ∙ rows.room; width = kept.width ∙ rows.width; narrow = kept.narrow ∙ rows.narrow; right = λ r upto still. subst (λ (xs : List ℕ). AreRowCounts p m.schedule m.columns r (from_place xs (slot_of m.schedule r * m.columns.width))) (sym kept.all) (rows.right r upto still) }
+
 -- no row is made, and all counts are zeros
-pub rows_none : (p : Program) (m : SlotRows) → IsSchedule p m.schedule → AreColumnsOf p m.columns → length (counts_of m.counts) ≡ m.schedule.slots * m.columns.width → are_narrow m.counts ≡ m.schedule.is_narrow
+pub rows_none : (p : Program) (m : SlotRows) → IsSchedule p m.schedule → AreColumnsOf p m.columns → length (counts_of m.counts) ≡ m.schedule.slots * m.columns.width → length (made_row m.counts) ≡ m.columns.width → are_narrow m.counts ≡ m.schedule.is_narrow
     → ((k : ℕ) → slice_index (counts_of m.counts) k ≡ 0) → AreRowsTo p m 0
-rows_none p m schedule columns room narrow zeros = record { schedule = schedule; columns = columns; room = room; narrow = narrow; right = λ r upto still i b s. counts_none p m.schedule m.columns r i b s (count_in_slot m r) (omega arith) (λ k. zeros _) }
+rows_none p m schedule columns room width narrow zeros = record { schedule = schedule; columns = columns; room = room; width = width; narrow = narrow; right = λ r upto still i b s. counts_none p m.schedule m.columns r i b s (count_in_slot m r) (omega arith) (λ k. zeros _) }
 
 -- a row of these counts
 pub counts_same : (p : Program) (columns : Columns) (i b : ℕ) (f g : ℕ → ℕ) → ((j k : ℕ) → HasColumn columns j k → g k ≡ f k) → AreCounts p columns i b f → AreCounts p columns i b g
@@ -86,12 +90,8 @@ module _ (p : Program) (s : Schedule) (is : IsSchedule p s) (n : ℕ) (l : n < j
 
 -- ---- the row of a join, as it is made
 
-module _ (p : Program) (m : SlotRows) (n : ℕ) (row : Counts) (is : IsJoinRow p m n row) where
-  pub row_of_action : IsAction p (next_action m.schedule n)
-  row_of_action = (is.schedule.made.joins n is.next).is.action
-
-  pub row_here : IsRow (joins_of m.schedule) (n + 1) (next_action m.schedule n)
-  row_here = record { some = omega arith; upto = omega (arith, is.next); of = (let e : n + 1 - 1 ≡ n = omega arith in ap (next_action m.schedule) e) }
+pub row_here : (s : Schedule) (n : ℕ) → n < joins_in s → IsRow (joins_of s) (n + 1) (next_action s n)
+row_here s n l = record { some = omega arith; upto = omega (arith, l); of = (let e : n + 1 - 1 ≡ n = omega arith in ap (next_action s) e) }
 
 -- ---- the row of an action, await by await
 
@@ -151,39 +151,36 @@ module _ (p : Program) (columns : Columns) (a : ActionId) where
 -- ---- what is kept
 
 -- a row has bytes enough for the number of each action
-pub held : (p : Program) (m : SlotRows) (n : ℕ) (row : Counts) → AreRowsTo p m n → IsRowFor m row → (i k : ℕ) → i < length p → k ≤ moves p i → CanHold row k
-held p m n row rows fits i k l few e =
-    let most : moves p i ≤ 65535 = rows.schedule.narrow (sym fits.narrow ∙ e) i l in
+pub held : (p : Program) (m : SlotRows) (n : ℕ) → AreRowsTo p m n → (i k : ℕ) → i < length p → k ≤ moves p i → CanHold m.counts k
+held p m n rows i k l few e =
+    let most : moves p i ≤ 65535 = rows.schedule.narrow (sym rows.narrow ∙ e) i l in
     omega arith
-
--- as long as it stays alike it is one for these rows
-pub row_alike : (m : SlotRows) (old new : Counts) → AreAlike old new → IsRowFor m old → IsRowFor m new
-row_alike m old new alike fits = record { width = alike.all ∙ fits.width; narrow = alike.narrow ∙ fits.narrow }
 
 -- ---- one row more in its slot
 
-module _ (p : Program) (old : SlotRows) (n place : ℕ) (row counts : Counts) (rows : AreRowsTo p old n) (at : place ≡ slot_of old.schedule (n + 1) * old.columns.width) (width : length (counts_of row) ≡ old.columns.width)
-    (put : AreWritten place row old.counts counts) (made : AreCounts p old.columns (next_action old.schedule n).agent (next_action old.schedule n).number (slice_index (counts_of row))) where
+module _ (p : Program) (old : SlotRows) (n place : ℕ) (counts : Counts) (rows : AreRowsTo p old n) (at : place ≡ slot_of old.schedule (n + 1) * old.columns.width) (put : AreWritten place old.counts counts)
+    (made : AreCounts p old.columns (next_action old.schedule n).agent (next_action old.schedule n).number (slice_index (made_row old.counts))) where
   abbrev new : SlotRows
-  new = record { schedule = old.schedule; columns = old.columns; counts = counts }
+  new = record old { counts = counts }
 
   newest : AreRowCounts p old.schedule old.columns (n + 1) (count_in_slot new (n + 1))
   newest i b s =
-      counts_same p old.columns i b (slice_index (counts_of row)) (count_in_slot new (n + 1)) (λ j k has. ap (λ (x : ℕ). count_from counts x k) (sym at) ∙ put.row k (let l = rows.columns.within j k has in omega (arith, l, width)))
-      (made_counts p old.schedule old.columns n (slice_index (counts_of row)) made i b s)
+      counts_same p old.columns i b (slice_index (made_row old.counts)) (count_in_slot new (n + 1)) (λ j k has. ap (λ (x : ℕ). count_from counts x k) (sym at) ∙ put.row k (let l = rows.columns.within j k has in omega (arith, l, rows.width)))
+      (made_counts p old.schedule old.columns n (slice_index (made_row old.counts)) made i b s)
 
   kept : (r : ℕ) → slot_of old.schedule r ≢ slot_of old.schedule (n + 1) → (k : ℕ) → k < old.columns.width → count_in_slot new r k ≡ count_in_slot old r k
   kept r ne k l = elim (outside old.columns.width (slot_of old.schedule r) (slot_of old.schedule (n + 1)) k ne l) [
     | inl below ↦ put.before _ (omega (arith, at, below))
-    | inr above ↦ put.after _ (omega (arith, at, above, width))
+    | inr above ↦ put.after _ (omega (arith, at, above, rows.width))
   ]
 
   pub rows_more : AreRowsTo p new (n + 1)
   rows_more = record {
     schedule = rows.schedule;
     columns = rows.columns;
-    room = put.alike.all ∙ rows.room;
-    narrow = put.alike.narrow ∙ rows.narrow;
+    room = put.all ∙ rows.room;
+    width = ap (λ (xs : List ℕ). length xs) put.same ∙ rows.width;
+    narrow = put.narrow ∙ rows.narrow;
     right = λ r upto still. elim (cases_lt n r) [
       | inl last ↦ (let e : n + 1 ≡ r = omega arith in subst (λ (x : ℕ). AreRowCounts p old.schedule old.columns x (count_in_slot new x)) e newest)
       | inr sooner ↦ λ i b s. counts_same p old.columns i b (count_in_slot old r) (count_in_slot new r) (λ j k has. kept r (λ e. still (n + 1) (omega arith) (omega arith) (sym e)) k (rows.columns.within j k has))

@@ -5,13 +5,12 @@ use Rattle.fleet_needs.specs.Words.{ActionId, Program}
 use Rattle.fleet_needs.specs.Asked.{IsQuestion, AreAskedFor}
 use Rattle.fleet_needs.specs.Block.{HasItsColumn, IsAnswer}
 use Rattle.fleet_needs.specs.Joins.{StandsFor}
-use Rattle.fleet_needs.specs.Schedule.{joins_of, AreRowCounts, IsSchedule}
-use Rattle.fleet_needs.specs.Counts.{counts_of}
-use Rattle.fleet_needs.specs.declared.counts.Counts.{Counts}
+use Rattle.fleet_needs.specs.Schedule.{joins_of, AreColumnsOf, AreRowCounts, IsSchedule}
+use Rattle.fleet_needs.specs.Counts.{made_row}
 use Rattle.fleet_needs.specs.declared.questions.Answering.{Answering}
 use Rattle.fleet_needs.specs.declared.questions.Question.{Question}
 use Rattle.fleet_needs.specs.declared.questions.RowQuestion.{RowQuestion}
-use Rattle.fleet_needs.specs.declared.join_pass.Columns.{Columns}
+use Rattle.fleet_needs.specs.declared.join_pass.{Columns.Columns, SlotRows.SlotRows}
 use Rattle.fleet_needs.specs.declared.schedule.Schedule.{Schedule}
 
 -- what is read past the questions
@@ -84,7 +83,8 @@ pub record IsAnswering (p : Program) (s : Schedule) (columns : Columns) (row : �
   pub answers : AreAnsweredBut p s (IsToCome columns m.next) m
   pub due : (n : ℕ) → m.next ≤ n → n < length m.rows.items → row ≤ (listed_at m n).row
 
--- the row with this number, in these columns
-pub record IsRowAt (p : Program) (s : Schedule) (columns : Columns) (number : ℕ) (row : Counts) : Type 0 where
-  pub width : length (counts_of row) ≡ columns.width
-  pub counts : AreRowCounts p s columns number (slice_index (counts_of row))
+-- the row that is made is the one with this number
+pub record IsRowAt (p : Program) (m : SlotRows) (number : ℕ) : Type 0 where
+  pub columns : AreColumnsOf p m.columns
+  pub width : length (made_row m.counts) ≡ m.columns.width
+  pub counts : AreRowCounts p m.schedule m.columns number (slice_index (made_row m.counts))

@@ -4,12 +4,11 @@ use Rattle.std.specs.declared.alloc.Global.{Global}
 use Rattle.fleet_needs.specs.Words.{ActionId, Await, Program, awaits_of, moves, AreInRange, IsAction, awaited}
 use Rattle.fleet_needs.specs.Block.{HasColumn}
 use Rattle.fleet_needs.specs.Columns.{agents_in}
-use Rattle.fleet_needs.specs.Counts.{counts_of, count_from, are_narrow}
+use Rattle.fleet_needs.specs.Counts.{counts_of, count_from, are_narrow, made_row}
 use Rattle.fleet_needs.specs.Joins.{AreOwn, AreRising, AreStanding, HasAllRows, HasRowUnlessSet, RowTable, StandsFor, action_at, base_of, end_of, need_at, rows_of}
 use Rattle.fleet_needs.specs.Order.{IsAwaiting}
 use Rattle.fleet_needs.specs.Rows.{IsColumn}
 use Rattle.fleet_needs.specs.Slots.{AreSlotted, IsStill, SlotTable, rows_in}
-use Rattle.fleet_needs.specs.declared.counts.Counts.{Counts}
 use Rattle.fleet_needs.specs.declared.join_pass.Columns.{Columns}
 use Rattle.fleet_needs.specs.declared.schedule.Join.{Join}
 use Rattle.fleet_needs.specs.declared.schedule.Joins.{Joins}
@@ -131,18 +130,15 @@ AreRowCounts p s columns r count = (i n : ℕ) → StandsThere p s r i n → Are
 abbrev pub count_in_slot : SlotRows → ℕ → ℕ → ℕ
 count_in_slot m r = count_from m.counts (slot_of m.schedule r * m.columns.width)
 
--- each of the first n rows that is still in its slot has the counts of what it stands for; row 0 has zeros
+-- each of the first n rows that is still in its slot has the counts of what it stands for; row 0 has zeros. The row that
+-- is made has a count for each column
 pub record AreRowsTo (p : Program) (m : SlotRows) (n : ℕ) : Type 0 where
   pub schedule : IsSchedule p m.schedule
   pub columns : AreColumnsOf p m.columns
   pub room : length (counts_of m.counts) ≡ m.schedule.slots * m.columns.width
+  pub width : length (made_row m.counts) ≡ m.columns.width
   pub narrow : are_narrow m.counts ≡ m.schedule.is_narrow
   pub right : (r : ℕ) → r ≤ n → IsStill m.schedule.outs.items r n → AreRowCounts p m.schedule m.columns r (count_in_slot m r)
-
--- the row has a count for each column, of as many bytes as those that are kept
-pub record IsRowFor (m : SlotRows) (row : Counts) : Type 0 where
-  pub width : length (counts_of row) ≡ m.columns.width
-  pub narrow : are_narrow row ≡ m.schedule.is_narrow
 
 -- the join after n others, which is made for action a: where its awaits begin, how many they are, and what the join's
 -- base stands for

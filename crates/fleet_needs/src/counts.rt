@@ -2,100 +2,109 @@
 //! are joined in a plain loop, those of four by lanes of eight (`std::simd`, in its own function), the rest singly.
 
 ghost use Rattle.std.specs.Prelude.{◌≡◌, ◌+◌, ◌<◌, ◌≤◌, ℕ, length, max, slice_index, IfOk, get_or};
-ghost use Rattle.fleet_needs.specs.{Counts.AreGreater, Counts.AreMost, Counts.AreWritten, Counts.AreZeros, Counts.CanHold, Counts.IsPut, Counts.IsSet, Counts.are_narrow, Counts.count_from, Counts.counts_of, Counts.from_place, Kernels.AreJoined};
+ghost use Rattle.fleet_needs.specs.{Counts.AreGreater, Counts.AreMost, Counts.AreWritten, Counts.AreZeros, Counts.CanHold, Counts.IsPut, Counts.IsSet, Counts.count_from, Counts.counts_of, Counts.from_place, Counts.made_row, Kernels.AreJoined};
 
 use fleet_model::OutOfMemory;
 use std::alloc::Global;
 use std::simd::prelude::*;
 
-/// Counts, in two bytes each or in four.
+/// The counts of all rows that are kept, one row after another, and of the row that is made.
 pub(crate) enum Counts {
-    Narrow(Vec<u16>),
-    Wide(Vec<u32>),
+    Narrow { all: Vec<u16>, row: Vec<u16> },
+    Wide { all: Vec<u32>, row: Vec<u32> },
 }
 
 impl Drop for Counts {
     fn drop(self) {
         match self {
-            Counts::Narrow(counts) => drop(counts),
-            Counts::Wide(counts) => drop(counts),
+            Counts::Narrow { all, row } => {
+                drop(all);
+                drop(row);
+            }
+            Counts::Wide { all, row } => {
+                drop(all);
+                drop(row);
+            }
         }
     }
 }
 
 impl Counts {
-    /// So many zeros.
-    pub(crate) fn zeros(alloc: Global, len: usize, is_narrow: bool) -> Result<Counts, OutOfMemory>
-        ensures { IfOk result (AreZeros len is_narrow) }
+    /// So many zeros, and a row of zeros that is so wide.
+    pub(crate) fn zeros(
+        alloc: Global,
+        len: usize,
+        width: usize,
+        is_narrow: bool,
+    ) -> Result<Counts, OutOfMemory>
+        ensures { IfOk result (AreZeros len width is_narrow) }
     {
         if is_narrow {
-            return Ok(Counts::Narrow(vec![in alloc; 0; len]?));
+            let all = vec![in alloc; 0; len]?;
+            let row = vec![in alloc; 0; width]?;
+            return Ok(Counts::Narrow { all, row });
         }
-        Ok(Counts::Wide(vec![in alloc; 0; len]?))
+        let all = vec![in alloc; 0; len]?;
+        let row = vec![in alloc; 0; width]?;
+        Ok(Counts::Wide { all, row })
     }
 
-    /// The count at a place.
+    /// The count of the row at a place.
     pub(crate) fn get(&self, k: usize) -> u32
-        requires { k < length (counts_of self.now) }
-        ensures { result ≡ slice_index (counts_of self.now) k }
+        requires { k < length (made_row self.now) }
+        ensures { result ≡ slice_index (made_row self.now) k }
     {
         match self {
-            Counts::Narrow(counts) => u32::from(counts[k]),
-            Counts::Wide(counts) => counts[k],
+            Counts::Narrow { row, .. } => u32::from(row[k]),
+            Counts::Wide { row, .. } => row[k],
         }
     }
 
-    /// Sets the count at a place.
+    /// Sets the count of the row at a place.
     pub(crate) fn set(&mut self, k: usize, count: u32)
-        requires within { k < length (counts_of self.old) }
+        requires within { k < length (made_row self.old) }
         requires hold { CanHold self.old count }
         ensures { IsSet k count self.old self.new }
     {
         match self {
-            Counts::Narrow(counts) => counts[k] = count as u16,
-            Counts::Wide(counts) => counts[k] = count,
+            Counts::Narrow { row, .. } => row[k] = count as u16,
+            Counts::Wide { row, .. } => row[k] = count,
         }
     }
 
-    /// Reads the counts of all places from others: at each the greater one of those from two places on.
-    pub(crate) fn read_joined(&mut self, other: &Counts, first: usize, second: usize)
-        requires first { first + length (counts_of self.old) ≤ length (counts_of other.now) }
-        requires second { second + length (counts_of self.old) ≤ length (counts_of other.now) }
-        requires alike { are_narrow other.now ≡ are_narrow self.old }
-        ensures { AreGreater (count_from other.now first) (count_from other.now second)
+    /// Reads the row: at each place the greater one of the counts from two places on.
+    pub(crate) fn read_joined(&mut self, first: usize, second: usize)
+        requires first { first + length (made_row self.old) ≤ length (counts_of self.old) }
+        requires second { second + length (made_row self.old) ≤ length (counts_of self.old) }
+        ensures { AreGreater (count_from self.old first) (count_from self.old second)
             self.old self.new }
     {
-        match (self, other) {
-            (Counts::Narrow(row), Counts::Narrow(all)) => read_narrow(row, all, first, second),
-            (Counts::Wide(row), Counts::Wide(all)) => read_wide(row, all, first, second),
-            _ => unreachable!(),
+        match self {
+            Counts::Narrow { all, row } => read_narrow(row, all, first, second),
+            Counts::Wide { all, row } => read_wide(row, all, first, second),
         }
     }
 
-    /// Joins the counts of others, from this place on, into those of all places.
-    pub(crate) fn join(&mut self, other: &Counts, from: usize)
-        requires within { from + length (counts_of self.old) ≤ length (counts_of other.now) }
-        requires alike { are_narrow other.now ≡ are_narrow self.old }
-        ensures { AreGreater (slice_index (counts_of self.old)) (count_from other.now from)
+    /// Joins the counts from this place on into the row.
+    pub(crate) fn join(&mut self, from: usize)
+        requires { from + length (made_row self.old) ≤ length (counts_of self.old) }
+        ensures { AreGreater (slice_index (made_row self.old)) (count_from self.old from)
             self.old self.new }
     {
-        match (self, other) {
-            (Counts::Narrow(row), Counts::Narrow(counts)) => join_narrow(row, counts, from),
-            (Counts::Wide(row), Counts::Wide(counts)) => join_wide(row, counts, from),
-            _ => unreachable!(),
+        match self {
+            Counts::Narrow { all, row } => join_narrow(row, all, from),
+            Counts::Wide { all, row } => join_wide(row, all, from),
         }
     }
 
-    /// Writes all counts of a row from this place on.
-    pub(crate) fn write(&mut self, from: usize, row: &Counts)
-        requires within { from + length (counts_of row.now) ≤ length (counts_of self.old) }
-        requires alike { are_narrow self.old ≡ are_narrow row.now }
-        ensures { AreWritten from row.now self.old self.new }
+    /// Keeps the row, from this place on.
+    pub(crate) fn write(&mut self, from: usize)
+        requires { from + length (made_row self.old) ≤ length (counts_of self.old) }
+        ensures { AreWritten from self.old self.new }
     {
-        match (self, row) {
-            (Counts::Narrow(counts), Counts::Narrow(row)) => write_row(counts, from, row),
-            (Counts::Wide(counts), Counts::Wide(row)) => write_row(counts, from, row),
-            _ => unreachable!(),
+        match self {
+            Counts::Narrow { all, row } => write_row(all, from, row),
+            Counts::Wide { all, row } => write_row(all, from, row),
         }
     }
 }

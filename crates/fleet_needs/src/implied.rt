@@ -6,7 +6,6 @@ ghost use Rattle.fleet_model.specs.{declared.program.ActionId.ActionId, declared
 ghost use Rattle.fleet_needs.specs.{Critical.AreLevels, Critical.IsNumberedTo, Critical.critical_cost, Implied.IsImpliedFlag, Schedule.IsSchedule, Columns.AreColumns, Flags.AreImplied, Flags.AreSettled, Flags.AreFlaggedIn, Flags.AreFlaggedTo, JoinPass.IsHalfMade};
 
 use crate::await_places::AwaitPlaces;
-use crate::counts::Counts;
 use crate::critical::CriticalCosts;
 use crate::join_pass::SlotRows;
 use crate::level_order::LevelOrder;
@@ -99,11 +98,11 @@ fn flag_block<P: ProgramView>(
         × IsSchedule (P.program program.now) rows.new.schedule
         × AreFlaggedTo (P.program program.now) rows.new.schedule asked.now end implied.new) }
 {
-    let mut row = rows.begin(alloc, program, asked, from)?;
+    rows.begin(alloc, program, asked, from)?;
     for n in 0..rows.schedule.rows() {
-        rows.join_others(program, n, &mut row);
-        flag_row(program, rows, n, &row, asked, implied);
-        rows.finish_row(program, n, &mut row);
+        rows.join_others(program, n);
+        flag_row(program, rows, n, asked, implied);
+        rows.finish_row(program, n);
     }
     Ok(rows.columns.end)
 }
@@ -113,11 +112,10 @@ fn flag_row<P: ProgramView>(
     program: &P,
     rows: &SlotRows,
     n: usize,
-    row: &Counts,
     asked: &[bool],
     implied: &mut ImpliedAwaits,
 )
-    requires joined { IsHalfMade (P.program program.now) rows.now n row.now }
+    requires joined { IsHalfMade (P.program program.now) rows.now n }
     requires block { AreColumns asked.now rows.now.columns.first rows.now.columns }
     requires flags { AreFlaggedIn (P.program program.now)
         rows.now.schedule asked.now rows.now.columns n 0 implied.old }
@@ -134,6 +132,6 @@ fn flag_row<P: ProgramView>(
             continue;
         };
         let place = implied.places.first(program, join.action) + k;
-        implied.flags[place] = wait.count <= row.get(usize::from(column));
+        implied.flags[place] = wait.count <= rows.counts.get(usize::from(column));
     }
 }

@@ -1,9 +1,9 @@
 //! The rows of a schedule, which has the room of one block of columns after another, and the pass over them in a block:
 //! each is made of rows whose counts are still in their slots, and kept in its own slot.
 
+ghost use Rattle.std.specs.Prelude.{◌≡◌, ℕ, ◌<◌, ◌≤◌, length, max, IfOk, OnOk, Some};
 ghost use Rattle.fleet_model.specs.{declared.limits.TheConstants.MAX_AGENTS, Program.AreInRange};
-ghost use Rattle.std.specs.Prelude.{◌≡◌, ◌+◌, ◌<◌, ℕ, length, max, IfOk, ◌-◌, ◌*◌, ◌≤◌, Some};
-ghost use Rattle.fleet_needs.specs.{Columns.AreColumns, Columns.agents_in, Columns.column_of, Order.IsLevelOrder, Block.HasColumn, Counts.counts_of, Counts.CanHold, Schedule.AreRows, Schedule.IsSchedule, Schedule.IsScheduleBut, Schedule.IsScheduleOf, Schedule.AreRowsTo, Schedule.IsRowFor, Schedule.joins_in, Schedule.slot_of, JoinPass.HasOwnSet, JoinPass.IsBegun, JoinPass.IsHalfMade, JoinPass.IsMade, JoinPass.IsPass};
+ghost use Rattle.fleet_needs.specs.{Columns.AreColumns, Columns.agents_in, Columns.column_of, Order.IsLevelOrder, Block.HasColumn, Counts.made_row, Counts.CanHold, Schedule.AreRows, Schedule.IsSchedule, Schedule.IsScheduleBut, Schedule.IsScheduleOf, Schedule.AreRowsTo, Schedule.joins_in, JoinPass.AreOfSame, JoinPass.HasOwnSet, JoinPass.IsBegun, JoinPass.IsHalfMade, JoinPass.IsMade};
 
 use crate::counts::Counts;
 use crate::level_order::LevelOrder;
@@ -64,32 +64,32 @@ impl Columns {
     }
 }
 
-/// Raises the count in the agent's own column, if it has one, to the number of an action.
-fn raise_own(columns: &Columns, row: &mut Counts, agent: u16, number: u32)
+/// Raises the row's count in the agent's own column, if it has one, to the number of an action.
+fn raise_own(columns: &Columns, counts: &mut Counts, agent: u16, number: u32)
     requires agent { agent < agents_in columns.now }
-    requires within { (j k : ℕ) → HasColumn columns.now j k → k < length (counts_of row.old) }
+    requires within { (j k : ℕ) → HasColumn columns.now j k → k < length (made_row counts.old) }
     requires apart { (i j k : ℕ) → HasColumn columns.now i k → HasColumn columns.now j k → i ≡ j }
-    requires hold { CanHold row.old number }
-    ensures { HasOwnSet columns.now agent (λ count. max count number) row.old row.new }
+    requires hold { CanHold counts.old number }
+    ensures { HasOwnSet columns.now agent (λ count. max count number) counts.old counts.new }
 {
     if let Some(k) = columns.of(agent) {
         let k = usize::from(k);
-        let is_less = row.get(k) < number;
+        let is_less = counts.get(k) < number;
         if is_less {
-            row.set(k, number);
+            counts.set(k, number);
         }
     }
 }
 
-/// Clears the count in the agent's own column, if it has one.
-fn clear_own(columns: &Columns, row: &mut Counts, agent: u16)
+/// Clears the row's count in the agent's own column, if it has one.
+fn clear_own(columns: &Columns, counts: &mut Counts, agent: u16)
     requires agent { agent < agents_in columns.now }
-    requires within { (j k : ℕ) → HasColumn columns.now j k → k < length (counts_of row.old) }
+    requires within { (j k : ℕ) → HasColumn columns.now j k → k < length (made_row counts.old) }
     requires apart { (i j k : ℕ) → HasColumn columns.now i k → HasColumn columns.now j k → i ≡ j }
-    ensures { HasOwnSet columns.now agent (λ count. 0) row.old row.new }
+    ensures { HasOwnSet columns.now agent (λ count. 0) counts.old counts.new }
 {
     if let Some(k) = columns.of(agent) {
-        row.set(usize::from(k), 0);
+        counts.set(usize::from(k), 0);
     }
 }
 
@@ -97,7 +97,7 @@ fn clear_own(columns: &Columns, row: &mut Counts, agent: u16)
 pub struct SlotRows {
     pub(crate) schedule: Schedule,
     pub(crate) columns: Columns,
-    counts: Counts,
+    pub(crate) counts: Counts,
 }
 
 impl Drop for SlotRows {
@@ -154,86 +154,77 @@ impl SlotRows {
                 first: 0,
                 end: 0,
             },
-            counts: Counts::Wide(Vec::new(alloc)),
+            counts: Counts::Wide {
+                all: Vec::new(alloc),
+                row: Vec::new(alloc),
+            },
         })
     }
 
     /// Takes the columns of the next block, for the agents from this one on that are flagged in `asked`, as many as
-    /// there is room for. None of the rows is made yet; answers a row of zeros for one of them.
+    /// there is room for. None of the rows is made yet.
     pub(crate) fn begin<P: ProgramView>(
         &mut self,
         alloc: Global,
         program: &P,
         asked: &[bool],
         from: u16,
-    ) -> Result<Counts, OutOfMemory>
+    ) -> Result<(), OutOfMemory>
         requires schedule { IsSchedule (P.program program.now) self.old.schedule }
         requires asked { length asked.now ≡ length (P.program program.now) }
         requires from { from < length asked.now }
-        ensures { IfOk result
+        ensures { OnOk result
             (IsBegun (P.program program.now) self.old.schedule asked.now from self.new) }
     {
         let _ = program.agents();
         // The room of the block before is let go first.
-        self.counts = Counts::Wide(Vec::new(alloc));
+        self.counts = Counts::Wide {
+            all: Vec::new(alloc),
+            row: Vec::new(alloc),
+        };
         self.columns = Columns::choose(alloc, asked, from, self.schedule.columns_at_once())?;
         let width = usize::from(self.columns.width);
         let room = self.schedule.slots as usize * width;
-        self.counts = Counts::zeros(alloc, room, self.schedule.is_narrow)?;
-        let row = Counts::zeros(alloc, width, self.schedule.is_narrow)?;
-        Ok(row)
-    }
-
-    /// Where the counts of a row that is made, or is the next, stand in its slot.
-    fn place<P: ProgramView>(&self, program: &P, n: usize, r: usize) -> usize
-        requires rows { AreRowsTo (P.program program.now) self.now n }
-        requires within { r ≤ joins_in self.now.schedule }
-        ensures is { result ≡ slot_of self.now.schedule r * self.now.columns.width }
-        ensures within { result + self.now.columns.width ≤ length (counts_of self.now.counts) }
-    {
-        // Of the program, and of how many rows are made, the contract alone speaks.
-        let _ = program;
-        let _ = n;
-        let width = usize::from(self.columns.width);
-        self.schedule.outs[r] as usize * width
+        self.counts = Counts::zeros(alloc, room, width, self.schedule.is_narrow)?;
+        Ok(())
     }
 
     /// Makes the row of all that the join after n others directly needs, but for the count of each awaited agent.
-    pub(crate) fn join_others<P: ProgramView>(&self, program: &P, n: usize, row: &mut Counts)
-        requires rows { AreRowsTo (P.program program.now) self.now n }
-        requires next { n < joins_in self.now.schedule }
-        requires row { IsRowFor self.now row.old }
-        ensures { IsHalfMade (P.program program.now) self.now n row.new }
+    pub(crate) fn join_others<P: ProgramView>(&mut self, program: &P, n: usize)
+        requires rows { AreRowsTo (P.program program.now) self.old n }
+        requires next { n < joins_in self.old.schedule }
+        ensures same { AreOfSame self.old self.new }
+        ensures joined { IsHalfMade (P.program program.now) self.new n }
     {
-        let join = self.schedule.join_after(program, n);
-        let first = self.schedule.need(program, n, &join, 0);
-        let base = self.place(program, n, join.base as usize);
-        row.read_joined(
-            &self.counts,
-            base,
-            self.place(program, n, first.row as usize),
-        );
+        let counts = &mut self.counts;
+        let schedule = &self.schedule;
+        let width = self.columns.width;
+        let join = schedule.join_after(program, n);
+        let base = schedule.place(program, join.base as usize, width);
+        let first = schedule.need(program, n, &join, 0);
+        let other = schedule.place(program, first.row as usize, width);
+        counts.read_joined(base, other);
         for k in 1..join.count {
-            let need = self.schedule.need(program, n, &join, k);
-            row.join(&self.counts, self.place(program, n, need.row as usize));
+            let need = schedule.need(program, n, &join, k);
+            counts.join(schedule.place(program, need.row as usize, width));
         }
     }
 
-    /// Makes the row of the action of what `join_others` has left in `row`, and keeps it in its slot.
-    pub(crate) fn finish_row<P: ProgramView>(&mut self, program: &P, n: usize, row: &mut Counts)
-        requires rows { AreRowsTo (P.program program.now) self.old n }
-        requires joined { IsHalfMade (P.program program.now) self.old n row.old }
-        ensures pass { IsPass (P.program program.now)
-            self.old.schedule self.old.columns self.new (n + 1) row.new }
-        ensures made { IsMade (P.program program.now) self.new n row.new }
+    /// Makes the row of the action of what `join_others` has left, and keeps it in its slot.
+    pub(crate) fn finish_row<P: ProgramView>(&mut self, program: &P, n: usize)
+        requires { IsHalfMade (P.program program.now) self.old n }
+        ensures same { AreOfSame self.old self.new }
+        ensures made { IsMade (P.program program.now) self.new n }
     {
-        let join = self.schedule.join_after(program, n);
+        let counts = &mut self.counts;
+        let schedule = &self.schedule;
+        let columns = &self.columns;
+        let join = schedule.join_after(program, n);
         for k in 0..join.count {
-            let wait = self.schedule.need(program, n, &join, k).wait;
-            raise_own(&self.columns, row, wait.agent, wait.count);
+            let wait = schedule.need(program, n, &join, k).wait;
+            raise_own(columns, counts, wait.agent, wait.count);
         }
-        clear_own(&self.columns, row, join.action.agent);
-        let place = self.place(program, n, n + 1);
-        self.counts.write(place, row);
+        clear_own(columns, counts, join.action.agent);
+        counts.write(schedule.place(program, n + 1, columns.width));
     }
 }

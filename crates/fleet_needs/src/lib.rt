@@ -13,7 +13,7 @@
 //! - `join_pass`: the rows, made in that order in the columns of one block, in two steps: first of the rows of all that
 //!   its action needs, and then, for each await, with the awaited action's own number. A row in its slot has 0 in the
 //!   column of its own agent, so after the first step the count of each awaited agent is that of all needs but this
-//!   await. `counts` has the counts of a row, and joins rows.
+//!   await. `counts` has the counts of all rows that are kept and of the one that is made, and joins rows.
 //! - `questions`, `gather`, `implied`: what the rows of a block answer, each in a loop of its own over them. `settled`
 //!   settles awaits by a few steps back, so that `implied` asks rows for fewer agents.
 //!

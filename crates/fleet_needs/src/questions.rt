@@ -2,7 +2,7 @@
 
 ghost use Rattle.std.specs.Prelude.{◌≡◌, ◌≢◌, ◌+◌, ◌<◌, length, slice_index, All, IfOk};
 ghost use Rattle.fleet_model.specs.Program.{AreInRange};
-ghost use Rattle.fleet_needs.specs.{Asked.AreAnswersIn, Asked.IsQuestion, Schedule.IsSchedule, Schedule.AreColumnsOf, Answering.AreAnsweredFrom, Answering.HasAnswered, Answering.IsAnswering, Answering.IsRowAt, Answering.AreListedFor, Answering.questions_in, Counts.counts_of, Joins.AreOwn, Joins.AreStanding, Joins.rows_of};
+ghost use Rattle.fleet_needs.specs.{Asked.AreAnswersIn, Asked.IsQuestion, Schedule.IsSchedule, Answering.AreAnsweredFrom, Answering.HasAnswered, Answering.IsAnswering, Answering.IsRowAt, Answering.AreListedFor, Answering.questions_in, Counts.made_row, Joins.AreOwn, Joins.AreStanding, Joins.rows_of};
 
 use crate::counts::Counts;
 use crate::join_pass::SlotRows;
@@ -78,13 +78,13 @@ fn answer_block<P: ProgramView>(
     ensures { IfOk result (λ end. HasAnswered (P.program program.now)
         rows.new.schedule from end answering.old answering.new) }
 {
-    let mut row = rows.begin(alloc, program, &answering.asked, from)?;
+    rows.begin(alloc, program, &answering.asked, from)?;
     answering.next = 0;
-    answering.answer_row(program, rows, &row, 0);
+    answering.answer_row(program, rows, 0);
     for n in 0..rows.schedule.rows() {
-        rows.join_others(program, n, &mut row);
-        rows.finish_row(program, n, &mut row);
-        answering.answer_row(program, rows, &row, n + 1);
+        rows.join_others(program, n);
+        rows.finish_row(program, n);
+        answering.answer_row(program, rows, n + 1);
     }
     Ok(rows.columns.end)
 }
@@ -147,18 +147,10 @@ impl<'a> Answering<'a> {
         })
     }
 
-    /// Answers the questions of the row with this number, which has these counts.
-    fn answer_row<P: ProgramView>(
-        &mut self,
-        program: &P,
-        rows: &SlotRows,
-        row: &Counts,
-        number: usize,
-    )
+    /// Answers the questions of the row with this number, which is the one that is made.
+    fn answer_row<P: ProgramView>(&mut self, program: &P, rows: &SlotRows, number: usize)
         requires own { AreOwn (P.program program.now) }
-        requires columns { AreColumnsOf (P.program program.now) rows.now.columns }
-        requires row { IsRowAt (P.program program.now)
-            rows.now.schedule rows.now.columns number row.now }
+        requires row { IsRowAt (P.program program.now) rows.now number }
         requires answers { IsAnswering (P.program program.now)
             rows.now.schedule rows.now.columns number self.old }
         ensures answers { IsAnswering (P.program program.now)
@@ -171,7 +163,7 @@ impl<'a> Answering<'a> {
             let place = self.rows[self.next].place as usize;
             let question = self.questions[place];
             if let Some(k) = rows.columns.of(question.first.agent) {
-                let count = count_for(row, usize::from(k), question);
+                let count = count_for(&rows.counts, usize::from(k), question);
                 self.flags[place] = count < question.first.number;
             }
             self.next += 1;
@@ -180,14 +172,14 @@ impl<'a> Answering<'a> {
 }
 
 /// The count of the question's first agent: that of its column, or its own last action.
-fn count_for(row: &Counts, k: usize, question: Question) -> u32
-    requires { k < length (counts_of row.now) }
+fn count_for(counts: &Counts, k: usize, question: Question) -> u32
+    requires { k < length (made_row counts.now) }
     ensures own { question.first.agent ≡ question.last.agent → result ≡ question.last.number }
     ensures other { question.first.agent ≢ question.last.agent
-        → result ≡ slice_index (counts_of row.now) k }
+        → result ≡ slice_index (made_row counts.now) k }
 {
     if question.first.agent == question.last.agent {
         return question.last.number;
     }
-    row.get(k)
+    counts.get(k)
 }

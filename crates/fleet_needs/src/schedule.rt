@@ -3,7 +3,7 @@
 
 ghost use Rattle.std.specs.Prelude.{◌≡◌, ◌+◌, ◌++◌, ◌*◌, ◌<◌, ◌≤◌, All, ℕ, true, length, vec_len, IfOk, OnOk};
 ghost use Rattle.fleet_model.specs.{declared.limits.TheConstants.MAX_AGENTS, declared.program.ActionId.ActionId, Program.AreInRange, Program.moves, Chain.IsAction};
-ghost use Rattle.fleet_needs.specs.{Implied.AreAwaitPlaces, Joins.AreAllListed, Joins.AreListedTo, Joins.AreStanding, Joins.HasAllRows, Joins.HasRoom, Joins.IsFilled, Joins.IsUpToLast, Joins.action_at, Joins.base_of, Joins.end_of, Joins.need_at, Joins.needs_in, Joins.needs_of, Joins.row_of, Joins.rows_of, Order.AreKeys, Order.IsAwaiting, Order.IsLevelOrder, Order.named_in, Schedule.AreInOrder, Schedule.AreRows, Schedule.AreRowsBut, Schedule.IsSchedule, Schedule.IsNextJoin, Schedule.IsNextNeed, Schedule.joins_in, Schedule.next_action, Schedule.AreAllSlotted, Schedule.AreSlottedFrom, Schedule.counts_at_once, Slots.IsFree, Slots.IsHeld, Slots.rows_in};
+ghost use Rattle.fleet_needs.specs.{Implied.AreAwaitPlaces, Joins.AreAllListed, Joins.AreListedTo, Joins.AreStanding, Joins.HasAllRows, Joins.HasRoom, Joins.IsFilled, Joins.IsUpToLast, Joins.action_at, Joins.base_of, Joins.end_of, Joins.need_at, Joins.needs_in, Joins.needs_of, Joins.row_of, Joins.rows_of, Order.AreKeys, Order.IsAwaiting, Order.IsLevelOrder, Order.named_in, Schedule.AreInOrder, Schedule.AreRows, Schedule.AreRowsBut, Schedule.IsSchedule, Schedule.IsNextJoin, Schedule.IsNextNeed, Schedule.joins_in, Schedule.next_action, Schedule.AreAllSlotted, Schedule.AreSlottedFrom, Schedule.counts_at_once, Schedule.slot_of, Slots.IsFree, Slots.IsHeld, Slots.rows_in};
 
 use crate::await_places::AwaitPlaces;
 use crate::level_order::{LevelOrder, action_in, key_of, value_in};
@@ -237,6 +237,18 @@ impl Schedule {
         let _ = program;
         let _ = n;
         self.joins.need(join.first + k)
+    }
+
+    /// Where the counts of a row stand in its slot, where rows are so wide.
+    pub(crate) fn place<P: ProgramView>(&self, program: &P, r: usize, width: u16) -> usize
+        requires schedule { IsSchedule (P.program program.now) self.now }
+        requires within { r ≤ joins_in self.now }
+        ensures is { result ≡ slot_of self.now r * width }
+        ensures within { result + width ≤ self.now.slots * width }
+    {
+        // Of the program the contract alone speaks.
+        let _ = program;
+        self.outs[r] as usize * usize::from(width)
     }
 
     /// How many columns a block has at most: as many as all slots have room for, but at least 8.

@@ -1,4 +1,4 @@
-use Rattle.fleet_needs.proofs.Words.{◌≡◌, ◌+◌, ◌<◌, length, refl, sym, subst, ap, ◌∙◌, arith, inl, inr, get_or_read, get_or-set_same, get_or-set_other, length-set, false, slice_index, counts_of, HasColumn, IsAnswer, IsAnswering, listed_at, no_question, question_of, unlisted, Answering, Question, RowQuestion}
+use Rattle.fleet_needs.proofs.Words.{◌≡◌, ◌+◌, ◌<◌, length, refl, sym, subst, ap, ◌∙◌, arith, inl, inr, get_or_read, get_or-set_same, get_or-set_other, length-set, false, slice_index, made_row, HasColumn, IsAnswer, IsAnswering, listed_at, no_question, question_of, unlisted, Answering, Question, RowQuestion}
 use Rattle.fleet_needs.proofs.Answered.{answer_is, next_is, row_counts, told_on}
 use Rattle.fleet_needs.proofs.questions.Answering.answer_row.Goals.{in-Some, in_default}
 use Rattle.fleet_needs.proofs.questions.Answering.answer_row.Goals as goal
@@ -8,7 +8,7 @@ loop-self-preserved g c =
     let p = g.P.ProgramView.program c.args.program.now in
     let s = c.args.rows.now.schedule in
     let columns = c.args.rows.now.columns in
-    let count = slice_index (counts_of c.args.row.now) in
+    let count = slice_index (made_row c.args.rows.now.counts) in
     let m = c.loop-self.self in
     let h = c.loop-self.invariant.answers in
     let within : m.next < length m.rows.items = omega (arith, c.loop-self-test.true, c.len.ensures) in
@@ -37,7 +37,7 @@ loop-self-preserved g c =
 
 pub count_for-count-requires : goal.count_for-count-requires
 count_for-count-requires g c =
-    omega (arith, c.requires.columns.within _ _ (sym c.of.ensures ∙ c.in-Some.is), c.requires.row.width, c.from.ensures)
+    omega (arith, c.requires.row.columns.within _ _ (sym c.of.ensures ∙ c.in-Some.is), c.requires.row.width, c.from.ensures)
 
 pub returns-else-index-number-clause-answers : goal.returns-else-index-number-clause-answers
 returns-else-index-number-clause-answers g c =

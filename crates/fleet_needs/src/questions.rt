@@ -72,7 +72,7 @@ fn answer_block<P: ProgramView>(
     answering: &mut Answering<'_>,
 ) -> Result<u16, OutOfMemory>
     requires schedule { IsSchedule (P.program program.now) rows.old.schedule }
-    requires from { from < length answering.old.asked.items }
+    requires from { from < length (P.program program.now) }
     requires answers { AreAnsweredFrom
         (P.program program.now) rows.old.schedule from answering.old }
     ensures { IfOk result (λ end. HasAnswered (P.program program.now)

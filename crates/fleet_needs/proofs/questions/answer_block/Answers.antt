@@ -56,4 +56,4 @@ pub begin-requires-clause-asked : goal.begin-requires-clause-asked
 begin-requires-clause-asked g c = rw c.deref.ensures.value c.requires.answers.listed.asked.agents
 
 pub begin-requires-clause-from : goal.begin-requires-clause-from
-begin-requires-clause-from g c = rw c.deref.ensures.value c.requires.from
+begin-requires-clause-from g c = rw c.deref.ensures.value (omega (arith, c.requires.from, c.requires.answers.listed.asked.agents))

@@ -70,7 +70,7 @@ fn names_of<'a>(request: &Request<'a>) -> FileNames<'a>
 }
 
 /// What the request's command, which is about tasks, answers for the problem for which their texts stand. Of these
-/// commands `dispatch` alone reads `input`.
+/// commands `dispatch` alone reads `input`, and `plan` and `compile` let the texts go.
 fn answer_problem<'a, R: ReportsTo<O>, F: Files, O: Flush>(
     alloc: Global,
     request: &Request<'a>,

@@ -1,7 +1,8 @@
 //! Inputs and files, read whole; stores of files, the disk, and the files that a command names.
 
-ghost use Rattle.std.specs.Prelude.{◌≡◌, ◌≤◌, ◌+◌, ◌↔◌, Err, IfOk, IfErr, IfSome, IsTrue, MatchResult, OnOk, length};
+ghost use Rattle.std.specs.Prelude.{◌≡◌, ◌≤◌, ◌+◌, ◌↔◌, Err, None, Option, IfOk, IfErr, IfSome, IsTrue, MatchResult, OnOk, length};
 ghost use Rattle.fleet_cli.specs.Files.{Store, HoldsBytes, IsUnreadable, AreUnchanged, ChangesOnly, Replaces, IsOwnLog, BeginsLog, PutsBehind, whole_lines, IsGivenAs, IsUnread, IsGiven, given_name, given_names, AreTexts};
+ghost use Rattle.fleet_cli.specs.Command.{names_for};
 ghost use Rattle.fleet_cli.specs.Output.{WritesGiven};
 
 use crate::fault::Fault;
@@ -266,8 +267,10 @@ impl Drop for FileTexts {
     }
 }
 
-/// The texts of no files.
-pub(crate) fn no_texts(alloc: Global) -> FileTexts {
+/// The texts where no file is named.
+pub(crate) fn no_texts(alloc: Global) -> FileTexts
+    ensures { (files : Option Store) → AreTexts files (names_for None None None None) result }
+{
     FileTexts {
         map: Vec::new(alloc),
         scen: Vec::new(alloc),

@@ -1,6 +1,6 @@
 -- The flags of awaits, one action and one block more.
 use Rattle.std.specs.Prelude.{count_by}
-use Rattle.fleet_needs.proofs.Words.{None, ◌≡◌, ℕ, ◌+◌, ◌-◌, ◌≤◌, Bool, true, false, List, length, get_or, replicate, length-replicate, set, sym, ap, subst, ◌∙◌, arith, inl, inr, ◌⊎◌, slice_get, Some, cases_lt, cases_eq, false≢true, slice_get_within, slice_get-get_or, same_Some, ActionId, Await, Program, awaits_of, total_awaits, AreInRange, IsAction, column_of, AreColumns, Columns, Schedule, IsImpliedFlag, first_await, AreAwaitPlaces, AreSettled, AreSettledTo, AreSure, AreSet, IsLeftOut, IsLeftIn, AreFlaggedIn, AreFlaggedTo, AreImplied, flags_of, ImpliedAwaits, HasRowUnlessSet, IsRow, IsPassed, joins_in, joins_of, next_action}
+use Rattle.fleet_needs.proofs.Words.{None, ◌≡◌, ℕ, ◌+◌, ◌-◌, ◌≤◌, Bool, true, false, List, length, get_or, replicate, length-replicate, set, sym, ap, subst, ◌∙◌, arith, inl, inr, ◌⊎◌, slice_get, Some, cases_lt, cases_eq, false≢true, slice_get_within, slice_get-get_or, same_Some, ActionId, Await, Program, awaits_of, total_awaits, AreInRange, IsAction, column_of, AreColumns, SlotRows, IsImpliedFlag, first_await, AreAwaitPlaces, AreSettled, AreSettledTo, AreSure, AreSet, IsLeftOut, IsLeftIn, AreFlaggedIn, AreFlaggedTo, AreImplied, flags_of, ImpliedAwaits, HasRowUnlessSet, IsRow, IsPassed, joins_in, joins_of, next_action}
 use Rattle.fleet_needs.proofs.{AwaitOrder.flag_within, AwaitOrder.known_on, AwaitOrder.known_put, Counting.always_at, Counting.none_set, Joining.awaited_action, Joining.adds_none_if_implied}
 
 -- no flag is set yet
@@ -26,68 +26,68 @@ flagged_if_none p asked m none = known_on p _ _ m (λ a is k w at left. elim lef
 -- ---- the awaits that are left
 
 -- one await of a row more
-module _ (p : Program) (s : Schedule) (asked : List Bool) (columns : Columns) (n k : ℕ) (a : ActionId) (row : IsRow (joins_of s) (n + 1) a) (w : Await) (at : slice_get (awaits_of p a.agent a.number) k ≡ Some w) where
-  left_on : (b : ActionId) (j : ℕ) (v : Await) → IsLeftIn s asked columns n k b j v → IsLeftIn s asked columns n (k + 1) b j v ⊎ ((b ≡ a) × (j ≡ k))
+module _ (p : Program) (rows : SlotRows) (n k : ℕ) (a : ActionId) (row : IsRow (joins_of rows.schedule) (n + 1) a) (w : Await) (at : slice_get (awaits_of p a.agent a.number) k ≡ Some w) where
+  left_on : (b : ActionId) (j : ℕ) (v : Await) → IsLeftIn rows n k b j v → IsLeftIn rows n (k + 1) b j v ⊎ ((b ≡ a) × (j ≡ k))
   left_on b j v (h, inl past) = inl (h, inl past)
   left_on b j v (h, inr (inl later)) = inl (h, inr (inl later))
   left_on b j v (h, inr (inr (e, from))) = elim (cases_lt k j) [
     | inl more ↦ inl (h, inr (inr (e, omega arith)))
-    | inr less ↦ inr (sym h.of.of ∙ ap (λ (r : ℕ). next_action s (r - 1)) e ∙ row.of, omega arith)
+    | inr less ↦ inr (sym h.of.of ∙ ap (λ (r : ℕ). next_action rows.schedule (r - 1)) e ∙ row.of, omega arith)
   ]
 
   -- whose agent has no column
-  pub flag_passed : (m : ImpliedAwaits) → AreColumns asked columns.first columns → column_of columns w.agent ≡ None → AreFlaggedIn p s asked columns n k m → AreFlaggedIn p s asked columns n (k + 1) m
+  pub flag_passed : (m : ImpliedAwaits) → AreColumns rows.asked.items rows.columns.first rows.columns → column_of rows.columns w.agent ≡ None → AreFlaggedIn p rows n k m → AreFlaggedIn p rows n (k + 1) m
   flag_passed m chosen none = known_on p _ _ m
       (λ b is j v there left. elim (left_on b j v left) [
         | inl on ↦ on
         | inr (e, f) ↦
             let same : v ≡ w = same_Some v w (sym there ∙ ap (slice_get (awaits_of p b.agent b.number)) f ∙ ap (λ (x : ActionId). slice_get (awaits_of p x.agent x.number) k) e ∙ at) in
-            elim (cases_lt v.agent columns.end) [
-              | inl low ↦ absurd (chosen.chosen v.agent left.0.upon low left.0.asks (ap (λ (x : Await). column_of columns x.agent) same ∙ none))
+            elim (cases_lt v.agent rows.columns.end) [
+              | inl low ↦ absurd (chosen.chosen v.agent left.0.upon low left.0.asks (ap (λ (x : Await). column_of rows.columns x.agent) same ∙ none))
               | inr past ↦ (left.0, inl past)
             ]
       ])
 
   -- .. or whose flag is set right
-  pub flag_put : (old new : ImpliedAwaits) (flag : Bool) → IsAction p a → IsImpliedFlag p a w flag → new.places ≡ old.places → flags_of new ≡ set (flags_of old) (first_await p a + k) flag → AreFlaggedIn p s asked columns n k old → AreFlaggedIn p s asked columns n (k + 1) new
+  pub flag_put : (old new : ImpliedAwaits) (flag : Bool) → IsAction p a → IsImpliedFlag p a w flag → new.places ≡ old.places → flags_of new ≡ set (flags_of old) (first_await p a + k) flag → AreFlaggedIn p rows n k old → AreFlaggedIn p rows n (k + 1) new
   flag_put old new flag is right places put = known_put p _ _ a is k w at old new flag places put
       (λ b j v there ne left. elim (left_on b j v left) [ inl on ↦ on | inr (e, f) ↦ absurd (ne (ap (λ (x : ActionId). first_await p x + j) e ∙ ap (λ (x : ℕ). first_await p a + x) f)) ]) (inr right)
 
 -- all awaits of a row
-pub row_flagged : (p : Program) (s : Schedule) (asked : List Bool) (columns : Columns) (n k : ℕ) (a : ActionId) → IsRow (joins_of s) (n + 1) a → k ≡ length (awaits_of p a.agent a.number) → (m : ImpliedAwaits) → AreFlaggedIn p s asked columns n k m → AreFlaggedIn p s asked columns (n + 1) 0 m
-row_flagged p s asked columns n k a row all m = known_on p _ _ m
+pub row_flagged : (p : Program) (rows : SlotRows) (n k : ℕ) (a : ActionId) → IsRow (joins_of rows.schedule) (n + 1) a → k ≡ length (awaits_of p a.agent a.number) → (m : ImpliedAwaits) → AreFlaggedIn p rows n k m → AreFlaggedIn p rows (n + 1) 0 m
+row_flagged p rows n k a row all m = known_on p _ _ m
     (λ b is j v there left. elim left.1 [
       | inl past ↦ (left.0, inl past)
       | inr (inl later) ↦ (left.0, inr (elim (cases_eq left.0.row (n + 1 + 1)) [ inl e ↦ inr (e, omega arith) | inr ne ↦ inl (omega (arith, later, ne)) ]))
       | inr (inr (e, from)) ↦
-          let same : b ≡ a = sym left.0.of.of ∙ ap (λ (r : ℕ). next_action s (r - 1)) e ∙ row.of in
+          let same : b ≡ a = sym left.0.of.of ∙ ap (λ (r : ℕ). next_action rows.schedule (r - 1)) e ∙ row.of in
           absurd (omega (arith, from, all, slice_get_within (awaits_of p b.agent b.number) j v there, ap (λ (x : ActionId). length (awaits_of p x.agent x.number)) same))
     ])
 
 -- ---- block by block
 
 -- before the first block
-pub flags_first : (p : Program) (s : Schedule) (asked : List Bool) (m : ImpliedAwaits) → AreSettled p asked m → HasRowUnlessSet p (flags_of m) (joins_of s) → AreFlaggedTo p s asked 0 m
-flags_first p s asked m settled passed = record {
+pub flags_first : (p : Program) (rows : SlotRows) (m : ImpliedAwaits) → AreSettled p rows.asked.items m → HasRowUnlessSet p (flags_of m) (joins_of rows.schedule) → (from : ℕ) → from ≡ 0 → AreFlaggedTo p rows from m
+flags_first p rows m settled passed from zero = record {
   places = settled.places;
   all = settled.all;
   known = λ a is k w at. elim (settled.known a is k w at) [
     | inr known ↦ inr known
     | inl (inl past, sure) ↦ absurd (none_past p a k w is at past)
     | inl (inr asks, sure) ↦ elim (passed a is) [
-      | inl (r, row) ↦ inl (record { row = r; of = row; asks = asks; upon = omega arith }, sure)
+      | inl (r, row) ↦ inl (record { row = r; of = row; asks = asks; upon = omega (arith, zero) }, sure)
       | inr set ↦ inr ((λ f. sure f), (λ i. set k w at))
     ]
   ];
 }
 
 -- before the first row of a block
-pub flags_begun : (p : Program) (s : Schedule) (asked : List Bool) (columns : Columns) (m : ImpliedAwaits) → AreFlaggedTo p s asked columns.first m → AreFlaggedIn p s asked columns 0 0 m
-flags_begun p s asked columns m = known_on p _ _ m (λ a is k w at left. (left, inr (elim (cases_eq left.row 1) [ inl e ↦ inr (e, omega arith) | inr ne ↦ inl (omega (arith, ne, left.of.some)) ])))
+pub flags_begun : (p : Program) (rows : SlotRows) (m : ImpliedAwaits) → AreFlaggedTo p rows rows.columns.first m → AreFlaggedIn p rows 0 0 m
+flags_begun p rows m = known_on p _ _ m (λ a is k w at left. (left, inr (elim (cases_eq left.row 1) [ inl e ↦ inr (e, omega arith) | inr ne ↦ inl (omega (arith, ne, left.of.some)) ])))
 
 -- after its last one
-pub flags_after : (p : Program) (s : Schedule) (asked : List Bool) (columns : Columns) (n : ℕ) (m : ImpliedAwaits) → joins_in s ≤ n → AreFlaggedIn p s asked columns n 0 m → AreFlaggedTo p s asked columns.end m
-flags_after p s asked columns n m all = known_on p _ _ m
+pub flags_after : (p : Program) (rows : SlotRows) (n : ℕ) (m : ImpliedAwaits) → joins_in rows.schedule ≤ n → AreFlaggedIn p rows n 0 m → AreFlaggedTo p rows rows.columns.end m
+flags_after p rows n m all = known_on p _ _ m
     (λ a is k w at left. record {
       row = left.0.row;
       of = left.0.of;
@@ -99,8 +99,8 @@ flags_after p s asked columns n m all = known_on p _ _ m
     })
 
 -- after the last block
-pub flags_end : (p : Program) → AreInRange p → (s : Schedule) (asked : List Bool) (from : ℕ) (m : ImpliedAwaits) → length p ≤ from → AreFlaggedTo p s asked from m → AreImplied p m
-flags_end p range s asked from m end = known_on p _ _ m (λ a is k w at left. let there = awaited_action p range a.agent a.number k w at in omega (arith, there.agent, end, left.upon))
+pub flags_end : (p : Program) → AreInRange p → (rows : SlotRows) (from : ℕ) (m : ImpliedAwaits) → length p ≤ from → AreFlaggedTo p rows from m → AreImplied p m
+flags_end p range rows from m end = known_on p _ _ m (λ a is k w at left. let there = awaited_action p range a.agent a.number k w at in omega (arith, there.agent, end, left.upon))
 
 -- ---- an action of one await, the flag of which is set
 

@@ -1,5 +1,5 @@
 -- Rows: their places, which of them stand for actions, and what they are joined of, one row after another.
-use Rattle.fleet_needs.proofs.Words.{◌≡◌, ℕ, ◌+◌, ◌-◌, ◌<◌, ◌≤◌, length, take, subst, arith, inl, inr, sum_by, cases_order, sum_by-take-le, Action, ActionId, AgentProgram, Program, actions_of, agent_awaits, awaits_before, awaits_of, total_awaits, actions_more, awaits_more, IsUpToLast, IsAction, row_first, row_place, ◌≢◌, All, Vec, Global, List, set, slice_index, sym, ap, ◌∙◌, ◌⊎◌, cases_lt, cases_eq, get_or-set_same, get_or-set_other, IsAwaiting, AreAllNoted, HasAllRows, IsRow, IsRowOrNone, StandsFor, IsFilled, no_action, [], ◌∷◌, ◌++◌, map, take_more, get_or-map, get_or_append_left, get_or_push, length_push, length-map, AreListedTo, action_at, action_before, action_of_key, need_for, need_of_key, needs_in, needs_of, row_of, rows_of, value_of_key, Joins, Need, RowTable}
+use Rattle.fleet_needs.proofs.Words.{◌≡◌, ℕ, ◌+◌, ◌-◌, ◌<◌, ◌≤◌, length, take, subst, arith, inl, inr, sum_by, cases_order, sum_by-take-le, Action, ActionId, AgentProgram, Program, actions_of, agent_awaits, awaits_before, awaits_of, total_awaits, actions_more, awaits_more, IsUpToLast, IsAction, row_first, row_place, ◌≢◌, All, Vec, Global, List, set, length-set, slice_index, sym, ap, ◌∙◌, ◌⊎◌, cases_lt, cases_eq, get_or-set_same, get_or-set_other, IsAwaiting, AreAllNoted, HasAllRows, IsRow, IsRowOrNone, StandsFor, IsFilled, no_action, [], ◌++◌, map, take_more, get_or-map, length-map, AreListedTo, action_at, action_before, action_of_key, need_for, need_of_key, needs_in, needs_of, row_of, rows_of, value_of_key, Joins, Need, RowTable}
 use Rattle.fleet_needs.proofs.Counting.{sums_rise}
 use Rattle.std.proofs.{lemmas.List.flat_map_more, lemmas.List.length-append, Math.Seq.map-set_same}
 use Rattle.std.specs.List.{flat_map}
@@ -166,7 +166,7 @@ needs_more p m rows n l =
 
 -- one row more
 module _ (p : Program) (m : RowTable) (old new : Joins) (n key : ℕ) (l : n < length (rows_of old)) (put : new.keys.items ≡ set old.keys.items n key) (named : action_of_key key ≡ action_at (rows_of old) n) (base : value_of_key key ≡ row_of p m (action_before (action_at (rows_of old) n)))
-    (more : needs_in new.awaits ≡ needs_in old.awaits ++ needs_of p m (action_at (rows_of old) n)) (push : new.ends.items ≡ old.ends.items ++ length new.awaits.items ∷ []) (h : AreListedTo p (rows_of old) m n old) where
+    (more : needs_in new.awaits ≡ needs_in old.awaits ++ needs_of p m (action_at (rows_of old) n)) (end : new.ends.items ≡ set old.ends.items (n + 1) (length new.awaits.items)) (h : AreListedTo p (rows_of old) m n old) where
   abbrev rows : List ActionId
   rows = rows_of old
 
@@ -184,11 +184,10 @@ module _ (p : Program) (m : RowTable) (old new : Joins) (n key : ℕ) (l : n < l
       | inr ne ↦ ap value_of_key (get_or-set_other old.keys.items n i key 0 ne) ∙ h.bases i (omega (arith, less, ne))
     ];
     awaits = all;
-    all = ap (λ (xs : List ℕ). length xs) push ∙ length_push old.ends.items (length new.awaits.items) ∙ ap (λ (k : ℕ). k + 1) h.all;
-    ends = λ i le. ap (λ (xs : List ℕ). slice_index xs i) push ∙ elim (cases_lt n i) [
-      | inr sooner ↦ get_or_append_left old.ends.items (length new.awaits.items ∷ []) 0 i (omega (arith, sooner, h.all)) ∙ h.ends i sooner
-      | inl last ↦
-          let e : n + 1 ≡ i = omega (arith, last, le) in
-          get_or_push old.ends.items (length new.awaits.items) 0 i (h.all ∙ e) ∙ sym (length-map new.awaits.items need_of_key) ∙ ap (λ (xs : List Need). length xs) all ∙ ap (λ (k : ℕ). length (flat_map (needs_of p m) (take k rows))) e
+    all = ap (λ (xs : List ℕ). length xs) end ∙ length-set old.ends.items (n + 1) (length new.awaits.items) ∙ h.all;
+    ends = λ i le. ap (λ (xs : List ℕ). slice_index xs i) end ∙ elim (cases_eq i (n + 1)) [
+      | inr ne ↦ get_or-set_other old.ends.items (n + 1) i (length new.awaits.items) 0 ne ∙ h.ends i (omega (arith, le, ne))
+      | inl e ↦ subst (λ (k : ℕ). slice_index (set old.ends.items (n + 1) (length new.awaits.items)) k ≡ length (flat_map (needs_of p m) (take k rows))) (sym e)
+          (get_or-set_same old.ends.items (n + 1) (length new.awaits.items) 0 (omega (arith, l, h.all)) ∙ sym (length-map new.awaits.items need_of_key) ∙ ap (λ (xs : List Need). length xs) all)
     ];
   }

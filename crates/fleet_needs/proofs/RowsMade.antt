@@ -1,5 +1,5 @@
 -- The counts of rows that are made of rows in their slots.
-use Rattle.fleet_needs.proofs.Words.{◌≡◌, ◌≢◌, ℕ, ◌+◌, ◌-◌, ◌*◌, ◌<◌, ◌≤◌, List, length, max, get_or, slice_get-get_or, slice_index, sym, ap, subst, ◌∙◌, arith, inl, inr, slice_get, Some, cases_lt, cases_eq, ActionId, Await, Program, AreInRange, awaits_of, moves, IsAction, awaited, HasColumn, counts_of, from_place, made_row, are_narrow, CanHold, AreKept, AreWritten, Reaches, IsColumn, IsJoined, ByBeforeOr, OfOthers, action_before, Columns, SlotRows, Schedule, Counts, IsRow, AreOwn, IsJoinFor, IsNeedFor, TakesIn, joins_in, joins_of, next_action, base_of, end_of, need_at, IsSchedule, AreColumnsOf, AreCounts, AreRowsTo, StandsThere, IsNextJoin, IsNextNeed, AreRowCounts, count_from, count_in_slot, slot_of, Join, Need, StandsFor}
+use Rattle.fleet_needs.proofs.Words.{◌≡◌, ◌≢◌, ℕ, ◌+◌, ◌-◌, ◌*◌, ◌<◌, ◌≤◌, List, length, max, get_or, slice_get-get_or, slice_index, sym, ap, subst, ◌∙◌, arith, inl, inr, slice_get, Some, cases_lt, cases_eq, ActionId, Await, Program, AreInRange, awaits_of, moves, IsAction, awaited, HasColumn, counts_of, from_place, made_row, are_narrow, CanHold, AreKept, AreOfProgram, AreOfSame, IsNextBlock, Bool, AreWritten, Reaches, IsColumn, IsJoined, ByBeforeOr, OfOthers, action_before, Columns, SlotRows, Schedule, Counts, IsRow, AreOwn, IsJoinFor, IsNeedFor, TakesIn, joins_in, joins_of, next_action, base_of, end_of, need_at, IsSchedule, AreColumns, AreColumnsOf, AreCounts, AreRowsTo, StandsThere, IsNextJoin, IsNextNeed, AreRowCounts, count_from, count_in_slot, slot_of, Join, Need, StandsFor}
 use Rattle.fleet_needs.proofs.{Counting.outside, Joining.quiet_on, Joining.column_stays, Joining.column_none, Joining.IsOwnTo, Joining.some_first, Joining.some_more, Joining.some_same, Joining.part_all, Joining.own_column, Joining.awaited_action}
 
 -- ---- what row r stands for
@@ -38,12 +38,20 @@ counts_at p m n rows r place takes is i b s = subst (λ (x : ℕ). AreCounts p m
 
 -- the rows are as they were, while only the row that is made has changed
 pub rows_kept : (p : Program) (m : SlotRows) (n : ℕ) (counts : Counts) → AreKept m.counts counts → AreRowsTo p m n → AreRowsTo p (record m { counts = counts }) n
-rows_kept p m n counts kept rows = record { schedule = rows.schedule; columns = rows.columns; room = ap (λ (xs : List ℕ). length xs) kept.all ∙ rows.room; width = kept.width ∙ rows.width; narrow = kept.narrow ∙ rows.narrow; right = λ r upto still. subst (λ (xs : List ℕ). AreRowCounts p m.schedule m.columns r (from_place xs (slot_of m.schedule r * m.columns.width))) (sym kept.all) (rows.right r upto still) }
+rows_kept p m n counts kept rows = record { schedule = rows.schedule; block = rows.block; columns = rows.columns; room = ap (λ (xs : List ℕ). length xs) kept.all ∙ rows.room; width = kept.width ∙ rows.width; narrow = kept.narrow ∙ rows.narrow; right = λ r upto still. subst (λ (xs : List ℕ). AreRowCounts p m.schedule m.columns r (from_place xs (slot_of m.schedule r * m.columns.width))) (sym kept.all) (rows.right r upto still) }
+
+-- two steps leave what each leaves as it was
+pub same_on : (old mid new : SlotRows) → AreOfSame old mid → AreOfSame mid new → AreOfSame old new
+same_on old mid new first second = record { schedule = second.schedule ∙ first.schedule; asked = second.asked ∙ first.asked; columns = second.columns ∙ first.columns }
+
+-- a block has come and gone
+pub block_gone : (p : Program) (old mid new : SlotRows) (is_one : Bool) → IsNextBlock p old mid is_one → AreOfSame mid new → AreOfProgram p old → AreOfProgram p new
+block_gone p old mid new is_one next same of = record { schedule = rw (same.schedule, next.schedule) of.schedule; agents = rw (same.asked, next.asked) of.agents }
 
 -- no row is made, and all counts are zeros
-pub rows_none : (p : Program) (m : SlotRows) → IsSchedule p m.schedule → AreColumnsOf p m.columns → length (counts_of m.counts) ≡ m.schedule.slots * m.columns.width → length (made_row m.counts) ≡ m.columns.width → are_narrow m.counts ≡ m.schedule.is_narrow
+pub rows_none : (p : Program) (m : SlotRows) → IsSchedule p m.schedule → AreColumns m.asked.items m.columns.first m.columns → AreColumnsOf p m.columns → length (counts_of m.counts) ≡ m.schedule.slots * m.columns.width → length (made_row m.counts) ≡ m.columns.width → are_narrow m.counts ≡ m.schedule.is_narrow
     → ((k : ℕ) → slice_index (counts_of m.counts) k ≡ 0) → AreRowsTo p m 0
-rows_none p m schedule columns room width narrow zeros = record { schedule = schedule; columns = columns; room = room; width = width; narrow = narrow; right = λ r upto still i b s. counts_none p m.schedule m.columns r i b s (count_in_slot m r) (omega arith) (λ k. zeros _) }
+rows_none p m schedule block columns room width narrow zeros = record { schedule = schedule; block = block; columns = columns; room = room; width = width; narrow = narrow; right = λ r upto still i b s. counts_none p m.schedule m.columns r i b s (count_in_slot m r) (omega arith) (λ k. zeros _) }
 
 -- a row of these counts
 pub counts_same : (p : Program) (columns : Columns) (i b : ℕ) (f g : ℕ → ℕ) → ((j k : ℕ) → HasColumn columns j k → g k ≡ f k) → AreCounts p columns i b f → AreCounts p columns i b g
@@ -177,6 +185,7 @@ module _ (p : Program) (old : SlotRows) (n place : ℕ) (counts : Counts) (rows 
   pub rows_more : AreRowsTo p new (n + 1)
   rows_more = record {
     schedule = rows.schedule;
+    block = rows.block;
     columns = rows.columns;
     room = put.all ∙ rows.room;
     width = ap (λ (xs : List ℕ). length xs) put.same ∙ rows.width;

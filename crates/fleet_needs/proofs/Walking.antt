@@ -17,11 +17,7 @@ module _ (p : Program) (cost : ActionId → ℕ) where
   bound_on b m each a (c ∷ cs) h =
       let r = but_last p a c cs b h in omega (arith, r.total cost, each r.before r.needs a r.others r.chain)
 
-  -- an action has one such cost
-  pub one_cost : (b : ActionId) (m n : ℕ) → IsCriticalCost p cost b m → IsCriticalCost p cost b n → m ≡ n
-  one_cost b m n c d = omega (arith, c.most n d.some, d.most m c.some)
-
-  -- .. which is no less than its own
+  -- what an action costs in all is no less than its own cost
   pub own_cost : (b : ActionId) (m : ℕ) → IsAction p b → IsCriticalCost p cost b m → cost b ≤ m
   own_cost b m act c = c.most (cost b) (ends_alone p cost b act)
 
@@ -99,7 +95,11 @@ module _ (p : Program) (cost : ActionId → ℕ) where
             let same : length row.costs ≡ n = omega (arith, l, high, count) in
             subst (IsNotedCost p cost (after i n)) (sym (get_or_push row.costs m 0 n same)) (subst (λ (k : ℕ). IsNotedCost p cost (after i k) m) same here)
       ];
-      next = record { within = omega arith; at = at ∙ ap (λ (n : ℕ). offset i n 0) (sym count); greatest = subst (λ (n : ℕ). IsGreatestTo p cost (after i n) 0 m) (sym count) (greatest_own i (length row.costs + 1) m (inr (omega arith, here))) };
+      next = record {
+        within = omega arith;
+        at = at ∙ ap (λ (n : ℕ). offset i n 0) (sym count);
+        greatest = subst (λ (n : ℕ). IsGreatestTo p cost (after i n) 0 m) (sym count) (greatest_own i (length row.costs + 1) m (inr (omega arith, here)));
+      };
     }
       where
         count : length (row.costs ++ m ∷ []) ≡ length row.costs + 1

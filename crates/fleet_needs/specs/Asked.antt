@@ -1,5 +1,5 @@
 -- Questions for chains of needs, and their answers.
-use Rattle.std.specs.Prelude.{◌≡◌, ℕ, ◌<◌, ◌≤◌, Bool, true, false, List, length, get_or, slice_get, Some, All, ◌↔◌, Vec}
+use Rattle.std.specs.Prelude.{◌≡◌, ℕ, ◌<◌, ◌≤◌, Bool, true, false, List, length, get_or, slice_get, Some, All, ◌↔◌, Vec, vec_len}
 use Rattle.std.specs.declared.alloc.Global.{Global}
 use Rattle.fleet_needs.specs.Words.{Program, IsAction, Reaches}
 use Rattle.fleet_needs.specs.declared.questions.Question.{Question}
@@ -30,7 +30,7 @@ IsFirstIn questions i = (k : ℕ) × (q : Question) × (slice_get questions k �
 
 -- of the flags, one for each agent of the program, those of the agents of the questions' first actions are set, and no
 -- others
-pub record AreAskedFor (p : Program) (questions : List Question) (asked : List Bool) : Type 0 where
-  pub agents : length asked ≡ length p
-  pub each : All (IsAskedFor asked) questions
-  pub only : (i : ℕ) → get_or asked i false ≡ true → IsFirstIn questions i
+pub record AreAskedFor (p : Program) (questions : List Question) (agents : Vec Bool Global) : Type 0 where
+  pub all : vec_len agents ≡ length p
+  pub each : All (IsAskedFor agents.items) questions
+  pub only : (i : ℕ) → get_or agents.items i false ≡ true → IsFirstIn questions i

@@ -5,7 +5,7 @@ use Rattle.fleet_needs.specs.Words.{Await, ActionId, Program, total_awaits}
 use Rattle.fleet_needs.specs.Joins.{IsRow}
 use Rattle.fleet_needs.specs.Schedule.{joins_of}
 use Rattle.fleet_needs.specs.declared.schedule.Schedule.{Schedule}
-use Rattle.fleet_needs.specs.declared.join_pass.Columns.{Columns}
+use Rattle.fleet_needs.specs.declared.join_pass.SlotRows.{SlotRows}
 use Rattle.fleet_needs.specs.Implied.{AreAwaitPlaces, IsImplied, IsImpliedFlag, EachFlag, first_await}
 use Rattle.fleet_needs.specs.declared.implied.ImpliedAwaits.{ImpliedAwaits}
 
@@ -49,17 +49,17 @@ pub record IsLeft (s : Schedule) (asked : List Bool) (from : ℕ) (a : ActionId)
   pub upon : from ≤ w.agent
 
 -- all flags but those of awaits that are left say whether they are implied
-abbrev pub AreFlaggedTo : Program → Schedule → List Bool → ℕ → ImpliedAwaits → Type 0
-AreFlaggedTo p s asked from m = AreFlagsBut p (λ a k w. IsLeft s asked from a w) m
+abbrev pub AreFlaggedTo : Program → SlotRows → ℕ → ImpliedAwaits → Type 0
+AreFlaggedTo p rows from m = AreFlagsBut p (λ a k w. IsLeft rows.schedule rows.asked.items from a w) m
 
 -- place k of row r comes after the first n rows, and after so many places of the next
 abbrev pub IsLater : (n many r k : ℕ) → Type 0
 IsLater n many r k = (n + 1 < r) ⊎ ((r ≡ n + 1) × (many ≤ k))
 
 -- the await is left in a block: it is of an agent of a later block, or of a row that comes later
-abbrev pub IsLeftIn : Schedule → List Bool → Columns → (n many : ℕ) → ActionId → ℕ → Await → Type 0
-IsLeftIn s asked columns n many a k w = (h : IsLeft s asked columns.first a w) × ((columns.end ≤ w.agent) ⊎ IsLater n many h.row k)
+abbrev pub IsLeftIn : SlotRows → (n many : ℕ) → ActionId → ℕ → Await → Type 0
+IsLeftIn rows n many a k w = (h : IsLeft rows.schedule rows.asked.items rows.columns.first a w) × ((rows.columns.end ≤ w.agent) ⊎ IsLater n many h.row k)
 
 -- .. and all other flags say so
-abbrev pub AreFlaggedIn : Program → Schedule → List Bool → Columns → (n many : ℕ) → ImpliedAwaits → Type 0
-AreFlaggedIn p s asked columns n many m = AreFlagsBut p (IsLeftIn s asked columns n many) m
+abbrev pub AreFlaggedIn : Program → SlotRows → (n many : ℕ) → ImpliedAwaits → Type 0
+AreFlaggedIn p rows n many m = AreFlagsBut p (IsLeftIn rows n many) m

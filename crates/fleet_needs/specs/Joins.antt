@@ -149,7 +149,7 @@ pub record AreListedTo (p : Program) (rows : List ActionId) (m : RowTable) (n : 
   pub same : rows_of x ≡ rows
   pub bases : (i : ℕ) → i < n → base_of x i ≡ row_of p m (action_before (action_at rows i))
   pub awaits : needs_in x.awaits ≡ flat_map (needs_of p m) (take n rows)
-  pub all : length x.ends.items ≡ n + 1
+  pub all : length x.ends.items ≡ length rows + 1
   pub ends : (i : ℕ) → i ≤ n → end_of x i ≡ length (flat_map (needs_of p m) (take i rows))
 
 -- .. all of them

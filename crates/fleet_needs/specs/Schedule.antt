@@ -3,7 +3,7 @@ use Rattle.std.specs.Prelude.{◌≡◌, ◌≢◌, true, cond, ℕ, ◌+◌, �
 use Rattle.std.specs.declared.alloc.Global.{Global}
 use Rattle.fleet_needs.specs.Words.{ActionId, Await, Program, awaits_of, moves, AreInRange, IsAction, awaited}
 use Rattle.fleet_needs.specs.Block.{HasColumn}
-use Rattle.fleet_needs.specs.Columns.{agents_in}
+use Rattle.fleet_needs.specs.Columns.{AreColumns, agents_in}
 use Rattle.fleet_needs.specs.Counts.{counts_of, count_from, are_narrow, made_row}
 use Rattle.fleet_needs.specs.Joins.{AreOwn, AreRising, AreStanding, HasAllRows, HasRowUnlessSet, RowTable, StandsFor, action_at, base_of, end_of, need_at, rows_of}
 use Rattle.fleet_needs.specs.Order.{IsAwaiting}
@@ -79,15 +79,26 @@ pub record IsSchedule (p : Program) (s : Schedule) : Type 0 where
   pub still : (n r : ℕ) → TakesIn s.joins n r → IsStill s.outs.items r n
   pub narrow : s.is_narrow ≡ true → (i : ℕ) → i < length p → moves p i ≤ 65535
 
--- it is that of these rows
-pub record IsScheduleOf (p : Program) (x : Joins) (s : Schedule) : Type 0 where
-  pub schedule : IsSchedule p s
-  pub joins : s.joins ≡ x
+-- the rows are those of a schedule, and there is a flag for each agent of the program, whether its columns are asked for
+pub record AreOfProgram (p : Program) (m : SlotRows) : Type 0 where
+  pub schedule : IsSchedule p m.schedule
+  pub agents : length m.asked.items ≡ length p
 
--- .. in which each action has a row, or flags that are set for all its awaits
-pub record IsScheduleBut (p : Program) (flags : List Bool) (s : Schedule) : Type 0 where
-  pub schedule : IsSchedule p s
-  pub passed : HasRowUnlessSet p flags (joins_of s)
+-- .. these flags, and no block has come
+pub record AreUnmade (p : Program) (agents : Vec Bool Global) (m : SlotRows) : Type 0 where
+  pub of : AreOfProgram p m
+  pub asked : m.asked ≡ agents
+  pub first : m.columns.end ≡ 0
+
+-- .. of these rows
+pub record AreRowsFor (p : Program) (x : Joins) (agents : Vec Bool Global) (m : SlotRows) : Type 0 where
+  pub rows : AreUnmade p agents m
+  pub joins : m.schedule.joins ≡ x
+
+-- .. among which each action has one, or flags that are set for all its awaits
+pub record AreRowsUnless (p : Program) (flags : List Bool) (agents : Vec Bool Global) (m : SlotRows) : Type 0 where
+  pub rows : AreUnmade p agents m
+  pub passed : HasRowUnlessSet p flags (joins_of m.schedule)
 
 -- of these rows, those after the first n have slots, and what their joins take
 pub record AreSlottedFrom (x : Joins) (n : ℕ) (m : SlotTable) : Type 0 where
@@ -130,10 +141,11 @@ AreRowCounts p s columns r count = (i n : ℕ) → StandsThere p s r i n → Are
 abbrev pub count_in_slot : SlotRows → ℕ → ℕ → ℕ
 count_in_slot m r = count_from m.counts (slot_of m.schedule r * m.columns.width)
 
--- each of the first n rows that is still in its slot has the counts of what it stands for; row 0 has zeros. The row that
--- is made has a count for each column
+-- in a block of columns each of the first n rows that is still in its slot has the counts of what it stands for; row 0
+-- has zeros. The row that is made has a count for each column
 pub record AreRowsTo (p : Program) (m : SlotRows) (n : ℕ) : Type 0 where
   pub schedule : IsSchedule p m.schedule
+  pub block : AreColumns m.asked.items m.columns.first m.columns
   pub columns : AreColumnsOf p m.columns
   pub room : length (counts_of m.counts) ≡ m.schedule.slots * m.columns.width
   pub width : length (made_row m.counts) ≡ m.columns.width

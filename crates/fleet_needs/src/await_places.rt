@@ -1,8 +1,8 @@
 //! Where awaits and the rows that stand for actions are found in lists of all of a program, which go agent by agent,
 //! action by action. Places count from 0.
 
-ghost use Rattle.std.specs.Prelude.{◌≡◌, ◌+◌, ◌<◌, ◌≤◌, length, IfOk};
-ghost use Rattle.fleet_model.specs.{Program.awaits_of, Program.moves, Program.total_awaits, Chain.IsAction};
+ghost use Rattle.std.specs.Prelude.{◌≡◌, ◌+◌, ◌<◌, ◌≤◌, length, slice_get, Some, IfOk};
+ghost use Rattle.fleet_model.specs.{Program.AreInRange, Program.awaits_of, Program.moves, Program.total_awaits, Chain.IsAction};
 ghost use Rattle.fleet_needs.specs.{Implied.AreAwaitPlaces, Implied.first_await, Places.row_place};
 
 use fleet_model::{ActionId, OutOfMemory, ProgramView, agent_awaits};
@@ -29,10 +29,10 @@ impl AwaitPlaces {
         ensures { IfOk result (AreAwaitPlaces (P.program program.now)) }
     {
         let agents = program.agents();
-        let mut firsts = Vec::with_capacity(alloc, usize::from(agents))?;
+        let mut firsts = vec![in alloc; 0; usize::from(agents)]?;
         let mut total = 0;
         for i in 0..agents {
-            firsts.push(total)?;
+            firsts[usize::from(i)] = total;
             total += agent_awaits(program, i);
         }
         Ok(AwaitPlaces { firsts })
@@ -64,5 +64,21 @@ impl AwaitPlaces {
         let before = program.awaits_before(action.agent, action.number);
         let agent = usize::from(action.agent);
         self.firsts[agent] as usize + agent + before as usize
+    }
+}
+
+/// The awaited action of await `k` of an action.
+pub(crate) fn awaited_at<P: ProgramView>(program: &P, action: ActionId, k: u16) -> ActionId
+    requires range { AreInRange (P.program program.now) }
+    requires action { IsAction (P.program program.now) action }
+    requires place { k < length (awaits_of (P.program program.now) action.agent action.number) }
+    ensures awaited { slice_get (awaits_of (P.program program.now) action.agent action.number) k
+        ≡ Some (record { agent = result.agent; count = result.number }) }
+    ensures action { IsAction (P.program program.now) result }
+{
+    let awaited = program.await_at(action.agent, action.number, k);
+    ActionId {
+        agent: awaited.agent,
+        number: awaited.count,
     }
 }

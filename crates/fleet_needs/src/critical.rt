@@ -220,6 +220,6 @@ impl OrderSource for LevelsTo {
 
     fn order<P: ProgramView>(self, alloc: Global, program: &P) -> Result<LevelOrder, OutOfMemory> {
         let levels = CriticalCosts::levels(alloc, program, self.most)?;
-        LevelOrder::by_levels(alloc, program, levels, &[])
+        LevelOrder::by_levels(alloc, program, &levels, &[])
     }
 }

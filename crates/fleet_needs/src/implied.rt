@@ -2,8 +2,8 @@
 //! that are asked for alone have a column. An action without a row awaits nothing or has flags that are set already.
 
 ghost use Rattle.std.specs.Prelude.{◌≡◌, ◌<◌, ◌≤◌, ◌+◌, Some, length, slice_get, IfOk, OnOk};
-ghost use Rattle.fleet_model.specs.{declared.program.ActionId.ActionId, declared.program.Await.Await, Program.AreInRange, Program.awaits_of, Chain.IsAction};
-ghost use Rattle.fleet_needs.specs.{Critical.AreLevels, Critical.IsNumberedTo, Critical.critical_cost, Implied.IsImpliedFlag, Schedule.IsSchedule, Columns.AreColumns, Flags.AreImplied, Flags.AreSettled, Flags.AreFlaggedIn, Flags.AreFlaggedTo, JoinPass.IsHalfMade};
+ghost use Rattle.fleet_model.specs.{declared.program.ActionId.ActionId, declared.program.Await.Await, Program.AreInRange, Program.awaits_of, Program.total_awaits, Chain.IsAction};
+ghost use Rattle.fleet_needs.specs.{Critical.AreLevels, Critical.IsNumberedTo, Critical.critical_cost, Implied.IsImpliedFlag, Schedule.AreRowsTo, Flags.AreImplied, Flags.AreSettledBy, Flags.AreFlaggedIn, Flags.AreFlaggedTo, JoinPass.AreOfSame, JoinPass.IsHalfMade};
 
 use crate::await_places::AwaitPlaces;
 use crate::critical::CriticalCosts;
@@ -47,84 +47,63 @@ pub fn implied_awaits<P: ProgramView>(
 {
     let levels = CriticalCosts::levels(alloc, program, most)?;
     let (mut implied, asked) = settle_all(alloc, program, &levels)?;
-    flag_left(alloc, program, levels, &asked, &mut implied)?;
+    flag_left(alloc, program, levels, asked, &mut implied)?;
     Ok(implied)
 }
 
-/// Flags by rows the awaits that are left open, which are for the asked agents, if any is: block by block, each with as
-/// many columns as there is room for. The levels are let go.
+/// Flags by rows the awaits that are left open, which are for the asked agents, if any is: block by block. The levels
+/// are let go.
 fn flag_left<P: ProgramView>(
     alloc: Global,
     program: &P,
     levels: CriticalCosts,
-    asked: &[bool],
+    asked: Vec<bool>,
     implied: &mut ImpliedAwaits,
 ) -> Result<(), OutOfMemory>
     requires range { AreInRange (P.program program.now) }
     requires levels { AreLevels (P.program program.now) levels }
     requires most { (a : ActionId) → IsAction (P.program program.now) a
         → critical_cost levels a ≤ u32.MAX }
-    requires asked { length asked.now ≡ length (P.program program.now) }
-    requires settled { AreSettled (P.program program.now) asked.now implied.old }
+    requires settled { AreSettledBy (P.program program.now) asked
+        (total_awaits (P.program program.now)) implied.old }
     ensures { OnOk result (AreImplied (P.program program.now) implied.new) }
 {
-    if count_asked(asked) == 0 {
+    if count_asked(&asked) == 0 {
         return Ok(());
     }
-    let order = LevelOrder::by_levels(alloc, program, levels, &implied.flags)?;
-    let mut rows = SlotRows::by_order(alloc, program, order, &implied.flags)?;
-    let mut from = 0;
-    while usize::from(from) < asked.len() {
-        from = flag_block(alloc, program, &mut rows, asked, from, implied)?;
+    let order = LevelOrder::by_levels(alloc, program, &levels, &implied.flags)?;
+    // Rows need their room.
+    drop(levels);
+    let mut rows = SlotRows::by_order(alloc, program, order, &implied.flags, asked)?;
+    while rows.next_block(alloc, program)? {
+        flag_block(program, &mut rows, implied);
     }
     Ok(())
 }
 
-/// Flags the awaits for the asked agents of the next block, row by row, and answers where that ends.
-fn flag_block<P: ProgramView>(
-    alloc: Global,
-    program: &P,
-    rows: &mut SlotRows,
-    asked: &[bool],
-    from: u16,
-    implied: &mut ImpliedAwaits,
-) -> Result<u16, OutOfMemory>
-    requires schedule { IsSchedule (P.program program.now) rows.old.schedule }
-    requires asked { length asked.now ≡ length (P.program program.now) }
-    requires from { from < length asked.now }
+/// Flags the awaits for the asked agents of a block, row by row.
+fn flag_block<P: ProgramView>(program: &P, rows: &mut SlotRows, implied: &mut ImpliedAwaits)
+    requires begun { AreRowsTo (P.program program.now) rows.old 0 }
     requires flags { AreFlaggedTo
-        (P.program program.now) rows.old.schedule asked.now from implied.old }
-    ensures { IfOk result (λ end. (from < end)
-        × IsSchedule (P.program program.now) rows.new.schedule
-        × AreFlaggedTo (P.program program.now) rows.new.schedule asked.now end implied.new) }
+        (P.program program.now) rows.old rows.old.columns.first implied.old }
+    ensures same { AreOfSame rows.old rows.new }
+    ensures flags { AreFlaggedTo
+        (P.program program.now) rows.new rows.new.columns.end implied.new }
 {
-    rows.begin(alloc, program, asked, from)?;
     for n in 0..rows.schedule.rows() {
         rows.join_others(program, n);
-        flag_row(program, rows, n, asked, implied);
+        flag_row(program, rows, n, implied);
         rows.finish_row(program, n);
     }
-    Ok(rows.columns.end)
 }
 
 /// Flags the awaits of an action whose agents have a column: whether others imply them.
-fn flag_row<P: ProgramView>(
-    program: &P,
-    rows: &SlotRows,
-    n: usize,
-    asked: &[bool],
-    implied: &mut ImpliedAwaits,
-)
+fn flag_row<P: ProgramView>(program: &P, rows: &SlotRows, n: usize, implied: &mut ImpliedAwaits)
     requires joined { IsHalfMade (P.program program.now) rows.now n }
-    requires block { AreColumns asked.now rows.now.columns.first rows.now.columns }
-    requires flags { AreFlaggedIn (P.program program.now)
-        rows.now.schedule asked.now rows.now.columns n 0 implied.old }
-    ensures { AreFlaggedIn (P.program program.now)
-        rows.now.schedule asked.now rows.now.columns (n + 1) 0 implied.new }
+    requires flags { AreFlaggedIn (P.program program.now) rows.now n 0 implied.old }
+    ensures { AreFlaggedIn (P.program program.now) rows.now (n + 1) 0 implied.new }
 {
     let _ = program.agents();
-    // Of who is asked for the contract alone speaks.
-    let _ = asked;
     let join = rows.schedule.join_after(program, n);
     for k in 0..join.count {
         let wait = rows.schedule.need(program, n, &join, k).wait;

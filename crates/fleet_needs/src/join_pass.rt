@@ -1,9 +1,9 @@
 //! The rows of a schedule, which has the room of one block of columns after another, and the pass over them in a block:
 //! each is made of rows whose counts are still in their slots, and kept in its own slot.
 
-ghost use Rattle.std.specs.Prelude.{◌≡◌, ℕ, ◌<◌, ◌≤◌, length, max, IfOk, OnOk, Some};
+ghost use Rattle.std.specs.Prelude.{◌≡◌, ℕ, ◌<◌, ◌≤◌, length, vec_len, max, IfOk, Some};
 ghost use Rattle.fleet_model.specs.{declared.limits.TheConstants.MAX_AGENTS, Program.AreInRange};
-ghost use Rattle.fleet_needs.specs.{Columns.AreColumns, Columns.agents_in, Columns.column_of, Order.IsLevelOrder, Block.HasColumn, Counts.made_row, Counts.CanHold, Schedule.AreRows, Schedule.IsSchedule, Schedule.IsScheduleBut, Schedule.IsScheduleOf, Schedule.AreRowsTo, Schedule.joins_in, JoinPass.AreOfSame, JoinPass.HasOwnSet, JoinPass.IsBegun, JoinPass.IsHalfMade, JoinPass.IsMade};
+ghost use Rattle.fleet_needs.specs.{Columns.AreColumns, Columns.agents_in, Columns.column_of, Order.IsLevelOrder, Block.HasColumn, Counts.made_row, Counts.CanHold, Schedule.AreRows, Schedule.AreOfProgram, Schedule.AreRowsFor, Schedule.AreRowsUnless, Schedule.AreRowsTo, Schedule.joins_in, JoinPass.AreOfSame, JoinPass.HasOwnSet, JoinPass.IsHalfMade, JoinPass.IsMade, JoinPass.IsNextBlock};
 
 use crate::counts::Counts;
 use crate::level_order::LevelOrder;
@@ -96,6 +96,9 @@ fn clear_own(columns: &Columns, counts: &mut Counts, agent: u16)
 /// The rows of a schedule in the columns of one block after another, slot by slot.
 pub struct SlotRows {
     pub(crate) schedule: Schedule,
+    /// For each agent whether its columns are asked for.
+    asked: Vec<bool>,
+    /// Those of the block that has come.
     pub(crate) columns: Columns,
     pub(crate) counts: Counts,
 }
@@ -104,10 +107,12 @@ impl Drop for SlotRows {
     fn drop(self) {
         let SlotRows {
             schedule,
+            asked,
             columns,
             counts,
         } = self;
         drop(schedule);
+        drop(asked);
         drop(columns);
         drop(counts);
     }
@@ -120,25 +125,28 @@ impl SlotRows {
         program: &P,
         order: LevelOrder,
         implied: &[bool],
+        asked: Vec<bool>,
     ) -> Result<SlotRows, OutOfMemory>
         requires range { AreInRange (P.program program.now) }
         requires order { IsLevelOrder (P.program program.now) implied.now order }
-        ensures { IfOk result
-            (λ m. IsScheduleBut (P.program program.now) implied.now m.schedule) }
+        requires asked { vec_len asked ≡ length (P.program program.now) }
+        ensures { IfOk result (AreRowsUnless (P.program program.now) implied.now asked) }
     {
         let (joins, standing) = Joins::of(alloc, program, order, implied)?;
         drop(standing);
-        SlotRows::of(alloc, program, joins)
+        SlotRows::of(alloc, program, joins, asked)
     }
 
-    /// These rows, each with a slot, and no column yet.
+    /// These rows, each with a slot, before the first block.
     pub(crate) fn of<P: ProgramView>(
         alloc: Global,
         program: &P,
         joins: Joins,
+        asked: Vec<bool>,
     ) -> Result<SlotRows, OutOfMemory>
-        requires { AreRows (P.program program.now) joins }
-        ensures { IfOk result (λ m. IsScheduleOf (P.program program.now) joins m.schedule) }
+        requires joins { AreRows (P.program program.now) joins }
+        requires asked { vec_len asked ≡ length (P.program program.now) }
+        ensures { IfOk result (AreRowsFor (P.program program.now) joins asked) }
     {
         let (outs, slots) = Slots::of(alloc, &joins)?;
         Ok(SlotRows {
@@ -148,6 +156,7 @@ impl SlotRows {
                 slots,
                 is_narrow: is_narrow(program),
             },
+            asked,
             columns: Columns {
                 of_agent: Vec::new(alloc),
                 width: 0,
@@ -161,32 +170,31 @@ impl SlotRows {
         })
     }
 
-    /// Takes the columns of the next block, for the agents from this one on that are flagged in `asked`, as many as
-    /// there is room for. None of the rows is made yet.
-    pub(crate) fn begin<P: ProgramView>(
+    /// Takes the columns of the next block, as many as there is room for, of which no row is made yet; or says that the
+    /// one before was the last.
+    pub(crate) fn next_block<P: ProgramView>(
         &mut self,
         alloc: Global,
         program: &P,
-        asked: &[bool],
-        from: u16,
-    ) -> Result<(), OutOfMemory>
-        requires schedule { IsSchedule (P.program program.now) self.old.schedule }
-        requires asked { length asked.now ≡ length (P.program program.now) }
-        requires from { from < length asked.now }
-        ensures { OnOk result
-            (IsBegun (P.program program.now) self.old.schedule asked.now from self.new) }
+    ) -> Result<bool, OutOfMemory>
+        requires { AreOfProgram (P.program program.now) self.old }
+        ensures { IfOk result (IsNextBlock (P.program program.now) self.old self.new) }
     {
         let _ = program.agents();
+        let from = self.columns.end;
+        if usize::from(from) >= self.asked.len() {
+            return Ok(false);
+        }
         // The room of the block before is let go first.
         self.counts = Counts::Wide {
             all: Vec::new(alloc),
             row: Vec::new(alloc),
         };
-        self.columns = Columns::choose(alloc, asked, from, self.schedule.columns_at_once())?;
+        self.columns = Columns::choose(alloc, &self.asked, from, self.schedule.columns_at_once())?;
         let width = usize::from(self.columns.width);
         let room = self.schedule.slots as usize * width;
         self.counts = Counts::zeros(alloc, room, width, self.schedule.is_narrow)?;
-        Ok(())
+        Ok(true)
     }
 
     /// Makes the row of all that the join after n others directly needs, but for the count of each awaited agent.

@@ -2,7 +2,7 @@
 
 ghost use Rattle.std.specs.Prelude.{◌≡◌, ◌≢◌, ◌+◌, ◌<◌, length, slice_index, All, IfOk};
 ghost use Rattle.fleet_model.specs.Program.{AreInRange};
-ghost use Rattle.fleet_needs.specs.{Asked.AreAnswersIn, Asked.IsQuestion, Schedule.IsSchedule, Answering.AreAnsweredFrom, Answering.HasAnswered, Answering.IsAnswering, Answering.IsRowAt, Answering.AreListedFor, Answering.questions_in, Counts.made_row, Joins.AreOwn, Joins.AreStanding, Joins.rows_of};
+ghost use Rattle.fleet_needs.specs.{Asked.AreAnswersIn, Asked.AreAskedFor, Asked.IsQuestion, Schedule.AreOfProgram, JoinPass.AreOfSame, JoinPass.IsBegun, Answering.AreAnsweredFrom, Answering.IsAnswering, Answering.IsRowAt, Answering.AreListedFor, Answering.questions_in, Counts.made_row, Joins.AreOwn, Joins.AreStanding, Joins.rows_of};
 
 use crate::counts::Counts;
 use crate::join_pass::SlotRows;
@@ -39,46 +39,56 @@ pub fn answer_questions<P: ProgramView, S: OrderSource + Drop>(
     let (joins, standing) = Joins::of(alloc, program, order, &[])?;
     let answering = Answering::of(alloc, program, &joins, &standing, questions)?;
     drop(standing);
-    let rows = SlotRows::of(alloc, program, joins)?;
+    let asked = first_agents(alloc, program, questions)?;
+    let rows = SlotRows::of(alloc, program, joins, asked)?;
     answer_all(alloc, program, rows, answering)
 }
 
-/// The answers to the questions, block by block, each with as many columns as there is room for.
+/// For each agent of the program whether its columns are asked for: those of the questions' first actions are.
+fn first_agents<P: ProgramView>(
+    alloc: Global,
+    program: &P,
+    questions: &[Question],
+) -> Result<Vec<bool>, OutOfMemory>
+    requires { All (IsQuestion (P.program program.now)) questions.now }
+    ensures { IfOk result (AreAskedFor (P.program program.now) questions.now) }
+{
+    let mut asked = vec![in alloc; false; usize::from(program.agents())]?;
+    for k in 0..questions.len() {
+        asked[usize::from(questions[k].first.agent)] = true;
+    }
+    Ok(asked)
+}
+
+/// The answers to the questions, block by block.
 fn answer_all<P: ProgramView>(
     alloc: Global,
     program: &P,
     rows: SlotRows,
     answering: Answering<'_>,
 ) -> Result<Vec<bool>, OutOfMemory>
-    requires schedule { IsSchedule (P.program program.now) rows.schedule }
-    requires answers { AreAnsweredFrom (P.program program.now) rows.schedule 0 answering }
+    requires rows { AreOfProgram (P.program program.now) rows }
+    requires answers { AreAnsweredFrom (P.program program.now) rows rows.columns.end answering }
     ensures { IfOk result (AreAnswersIn (P.program program.now) (questions_in answering.entry)) }
 {
     let mut answering = answering;
     let mut rows = rows;
-    let mut from = 0;
-    while usize::from(from) < answering.asked.len() {
-        from = answer_block(alloc, program, &mut rows, from, &mut answering)?;
+    while rows.next_block(alloc, program)? {
+        answer_block(program, &mut rows, &mut answering);
     }
     Ok(answering.flags)
 }
 
-/// Answers the questions whose first agents have a column in the next block, row by row; answers where that ends.
-fn answer_block<P: ProgramView>(
-    alloc: Global,
-    program: &P,
-    rows: &mut SlotRows,
-    from: u16,
-    answering: &mut Answering<'_>,
-) -> Result<u16, OutOfMemory>
-    requires schedule { IsSchedule (P.program program.now) rows.old.schedule }
-    requires from { from < length (P.program program.now) }
+/// Answers the questions whose first agents have a column in a block, row by row.
+fn answer_block<P: ProgramView>(program: &P, rows: &mut SlotRows, answering: &mut Answering<'_>)
+    requires begun { IsBegun (P.program program.now) rows.old }
     requires answers { AreAnsweredFrom
-        (P.program program.now) rows.old.schedule from answering.old }
-    ensures { IfOk result (λ end. HasAnswered (P.program program.now)
-        rows.new.schedule from end answering.old answering.new) }
+        (P.program program.now) rows.old rows.old.columns.first answering.old }
+    ensures same { AreOfSame rows.old rows.new }
+    ensures answers { AreAnsweredFrom
+        (P.program program.now) rows.new rows.new.columns.end answering.new }
+    ensures questions { questions_in answering.new ≡ questions_in answering.old }
 {
-    rows.begin(alloc, program, &answering.asked, from)?;
     answering.next = 0;
     answering.answer_row(program, rows, 0);
     for n in 0..rows.schedule.rows() {
@@ -86,7 +96,6 @@ fn answer_block<P: ProgramView>(
         rows.finish_row(program, n);
         answering.answer_row(program, rows, n + 1);
     }
-    Ok(rows.columns.end)
 }
 
 /// A question by its place among all, and the row that stands for its last action.
@@ -100,8 +109,6 @@ pub(crate) struct RowQuestion {
 #[derive(Drop)]
 pub(crate) struct Answering<'a> {
     questions: &'a [Question],
-    /// The agents whose columns are asked for: those of the first actions.
-    asked: Vec<bool>,
     rows: Vec<RowQuestion>,
     flags: Vec<bool>,
     /// How many of them have come in this block.
@@ -128,19 +135,15 @@ impl<'a> Answering<'a> {
         if count > u32::MAX as usize {
             return Err(OutOfMemory);
         }
-        let mut asked = vec![in alloc; false; usize::from(program.agents())]?;
-        let mut rows = Vec::with_capacity(alloc, count)?;
+        let mut rows = vec![in alloc; RowQuestion { row: 0, place: 0 }; count]?;
         for k in 0..count {
-            let Question { first, last } = questions[k];
-            asked[usize::from(first.agent)] = true;
-            let row = standing.row_of(program, last);
+            let row = standing.row_of(program, questions[k].last);
             let place = k as u32;
-            rows.push(RowQuestion { row, place })?;
+            rows[k] = RowQuestion { row, place };
         }
         rows.sort_unstable_by_key(|question| question.row);
         Ok(Answering {
             questions,
-            asked,
             rows,
             flags: vec![in alloc; false; count]?,
             next: 0,
@@ -151,10 +154,8 @@ impl<'a> Answering<'a> {
     fn answer_row<P: ProgramView>(&mut self, program: &P, rows: &SlotRows, number: usize)
         requires own { AreOwn (P.program program.now) }
         requires row { IsRowAt (P.program program.now) rows.now number }
-        requires answers { IsAnswering (P.program program.now)
-            rows.now.schedule rows.now.columns number self.old }
-        ensures answers { IsAnswering (P.program program.now)
-            rows.now.schedule rows.now.columns (number + 1) self.new }
+        requires answers { IsAnswering (P.program program.now) rows.now number self.old }
+        ensures answers { IsAnswering (P.program program.now) rows.now (number + 1) self.new }
         ensures same { questions_in self.new ≡ questions_in self.old }
     {
         // Of the program the contract alone speaks.

@@ -5,7 +5,7 @@ ghost use Rattle.std.specs.Prelude.{◌≡◌, ◌+◌, ◌++◌, ◌*◌, ◌<�
 ghost use Rattle.fleet_model.specs.{declared.limits.TheConstants.MAX_AGENTS, declared.program.ActionId.ActionId, Program.AreInRange, Program.moves, Chain.IsAction};
 ghost use Rattle.fleet_needs.specs.{Implied.AreAwaitPlaces, Joins.AreAllListed, Joins.AreListedTo, Joins.AreStanding, Joins.HasAllRows, Joins.HasRoom, Joins.IsFilled, Joins.IsUpToLast, Joins.action_at, Joins.base_of, Joins.end_of, Joins.need_at, Joins.needs_in, Joins.needs_of, Joins.row_of, Joins.rows_of, Order.AreKeys, Order.IsAwaiting, Order.IsLevelOrder, Order.named_in, Schedule.AreInOrder, Schedule.AreRows, Schedule.AreRowsBut, Schedule.IsSchedule, Schedule.IsNextJoin, Schedule.IsNextNeed, Schedule.joins_in, Schedule.next_action, Schedule.AreAllSlotted, Schedule.AreSlottedFrom, Schedule.counts_at_once, Schedule.slot_of, Slots.IsFree, Slots.IsHeld, Slots.rows_in};
 
-use crate::await_places::AwaitPlaces;
+use crate::await_places::{AwaitPlaces, awaited_at};
 use crate::level_order::{LevelOrder, action_in, key_of, value_in};
 use fleet_model::{ActionId, Await, MAX_AGENTS, OutOfMemory, ProgramView, total_awaits};
 use std::alloc::Global;
@@ -66,9 +66,8 @@ impl Joins {
     {
         // Of what is flagged the contract alone speaks.
         let _ = implied;
-        let mut order = order;
-        order.sort();
-        let LevelOrder { places, keys } = order;
+        let LevelOrder { places, mut keys } = order;
+        keys.sort_unstable();
         if keys.len() >= u32::MAX as usize {
             return Err(OutOfMemory);
         }
@@ -93,9 +92,8 @@ impl Joins {
         let mut joins = Joins {
             keys,
             awaits: Vec::with_capacity(alloc, total_awaits(program) as usize)?,
-            ends: Vec::with_capacity(alloc, count + 1)?,
+            ends: vec![in alloc; 0; count + 1]?,
         };
-        joins.ends.push(0)?;
         for n in 0..count {
             joins.list(program, standing, n)?;
         }
@@ -125,12 +123,16 @@ impl Joins {
             number: action.number - 1,
         };
         self.keys[n] = key_of(action, standing.row_of(program, before));
-        standing.list_awaits(program, action, &mut self.awaits)?;
-        let end = self.awaits.len();
+        let awaits = &mut self.awaits;
+        for k in 0..program.await_count(action.agent, action.number) {
+            let awaited = awaited_at(program, action, k);
+            awaits.push(key_of(awaited, standing.row_of(program, awaited)))?;
+        }
+        let end = awaits.len();
         if end > u32::MAX as usize {
             return Err(OutOfMemory);
         }
-        self.ends.push(end as u32)?;
+        self.ends[n + 1] = end as u32;
         Ok(())
     }
 
@@ -336,31 +338,6 @@ impl Standing {
         ensures { result ≡ row_of (P.program program.now) self.now action }
     {
         self.rows[self.places.row_place(program, action)].saturating_sub(1)
-    }
-
-    /// Lists the keys of what the action needs by its awaits.
-    fn list_awaits<P: ProgramView>(
-        &self,
-        program: &P,
-        action: ActionId,
-        keys: &mut Vec<u64>,
-    ) -> Result<(), OutOfMemory>
-        requires range { AreInRange (P.program program.now) }
-        requires room { HasRoom (P.program program.now) self.now }
-        requires action { IsAction (P.program program.now) action }
-        ensures { OnOk result (needs_in keys.new
-            ≡ needs_in keys.old ++ needs_of (P.program program.now) self.now action) }
-    {
-        let _ = program.agents();
-        for k in 0..program.await_count(action.agent, action.number) {
-            let wait = program.await_at(action.agent, action.number, k);
-            let awaited = ActionId {
-                agent: wait.agent,
-                number: wait.count,
-            };
-            keys.push(key_of(awaited, self.row_of(program, awaited)))?;
-        }
-        Ok(())
     }
 }
 

@@ -5,7 +5,7 @@ ghost use Rattle.std.specs.Prelude.{◌≡◌, ◌+◌, ◌<◌, ◌≤◌, true
 ghost use Rattle.fleet_model.specs.{Program.AreInRange, Program.awaits_of, Program.total_awaits, Chain.IsAction, Chain.Reaches};
 ghost use Rattle.fleet_needs.specs.{Flags.AreSettledBy, Implied.first_await, Critical.AreLevels, Critical.critical_cost, Settled.IsAskedIf, Settled.IsKnown, Settled.IsLook, Settled.ReachesNeed, Settled.IsOpenTo, Settled.HasOpenNeed};
 
-use crate::await_places::AwaitPlaces;
+use crate::await_places::{AwaitPlaces, awaited_at};
 use crate::critical::CriticalCosts;
 use crate::implied::ImpliedAwaits;
 use fleet_model::{ActionId, OutOfMemory, ProgramView, total_awaits};
@@ -190,22 +190,6 @@ fn ask_if(is_open: bool, agent: u16, asked: &mut Vec<bool>)
 {
     if is_open {
         asked[usize::from(agent)] = true;
-    }
-}
-
-/// The awaited action of await `k` of an action.
-fn awaited_at<P: ProgramView>(program: &P, action: ActionId, k: u16) -> ActionId
-    requires range { AreInRange (P.program program.now) }
-    requires action { IsAction (P.program program.now) action }
-    requires place { k < length (awaits_of (P.program program.now) action.agent action.number) }
-    ensures awaited { slice_get (awaits_of (P.program program.now) action.agent action.number) k
-        ≡ Some (record { agent = result.agent; count = result.number }) }
-    ensures action { IsAction (P.program program.now) result }
-{
-    let awaited = program.await_at(action.agent, action.number, k);
-    ActionId {
-        agent: awaited.agent,
-        number: awaited.count,
     }
 }
 

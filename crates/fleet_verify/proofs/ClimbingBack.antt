@@ -1,7 +1,8 @@
 -- Stretches that are followed back along levels that rise by one.
-use Rattle.fleet_verify.proofs.Words.{◌≡◌, ◌≢◌, ℕ, zero, suc, ◌+◌, ◌-◌, ◌<◌, ◌≤◌, List, refl, sym, ap, subst, arith, inl, ActionId, Program, IsAction, IsCriticalCost, one_cost, level_in, AreCostRows, LeadsBack, IsStretchTo, IsWholeTo, of_agent, LONGEST}
+use Rattle.fleet_verify.proofs.Words.{◌≡◌, ◌≢◌, ℕ, zero, suc, ◌+◌, ◌-◌, ◌<◌, ◌≤◌, List, refl, sym, ap, subst, arith, inl, ActionId, Program, IsAction, IsCriticalCost, level_in, AreCostRows, LeadsBack, IsStretchTo, IsWholeTo, of_agent, LONGEST}
 use Rattle.fleet_verify.proofs.CriticalPaths.{stretch_begins, stretch_on}
 use Rattle.fleet_verify.proofs.Members.{same_action}
+use Rattle.fleet_verify.proofs.Timed.{one_cost}
 
 -- a stretch goes on to an action from which on each leads back to the one before
 pub stretch_down : (p : Program) (cost : ActionId → ℕ) (last : ActionId) (total low time : ℕ) → last.number < low + LONGEST → IsCriticalCost p cost (of_agent last low) time

@@ -1,6 +1,6 @@
 -- Critical paths: when actions end by their costs, and that something may always be done.
-use Rattle.fleet_verify.proofs.Words.{◌≡◌, ◌≢◌, ℕ, zero, suc, ◌+◌, ◌-◌, ◌<◌, ◌≤◌, Bool, true, false, List, [], ◌∷◌, ◌++◌, length, get_or, refl, ap, sym, subst, ◌∙◌, arith, inl, inr, ◌⊎◌, Option, Some, None, cond, map, map-id, sum_by, count_by, nat_lt, IsTrue, ◌↔◌, slice_get, reverse, IfSome, IfNone, Contains, cases_lt, reverse-append, get_or_past, length_push, get_or_push, get_or_append_left, append-nil, same_Some, none-some, slice_get_past, slice_get-get_or, slice_get_within, get_or_from_slice_get, option_map_or, AgentProgram, sum_by-append, sum_by-cons, sum_by_push, map-range_with_len_more, ActionId, Await, Program, moves, awaits_of, AreInRange, IsAction, DirectlyNeeds, ChainFrom, Reaches, Reaches-first, EndsChainOfCost, IsCriticalCost, IsNumbering, awaited, indices, Schedule, IsSchedule, HasBegunBy, HasEndedBy, NeedsNoStalled, but_last, chain_first, chain_last, chain_join, own_reach, Reaches-trans, ends_dearer, need_action, Reaches-need, Reaches-refl, range_with_len, one_cost, own_cost, critical_cost, level_in, AreEnds, HaveArrivedAt, IsLatest, IsLater, IsAwaitedUntil, IsNeedUntil, LeadsBack, IsWayTo, IsStretchTo, of_agent, IsPathOfCost, IsCriticalPath, EachFits, IsFreeTo, EachFreeTo, AreReached, StopsOthers, is_broken, broken_cost, last_action, first_of, stretch_actions, stretch_between, path_actions, Stretch, LONGEST, IsOwnBefore}
-use Rattle.fleet_verify.proofs.Timed.{critical, ends_in_time, needs_unended, by_or_not}
+use Rattle.fleet_verify.proofs.Words.{◌≡◌, ◌≢◌, ℕ, zero, suc, ◌+◌, ◌-◌, ◌<◌, ◌≤◌, Bool, true, false, List, [], ◌∷◌, ◌++◌, length, get_or, refl, ap, sym, subst, ◌∙◌, arith, inl, inr, ◌⊎◌, Option, Some, None, cond, map, map-id, sum_by, count_by, nat_lt, IsTrue, ◌↔◌, slice_get, reverse, IfSome, IfNone, Contains, cases_lt, reverse-append, get_or_past, length_push, get_or_push, get_or_append_left, append-nil, same_Some, none-some, slice_get_past, slice_get-get_or, slice_get_within, get_or_from_slice_get, option_map_or, AgentProgram, sum_by-append, sum_by-cons, sum_by_push, map-range_with_len_more, ActionId, Await, Program, moves, awaits_of, AreInRange, IsAction, DirectlyNeeds, ChainFrom, Reaches, Reaches-first, EndsChainOfCost, IsCriticalCost, IsNumbering, awaited, indices, Schedule, IsSchedule, HasBegunBy, HasEndedBy, NeedsNoStalled, but_last, chain_first, chain_last, chain_join, own_reach, Reaches-trans, ends_dearer, need_action, Reaches-need, Reaches-refl, range_with_len, own_cost, critical_cost, level_in, AreEnds, HaveArrivedAt, IsLatest, IsLater, IsAwaitedUntil, IsNeedUntil, LeadsBack, IsWayTo, IsStretchTo, of_agent, IsPathOfCost, IsCriticalPath, EachFits, IsFreeTo, EachFreeTo, AreReached, StopsOthers, is_broken, broken_cost, last_action, first_of, stretch_actions, stretch_between, path_actions, Stretch, LONGEST, IsOwnBefore}
+use Rattle.fleet_verify.proofs.Timed.{critical, ends_in_time, needs_unended, by_or_not, one_cost}
 use Rattle.fleet_verify.specs.declared.times.Ends.{Ends}
 use Rattle.fleet_verify.specs.declared.times.Ends.TheVariants.{Costs, Levels}
 use Rattle.fleet_verify.proofs.Members.{same_action}

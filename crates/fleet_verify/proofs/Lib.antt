@@ -48,3 +48,4 @@ pub mod Remains
 pub mod CriticalPaths
 pub mod ClimbingBack
 pub mod Stretches
+pub mod CoveredLanes

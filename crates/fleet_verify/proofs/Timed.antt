@@ -17,6 +17,10 @@ by_or_not (Some t) x = elim (cases_lt x t) [
   | inr by ↦ inl (t, refl, by)
 ]
 
+-- an action has one critical cost
+pub one_cost : (p : Program) (cost : ActionId → ℕ) (b : ActionId) (m n : ℕ) → IsCriticalCost p cost b m → IsCriticalCost p cost b n → m ≡ n
+one_cost p cost b m n c d = omega (arith, c.most n d.some, d.most m c.some)
+
 -- ---- chains
 
 module _ (p : Program) (s : Schedule) (is : IsSchedule p s) (x : ℕ) where

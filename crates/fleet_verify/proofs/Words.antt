@@ -57,7 +57,7 @@ pub use Rattle.fleet_model.specs.declared.program.Await.{Await}
 pub use Rattle.fleet_model.specs.declared.program.Visit.{Visit}
 pub use Rattle.fleet_model.specs.declared.standing.Standing.{Standing}
 pub use Rattle.fleet_model.specs.declared.task.Task.{Task}
-pub use Rattle.fleet_needs.proofs.Walking.{one_cost, own_cost, IsBound, bound_of, bound_on}
+pub use Rattle.fleet_needs.proofs.Walking.{own_cost, IsBound, bound_of, bound_on}
 pub use Rattle.fleet_needs.specs.Asked.{AreAnswers, IsQuestion}
 pub use Rattle.fleet_needs.specs.Critical.{IsNumberedTo, critical_cost}
 pub use Rattle.fleet_needs.specs.Order.{IsOrderTo, IsLevelOrder}

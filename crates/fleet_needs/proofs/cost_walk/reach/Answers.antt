@@ -15,7 +15,12 @@ loop-walk-preserved-in_default g c =
     let w = c.loop-walk.walk in
     let was = c.loop-walk.invariant in
     let noted = rw c.in_default.is at c.in_ok-awaited-in-None.ensures.noted in
-    record { walk = c.in_ok-awaited-in-None.ensures.walk; grown = λ j. omega (arith, was.grown j, (grown w c.advance.new.walk c.loop-walk.last.agent 1 (omega (arith, was.last.action.agent, was.walk.rows)) noted j).0); goals = was.goals; last = was.last }
+    record {
+      walk = c.in_ok-awaited-in-None.ensures.walk;
+      grown = λ j. omega (arith, was.grown j, (grown w c.advance.new.walk c.loop-walk.last.agent 1 (omega (arith, was.last.action.agent, was.walk.rows)) noted j).0);
+      goals = was.goals;
+      last = was.last;
+    }
 
 pub loop-walk-smaller-in-Some-2 : goal.loop-walk-smaller-in-Some-2
 loop-walk-smaller-in-Some-2 g c =

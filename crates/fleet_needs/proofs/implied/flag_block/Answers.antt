@@ -1,27 +1,17 @@
-use Rattle.fleet_needs.proofs.Words.{arith, ap, sym, ◌∙◌, joins_in}
-use Rattle.fleet_needs.proofs.Flagged.{flags_after, flags_begun}
+use Rattle.fleet_needs.proofs.Words.{ap, arith, refl, joins_in}
+use Rattle.fleet_needs.proofs.{Flagged.flags_after, Flagged.flags_begun, RowsMade.same_on}
 use Rattle.fleet_needs.proofs.implied.flag_block.Goals as goal
 
 pub loop-n-init : goal.loop-n-init
-loop-n-init g c =
-    let p = g.P.ProgramView.program c.args.program.now in
-    let begun = c.in_ok-begin.ensures in
-    record { first = begun.first; block = begun.block; schedule = begun.schedule; rows = begun.rows; flags = flags_begun p c.begin.new.self.schedule c.args.asked.now c.begin.new.self.columns c.args.implied.now (rw (begun.schedule, begun.first) c.requires.flags) }
+loop-n-init g c = record { same = record { schedule = refl; asked = refl; columns = refl }; rows = c.requires.begun; flags = flags_begun _ c.args.rows.now c.args.implied.now c.requires.flags }
+
+pub flag_row-requires-clause-flags : goal.flag_row-requires-clause-flags
+flag_row-requires-clause-flags g c = (let same = c.join_others.ensures.same in rw (same.schedule, same.asked, same.columns) c.loop-n.invariant.flags)
 
 pub loop-n-preserved : goal.loop-n-preserved
 loop-n-preserved g c =
-    let was = c.loop-n.invariant in
-    let same = c.join_others.ensures.same in
-    let made = c.finish_row.ensures in
-    record { first = rw (made.same.columns, same.columns) was.first; block = rw (made.same.columns, same.columns) was.block; schedule = made.same.schedule ∙ same.schedule ∙ was.schedule; rows = made.made.rows; flags = rw (made.same.schedule, made.same.columns) c.flag_row.ensures }
+    let same = c.finish_row.ensures.same in
+    record { same = same_on _ _ _ (same_on _ _ _ c.loop-n.invariant.same c.join_others.ensures.same) same; rows = c.finish_row.ensures.made.rows; flags = rw (same.schedule, same.asked, same.columns) c.flag_row.ensures }
 
-pub flag_row-requires-clause-block : goal.flag_row-requires-clause-block
-flag_row-requires-clause-block g c = rw c.join_others.ensures.same.columns c.loop-n.invariant.block
-
-pub flag_row-requires-clause-flags : goal.flag_row-requires-clause-flags
-flag_row-requires-clause-flags g c = rw (c.join_others.ensures.same.schedule, c.join_others.ensures.same.columns) c.loop-n.invariant.flags
-
-pub returns : goal.returns
-returns g c =
-    let was = c.loop-n.invariant in
-    (omega (arith, was.first, was.block.on), was.rows.schedule, flags_after (g.P.ProgramView.program c.args.program.now) c.loop-n.rows.schedule c.args.asked.now c.loop-n.rows.columns c.loop-n.n c.loop-n.implied (omega (arith, c.loop-n-test.false, c.rows-n-end.ensures, ap joins_in (c.in_ok-begin.ensures.schedule ∙ sym was.schedule))) was.flags)
+pub returns-clause-flags : goal.returns-clause-flags
+returns-clause-flags g c = flags_after _ c.loop-n.rows c.loop-n.n c.loop-n.implied (omega (arith, c.loop-n-test.false, c.rows-n-end.ensures, ap joins_in c.loop-n.invariant.same.schedule)) c.loop-n.invariant.flags

@@ -2,4 +2,4 @@ use Rattle.fleet_needs.proofs.Words.{AreFlaggedIn}
 use Rattle.fleet_needs.proofs.implied.flag_row.Given as goal
 
 abbrev pub invariant-loop-k : goal.invariant-loop-k
-invariant-loop-k g l = AreFlaggedIn (g.P.ProgramView.program l.program) l.rows.schedule l.asked l.rows.columns l.n l.k l.implied
+invariant-loop-k g l = AreFlaggedIn (g.P.ProgramView.program l.program) l.rows l.n l.k l.implied

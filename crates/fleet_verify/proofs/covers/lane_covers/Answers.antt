@@ -1,5 +1,5 @@
 use Rattle.std.proofs.Common.{◌≡◌, ◌+◌, ◌-◌, ◌≤◌, get_or, subst, sym, ◌∙◌, arith}
-use Rattle.fleet_needs.proofs.Lanes.{masked, none_less, all_at_least, eq_zero, zero_eq}
+use Rattle.fleet_verify.proofs.CoveredLanes.{masked, none_less, all_at_least, eq_zero, zero_eq}
 use Rattle.fleet_verify.proofs.covers.lane_covers.Goals as goal
 
 pub returns : goal.returns

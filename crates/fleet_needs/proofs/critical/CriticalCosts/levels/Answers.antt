@@ -3,7 +3,12 @@ use Rattle.fleet_needs.proofs.Walking.{own_cost}
 use Rattle.fleet_needs.proofs.critical.CriticalCosts.levels.Goals as goal
 
 pub of-requires : goal.of-requires
-of-requires g c = record { range = c.requires.range; number = c.requires.number; rising = c.requires.rising; upto = λ a is. omega (arith, c.requires.upto a is) }
+of-requires g c = record {
+  range = c.requires.range;
+  number = c.requires.number;
+  rising = c.requires.rising;
+  upto = λ a is. omega (arith, c.requires.upto a is);
+}
 
 pub returns-clause-levels : goal.returns-clause-levels
 returns-clause-levels g c =

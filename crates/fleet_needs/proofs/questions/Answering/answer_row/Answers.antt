@@ -6,9 +6,9 @@ use Rattle.fleet_needs.proofs.questions.Answering.answer_row.Goals as goal
 pub loop-self-preserved : goal.loop-self-preserved
 loop-self-preserved g c =
     let p = g.P.ProgramView.program c.args.program.now in
-    let s = c.args.rows.now.schedule in
-    let columns = c.args.rows.now.columns in
-    let count = slice_index (made_row c.args.rows.now.counts) in
+    let made = c.args.rows.now in
+    let columns = made.columns in
+    let count = slice_index (made_row made.counts) in
     let m = c.loop-self.self in
     let h = c.loop-self.invariant.answers in
     let within : m.next < length m.rows.items = omega (arith, c.loop-self-test.true, c.len.ensures) in
@@ -17,20 +17,20 @@ loop-self-preserved g c =
     let of : x.row ≡ c.args.number =
     ap (λ (y : RowQuestion). y.row) (at ∙ sym (get_or_read m.rows.items m.next c.index.result.now within c.index.ensures unlisted)) ∙ c.if-index-number.true in
     let q : Question = question_of m.questions.now x.place in
-    let low = (next_is p s columns m c.args.number h within x at of).place in
+    let low = (next_is p made m c.args.number h within x at of).place in
     let is = h.answers.questions x.place no_question low in
-    let counts = row_counts p s columns m c.args.number h within x at of count c.requires.row.counts in
+    let counts = row_counts p made m c.args.number h within x at of count c.requires.row.counts in
     record {
       answers = elim c.match-of.branch [
         | in-Some w ↦
             let has : HasColumn columns q.first.agent w.in-Some.k = sym c.of.ensures ∙ w.in-Some.is in
             let right = answer_is p columns q count c.requires.own is counts w.in-Some.k has w.count_for-count.result w.count_for-count.ensures.own (λ ne. w.count_for-count.ensures.other ne ∙ ap count w.from.ensures) in
-            subst (λ (y : Answering). IsAnswering p s columns c.args.number (record { questions = y.questions; asked = y.asked; rows = y.rows; flags = y.flags; next = y.next + 1 })) (sym w.self-is)
-            (told_on p s columns m c.args.number h within x at of _ (length-set m.flags.items x.place _) (λ k ne. get_or-set_other m.flags.items x.place k _ false ne)
+            subst (λ (y : Answering). IsAnswering p made c.args.number (record { questions = y.questions; rows = y.rows; flags = y.flags; next = y.next + 1 })) (sym w.self-is)
+            (told_on p made m c.args.number h within x at of _ (length-set m.flags.items x.place _) (λ k ne. get_or-set_other m.flags.items x.place k _ false ne)
             (inl (subst (IsAnswer p q) (sym (get_or-set_same m.flags.items x.place _ false (omega (arith, low, h.answers.listed.flags)))) right)))
         | in_default w ↦
-            subst (λ (y : Answering). IsAnswering p s columns c.args.number (record { questions = y.questions; asked = y.asked; rows = y.rows; flags = y.flags; next = y.next + 1 })) (sym w.self-is)
-            (told_on p s columns m c.args.number h within x at of m.flags refl (λ k ne. refl) (inr (sym c.of.ensures ∙ w.in_default.is, refl)))
+            subst (λ (y : Answering). IsAnswering p made c.args.number (record { questions = y.questions; rows = y.rows; flags = y.flags; next = y.next + 1 })) (sym w.self-is)
+            (told_on p made m c.args.number h within x at of m.flags refl (λ k ne. refl) (inr (sym c.of.ensures ∙ w.in_default.is, refl)))
       ];
       same = elim c.match-of.branch [ in-Some w ↦ ap (λ (y : Answering). y.questions.now) w.self-is ∙ c.loop-self.invariant.same | in_default w ↦ ap (λ (y : Answering). y.questions.now) w.self-is ∙ c.loop-self.invariant.same ];
     }

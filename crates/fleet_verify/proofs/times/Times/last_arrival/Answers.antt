@@ -1,4 +1,5 @@
-use Rattle.fleet_verify.proofs.Words.{subst, HaveArrivedAt, one_cost}
+use Rattle.fleet_verify.proofs.Words.{subst, HaveArrivedAt}
+use Rattle.fleet_verify.proofs.Timed.{one_cost}
 use Rattle.fleet_verify.proofs.CriticalPaths.{arrived_none}
 use Rattle.fleet_verify.proofs.times.Times.last_arrival.Goals as goal
 

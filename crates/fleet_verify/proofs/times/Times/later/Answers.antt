@@ -1,4 +1,5 @@
-use Rattle.fleet_verify.proofs.Words.{◌≡◌, refl, sym, subst, ◌∙◌, arith, inl, inr, same_Some, none-some, IsAction, IsCriticalCost, one_cost}
+use Rattle.fleet_verify.proofs.Words.{◌≡◌, refl, sym, subst, ◌∙◌, arith, inl, inr, same_Some, none-some, IsAction, IsCriticalCost}
+use Rattle.fleet_verify.proofs.Timed.{one_cost}
 use Rattle.fleet_verify.proofs.CriticalPaths.{some_from}
 use Rattle.fleet_verify.proofs.times.Times.later.Goals as goal
 

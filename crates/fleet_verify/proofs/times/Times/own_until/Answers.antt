@@ -1,4 +1,5 @@
-use Rattle.fleet_verify.proofs.Words.{◌≡◌, ◌-◌, sym, subst, arith, ActionId, IsCriticalCost, one_cost}
+use Rattle.fleet_verify.proofs.Words.{◌≡◌, ◌-◌, sym, subst, arith, ActionId, IsCriticalCost}
+use Rattle.fleet_verify.proofs.Timed.{one_cost}
 use Rattle.fleet_verify.proofs.Members.{same_action}
 use Rattle.fleet_verify.proofs.times.Times.own_until.Goals as goal
 

@@ -1,5 +1,5 @@
 use Rattle.fleet_needs.proofs.Joining.{awaited_action}
-use Rattle.fleet_needs.proofs.settled.awaited_at.Goals as goal
+use Rattle.fleet_needs.proofs.await_places.awaited_at.Goals as goal
 
 pub returns-clause-action : goal.returns-clause-action
 returns-clause-action g c =

@@ -178,6 +178,9 @@ module _ (p : Program) (m : RowTable) (old new : Joins) (n key : ℕ) (l : n < l
 
   pub listed_more : AreListedTo p rows m (n + 1) new
   listed_more = record {
+    range = h.range;
+    room = h.room;
+    actions = h.actions;
     same = ap (map action_of_key) put ∙ map-set_same action_of_key old.keys.items n key 0 (named ∙ get_or-map action_of_key old.keys.items n 0 no_action within);
     bases = λ i less. ap (λ (xs : List ℕ). value_of_key (slice_index xs i)) put ∙ elim (cases_eq i n) [
       | inl e ↦ ap (λ (j : ℕ). value_of_key (slice_index (set old.keys.items n key) j)) e ∙ ap value_of_key (get_or-set_same old.keys.items n key 0 within) ∙ base ∙ ap (λ (j : ℕ). row_of p m (action_before (action_at rows j))) (sym e)

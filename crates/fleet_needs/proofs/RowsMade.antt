@@ -73,6 +73,8 @@ module _ (p : Program) (s : Schedule) (is : IsSchedule p s) (n : ℕ) (l : n < j
   next_join j named base begin end =
       let many : j.count ≡ length (awaits_of p a.agent a.number) = omega (arith, begin, end, join.count) in
       record {
+        schedule = is;
+        next = l;
         of = named;
         first = begin;
         action = join.is.action;

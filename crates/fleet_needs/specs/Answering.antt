@@ -5,7 +5,7 @@ use Rattle.std.specs.declared.alloc.Global.{Global}
 use Rattle.fleet_needs.specs.Words.{ActionId, Program}
 use Rattle.fleet_needs.specs.Asked.{IsQuestion, AreAskedFor}
 use Rattle.fleet_needs.specs.Block.{HasItsColumn, IsAnswer}
-use Rattle.fleet_needs.specs.Joins.{StandsFor}
+use Rattle.fleet_needs.specs.Joins.{AreOwn, StandsFor}
 use Rattle.fleet_needs.specs.Schedule.{joins_of, AreColumnsOf, AreRowCounts}
 use Rattle.fleet_needs.specs.Counts.{made_row}
 use Rattle.fleet_needs.specs.declared.questions.Answering.{Answering}
@@ -79,6 +79,7 @@ pub record IsAnswering (p : Program) (rows : SlotRows) (row : ℕ) (m : Answerin
 
 -- the row that is made is the one with this number
 pub record IsRowAt (p : Program) (m : SlotRows) (number : ℕ) : Type 0 where
+  pub own : AreOwn p
   pub columns : AreColumnsOf p m.columns
   pub width : length (made_row m.counts) ≡ m.columns.width
   pub counts : AreRowCounts p m.schedule m.columns number (slice_index (made_row m.counts))

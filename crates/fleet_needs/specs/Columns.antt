@@ -10,6 +10,11 @@ agents_in columns = length columns.of_agent.items
 abbrev pub column_of : Columns → ℕ → Option ℕ
 column_of columns j = get_or columns.of_agent.items j None
 
+-- so many columns, none of them of two agents
+pub record AreApart (columns : Columns) (width : ℕ) : Type 0 where
+  pub within : (j k : ℕ) → column_of columns j ≡ Some k → k < width
+  pub apart : (i j k : ℕ) → column_of columns i ≡ Some k → column_of columns j ≡ Some k → i ≡ j
+
 -- from this agent on each flagged one has a column of its own, up to the block's end
 pub record AreColumns (asked : List Bool) (from : ℕ) (columns : Columns) : Type 0 where
   pub agents : agents_in columns ≡ length asked

@@ -2,7 +2,7 @@
 use Rattle.std.specs.Prelude.{◌≡◌, ℕ, ◌-◌, ◌*◌, ◌<◌, ◌≤◌, List, [], length, get_or, slice_index}
 use Rattle.fleet_needs.specs.Words.{ActionId, Program, moves, AreInRange, IsAction, IsCriticalCost, IsNumbering}
 use Rattle.fleet_needs.specs.declared.critical.Stage.{Stage}
-use Rattle.fleet_needs.specs.declared.critical.TheConstants.{MAX_COST}
+use Rattle.fleet_needs.specs.declared.critical.TheConstants.{MAX_COST, MAX_LEVEL}
 
 -- the awaits of the program are in range, and its actions have numbers that rise along chains, of which none is greater
 pub record IsNumberedTo (p : Program) (most : ℕ) : Type 0 where
@@ -54,3 +54,4 @@ pub record AreLevels (p : Program) (m : List Finished) : Type 0 where
   pub range : AreInRange p
   pub entries : HasEntries p m
   pub rising : IsNumbering p (critical_cost m)
+  pub most : (a : ActionId) → IsAction p a → critical_cost m a ≤ MAX_LEVEL

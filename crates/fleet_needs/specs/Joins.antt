@@ -1,8 +1,8 @@
 -- Rows that are made, one for each of these actions in turn, and the rows that stand for actions.
-use Rattle.std.specs.Prelude.{◌≡◌, ◌≢◌, ℕ, ◌+◌, ◌-◌, ◌<◌, ◌≤◌, ◌⊎◌, Bool, List, length, get_or, map, slice_index, take, Vec}
+use Rattle.std.specs.Prelude.{◌≡◌, ◌≢◌, ℕ, ◌+◌, ◌-◌, ◌<◌, ◌≤◌, ◌⊎◌, All, Bool, List, length, get_or, map, slice_index, take, Vec}
 use Rattle.std.specs.List.{flat_map}
 use Rattle.std.specs.declared.alloc.Global.{Global}
-use Rattle.fleet_needs.specs.Words.{ActionId, Await, Program, awaits_of, moves, total_awaits, IsAction, Reaches, awaited}
+use Rattle.fleet_needs.specs.Words.{ActionId, Await, Program, awaits_of, moves, total_awaits, AreInRange, IsAction, Reaches, awaited}
 use Rattle.fleet_needs.specs.Implied.{AreAwaitPlaces, AreSet}
 use Rattle.fleet_needs.specs.Keys.{action_of_key, need_of_key, value_of_key}
 use Rattle.fleet_needs.specs.Places.{row_first, row_place}
@@ -17,6 +17,11 @@ AddsNone p i n = (j c : ℕ) → j ≢ i → Reaches p (record { agent = j; numb
 -- agent i adds no chain after its action q, up to action n
 abbrev pub AreQuiet : Program → ℕ → ℕ → ℕ → Type 0
 AreQuiet p i q n = (m : ℕ) → q < m → m ≤ n → AddsNone p i m
+
+-- the action is one of the program, and awaits something
+pub record IsAwaiting (p : Program) (a : ActionId) : Type 0 where
+  pub action : IsAction p a
+  pub some : 1 ≤ length (awaits_of p a.agent a.number)
 
 -- what is read past the actions
 abbrev pub no_action : ActionId
@@ -146,6 +151,9 @@ needs_of p m a = map (need_for p m) (awaits_of p a.agent a.number)
 
 -- of these rows the first n are listed, with what they are joined of
 pub record AreListedTo (p : Program) (rows : List ActionId) (m : RowTable) (n : ℕ) (x : Joins) : Type 0 where
+  pub range : AreInRange p
+  pub room : HasRoom p m
+  pub actions : All (IsAwaiting p) rows
   pub same : rows_of x ≡ rows
   pub bases : (i : ℕ) → i < n → base_of x i ≡ row_of p m (action_before (action_at rows i))
   pub awaits : needs_in x.awaits ≡ flat_map (needs_of p m) (take n rows)

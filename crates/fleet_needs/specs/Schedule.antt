@@ -5,8 +5,7 @@ use Rattle.fleet_needs.specs.Words.{ActionId, Await, Program, awaits_of, moves, 
 use Rattle.fleet_needs.specs.Block.{HasColumn}
 use Rattle.fleet_needs.specs.Columns.{AreColumns, agents_in}
 use Rattle.fleet_needs.specs.Counts.{counts_of, count_from, are_narrow, made_row}
-use Rattle.fleet_needs.specs.Joins.{AreOwn, AreRising, AreStanding, HasAllRows, HasRowUnlessSet, RowTable, StandsFor, action_at, base_of, end_of, need_at, rows_of}
-use Rattle.fleet_needs.specs.Order.{IsAwaiting}
+use Rattle.fleet_needs.specs.Joins.{AreOwn, AreRising, AreStanding, HasAllRows, HasRowUnlessSet, IsAwaiting, RowTable, StandsFor, action_at, base_of, end_of, need_at, rows_of}
 use Rattle.fleet_needs.specs.Rows.{IsColumn}
 use Rattle.fleet_needs.specs.Slots.{AreSlotted, IsStill, SlotTable, rows_in}
 use Rattle.fleet_needs.specs.declared.join_pass.Columns.{Columns}
@@ -102,6 +101,7 @@ pub record AreRowsUnless (p : Program) (flags : List Bool) (agents : Vec Bool Gl
 
 -- of these rows, those after the first n have slots, and what their joins take
 pub record AreSlottedFrom (x : Joins) (n : ℕ) (m : SlotTable) : Type 0 where
+  pub order : AreInOrder x
   pub upto : n ≤ length (rows_of x)
   pub rows : rows_in m ≡ length (rows_of x) + 1
   pub slotted : AreSlotted (TakesIn x) n n m
@@ -155,6 +155,8 @@ pub record AreRowsTo (p : Program) (m : SlotRows) (n : ℕ) : Type 0 where
 -- the join after n others, which is made for action a: where its awaits begin, how many they are, and what the join's
 -- base stands for
 pub record IsNextJoin (p : Program) (s : Schedule) (n : ℕ) (a : ActionId) (j : Join) : Type 0 where
+  pub schedule : IsSchedule p s
+  pub next : n < joins_in s
   pub of : j.action ≡ next_action s n
   pub first : j.first ≡ end_of s.joins n
   pub action : IsAction p a

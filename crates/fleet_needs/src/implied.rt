@@ -1,9 +1,9 @@
 //! Awaits that others imply: what is left open of them after a few steps back is flagged by rows, in which the agents
 //! that are asked for alone have a column. An action without a row awaits nothing or has flags that are set already.
 
-ghost use Rattle.std.specs.Prelude.{◌≡◌, ◌<◌, ◌≤◌, ◌+◌, Some, length, slice_get, IfOk, OnOk};
-ghost use Rattle.fleet_model.specs.{declared.program.ActionId.ActionId, declared.program.Await.Await, Program.AreInRange, Program.awaits_of, Program.total_awaits, Chain.IsAction};
-ghost use Rattle.fleet_needs.specs.{Critical.AreLevels, Critical.IsNumberedTo, Critical.critical_cost, Implied.IsImpliedFlag, Schedule.AreRowsTo, Flags.AreImplied, Flags.AreSettledBy, Flags.AreFlaggedIn, Flags.AreFlaggedTo, JoinPass.AreOfSame, JoinPass.IsHalfMade};
+ghost use Rattle.std.specs.Prelude.{◌≡◌, ◌<◌, ◌+◌, Some, length, slice_get, IfOk, OnOk};
+ghost use Rattle.fleet_model.specs.{declared.program.ActionId.ActionId, declared.program.Await.Await, Program.awaits_of, Program.total_awaits, Chain.IsAction};
+ghost use Rattle.fleet_needs.specs.{Critical.AreLevels, Critical.IsNumberedTo, Implied.IsImpliedFlag, Schedule.AreRowsTo, Flags.AreImplied, Flags.AreSettledBy, Flags.AreFlaggedIn, Flags.AreFlaggedTo, JoinPass.AreOfSame, JoinPass.IsHalfMade};
 
 use crate::await_places::AwaitPlaces;
 use crate::critical::CriticalCosts;
@@ -60,10 +60,7 @@ fn flag_left<P: ProgramView>(
     asked: Vec<bool>,
     implied: &mut ImpliedAwaits,
 ) -> Result<(), OutOfMemory>
-    requires range { AreInRange (P.program program.now) }
     requires levels { AreLevels (P.program program.now) levels }
-    requires most { (a : ActionId) → IsAction (P.program program.now) a
-        → critical_cost levels a ≤ u32.MAX }
     requires settled { AreSettledBy (P.program program.now) asked
         (total_awaits (P.program program.now)) implied.old }
     ensures { OnOk result (AreImplied (P.program program.now) implied.new) }

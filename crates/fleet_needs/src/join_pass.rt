@@ -1,9 +1,9 @@
 //! The rows of a schedule, which has the room of one block of columns after another, and the pass over them in a block:
 //! each is made of rows whose counts are still in their slots, and kept in its own slot.
 
-ghost use Rattle.std.specs.Prelude.{◌≡◌, ℕ, ◌<◌, ◌≤◌, length, vec_len, max, IfOk, Some};
-ghost use Rattle.fleet_model.specs.{declared.limits.TheConstants.MAX_AGENTS, Program.AreInRange};
-ghost use Rattle.fleet_needs.specs.{Columns.AreColumns, Columns.agents_in, Columns.column_of, Order.IsLevelOrder, Block.HasColumn, Counts.made_row, Counts.CanHold, Schedule.AreRows, Schedule.AreOfProgram, Schedule.AreRowsFor, Schedule.AreRowsUnless, Schedule.AreRowsTo, Schedule.joins_in, JoinPass.AreOfSame, JoinPass.HasOwnSet, JoinPass.IsHalfMade, JoinPass.IsMade, JoinPass.IsNextBlock};
+ghost use Rattle.std.specs.Prelude.{◌≡◌, ◌<◌, ◌≤◌, length, vec_len, max, IfOk, Some};
+ghost use Rattle.fleet_model.specs.{declared.limits.TheConstants.MAX_AGENTS};
+ghost use Rattle.fleet_needs.specs.{Columns.AreApart, Columns.AreColumns, Columns.agents_in, Columns.column_of, Order.IsLevelOrder, Counts.made_row, Counts.CanHold, Schedule.AreRows, Schedule.AreOfProgram, Schedule.AreRowsFor, Schedule.AreRowsUnless, Schedule.AreRowsTo, Schedule.joins_in, JoinPass.AreOfSame, JoinPass.HasOwnSet, JoinPass.IsHalfMade, JoinPass.IsMade, JoinPass.IsNextBlock};
 
 use crate::counts::Counts;
 use crate::level_order::LevelOrder;
@@ -67,8 +67,7 @@ impl Columns {
 /// Raises the row's count in the agent's own column, if it has one, to the number of an action.
 fn raise_own(columns: &Columns, counts: &mut Counts, agent: u16, number: u32)
     requires agent { agent < agents_in columns.now }
-    requires within { (j k : ℕ) → HasColumn columns.now j k → k < length (made_row counts.old) }
-    requires apart { (i j k : ℕ) → HasColumn columns.now i k → HasColumn columns.now j k → i ≡ j }
+    requires columns { AreApart columns.now (length (made_row counts.old)) }
     requires hold { CanHold counts.old number }
     ensures { HasOwnSet columns.now agent (λ count. max count number) counts.old counts.new }
 {
@@ -84,8 +83,7 @@ fn raise_own(columns: &Columns, counts: &mut Counts, agent: u16, number: u32)
 /// Clears the row's count in the agent's own column, if it has one.
 fn clear_own(columns: &Columns, counts: &mut Counts, agent: u16)
     requires agent { agent < agents_in columns.now }
-    requires within { (j k : ℕ) → HasColumn columns.now j k → k < length (made_row counts.old) }
-    requires apart { (i j k : ℕ) → HasColumn columns.now i k → HasColumn columns.now j k → i ≡ j }
+    requires columns { AreApart columns.now (length (made_row counts.old)) }
     ensures { HasOwnSet columns.now agent (λ count. 0) counts.old counts.new }
 {
     if let Some(k) = columns.of(agent) {
@@ -127,7 +125,6 @@ impl SlotRows {
         implied: &[bool],
         asked: Vec<bool>,
     ) -> Result<SlotRows, OutOfMemory>
-        requires range { AreInRange (P.program program.now) }
         requires order { IsLevelOrder (P.program program.now) implied.now order }
         requires asked { vec_len asked ≡ length (P.program program.now) }
         ensures { IfOk result (AreRowsUnless (P.program program.now) implied.now asked) }

@@ -1,8 +1,7 @@
 //! Questions for chains, answered agent by agent, by the rows of a block.
 
 ghost use Rattle.std.specs.Prelude.{◌≡◌, ◌≢◌, ◌+◌, ◌<◌, length, slice_index, All, IfOk};
-ghost use Rattle.fleet_model.specs.Program.{AreInRange};
-ghost use Rattle.fleet_needs.specs.{Asked.AreAnswersIn, Asked.AreAskedFor, Asked.IsQuestion, Schedule.AreOfProgram, JoinPass.AreOfSame, JoinPass.IsBegun, Answering.AreAnsweredFrom, Answering.IsAnswering, Answering.IsRowAt, Answering.AreListedFor, Answering.questions_in, Counts.made_row, Joins.AreOwn, Joins.AreStanding, Joins.rows_of};
+ghost use Rattle.fleet_needs.specs.{Asked.AreAnswersIn, Asked.AreAskedFor, Asked.IsQuestion, Schedule.AreOfProgram, JoinPass.AreOfSame, JoinPass.IsBegun, Answering.AreAnsweredFrom, Answering.IsAnswering, Answering.IsRowAt, Answering.AreListedFor, Answering.questions_in, Counts.made_row, Joins.AreStanding, Joins.rows_of};
 
 use crate::counts::Counts;
 use crate::join_pass::SlotRows;
@@ -27,7 +26,6 @@ pub fn answer_questions<P: ProgramView, S: OrderSource + Drop>(
     source: S,
     questions: &[Question],
 ) -> Result<Vec<bool>, OutOfMemory>
-    requires range { AreInRange (P.program program.now) }
     requires source { S.gives (P.program program.now) source }
     requires questions { All (IsQuestion (P.program program.now)) questions.now }
     ensures { IfOk result (AreAnswersIn (P.program program.now) questions.now) }
@@ -152,7 +150,6 @@ impl<'a> Answering<'a> {
 
     /// Answers the questions of the row with this number, which is the one that is made.
     fn answer_row<P: ProgramView>(&mut self, program: &P, rows: &SlotRows, number: usize)
-        requires own { AreOwn (P.program program.now) }
         requires row { IsRowAt (P.program program.now) rows.now number }
         requires answers { IsAnswering (P.program program.now) rows.now number self.old }
         ensures answers { IsAnswering (P.program program.now) rows.now (number + 1) self.new }

@@ -1,9 +1,9 @@
 //! A schedule of rows, made once for all blocks of columns: which rows are made, in which order, which stand for other
 //! actions, of which rows each is joined, and the slot in which it is kept.
 
-ghost use Rattle.std.specs.Prelude.{◌≡◌, ◌+◌, ◌++◌, ◌*◌, ◌<◌, ◌≤◌, All, ℕ, true, length, vec_len, IfOk, OnOk};
-ghost use Rattle.fleet_model.specs.{declared.limits.TheConstants.MAX_AGENTS, declared.program.ActionId.ActionId, Program.AreInRange, Program.moves, Chain.IsAction};
-ghost use Rattle.fleet_needs.specs.{Implied.AreAwaitPlaces, Joins.AreAllListed, Joins.AreListedTo, Joins.AreStanding, Joins.HasAllRows, Joins.HasRoom, Joins.IsFilled, Joins.IsUpToLast, Joins.action_at, Joins.base_of, Joins.end_of, Joins.need_at, Joins.needs_in, Joins.needs_of, Joins.row_of, Joins.rows_of, Order.AreKeys, Order.IsAwaiting, Order.IsLevelOrder, Order.named_in, Schedule.AreInOrder, Schedule.AreRows, Schedule.AreRowsBut, Schedule.IsSchedule, Schedule.IsNextJoin, Schedule.IsNextNeed, Schedule.joins_in, Schedule.next_action, Schedule.AreAllSlotted, Schedule.AreSlottedFrom, Schedule.counts_at_once, Schedule.slot_of, Slots.IsFree, Slots.IsHeld, Slots.rows_in};
+ghost use Rattle.std.specs.Prelude.{◌≡◌, ◌+◌, ◌*◌, ◌<◌, ◌≤◌, ℕ, true, length, vec_len, IfOk, OnOk};
+ghost use Rattle.fleet_model.specs.{declared.limits.TheConstants.MAX_AGENTS, declared.program.ActionId.ActionId, Program.AreInRange, Program.moves};
+ghost use Rattle.fleet_needs.specs.{Implied.AreAwaitPlaces, Joins.AreAllListed, Joins.AreListedTo, Joins.AreStanding, Joins.HasAllRows, Joins.HasRoom, Joins.IsFilled, Joins.IsUpToLast, Joins.action_at, Joins.base_of, Joins.end_of, Joins.need_at, Joins.row_of, Joins.rows_of, Order.AreKeys, Joins.IsAwaiting, Order.IsLevelOrder, Order.named_in, Schedule.AreInOrder, Schedule.AreRowsBut, Schedule.IsSchedule, Schedule.IsNextJoin, Schedule.IsNextNeed, Schedule.joins_in, Schedule.next_action, Schedule.AreAllSlotted, Schedule.AreSlottedFrom, Schedule.counts_at_once, Schedule.slot_of, Slots.IsFree, Slots.IsHeld, Slots.rows_in};
 
 use crate::await_places::{AwaitPlaces, awaited_at};
 use crate::level_order::{LevelOrder, action_in, key_of, value_in};
@@ -59,8 +59,7 @@ impl Joins {
         order: LevelOrder,
         implied: &[bool],
     ) -> Result<(Joins, Standing), OutOfMemory>
-        requires range { AreInRange (P.program program.now) }
-        requires order { IsLevelOrder (P.program program.now) implied.now order }
+        requires { IsLevelOrder (P.program program.now) implied.now order }
         ensures { IfOk result (λ made.
             AreRowsBut (P.program program.now) implied.now made.0 made.1) }
     {
@@ -107,10 +106,7 @@ impl Joins {
         standing: &Standing,
         n: usize,
     ) -> Result<(), OutOfMemory>
-        requires range { AreInRange (P.program program.now) }
-        requires room { HasRoom (P.program program.now) standing.now }
         requires within { n < length (rows_of self.old) }
-        requires keys { All (IsAwaiting (P.program program.now)) (rows_of self.old) }
         requires listed { AreListedTo
             (P.program program.now) (rows_of self.old) standing.now n self.old }
         ensures { OnOk result (AreListedTo
@@ -228,8 +224,6 @@ impl Schedule {
 
     /// Need `k` of the join after n others.
     pub(crate) fn need<P: ProgramView>(&self, program: &P, n: usize, join: &Join, k: usize) -> Need
-        requires schedule { IsSchedule (P.program program.now) self.now }
-        requires within { n < joins_in self.now }
         requires join { IsNextJoin (P.program program.now)
             self.now n (next_action self.now n) join.now }
         requires place { k < join.now.count }
@@ -398,8 +392,7 @@ impl Slots {
     /// Gives a slot to the row of the join after n others, if no later one took it, and frees the slot: before the row
     /// is made another one may have it. Then gives slots to the rows that the join takes.
     fn settle(&mut self, joins: &Joins, n: usize) -> Result<(), OutOfMemory>
-        requires order { AreInOrder joins.now }
-        requires slotted { AreSlottedFrom joins.now (n + 1) self.old }
+        requires { AreSlottedFrom joins.now (n + 1) self.old }
         ensures { OnOk result (AreSlottedFrom joins.now n self.new) }
     {
         self.hold(n as u32 + 1)?;

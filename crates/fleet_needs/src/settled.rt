@@ -1,7 +1,7 @@
 //! Awaits for which a few steps back from their action show whether others imply them. The agents of those left open
 //! are asked for; once most are, it is looked back less: that decides how much is left to rows, but no answer.
 
-ghost use Rattle.std.specs.Prelude.{◌≡◌, ◌+◌, ◌<◌, ◌≤◌, true, false, length, vec_len, take, slice_get, Some, IfOk, IsTrue, count_by};
+ghost use Rattle.std.specs.Prelude.{◌≡◌, ◌+◌, ◌<◌, ◌≤◌, true, false, length, vec_len, take, Some, IfOk, IsTrue, count_by};
 ghost use Rattle.fleet_model.specs.{Program.AreInRange, Program.awaits_of, Program.total_awaits, Chain.IsAction, Chain.Reaches};
 ghost use Rattle.fleet_needs.specs.{Flags.AreSettledBy, Implied.first_await, Critical.AreLevels, Critical.critical_cost, Settled.IsAskedIf, Settled.IsKnown, Settled.IsLook, Settled.ReachesNeed, Settled.IsOpenTo, Settled.HasOpenNeed};
 

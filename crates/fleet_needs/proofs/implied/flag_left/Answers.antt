@@ -18,7 +18,7 @@ pub flag_block-requires-clause-flags : goal.flag_block-requires-clause-flags
 flag_block-requires-clause-flags g c = (let next = c.in_ok-next_block.ensures in rw (next.schedule, next.asked, (next.some c.if-branch.true).0) c.loop-rows.invariant.1)
 
 pub returns : goal.returns
-returns g c = flags_end _ c.requires.range c.loop-rows.rows _ _ (c.in_ok-next_block.ensures.none c.if-branch.false) c.loop-rows.invariant.1
+returns g c = flags_end _ c.requires.levels.range c.loop-rows.rows _ _ (c.in_ok-next_block.ensures.none c.if-branch.false) c.loop-rows.invariant.1
 
 pub loop-rows-preserved : goal.loop-rows-preserved
 loop-rows-preserved g c = (block_gone _ _ _ _ _ c.in_ok-next_block.ensures c.flag_block.ensures.same c.loop-rows.invariant.0, c.flag_block.ensures.flags)

@@ -8,7 +8,7 @@ pub answer_row-requires-clause-row : goal.answer_row-requires-clause-row
 answer_row-requires-clause-row g c =
     let m = c.args.rows.now in
     let begun = c.requires.begun in
-    record { columns = begun.rows.columns; width = begun.rows.width; counts = λ i n stands. counts_none (g.P.ProgramView.program c.args.program.now) m.schedule m.columns 0 i n stands (slice_index (made_row m.counts)) refl begun.zeros }
+    record { own = begun.rows.schedule.made.own; columns = begun.rows.columns; width = begun.rows.width; counts = λ i n stands. counts_none (g.P.ProgramView.program c.args.program.now) m.schedule m.columns 0 i n stands (slice_index (made_row m.counts)) refl begun.zeros }
 
 pub answer_row-requires-clause-answers : goal.answer_row-requires-clause-answers
 answer_row-requires-clause-answers g c =
@@ -30,7 +30,7 @@ pub answer_row-requires-in-loop-n-clause-row : goal.answer_row-requires-in-loop-
 answer_row-requires-in-loop-n-clause-row g c =
     let m = c.finish_row.new.self in
     let made = c.finish_row.ensures.made in
-    record { columns = made.rows.columns; width = made.rows.width; counts = made_counts (g.P.ProgramView.program c.args.program.now) m.schedule m.columns c.loop-n.n (slice_index (made_row m.counts)) made.whole }
+    record { own = made.rows.schedule.made.own; columns = made.rows.columns; width = made.rows.width; counts = made_counts (g.P.ProgramView.program c.args.program.now) m.schedule m.columns c.loop-n.n (slice_index (made_row m.counts)) made.whole }
 
 pub answer_row-requires-in-loop-n-clause-answers : goal.answer_row-requires-in-loop-n-clause-answers
 answer_row-requires-in-loop-n-clause-answers g c = answering_on _ _ _ _ _ (same_on _ _ _ c.join_others.ensures.same c.finish_row.ensures.same) c.loop-n.invariant.answers

@@ -1,3 +1,4 @@
+use Rattle.std.proofs.lemmas.Grind.{common_steps}
 use Rattle.fleet_needs.proofs.Words.{arith, length-set, ◌∙◌, IsAskedFor, no_question}
 use Rattle.std.proofs.lemmas.List.Elements.{All-from_get_or}
 use Rattle.fleet_needs.proofs.Answered.{asked_more}
@@ -14,3 +15,6 @@ pub returns : goal.returns
 returns g c =
     let was = c.loop-k.invariant in
     record { all = omega (arith, was.all); each = All-from_get_or (IsAskedFor c.loop-k.asked.items) c.args.questions.now no_question (λ k l. was.flagged k (omega (arith, l, c.loop-k-test.false, c.loop-k.auto.k-end))); only = was.only }
+
+pub loop-k-init : goal.loop-k-init
+loop-k-init g c = grind (arith, common_steps)

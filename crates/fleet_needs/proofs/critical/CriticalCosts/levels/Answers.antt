@@ -10,6 +10,10 @@ of-requires g c = record {
   upto = λ a is. omega (arith, c.requires.upto a is);
 }
 
+pub returns-clause-most : goal.returns-clause-most
+returns-clause-most g c = λ a is.
+    omega (arith, ends_within (g.P.ProgramView.program c.args.program.now) c.requires.number c.requires.rising (critical_cost c.in_ok-levels.levels a) a (c.in_ok-levels.ensures.each a is).some, c.requires.upto a is)
+
 pub returns-clause-levels : goal.returns-clause-levels
 returns-clause-levels g c =
     let p = g.P.ProgramView.program c.args.program.now in
@@ -22,8 +26,5 @@ returns-clause-levels g c =
         positive = λ a is. own_cost p unit_cost a (critical_cost m a) is (h.each a is);
         rising = λ a b is needed need. (let k = (h.each a is).most (critical_cost m b + 1) (ends_dearer p unit_cost (critical_cost m b) b a (h.each b needed).some is need) in omega (arith, k));
       };
+      most = λ a is. omega (arith, ends_within p c.requires.number c.requires.rising (critical_cost m a) a (h.each a is).some, c.requires.upto a is, c.ranges.most.fits);
     }
-
-pub returns-clause-most : goal.returns-clause-most
-returns-clause-most g c = λ a is.
-    omega (arith, ends_within (g.P.ProgramView.program c.args.program.now) c.requires.number c.requires.rising (critical_cost c.in_ok-levels.levels a) a (c.in_ok-levels.ensures.each a is).some, c.requires.upto a is)

@@ -21,11 +21,11 @@ raise_own-requires-clause-hold g c =
     let w = c.need.result.wait in
     held (g.P.ProgramView.program c.args.program.now) (record c.args.self.now { counts = c.loop-k.counts }) c.args.n c.loop-k.invariant.rows w.agent w.count c.need.ensures.action.agent c.need.ensures.action.last
 
-pub raise_own-requires-clause-within : goal.raise_own-requires-clause-within
-raise_own-requires-clause-within g c = λ j k is. omega (arith, c.loop-k.invariant.rows.columns.within j k is, c.loop-k.invariant.rows.width)
+pub raise_own-requires-clause-columns : goal.raise_own-requires-clause-columns
+raise_own-requires-clause-columns g c = (let rows = c.loop-k.invariant.rows in record { within = λ j k is. omega (arith, rows.columns.within j k is, rows.width); apart = rows.columns.apart })
 
-pub clear_own-requires-clause-within : goal.clear_own-requires-clause-within
-clear_own-requires-clause-within g c = λ j k is. omega (arith, c.loop-k.invariant.rows.columns.within j k is, c.loop-k.invariant.rows.width)
+pub clear_own-requires-clause-columns : goal.clear_own-requires-clause-columns
+clear_own-requires-clause-columns g c = (let rows = c.loop-k.invariant.rows in record { within = λ j k is. omega (arith, rows.columns.within j k is, rows.width); apart = rows.columns.apart })
 
 pub returns-clause-made : goal.returns-clause-made
 returns-clause-made g c =

@@ -24,7 +24,7 @@ loop-self-preserved g c =
       answers = elim c.match-of.branch [
         | in-Some w ↦
             let has : HasColumn columns q.first.agent w.in-Some.k = sym c.of.ensures ∙ w.in-Some.is in
-            let right = answer_is p columns q count c.requires.own is counts w.in-Some.k has w.count_for-count.result w.count_for-count.ensures.own (λ ne. w.count_for-count.ensures.other ne ∙ ap count w.from.ensures) in
+            let right = answer_is p columns q count c.requires.row.own is counts w.in-Some.k has w.count_for-count.result w.count_for-count.ensures.own (λ ne. w.count_for-count.ensures.other ne ∙ ap count w.from.ensures) in
             subst (λ (y : Answering). IsAnswering p made c.args.number (record { questions = y.questions; rows = y.rows; flags = y.flags; next = y.next + 1 })) (sym w.self-is)
             (told_on p made m c.args.number h within x at of _ (length-set m.flags.items x.place _) (λ k ne. get_or-set_other m.flags.items x.place k _ false ne)
             (inl (subst (IsAnswer p q) (sym (get_or-set_same m.flags.items x.place _ false (omega (arith, low, h.answers.listed.flags)))) right)))

@@ -21,6 +21,10 @@ check 'numbers of nothing' 1 '' 'run: no trace or plan\n' "awk -f tools/run.awk 
 check 'numbers of a plan and a trace' 1 '' 'run: more than one trace or plan\n' "awk -f tools/run.awk -f tools/numbers.awk examples/corridor.plan examples/warehouse.trace"
 check 'no robot of a film is red or orange' 0 '' '' \
     "grep -o 'hsl([0-9]*' warehouse.svg | tr -d 'hsl(' | awk '\$1 < 70 || \$1 > 320'"
+check 'a film that does not move shows who is held and who waits' 0 '1 2\n' '' \
+    "printf '0: 2,0 1,0 0,0\\n1: 2,0 1,0 0,0\\n2: 3,0 1,0 0,0\\n3: 4,0 2,0 1,0\\n' > trace && printf '0\\n' > holds && awk -f tools/run.awk -f tools/film.awk examples/corridor.map trace holds | awk '/<animateTransform/ { held += gsub(/#held\">/, \"\"); waits += gsub(/#waits\">/, \"\") } END { print held, waits }'"
+check 'a chart of many agents and few ticks keeps its numbers apart, and all in the picture' 0 'apart\n' '' \
+    "awk 'BEGIN { for (t = 0; t <= 88; t++) { printf \"%d:\", t; for (i = 0; i < 200; i++) printf \" %d,%d\", t, i; print \"\" } }' > trace && awk -f tools/run.awk -f tools/waits.awk trace | awk -F '\"' '/<text/ && \$6 == \"middle\" { if (n++ && \$2 - x < 30) close_by++; x = \$2 } /<text/ && \$2 > 984 { out++ } END { if (n > 5 && !close_by && !out) print \"apart\" }'"
 check 'the same seed gives the same holds' 0 '1 2\n0 1 2\n' '' "awk -v agents=3 -v ticks=2 -v chance=0.5 -v least=1 -v most=1 -v seed=1 -f tools/delays.awk"
 check 'agents that are no number have no holds' 1 '' 'delays: agents and ticks are numbers\n' "awk -v agents=x -v ticks=2 -f tools/delays.awk"
 

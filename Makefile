@@ -38,7 +38,7 @@ help:
 	@echo 'make checks                proves all that fleet stands on and keeps the work, so that rt check and make prove only what changes then'
 	@echo 'make examples              runs the program on every example of the documents, on transcripts and tables, and on files and streams at their limits'
 	@echo 'make examples FLEET=PATH   the same of another program'
-	@echo 'make must-fail             tries the edits that must fail, those of tests/must-fail, which is part of the gate'
+	@echo 'make must-fail             tries the edits of tests/must-fail, which the prover has to refuse: part of the gate, beside those that rt ci tries'
 	@echo 'make edits                 tries more of them, those of tests/edits'
 	@echo 'make neutral               tries changes that mean nothing, those of tests/neutral, which the prover has to take'
 	@echo 'make numbers               compares the numbers of 10,000 plans at random with a count of another hand'

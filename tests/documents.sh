@@ -53,8 +53,10 @@ alike 'docs/PROVED.md has the lines of definitions: tools/believed.sh' 'table of
 
 # The text that an edit changes stands once in its file: of the edits of the gate, and of those of `make edits` and of
 # `make neutral`.
-for edit in "$root"/tests/must-fail/*/*.edit "$root"/tests/edits/*/*.edit "$root"/tests/neutral/*/*.edit; do
-    awk -v at="$root/crates/$(basename "${edit%/*}")" '
+for edit in "$root"/crates/*/must-fail/*.edit "$root"/tests/must-fail/*/*.edit "$root"/tests/edits/*/*.edit "$root"/tests/neutral/*/*.edit; do
+    crate=${edit%/*}
+    crate=${crate%/must-fail}
+    awk -v at="$root/crates/${crate##*/}" '
         sub(/^file: /, "") { path = at "/" $0 }
         sub(/^old: /, "") {
             found = 0
@@ -67,7 +69,7 @@ for edit in "$root"/tests/must-fail/*/*.edit "$root"/tests/edits/*/*.edit "$root
         }' "$edit"
 done > "$work/out"
 : > "$work/want.out"
-alike 'each edit changes a text that stands once' 'edits of tests/must-fail, tests/edits and tests/neutral' none
+alike 'each edit changes a text that stands once' 'edits of crates/*/must-fail, tests/must-fail, tests/edits and tests/neutral' none
 
 # It says the functions that it changes, by the paths that the check prints.
 for edit in "$root"/tests/must-fail/*/*.edit "$root"/tests/edits/*/*.edit "$root"/tests/neutral/*/*.edit; do

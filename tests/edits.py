@@ -1,7 +1,8 @@
 #!/usr/bin/env python3
 """Tries changed bodies, and says of which the prover takes.
 
-    tests/edits.py must-fail [CRATE..]    wrong bodies that the gate tries: each has to be refused
+    tests/edits.py must-fail [CRATE..]    wrong bodies that the gate tries beside those of crates/*/must-fail, which
+                                          `rt ci` tries itself: each has to be refused
     tests/edits.py edits [CRATE..]        more of these
     tests/edits.py neutral [CRATE..]      changes that mean nothing: all but a few have to be proved
 

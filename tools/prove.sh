@@ -17,7 +17,7 @@ made=out/rlib/$crate.rlib
 [ ! -f src/main.rt ] || made=out/$crate
 if [ -e "$made" ] && [ -f out/proved ] &&
     [ -z "$(find . $below "$root/crates.txt" "$kit/KIT-ID" \
-        -path ./out -prune -o -newer out/proved -print 2>&1)" ]; then
+        \( -path ./out -o -path ./must-fail \) -prune -o -newer out/proved -print 2>&1)" ]; then
     exit 0
 fi
 rm -f out/proved

@@ -48,8 +48,8 @@ pub record AreCriticalCosts (p : Program) (cost : ActionId → ℕ) (m : List Fi
   pub entries : HasEntries p m
   pub each : (a : ActionId) → IsAction p a → IsCriticalCost p cost a (critical_cost m a)
 
--- the awaits of the program are in range, and each action has a number that is greater than those of what it directly
--- needs
+-- the awaits of the program are in range, and each action has a number, of 32 bits, that is greater than those of what
+-- it directly needs
 pub record AreLevels (p : Program) (m : List Finished) : Type 0 where
   pub range : AreInRange p
   pub entries : HasEntries p m

@@ -179,7 +179,8 @@ impl SlotRows {
     {
         let _ = program.agents();
         let from = self.columns.end;
-        if usize::from(from) >= self.asked.len() {
+        let was_last = usize::from(from) >= self.asked.len();
+        if was_last {
             return Ok(false);
         }
         // The room of the block before is let go first.

@@ -51,9 +51,11 @@ fn first_agents<P: ProgramView>(
     requires { All (IsQuestion (P.program program.now)) questions.now }
     ensures { IfOk result (AreAskedFor (P.program program.now) questions.now) }
 {
-    let mut asked = vec![in alloc; false; usize::from(program.agents())]?;
+    let agents = usize::from(program.agents());
+    let mut asked = vec![in alloc; false; agents]?;
     for k in 0..questions.len() {
-        asked[usize::from(questions[k].first.agent)] = true;
+        let agent = usize::from(questions[k].first.agent);
+        asked[agent] = true;
     }
     Ok(asked)
 }

@@ -27,6 +27,3 @@ of-requires-3-clause-asked g c = c.in_ok-asked.ensures.all
 
 pub of-requires-3-clause-joins : goal.of-requires-3-clause-joins
 of-requires-3-clause-joins g c = c.in_ok-joins.ensures.rows
-
-pub returns-in_err-asked : goal.returns-in_err-asked
-returns-in_err-asked g c = rw (err_from_is_err_and c.from_residual-in_err-asked.result c.from_residual-in_err-asked.ensures.1).1 tt

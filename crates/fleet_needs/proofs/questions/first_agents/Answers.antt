@@ -8,7 +8,7 @@ pub loop-k-preserved : goal.loop-k-preserved
 loop-k-preserved g c =
     let was = c.loop-k.invariant in
     let agent = (c.requires c.loop-k.k no_question c.loop-k-test.true).agent in
-    let more = asked_more c.args.questions.now c.loop-k.asked.items c.loop-k.k c.from-in-loop-k.result c.loop-k-test.true (omega (arith, agent, c.from-in-loop-k.ensures, was.all)) c.from-in-loop-k.ensures was.only was.flagged in
+    let more = asked_more c.args.questions.now c.loop-k.asked.items c.loop-k.k c.from-agent.result c.loop-k-test.true (omega (arith, agent, c.from-agent.ensures, was.all)) c.from-agent.ensures was.only was.flagged in
     record { all = length-set c.loop-k.asked.items _ _ ∙ was.all; only = more.0; flagged = more.1 }
 
 pub returns : goal.returns

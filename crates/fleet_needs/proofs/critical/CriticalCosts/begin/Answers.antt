@@ -1,4 +1,3 @@
-use Rattle.std.proofs.lemmas.Result.{err_from_is_err_and}
 use Rattle.fleet_needs.proofs.Words.{◌≡◌, ◌∙◌, List, length, ap, inl, inr, cases_lt, get_or_append_left, get_or_push, refl, rules, row_in, sym, subst, arith, no_row, Finished, IsRun}
 use Rattle.fleet_needs.proofs.Walking.{greatest_own}
 use Rattle.fleet_needs.proofs.critical.CriticalCosts.begin.Goals as goal
@@ -30,6 +29,3 @@ loop-i-preserved g c =
         | inr high ↦ (let e : length xs ≡ k = omega (arith, high, l, was.all) in get_or_push xs _ no_row k e ∙ search rules)
       ];
     }
-
-pub returns-in_err-push : goal.returns-in_err-push
-returns-in_err-push g c = rw (err_from_is_err_and c.from_residual-in_err-push.result c.from_residual-in_err-push.ensures.1).1 tt

@@ -20,5 +20,5 @@ returns g c =
       none = λ no. absurd (false≢true (sym no));
     }
 
-pub returns-then-from-len : goal.returns-then-from-len
-returns-then-from-len g c = record { schedule = refl; asked = refl; some = λ yes. absurd (false≢true yes); none = λ no. omega (arith, c.if-from-len.true, c.from.ensures, c.len.ensures, c.requires.agents) }
+pub returns-then-was_last : goal.returns-then-was_last
+returns-then-was_last g c = record { schedule = refl; asked = refl; some = λ yes. absurd (false≢true yes); none = λ no. omega (arith, c.if-was_last.true, c.from.ensures, c.len.ensures, c.requires.agents) }

@@ -1,5 +1,4 @@
 use Rattle.std.proofs.lemmas.Grind.{common_steps}
-use Rattle.std.proofs.lemmas.Result.{err_from_is_err_and}
 use Rattle.fleet_needs.proofs.Words.{◌≡◌, ℕ, ◌+◌, List, ap, arith, length, length-map, subst, sym, ActionId, AreListedTo, action_of_key, named_in}
 use Rattle.fleet_needs.proofs.schedule.Joins.listed.Goals as goal
 
@@ -16,9 +15,6 @@ pub returns : goal.returns
 returns g c =
     let all : c.loop-n.n ≡ length (named_in c.args.keys) = omega (arith, c.loop-n-test.false, c.loop-n.auto.n-end, c.len-count.ensures, length-map c.args.keys.items action_of_key) in
     subst (λ (n : ℕ). AreListedTo (g.P.ProgramView.program c.args.program.now) (named_in c.args.keys) c.args.standing.now n c.loop-n.joins) all c.loop-n.invariant
-
-pub returns-in_err-list : goal.returns-in_err-list
-returns-in_err-list g c = rw (err_from_is_err_and c.from_residual-in_err-list.result c.from_residual-in_err-list.ensures.1).1 tt
 
 pub loop-n-init : goal.loop-n-init
 loop-n-init g c = grind (arith, common_steps)

@@ -53,13 +53,15 @@ function sign_of(i, sign,   t, is_on, was_on, values, keys) {
         animation("animate", "attributeName=\"visibility\" calcMode=\"discrete\"", values, keys) "</use>"
 }
 
-# The tick of the picture that does not move: that in which most agents are held and most wait.
-function still_tick(   t, i, now, count, worth, most, best) {
+# The tick of the picture that does not move: one in which agents are held and wait, if there is one, and most of all go,
+# are held and wait side by side.
+function still_tick(   t, i, count, worth, most, best) {
     best = 1
     for (t = 1; t <= last; t++) {
         split("", count)
         for (i = 0; i < agents; i++) count[state(i, t)]++
-        worth = count["held"] * count["waits"] + (count["held"] + count["waits"]) / (agents + 1)
+        worth = (count["goes"] + 1) * (count["held"] + 1) * (count["waits"] + 1)
+        if (count["held"] && count["waits"]) worth += (agents + 1) ^ 3
         if (worth > most) {
             most = worth
             best = t

@@ -1,3 +1,4 @@
 mod RequestLemmas
 mod NoCommand
+mod OwnCommand
 pub mod ValueLaws

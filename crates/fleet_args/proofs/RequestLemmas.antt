@@ -1,16 +1,17 @@
 -- From the getters of the matches to what the words ask.
-use Rattle.std.proofs.Common.{◌≡◌, ◌∙◌, ℕ, Bool, true, arith, List, [], ◌∷◌, Option, Some, None, Result, map, option_map, refl, sym, ap, ap₂, is_some}
+use Rattle.std.proofs.Common.{◌≡◌, ◌∙◌, ℕ, Bool, true, arith, List, [], ◌∷◌, Option, Some, None, map, option_map, refl, sym, ap, ap₂, is_some}
 use Rattle.std.specs.{Borrow.Bor, List.find, List.list_all, Option.MatchOption, Str.bytes_eq}
 use Rattle.std.specs.Str.Parse.{ParsesUnsigned, ExplainsUnsignedError, HasUnsignedDigitsIfOk}
 use Rattle.std.specs.declared.num.ParseIntError.{ParseIntError}
-use Rattle.clap.specs.Words.{Text, rows_of, one_text, is_simple_and_free}
+use Rattle.clap.specs.Words.{Text, fault_of, matches_of, rows_of, one_text, is_simple_and_free}
 use Rattle.clap.specs.{Matches.ReadsOne, declared.parser.matches.Found.Found}
 use Rattle.clap.proofs.WalkLemmas.{both, find-map, first_value-rows, one_text-rows}
 use Rattle.fleet_args.specs.Values.{IsNumberIfUsed}
 use Rattle.fleet_args.specs.declared.arguments.CommandText.{CommandText}
-use Rattle.fleet_args.specs.{Arguments.own, Arguments.said, Commands.AsksCommand, Commands.IsCommandName, Commands.commands, Values.AreNames}
-use Rattle.fleet_args.specs.Request.{Parses, ReadsFleet, command_and_rest}
+use Rattle.fleet_args.specs.{Arguments.own, Arguments.said, Commands.AsksCommand, Commands.IsCommandName, Commands.commands, Commands.fleet}
+use Rattle.fleet_args.specs.Request.{Asks, StopsFor, command_and_rest}
 use Rattle.fleet_args.specs.declared.{arguments.Form.Form, arguments.OptionNames.OptionNames, commands.Request.Request, request.WordStop.WordStop}
+use Rattle.fleet_args.proofs.OwnCommand.{read_alone}
 
 -- what `get_str` gives stands in the rows
 pub ruleset first_rows = (first_value-rows)
@@ -58,8 +59,14 @@ module _ (names : OptionNames) (words : List Text) (found : (Text × List (Text 
   pub free : is_simple_and_free (own names found.0) ≡ true
   free = known (λ c. is_simple_and_free (own names c)) refl words found is
 
-  pub reads : AreNames names → (result : Result Request WordStop) → Parses (own names found.0) found.1 (AsksCommand found.0.0) result → ReadsFleet words result
-  reads are result h = (names, are, rw (← is) h)
+  pub asks : (request : Request) → fault_of (own names found.0) found.1 ≡ [] → AsksCommand found.0.0 (matches_of (own names found.0) found.1) request
+      → Asks (fleet names) words request
+  asks request none h =
+      let same = read_alone names words found (sym is) in
+      (same.faults ∙ none, rw same.rows h)
+
+  pub stops : (stop : WordStop) → StopsFor (fault_of (own names found.0) found.1) stop → StopsFor (fault_of (fleet names) words) stop
+  stops stop h = rw (read_alone names words found (sym is)).faults h
 
 pub is_name : (words : List Text) (found : (Text × List (Text × Form)) × List Text) → Some found ≡ command_and_rest words → IsCommandName found.0.0
 is_name = known (λ c. is_some (find (λ d. bytes_eq c.0 d.0) commands)) refl

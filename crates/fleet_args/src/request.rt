@@ -101,9 +101,9 @@ fn option_names() -> OptionNames<'static>
     }
 }
 
-/// Reads the words after the program's name, as `clap` reads them by the definition of the command with whose name they
-/// begin, or else by that of the command line. To make the command alone costs a tenth of what it costs to make the
-/// whole command line.
+/// Reads the words after the program's name, as `clap` reads them by the definition of the command line. The command
+/// with whose name they begin is asked by itself: to make it costs a tenth of what it costs to make the whole command
+/// line, and both read alike (`commands_stand_alone`).
 ///
 /// Errors: `Usage` and `Help` only if that definition does not take the words, and `Help` only if they ask for help or
 /// for the version; `OutOfMemory`.

@@ -1,4 +1,5 @@
 mod RequestLemmas
 mod NoCommand
 mod OwnCommand
+mod OwnWords
 pub mod ValueLaws

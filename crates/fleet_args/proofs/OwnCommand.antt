@@ -112,8 +112,13 @@ found_by f g word rest (d ∷ cs) c same e = go (bytes_eq d.0 word) refl e (foun
         subst (λ x. (f x.0 ≡ g x.0) × (word ∷ rest ≡ x.0.0 ∷ x.1)) is (ap (λ l. get_or l 0 (f d)) same, ap (λ w. w ∷ rest) (sym ((bytes_eq-Decides d.0 word).0 named)))
     go false named e later = later e
 
+-- what is one for each command is one for the command with whose name the words begin
+pub same_of : {Y : Type 0} (f g : Text × List (Text × Form) → Y) → map f commands ≡ map g commands → (words : List Text) (c : (Text × List (Text × Form)) × List Text)
+    → command_and_rest words ≡ Some c → (f c.0 ≡ g c.0) × (words ≡ c.0.0 ∷ c.1)
+same_of f g same [] c e = cc
+same_of f g same (word ∷ rest) c e = found_by f g word rest commands c same e
+
 pub read_alone : (names : OptionNames) (words : List Text) (c : (Text × List (Text × Form)) × List Text) → command_and_rest words ≡ Some c → IsReadAlone names words c
-read_alone names [] c e = cc
-read_alone names (word ∷ rest) c e =
-    let first = found_by (found names) (wanted names) word rest commands c (each_found names) e in
+read_alone names words c e =
+    let first = same_of (found names) (wanted names) (each_found names) words c e in
     subst (λ words. IsReadAlone names words c) (sym first.1) (record { faults = same_fault names c.0 first.0 c.1; rows = same_rows names c.0 first.0 c.1 })

@@ -1,9 +1,9 @@
 -- The commands, each with its arguments and with what it is asked for, and the command line that has them.
-use Rattle.std.specs.Prelude.{◌≡◌, ℕ, true, List, [], ◌∷◌, IsSome, codes, find, fold, unwrap_or}
-use Rattle.std.specs.Str.{bytes_eq}
+use Rattle.std.specs.Prelude.{◌≡◌, ℕ, true, List, [], ◌∷◌, IsSome, MatchOption, codes, find, fold, unwrap_or}
+use Rattle.std.specs.{List.AllByRecursion, Str.bytes_eq}
 use Rattle.clap.specs.Words.{App, Row, Text, new_app, with_subcommand}
 use Rattle.fleet_args.specs.Arguments.{app_for}
-use Rattle.fleet_args.specs.Values.{IsText, IsTextIfUsed, IsNumberIfUsed, IsNumberOr, IsFlag, best_names, deps_names, named_by}
+use Rattle.fleet_args.specs.Values.{HasWord, IsText, IsTextIfUsed, IsNumberIfUsed, IsNumberOr, IsFlag, best_names, deps_names, named_by}
 use Rattle.fleet_args.specs.declared.{arguments.Form.Form, arguments.OptionNames.OptionNames, commands.ProgramFor.ProgramFor, commands.Tasks.Tasks, commands.Tries.Tries, commands.Request.Request}
 use Rattle.fleet_args.specs.declared.arguments.Form.TheVariants as form
 use Rattle.fleet_model.specs.declared.limits.TheConstants.{MAX_MOVES, MAX_TRIES}
@@ -75,9 +75,9 @@ commands =
 abbrev pub fleet : OptionNames → App
 fleet names = with_commands names fleet_top commands
 
--- this is the name of a command
-abbrev pub IsCommandName : Text → Type 0
-IsCommandName name = IsSome (find (λ c. bytes_eq name c.0) commands)
+-- the rows have a text for each word that the command of this name needs
+abbrev pub HasWords : Text → List Row → Type 0
+HasWords name rows = MatchOption (find (λ c. bytes_eq name c.0) commands) ⊥ (λ c. AllByRecursion (HasWord rows) c.1)
 
 -- this is the name of a command about a program for tasks
 abbrev pub IsProgramCommand : Text → Type 0

@@ -1,9 +1,10 @@
 -- The values that the words of a command give to its arguments.
-use Rattle.std.specs.Prelude.{◌≡◌, ℕ, Bool, false, List, [], ◌∷◌, MatchOption, Option, None, codes, find, map, option_and_then, option_map, unwrap_or}
+use Rattle.std.specs.Prelude.{◌≡◌, ℕ, Bool, false, List, [], ◌∷◌, IsSome, MatchOption, Option, None, Some, codes, find, map, option_and_then, option_map, unwrap_or, ⊤}
 use Rattle.std.specs.{Borrow.Bor, Option.option_map_or, Str.bytes_eq, Str.Parse.ParsesUnsigned}
 use Rattle.clap.specs.Words.{ReadsOne, Row, Text, first_of, one_of, rows_of, found_of}
 use Rattle.clap.specs.declared.parser.ArgMatches.{ArgMatches}
-use Rattle.fleet_args.specs.declared.{arguments.OptionNames.OptionNames, commands.Best.Best}
+use Rattle.fleet_args.specs.declared.{arguments.Form.Form, arguments.OptionNames.OptionNames, commands.Best.Best}
+use Rattle.fleet_args.specs.declared.arguments.Form.TheVariants as form
 use Rattle.fleet_args.specs.declared.commands.Best.TheVariants as best
 use Rattle.fleet_model.specs.declared.deps.Deps.{Deps}
 use Rattle.fleet_model.specs.declared.deps.Deps.TheVariants as deps
@@ -25,17 +26,24 @@ pub record AreNames (names : OptionNames) : Type 0 where
 abbrev pub named_in : {A : Type 0} → List (Text × A) → Text → Option A
 named_in names text = option_map (λ n. n.1) (find (λ n. bytes_eq text n.0) names)
 
--- ---- The value of an argument, by the rows that `clap` defines for the words. By its definition words that lack a
--- text which a command needs have a fault, as have those in which an option has a text that it does not take; so a text
--- that is lacking may be empty here, and such an option be as unused
+-- ---- The value of an argument, by the rows that `clap` defines for the words. By its definition words in which an
+-- option has a text that it does not take have a fault, so such an option may be as unused here
 
 -- the rows of the matches of a command
 abbrev pub rows_in : ArgMatches → List Row
 rows_in matches = rows_of (found_of matches)
 
--- a text that the command needs
+-- there is a text for this argument, if it is a word that the command needs
+abbrev pub HasWordBy : List Row → Text → Form → Type 0
+HasWordBy rows id form.Word = IsSome (first_of id rows)
+HasWordBy rows id _ = ⊤
+
+abbrev pub HasWord : List Row → Text × Form → Type 0
+HasWord rows argument = HasWordBy rows argument.0 argument.1
+
+-- a text that the command needs, and has
 abbrev pub IsText : List Row → Text → Bor Text → Type 0
-IsText rows id text = text.now ≡ unwrap_or (first_of id rows) []
+IsText rows id text = first_of id rows ≡ Some text.now
 
 -- a text, if the option was used
 abbrev pub IsTextIfUsed : List Row → Text → Option (Bor Text) → Type 0

@@ -1,7 +1,7 @@
 //! The forms of words and options, how `clap` takes them, and the values that were given for them.
 
-ghost use Rattle.std.specs.Prelude.{◌≡◌, IfOk, false, fold, map};
-ghost use Rattle.clap.specs.Words.{app_of, rule_of, with_rule};
+ghost use Rattle.std.specs.Prelude.{◌≡◌, IfOk, IsSome, false, fold, map};
+ghost use Rattle.clap.specs.Words.{app_of, first_of, rule_of, with_rule};
 ghost use Rattle.clap.specs.declared.builder.Command.TheViews.{out-Command as fields_of};
 ghost use Rattle.fleet_args.specs.Arguments.{IsApp, app_for, parser_for, rule_for, said, told};
 ghost use Rattle.fleet_args.specs.Values.{IsFlag, IsNumberIfUsed, IsText, IsTextIfUsed, best_names, deps_names, named_by, rows_in};
@@ -124,11 +124,15 @@ pub(crate) fn used_text<'a>(matches: &ArgMatches<'a>, id: &str) -> Option<&'a st
     matches.get_str(id)
 }
 
-/// The text of an argument that the command needs; empty if it is lacking, and such words are refused.
+/// The text of an argument that has one.
 pub(crate) fn text<'a>(matches: &ArgMatches<'a>, id: &str) -> &'a str
+    requires { IsSome (first_of id.now (rows_in matches.now)) }
     ensures { IsText (rows_in matches.now) id.now result }
 {
-    used_text(matches, id).unwrap_or("")
+    match used_text(matches, id) {
+        Some(text) => text,
+        None => unreachable!(),
+    }
 }
 
 /// The number of up to 16 bits of an option, if it was used.

@@ -5,8 +5,8 @@
 //! of `clap` of a list of them, and reads their values in the matches; `request` reads words by the command with whose
 //! name they begin, and joins the commands to say what is wrong with others; `laws` says that a command by itself reads
 //! as the command line reads. An argument stands for what its text spells. That a text which passes spells something is
-//! a law (`proofs/ValueLaws.antt`); that words with another text, or without a word that the command needs, have a fault
-//! is `clap`'s definition.
+//! a law (`proofs/ValueLaws.antt`); that words with another text have a fault is `clap`'s definition. Words that are
+//! taken have each word that the command needs (`proofs/OwnWords.antt`), so each is read where it is asked for.
 #![tactic(auto)]
 
 mod arguments;

@@ -2,4 +2,4 @@ mod RequestLemmas
 mod NoCommand
 mod OwnCommand
 mod OwnWords
-pub mod ValueLaws
+mod ValueLaws

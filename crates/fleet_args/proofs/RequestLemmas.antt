@@ -6,7 +6,7 @@ use Rattle.std.specs.declared.num.ParseIntError.{ParseIntError}
 use Rattle.clap.specs.Words.{Text, fault_of, matches_of, rows_of, one_text, is_simple_and_free}
 use Rattle.clap.specs.{Matches.ReadsOne, declared.parser.matches.Found.Found}
 use Rattle.clap.proofs.WalkLemmas.{both, find-map, first_value-rows, one_text-rows}
-use Rattle.fleet_args.specs.Values.{IsNumberIfUsed}
+use Rattle.fleet_args.specs.Values.{IsNumberIfUsed, bits_of}
 use Rattle.fleet_args.specs.declared.arguments.CommandText.{CommandText}
 use Rattle.fleet_args.specs.{Arguments.own, Arguments.said, Commands.AsksCommand, Commands.commands, Commands.fleet}
 use Rattle.fleet_args.specs.Request.{Asks, StopsFor, command_and_rest}
@@ -16,19 +16,29 @@ use Rattle.fleet_args.proofs.OwnCommand.{read_alone, same_of}
 -- what `get_str` gives stands in the rows
 pub ruleset first_rows = (first_value-rows)
 
--- what `get_one` gives is the option's number
-pub number_used :
-    (bits : ℕ) (f : Found) (id : Text) (r : Option ℕ) → (one_text f id ≡ None → r ≡ None)
-    → ((t : Text) → one_text f id ≡ Some t → ReadsOne {E = ParseIntError} (λ bs r. ParsesUnsigned bits 10 bs r × ExplainsUnsignedError 10 bs r × HasUnsignedDigitsIfOk bs r) t r)
-    → IsNumberIfUsed bits (rows_of f) id r
-number_used bits f id r none some = rw (← one_text-rows f id) (go (one_text f id) r none some)
+-- `get_one` reads a number of so many bits of the text
+abbrev Gets : ℕ → Text → Option ℕ → Type 0
+Gets bits = ReadsOne {E = ParseIntError} (λ bs r. ParsesUnsigned bits 10 bs r × ExplainsUnsignedError 10 bs r × HasUnsignedDigitsIfOk bs r)
+
+-- what it gives is the option's number
+number_used :
+    (bits : ℕ) (f : Found) (id : Text) (r : Option ℕ) → bits_of id ≡ bits → (one_text f id ≡ None → r ≡ None)
+    → ((t : Text) → one_text f id ≡ Some t → Gets bits t r) → IsNumberIfUsed (rows_of f) id r
+number_used bits f id r read none some = rw (← one_text-rows f id, read) (go (one_text f id) r none some)
   where
-    go : (o : Option Text) (r : Option ℕ) → (o ≡ None → r ≡ None)
-        → ((t : Text) → o ≡ Some t → ReadsOne {E = ParseIntError} (λ bs r. ParsesUnsigned bits 10 bs r × ExplainsUnsignedError 10 bs r × HasUnsignedDigitsIfOk bs r) t r)
+    go : (o : Option Text) (r : Option ℕ) → (o ≡ None → r ≡ None) → ((t : Text) → o ≡ Some t → Gets bits t r)
         → MatchOption o (r ≡ None) (λ t. ReadsOne {E = Unit {0}} (ParsesUnsigned bits 10) t r)
     go None r none some = none refl
     go (Some t) None none some = (tt, (some t refl).1.0)
     go (Some t) (Some v) none some = (some t refl).0
+
+pub number_of_16 : (f : Found) (id : Text) (r : Option ℕ) → bits_of id ≡ 16 → (one_text f id ≡ None → r ≡ None)
+    → ((t : Text) → one_text f id ≡ Some t → Gets 16 t r) → IsNumberIfUsed (rows_of f) id r
+number_of_16 = number_used 16
+
+pub number_of_32 : (f : Found) (id : Text) (r : Option ℕ) → bits_of id ≡ 32 → (one_text f id ≡ None → r ≡ None)
+    → ((t : Text) → one_text f id ≡ Some t → Gets 32 t r) → IsNumberIfUsed (rows_of f) id r
+number_of_32 = number_used 32
 
 -- the command whose text is found in the table by the first word, with the words after it
 pub named : (table : List CommandText) → map said table ≡ commands → (words rest : List Text) (word name : Text) → words ≡ word ∷ rest → name ≡ word → (r : Option (Bor CommandText))

@@ -1,8 +1,9 @@
 -- The values that the words of a command give to its arguments.
-use Rattle.std.specs.Prelude.{◌≡◌, ℕ, Bool, false, List, [], ◌∷◌, IsSome, MatchOption, Option, None, Some, codes, find, map, option_and_then, option_map, unwrap_or, ⊤}
+use Rattle.std.specs.Prelude.{◌≡◌, ℕ, Bool, false, List, [], ◌∷◌, IsSome, MatchOption, Option, None, Some, codes, find, map, option_and_then, option_map, unwrap_or, ◌||◌, ◌≤◌, if◌then◌else◌, ⊤}
 use Rattle.std.specs.{Borrow.Bor, Option.option_map_or, Str.bytes_eq, Str.Parse.ParsesUnsigned}
-use Rattle.clap.specs.Words.{ReadsOne, Row, Text, first_of, one_of, rows_of, found_of}
+use Rattle.clap.specs.Words.{Accepts, ReadsOne, Row, Text, first_of, one_of, rows_of, found_of, without_minus}
 use Rattle.clap.specs.declared.parser.ArgMatches.{ArgMatches}
+use Rattle.fleet_args.specs.Arguments.{parser_for}
 use Rattle.fleet_args.specs.declared.{arguments.Form.Form, arguments.OptionNames.OptionNames, commands.Best.Best}
 use Rattle.fleet_args.specs.declared.arguments.Form.TheVariants as form
 use Rattle.fleet_args.specs.declared.commands.Best.TheVariants as best
@@ -49,13 +50,21 @@ IsText rows id text = first_of id rows ≡ Some text.now
 abbrev pub IsTextIfUsed : List Row → Text → Option (Bor Text) → Type 0
 IsTextIfUsed rows id text = option_map (λ t. t.now) text ≡ first_of id rows
 
--- the number of so many bits that the option's text spells, if the option was used and its text spells one
-abbrev pub IsNumberIfUsed : ℕ → List Row → Text → Option ℕ → Type 0
-IsNumberIfUsed bits rows id n = MatchOption (one_of id rows) (n ≡ None) (λ text. ReadsOne {E = Unit {0}} (ParsesUnsigned bits 10) text n)
+-- as a number of so many bits the option of this name is read
+abbrev pub bits_of : Text → ℕ
+bits_of id = if bytes_eq id (codes "tries") || bytes_eq id (codes "dwell") then 32 else 16
+
+-- the number that the text spells, if it spells one that an option of this name may have
+abbrev pub SpellsNumber : Text → Text → Option ℕ → Type 0
+SpellsNumber id = ReadsOne {E = Unit {0}} (ParsesUnsigned (bits_of id) 10)
+
+-- the number that the option's text spells, if the option was used and its text spells one
+abbrev pub IsNumberIfUsed : List Row → Text → Option ℕ → Type 0
+IsNumberIfUsed rows id n = MatchOption (one_of id rows) (n ≡ None) (λ text. SpellsNumber id text n)
 
 -- .. or else this one
-abbrev pub IsNumberOr : ℕ → ℕ → List Row → Text → ℕ → Type 0
-IsNumberOr default bits rows id n = (used : Option ℕ) × IsNumberIfUsed bits rows id used × (n ≡ unwrap_or used default)
+abbrev pub IsNumberOr : ℕ → List Row → Text → ℕ → Type 0
+IsNumberOr default rows id n = (used : Option ℕ) × IsNumberIfUsed rows id used × (n ≡ unwrap_or used default)
 
 -- what an option names, if it was used
 abbrev pub named_by : {A : Type 0} → List (Text × A) → List Row → Text → Option A
@@ -64,3 +73,17 @@ named_by names rows id = option_and_then (named_in names) (first_of id rows)
 -- whether a flag was used
 abbrev pub IsFlag : List Row → Text → Bool → Type 0
 IsFlag rows id used = used ≡ option_map_or (λ t. bytes_eq t (codes "true")) (first_of id rows) false
+
+-- ---- What a text that an option takes stands for
+
+-- the text of an argument of this name and form stands for something: a number is one of the range, and a name is one of
+-- the names that the option takes
+abbrev pub StandsForOne : Text → Form → Text → Type 0
+StandsForOne id (form.Numbers least most) text = (n : Option ℕ) → SpellsNumber id (without_minus text) n → (m : ℕ) × (n ≡ Some m) × (least ≤ m) × (m ≤ most)
+StandsForOne id form.Deps text = IsSome (named_in deps_names text)
+StandsForOne id form.Best text = IsSome (named_in best_names text)
+StandsForOne id _ text = ⊤
+
+-- each text that the argument takes stands for something
+abbrev pub TakesWhatStands : OptionNames → Text × Form → Type 0
+TakesWhatStands names argument = (text : Text) → Accepts false (parser_for names argument.1) text → StandsForOne argument.0 argument.1 text

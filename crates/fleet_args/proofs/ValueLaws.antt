@@ -1,4 +1,4 @@
--- Each text that an option takes stands for something: it spells a number of its range, or is one of its names.
+-- Each text that an option takes stands for a value: it spells a number of its range, or is one of its names.
 use Rattle.std.proofs.Common.{◌≡◌, ◌∙◌, ◌^◌, Bool, true, false, List, [], ◌∷◌, map, is_some, refl, sym, ap, arith, ltb-true}
 use Rattle.std.specs.Prelude.{nat_lt}
 use Rattle.std.specs.{Borrow.Bor, List.All, List.AllByRecursion, List.list_all, List.list_any, Str.bytes_eq, Str.Parse.ParsesUnsigned}
@@ -8,7 +8,7 @@ use Rattle.clap.specs.declared.builder.ValueParser.TheVariants as parser
 use Rattle.clap.proofs.{CallerReads.signed_reads, WalkLemmas.both, WalkLemmas.list_any-map}
 use Rattle.fleet_args.specs.{Arguments.parser_for, Commands.commands, declared.arguments.OptionNames.OptionNames, declared.arguments.Form.Form}
 use Rattle.fleet_args.specs.declared.arguments.Form.TheVariants as form
-use Rattle.fleet_args.specs.Values.{AreNames, StandsForOne, TakesWhatStands, best_names, bits_of, deps_names, named_in}
+use Rattle.fleet_args.specs.Values.{AreNames, StandsForValue, TakesValues, best_names, bits_of, deps_names, named_in}
 
 -- the numbers that an argument takes have no more bits than those with which they are read
 abbrev fits : Text × Form → Bool
@@ -30,7 +30,7 @@ module _ (names : OptionNames) (are : AreNames names) where
   named known lent text same pass =
       among text known (sym (ap (list_any (λ name. bytes_eq name text)) same) ∙ (sym (list_any-map (λ name. bytes_eq name text) (λ name. name.now) lent.now) ∙ pass))
 
-  stands : (id : Text) (f : Form) (text : Text) → fits (id, f) ≡ true → Accepts false (parser_for names f) text → StandsForOne id f text
+  stands : (id : Text) (f : Form) (text : Text) → fits (id, f) ≡ true → Accepts false (parser_for names f) text → StandsForValue id f text
   stands id (form.Numbers least most) text fit pass = λ n read.
       signed_reads (Unit {0}) (ParsesUnsigned (bits_of id) 10) (bits_of id) least most text n read (λ t r h. h) (ltb-true _ _ fit) pass
   stands id form.Deps text fit pass = named deps_names names.deps text are.deps pass
@@ -39,15 +39,15 @@ module _ (names : OptionNames) (are : AreNames names) where
   stands id form.Text text fit pass = tt
   stands id form.Flag text fit pass = tt
 
-  each_argument : (arguments : List (Text × Form)) → list_all fits arguments ≡ true → AllByRecursion (TakesWhatStands names) arguments
+  each_argument : (arguments : List (Text × Form)) → list_all fits arguments ≡ true → AllByRecursion (TakesValues names) arguments
   each_argument [] fit = tt
   each_argument (a ∷ rest) fit = (λ text pass. stands a.0 a.1 text (both (fits a) _ fit).0 pass, each_argument rest (both (fits a) _ fit).1)
 
-  each_command : (cs : List (Text × List (Text × Form))) → list_all (λ c. list_all fits c.1) cs ≡ true → AllByRecursion (λ c. All (TakesWhatStands names) c.1) cs
+  each_command : (cs : List (Text × List (Text × Form))) → list_all (λ c. list_all fits c.1) cs ≡ true → AllByRecursion (λ c. All (TakesValues names) c.1) cs
   each_command [] fit = tt
   each_command (c ∷ cs) fit =
       let parts = both (list_all fits c.1) _ fit in
-      (All-from_recursion (TakesWhatStands names) c.1 (each_argument c.1 parts.0), each_command cs parts.1)
+      (All-from_recursion (TakesValues names) c.1 (each_argument c.1 parts.0), each_command cs parts.1)
 
-  pub all_stand : All (λ c. All (TakesWhatStands names) c.1) commands
-  all_stand = All-from_recursion (λ c. All (TakesWhatStands names) c.1) commands (each_command commands numbers_fit)
+  pub all_stand : All (λ c. All (TakesValues names) c.1) commands
+  all_stand = All-from_recursion (λ c. All (TakesValues names) c.1) commands (each_command commands numbers_fit)

@@ -50,7 +50,7 @@ IsText rows id text = first_of id rows ≡ Some text.now
 abbrev pub IsTextIfUsed : List Row → Text → Option (Bor Text) → Type 0
 IsTextIfUsed rows id text = option_map (λ t. t.now) text ≡ first_of id rows
 
--- as a number of so many bits the option of this name is read
+-- with so many bits the number of an option of this name is read
 abbrev pub bits_of : Text → ℕ
 bits_of id = if bytes_eq id (codes "tries") || bytes_eq id (codes "dwell") then 32 else 16
 
@@ -76,14 +76,14 @@ IsFlag rows id used = used ≡ option_map_or (λ t. bytes_eq t (codes "true")) (
 
 -- ---- What a text that an option takes stands for
 
--- the text of an argument of this name and form stands for something: a number is one of the range, and a name is one of
--- the names that the option takes
-abbrev pub StandsForOne : Text → Form → Text → Type 0
-StandsForOne id (form.Numbers least most) text = (n : Option ℕ) → SpellsNumber id (without_minus text) n → (m : ℕ) × (n ≡ Some m) × (least ≤ m) × (m ≤ most)
-StandsForOne id form.Deps text = IsSome (named_in deps_names text)
-StandsForOne id form.Best text = IsSome (named_in best_names text)
-StandsForOne id _ text = ⊤
+-- the text of an argument of this name and form stands for a value: what is read of a number is a number of the range,
+-- and a name is one of the option's
+abbrev pub StandsForValue : Text → Form → Text → Type 0
+StandsForValue id (form.Numbers least most) text = (n : Option ℕ) → SpellsNumber id (without_minus text) n → (m : ℕ) × (n ≡ Some m) × (least ≤ m) × (m ≤ most)
+StandsForValue id form.Deps text = IsSome (named_in deps_names text)
+StandsForValue id form.Best text = IsSome (named_in best_names text)
+StandsForValue id _ text = ⊤
 
--- each text that the argument takes stands for something
-abbrev pub TakesWhatStands : OptionNames → Text × Form → Type 0
-TakesWhatStands names argument = (text : Text) → Accepts false (parser_for names argument.1) text → StandsForOne argument.0 argument.1 text
+-- each text that the argument takes stands for a value
+abbrev pub TakesValues : OptionNames → Text × Form → Type 0
+TakesValues names argument = (text : Text) → Accepts false (parser_for names argument.1) text → StandsForValue argument.0 argument.1 text

@@ -5,7 +5,7 @@ ghost use Rattle.std.specs.List.{All};
 ghost use Rattle.clap.specs.Words.{Text, fault_of};
 ghost use Rattle.fleet_args.specs.Commands.{commands, fleet};
 ghost use Rattle.fleet_args.specs.Request.{IsReadAlone, command_and_rest};
-ghost use Rattle.fleet_args.specs.Values.{AreNames, TakesWhatStands};
+ghost use Rattle.fleet_args.specs.Values.{AreNames, TakesValues};
 ghost use Rattle.fleet_args.specs.declared.{arguments.Form.Form, arguments.OptionNames.OptionNames};
 
 /// Of words that begin with the name of a command, the whole command line takes what this command by itself takes of
@@ -19,10 +19,10 @@ pub fn commands_stand_alone()
         → fault_of (fleet names) words ≢ [] }
 {}
 
-/// Each text that an option of a command takes stands for something: what is read of a number is a number of the range,
+/// Each text that an option of a command takes stands for a value: what is read of a number is a number of the range,
 /// and a name is one of the option's. Words in which an option has another text have a fault, by `clap`'s definition; so
 /// no option that was used passes for one that was not.
 pub fn options_stand_for_values()
     ensures { (names : OptionNames) → AreNames names
-        → All (λ c. All (TakesWhatStands names) c.1) commands }
+        → All (λ c. All (TakesValues names) c.1) commands }
 {}

@@ -4,7 +4,7 @@
 //! made of what `clap` found in the words (its *matches*); `arguments` has which forms arguments have, makes a command
 //! of `clap` of a list of them, and reads their values in the matches; `request` reads words by the command with whose
 //! name they begin, and joins the commands to say what is wrong with others; `laws` says that a command by itself reads
-//! as the command line reads, and that each text which an option takes stands for something. Words that are taken have
+//! as the command line reads, and that each text which an option takes stands for a value. Words that are taken have
 //! each word that the command needs (`proofs/OwnWords.antt`), so each is read where it is asked for; that words with a
 //! text which an option does not take have a fault is `clap`'s definition.
 #![tactic(auto)]

@@ -1,3 +1,5 @@
 mod RequestLemmas
 mod NoCommand
-pub mod ValueLaws
+mod OwnCommand
+mod OwnWords
+mod ValueLaws

@@ -1,9 +1,9 @@
 -- The commands, each with its arguments and with what it is asked for, and the command line that has them.
-use Rattle.std.specs.Prelude.{◌≡◌, ℕ, true, List, [], ◌∷◌, IsSome, codes, find, fold, unwrap_or}
-use Rattle.std.specs.Str.{bytes_eq}
+use Rattle.std.specs.Prelude.{◌≡◌, ℕ, true, List, [], ◌∷◌, IsSome, MatchOption, codes, find, fold, unwrap_or}
+use Rattle.std.specs.{List.AllByRecursion, Str.bytes_eq}
 use Rattle.clap.specs.Words.{App, Row, Text, new_app, with_subcommand}
 use Rattle.fleet_args.specs.Arguments.{app_for}
-use Rattle.fleet_args.specs.Values.{IsText, IsTextIfUsed, IsNumberIfUsed, IsNumberOr, IsFlag, best_names, deps_names, named_by}
+use Rattle.fleet_args.specs.Values.{HasWord, IsText, IsTextIfUsed, IsNumberIfUsed, IsNumberOr, IsFlag, best_names, deps_names, named_by}
 use Rattle.fleet_args.specs.declared.{arguments.Form.Form, arguments.OptionNames.OptionNames, commands.ProgramFor.ProgramFor, commands.Tasks.Tasks, commands.Tries.Tries, commands.Request.Request}
 use Rattle.fleet_args.specs.declared.arguments.Form.TheVariants as form
 use Rattle.fleet_model.specs.declared.limits.TheConstants.{MAX_MOVES, MAX_TRIES}
@@ -75,9 +75,9 @@ commands =
 abbrev pub fleet : OptionNames → App
 fleet names = with_commands names fleet_top commands
 
--- this is the name of a command
-abbrev pub IsCommandName : Text → Type 0
-IsCommandName name = IsSome (find (λ c. bytes_eq name c.0) commands)
+-- the rows have a text for each word that the command of this name needs
+abbrev pub HasWords : Text → List Row → Type 0
+HasWords name rows = MatchOption (find (λ c. bytes_eq name c.0) commands) ⊥ (λ c. AllByRecursion (HasWord rows) c.1)
 
 -- this is the name of a command about a program for tasks
 abbrev pub IsProgramCommand : Text → Type 0
@@ -86,7 +86,7 @@ IsProgramCommand name =
 
 -- a map, a scenario and how many of its agents are asked for
 abbrev pub AsksTasks : List Row → Tasks → Type 0
-AsksTasks rows t = IsText rows (codes "map") t.map × IsText rows (codes "scen") t.scen × IsNumberIfUsed 16 rows (codes "agents") t.agents
+AsksTasks rows t = IsText rows (codes "map") t.map × IsText rows (codes "scen") t.scen × IsNumberIfUsed rows (codes "agents") t.agents
 
 -- the same with a program
 abbrev pub AsksProgram : List Row → ProgramFor → Type 0
@@ -94,7 +94,7 @@ AsksProgram rows p = AsksTasks rows p.tasks × IsText rows (codes "program") p.p
 
 -- how many orders are tried, and what makes a plan the best
 abbrev pub AsksTries : List Row → Tries → Type 0
-AsksTries rows tries = IsNumberOr 1 32 rows (codes "tries") tries.count × (tries.best ≡ named_by best_names rows (codes "best"))
+AsksTries rows tries = IsNumberOr 1 rows (codes "tries") tries.count × (tries.best ≡ named_by best_names rows (codes "best"))
 
 -- the command of this name, with these rows of its arguments, asks this
 abbrev pub AsksCommand : Text → List Row → Request → Type 0
@@ -102,21 +102,21 @@ AsksCommand name rows (r.Instance q) = (name ≡ codes "instance") × AsksTasks 
 AsksCommand name rows (r.Check q) =
     (name ≡ codes "check") × AsksTasks rows q.tasks × IsText rows (codes "plan") q.plan × IsFlag rows (codes "numbers") q.numbers
 AsksCommand name rows (r.Plan q) =
-    (name ≡ codes "plan") × AsksTasks rows q.tasks × IsNumberOr 1024 16 rows (codes "horizon") q.horizon × AsksTries rows q.tries
+    (name ≡ codes "plan") × AsksTasks rows q.tasks × IsNumberOr 1024 rows (codes "horizon") q.horizon × AsksTries rows q.tries
 AsksCommand name rows (r.Compile q) =
     (name ≡ codes "compile") × AsksTasks rows q.tasks × IsText rows (codes "plan") q.plan × IsText rows (codes "out") q.out
-    × (q.deps ≡ unwrap_or (named_by deps_names rows (codes "deps")) Last) × IsNumberOr 0 32 rows (codes "dwell") q.dwell
+    × (q.deps ≡ unwrap_or (named_by deps_names rows (codes "deps")) Last) × IsNumberOr 0 rows (codes "dwell") q.dwell
 AsksCommand name rows (r.Verify q) = (name ≡ codes "verify") × AsksProgram rows q
 AsksCommand name rows (r.Run q) = (name ≡ codes "run") × AsksProgram rows q.subject × IsTextIfUsed rows (codes "holds") q.holds
 AsksCommand name rows (r.Rehearse q) = (name ≡ codes "rehearse") × IsText rows (codes "program") q.program × IsTextIfUsed rows (codes "holds") q.holds
 AsksCommand name rows (r.Auto q) =
-    (name ≡ codes "auto") × AsksTasks rows q.tasks × IsNumberOr 1024 16 rows (codes "horizon") q.horizon × AsksTries rows q.tries
+    (name ≡ codes "auto") × AsksTasks rows q.tasks × IsNumberOr 1024 rows (codes "horizon") q.horizon × AsksTries rows q.tries
     × (q.deps ≡ unwrap_or (named_by deps_names rows (codes "deps")) Last) × IsTextIfUsed rows (codes "holds") q.holds × IsFlag rows (codes "numbers") q.numbers
 AsksCommand name rows (r.Thin q) = (name ≡ codes "thin") × AsksProgram rows q.subject × IsText rows (codes "out") q.out
 AsksCommand name rows (r.Migrate q) = (name ≡ codes "migrate") × IsText rows (codes "program") q.program × IsText rows (codes "out") q.out
 AsksCommand name rows (r.List q) = (name ≡ codes "list") × IsText rows (codes "program") q.program
 AsksCommand name rows (r.Dispatch q) =
-    (name ≡ codes "dispatch") × AsksProgram rows q.subject × IsNumberOr 1 16 rows (codes "ahead") q.ahead
+    (name ≡ codes "dispatch") × AsksProgram rows q.subject × IsNumberOr 1 rows (codes "ahead") q.ahead
     × IsFlag rows (codes "unnumbered") q.unnumbered × IsTextIfUsed rows (codes "resume") q.resume
     × IsTextIfUsed rows (codes "log") q.log
 AsksCommand name rows (r.Times q) =

@@ -1,7 +1,7 @@
 -- The request that the words make, by the matches that `clap` defines for them.
-use Rattle.std.specs.Prelude.{◌≡◌, ◌≢◌, ◌⊎◌, List, [], ◌∷◌, Option, None, find, option_map, Result, MatchOption, MatchResult, ⊤}
+use Rattle.std.specs.Prelude.{◌≡◌, ◌≢◌, ◌⊎◌, List, [], ◌∷◌, Option, None, Some, find, option_map, Result, MatchOption, MatchResult, ⊤}
 use Rattle.std.specs.Str.{bytes_eq}
-use Rattle.clap.specs.Words.{App, IsAmong, Kinds, Row, Text, matches_of, fault_of}
+use Rattle.clap.specs.Words.{App, IsAmong, Kinds, Row, Text, matches_of, fault_of, subcommand_of}
 use Rattle.clap.specs.declared.error.ErrorKind.{ErrorKind}
 use Rattle.clap.specs.declared.error.ErrorKind.TheVariants as kind
 use Rattle.fleet_args.specs.{Arguments.own, Commands.AsksCommand, Commands.commands, Commands.fleet, Values.AreNames}
@@ -27,10 +27,18 @@ abbrev pub command_and_rest : List Text → Option ((Text × List (Text × Form)
 command_and_rest [] = None
 command_and_rest (word ∷ rest) = option_map (λ c. (c, rest)) (find (λ c. bytes_eq c.0 word) commands)
 
--- the answer is the request that the words ask of the command with whose name they begin, whatever texts hold the
--- names that options take; or a stop for words that this command does not take, or, by the whole command line, that
--- begin with the name of none
+-- the command line reads the words as the command with whose name they begin reads by itself those after it
+pub record IsReadAlone (names : OptionNames) (words : List Text) (found : (Text × List (Text × Form)) × List Text) : Type 0 where
+  pub faults : fault_of (fleet names) words ≡ fault_of (own names found.0) found.1
+  pub rows : subcommand_of (fleet names) words ≡ Some (found.0.0, matches_of (own names found.0) found.1)
+
+-- the command line finds no fault in the words, and the command that they enter asks this, by the values of its rows
+abbrev pub Asks : App → List Text → Request → Type 0
+Asks line words request =
+    (fault_of line words ≡ []) × MatchOption (subcommand_of line words) ⊥ (λ found. AsksCommand found.0 found.1 request)
+
+-- the answer is the request that the words ask of the program's command line, whatever texts hold the names that
+-- options take; or a stop for words that the command line does not take
 abbrev pub ReadsFleet : List Text → Result Request WordStop → Type 0
 ReadsFleet words result = (names : OptionNames) × AreNames names
-    × MatchOption (command_and_rest words) (Parses (fleet names) words (λ rows request. ⊥) result)
-    (λ found. Parses (own names found.0) found.1 (AsksCommand found.0.0) result)
+    × MatchResult result (Asks (fleet names) words) (StopsFor (fault_of (fleet names) words))

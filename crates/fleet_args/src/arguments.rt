@@ -1,10 +1,10 @@
 //! The forms of words and options, how `clap` takes them, and the values that were given for them.
 
-ghost use Rattle.std.specs.Prelude.{◌≡◌, IfOk, false, fold, map};
-ghost use Rattle.clap.specs.Words.{app_of, rule_of, with_rule};
+ghost use Rattle.std.specs.Prelude.{◌≡◌, IfOk, IsSome, false, fold, map};
+ghost use Rattle.clap.specs.Words.{app_of, first_of, rule_of, with_rule};
 ghost use Rattle.clap.specs.declared.builder.Command.TheViews.{out-Command as fields_of};
 ghost use Rattle.fleet_args.specs.Arguments.{IsApp, app_for, parser_for, rule_for, said, told};
-ghost use Rattle.fleet_args.specs.Values.{IsFlag, IsNumberIfUsed, IsText, IsTextIfUsed, best_names, deps_names, named_by, rows_in};
+ghost use Rattle.fleet_args.specs.Values.{IsFlag, IsNumberIfUsed, IsText, IsTextIfUsed, best_names, bits_of, deps_names, named_by, rows_in};
 
 use crate::commands::{Best, help_of};
 use clap::builder::ValueParser;
@@ -124,25 +124,31 @@ pub(crate) fn used_text<'a>(matches: &ArgMatches<'a>, id: &str) -> Option<&'a st
     matches.get_str(id)
 }
 
-/// The text of an argument that the command needs; empty if it is lacking, and such words are refused.
+/// The text of an argument that has one.
 pub(crate) fn text<'a>(matches: &ArgMatches<'a>, id: &str) -> &'a str
+    requires { IsSome (first_of id.now (rows_in matches.now)) }
     ensures { IsText (rows_in matches.now) id.now result }
 {
-    used_text(matches, id).unwrap_or("")
+    match used_text(matches, id) {
+        Some(text) => text,
+        None => unreachable!(),
+    }
 }
 
 /// The number of up to 16 bits of an option, if it was used.
-#[tactic(auto, using(crate::proofs::RequestLemmas::number_used))]
+#[tactic(auto, using(crate::proofs::RequestLemmas::number_of_16))]
 pub(crate) fn used_number(matches: &ArgMatches<'_>, id: &str) -> Option<u16>
-    ensures { IsNumberIfUsed 16 (rows_in matches.now) id.now result }
+    requires { bits_of id.now ≡ 16 }
+    ensures { IsNumberIfUsed (rows_in matches.now) id.now result }
 {
     matches.get_one::<u16>(id)
 }
 
 /// The same of a number of up to 32 bits.
-#[tactic(auto, using(crate::proofs::RequestLemmas::number_used))]
+#[tactic(auto, using(crate::proofs::RequestLemmas::number_of_32))]
 pub(crate) fn used_count(matches: &ArgMatches<'_>, id: &str) -> Option<u32>
-    ensures { IsNumberIfUsed 32 (rows_in matches.now) id.now result }
+    requires { bits_of id.now ≡ 32 }
+    ensures { IsNumberIfUsed (rows_in matches.now) id.now result }
 {
     matches.get_one::<u32>(id)
 }

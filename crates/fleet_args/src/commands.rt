@@ -1,8 +1,9 @@
 //! The commands: what each is asked for, its words and options, and how they are read from the matches.
 
-ghost use Rattle.std.specs.Prelude.{◌≡◌, codes, map};
+ghost use Rattle.std.specs.Prelude.{◌≡◌, IsSome, codes, map};
+ghost use Rattle.clap.specs.Words.{first_of};
 ghost use Rattle.fleet_args.specs.{Arguments.said, Values.rows_in};
-ghost use Rattle.fleet_args.specs.Commands.{AsksCommand, AsksProgram, AsksTasks, AsksTries, IsCommandName, IsProgramCommand, commands};
+ghost use Rattle.fleet_args.specs.Commands.{AsksCommand, AsksProgram, AsksTasks, AsksTries, HasWords, IsProgramCommand, commands};
 
 use crate::arguments::{
     Argument, CommandText, Form, text, used, used_best, used_count, used_deps, used_number,
@@ -366,6 +367,8 @@ fn tries_in(matches: &ArgMatches<'_>) -> Tries
 
 /// The tasks that the matches of a command ask for.
 fn tasks_in<'a>(matches: &ArgMatches<'a>) -> Tasks<'a>
+    requires map { IsSome (first_of (codes "map") (rows_in matches.now)) }
+    requires scen { IsSome (first_of (codes "scen") (rows_in matches.now)) }
     ensures { AsksTasks (rows_in matches.now) result }
 {
     Tasks {
@@ -377,6 +380,9 @@ fn tasks_in<'a>(matches: &ArgMatches<'a>) -> Tasks<'a>
 
 /// The program, and the tasks that it is for, that the matches of a command ask for.
 fn program_in<'a>(matches: &ArgMatches<'a>) -> ProgramFor<'a>
+    requires map { IsSome (first_of (codes "map") (rows_in matches.now)) }
+    requires scen { IsSome (first_of (codes "scen") (rows_in matches.now)) }
+    requires program { IsSome (first_of (codes "program") (rows_in matches.now)) }
     ensures { AsksProgram (rows_in matches.now) result }
 {
     ProgramFor {
@@ -387,6 +393,7 @@ fn program_in<'a>(matches: &ArgMatches<'a>) -> ProgramFor<'a>
 
 /// The request of `auto`.
 fn auto_in<'a>(matches: &ArgMatches<'a>) -> Request<'a>
+    requires { HasWords (codes "auto") (rows_in matches.now) }
     ensures { AsksCommand (codes "auto") (rows_in matches.now) result }
 {
     Request::Auto(AutoRequest {
@@ -401,34 +408,34 @@ fn auto_in<'a>(matches: &ArgMatches<'a>) -> Request<'a>
 
 /// The request of the command of this name, which is about a program for tasks, by its matches.
 fn program_request<'a>(name: &str, matches: &ArgMatches<'a>) -> Request<'a>
-    requires { IsProgramCommand name.now }
+    requires name { IsProgramCommand name.now }
+    requires words { HasWords name.now (rows_in matches.now) }
     ensures { AsksCommand name.now (rows_in matches.now) result }
 {
-    let subject = program_in(matches);
     match name {
-        "verify" => Request::Verify(subject),
+        "verify" => Request::Verify(program_in(matches)),
         "run" => Request::Run(RunRequest {
-            subject,
+            subject: program_in(matches),
             holds: used_text(matches, "holds"),
         }),
         "thin" => Request::Thin(ThinRequest {
-            subject,
+            subject: program_in(matches),
             out: text(matches, "out"),
         }),
         "dispatch" => Request::Dispatch(DispatchRequest {
-            subject,
+            subject: program_in(matches),
             ahead: used_number(matches, "ahead").unwrap_or(1),
             unnumbered: used(matches, "unnumbered"),
             resume: used_text(matches, "resume"),
             log: used_text(matches, "log"),
         }),
         "times" => Request::Times(TimesRequest {
-            subject,
+            subject: program_in(matches),
             costs: used_text(matches, "costs"),
             broken: used_text(matches, "broken"),
         }),
         "rest" => Request::Rest(RestRequest {
-            subject,
+            subject: program_in(matches),
             reports: text(matches, "reports"),
             scen_out: text(matches, "scen_out"),
             program_out: text(matches, "program_out"),
@@ -442,7 +449,7 @@ fn program_request<'a>(name: &str, matches: &ArgMatches<'a>) -> Request<'a>
 
 /// The request of the command of this name, by its matches.
 pub(crate) fn request_by<'a>(name: &str, matches: &ArgMatches<'a>) -> Request<'a>
-    requires { IsCommandName name.now }
+    requires { HasWords name.now (rows_in matches.now) }
     ensures { AsksCommand name.now (rows_in matches.now) result }
 {
     match name {

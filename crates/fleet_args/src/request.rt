@@ -1,8 +1,8 @@
 //! The command line, and the request that its words make.
 
-ghost use Rattle.std.specs.Prelude.{◌≡◌, true, find, map, option_map, string_bytes, IfOk};
+ghost use Rattle.std.specs.Prelude.{◌≡◌, true, find, map, option_map, string_bytes, IfOk, IsOkAnd};
 ghost use Rattle.std.specs.Str.{bytes_eq};
-ghost use Rattle.clap.specs.Words.{App, app_of, is_simple_and_free, kind_of};
+ghost use Rattle.clap.specs.Words.{App, IsParsedFrom, app_of, is_simple_and_free, kind_of};
 ghost use Rattle.fleet_args.specs.Commands.{fleet, with_commands};
 ghost use Rattle.fleet_args.specs.Request.{IsStopOf, Parses, ReadsFleet, command_and_rest};
 ghost use Rattle.fleet_args.specs.{Arguments.own, Arguments.said, Values.AreNames, Values.rows_in};
@@ -46,8 +46,9 @@ fn matches_by<'a>(
     words: &'a [String],
 ) -> Result<ArgMatches<'a>, WordStop>
     requires { (app : App) × (is_simple_and_free app ≡ true) × IfOk command (λ c. app_of c ≡ app) }
-    ensures { (app : App) → IfOk command.entry (λ c. app_of c ≡ app)
+    ensures values { (app : App) → IfOk command.entry (λ c. app_of c ≡ app)
         → Parses app (map string_bytes words.entry.now) (λ rows m. rows_in m ≡ rows) result }
+    ensures parsed { IfOk result (λ m. IsOkAnd command.entry (λ c. IsParsedFrom c m)) }
 {
     let Ok(command) = command else {
         return Err(WordStop::OutOfMemory);
@@ -101,9 +102,9 @@ fn option_names() -> OptionNames<'static>
     }
 }
 
-/// Reads the words after the program's name, as `clap` reads them by the definition of the command with whose name they
-/// begin, or else by that of the command line. To make the command alone costs a tenth of what it costs to make the
-/// whole command line.
+/// Reads the words after the program's name, as `clap` reads them by the definition of the command line. The command
+/// with whose name they begin is asked by itself: to make it costs a tenth of what it costs to make the whole command
+/// line, and both read alike (`commands_stand_alone`).
 ///
 /// Errors: `Usage` and `Help` only if that definition does not take the words, and `Help` only if they ask for help or
 /// for the version; `OutOfMemory`.

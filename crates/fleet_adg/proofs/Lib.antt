@@ -17,6 +17,9 @@ pub mod Alike
 pub mod Staying
 pub mod Short
 pub mod Thinning
+pub mod AsWritten
+pub mod RunPlan
+pub mod Trains
 mod RestMade
 mod TasksOf
 mod Joined

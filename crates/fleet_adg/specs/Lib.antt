@@ -5,3 +5,4 @@ pub mod RefusalWords
 pub mod Thinned
 pub mod Remaining
 pub mod ProgramBytes
+pub mod AsWritten

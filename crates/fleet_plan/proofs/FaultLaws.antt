@@ -63,7 +63,7 @@ free_from passable tasks plan ends goes none = record {
       ]
     ]
 
-conflict_free : (passable : Place → Bool) (tasks : List Task) (plan : Plan) → IsConflictFree passable tasks plan → HasNoConflict plan
+pub conflict_free : (passable : Place → Bool) (tasks : List Task) (plan : Plan) → IsConflictFree passable tasks plan → HasNoConflict plan
 conflict_free passable tasks plan free (Vertex x i j) h = let a : i < j = h.0 in let b : j < length plan = h.1 in free.vertex x i j (omega arith) b h.2
 conflict_free passable tasks plan free (Swapping x i j) h = let a : i < j = h.0 in let b : j < length plan = h.1 in free.swapping x i j (omega arith) b h.2
 conflict_free passable tasks plan free (Cycle x least) h = free.cycle x h.0 h.1.agents h.1.conflict

@@ -6,6 +6,7 @@ pub mod Rings
 pub mod UnderWay
 pub mod Sweep
 pub mod Plan
+pub mod Apart
 pub mod Numbers
 pub mod Checked
 pub mod RefusalWords

@@ -1,15 +1,18 @@
-//! Plans that were judged: those free of conflict, and the first fault of the others.
+//! Plans that were judged: those free of conflict, whether agents follow one another in them, and the first fault of
+//! the others.
 
-ghost use Rattle.std.specs.Prelude.{◌≡◌, ◌≢◌, IfOk, IfErr, IfSome, IfNone, length, EachIndex};
+ghost use Rattle.std.specs.Prelude.{◌≡◌, ◌≢◌, ◌↔◌, IsTrue, IfOk, IfErr, IfSome, IfNone, length, EachIndex};
 ghost use Rattle.fleet_grid.specs.Ground.{is_passable};
 ghost use Rattle.fleet_plan.specs.Plan.{IsConflictFree};
 ghost use Rattle.fleet_plan.specs.FirstFault.{IsFirstPlanFault, StartsOnStart, EndsOnGoal, IsFirstFaultyAgent};
 ghost use Rattle.fleet_plan.specs.Checked.{IsCheckedFor};
+ghost use Rattle.fleet_plan.specs.Apart.{IsApart};
 
 use crate::plan::{Plan, first_wrong_step};
 use crate::plan_fault::{PlanFault, PlanRefusal};
-use crate::sweep::first_conflict;
+use crate::sweep::{first_conflict, nobody_follows};
 use fleet_grid::Grid;
+use fleet_model::OutOfMemory;
 use fleet_scen::Instance;
 use std::alloc::Global;
 use std::marker::Model;
@@ -39,6 +42,20 @@ pub fn check<'g>(
         Ok(()) => Ok(Checked::new(plan, grid, instance)),
         Err(fault) => Err(PlanRefusal { fault, plan }),
     }
+}
+
+/// Whether a plan is apart: no agent follows another (Stern et al. 2019), so none enters a cell in the step in which
+/// another leaves it.
+///
+/// It takes time and memory as `check` does, and fails only if memory is refused.
+pub fn is_apart(alloc: Global, checked: &Checked<'_>) -> Result<bool, OutOfMemory>
+    ensures { IfOk result (λ apart. IsTrue apart ↔ IsApart checked.now.plan) }
+{
+    let (plan, grid) = (checked.plan(), checked.grid());
+    // What is asked of a map gives its sizes.
+    let _width = grid.width();
+    let apart = nobody_follows(alloc, plan, grid)?;
+    Ok(apart)
 }
 
 /// The first fault of a plan.

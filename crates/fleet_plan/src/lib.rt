@@ -5,8 +5,8 @@
 //! `checking` judges a plan in the order of its faults: it looks at starts and goals, and then at the steps, and
 //! `sweep` goes over the times, with each agent entered in a table of cells, so that whom it meets, swaps with or
 //! follows is one look-up. Only if cells are entered in the step in which they are left does it follow the agents round
-//! their rings. A `Checked` is a plan that was found free of conflict, which nothing else makes. `fault_laws` and
-//! `text_laws` are laws.
+//! their rings. A `Checked` is a plan that was found free of conflict, which nothing else makes; `is_apart` says of one
+//! whether an agent follows another. `fault_laws` and `text_laws` are laws.
 #![tactic(auto)]
 
 mod cells;
@@ -20,7 +20,7 @@ mod text_fault;
 mod text_laws;
 mod writing;
 
-pub use checking::{Checked, check};
+pub use checking::{Checked, check, is_apart};
 pub use fault_laws::a_plan_is_free_or_has_a_first_fault;
 pub use plan::{Path, Plan};
 pub use plan_fault::{Conflict, PlanFault, PlanRefusal};

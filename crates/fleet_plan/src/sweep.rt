@@ -1,10 +1,12 @@
 //! The sweep over time for conflicts, with a table of cells in which each agent enters itself. Each step looks at the
 //! agents under way, and at those that have arrived since the last eighth step: one that has come to its last cell
-//! stays entered there.
+//! stays entered there. The same sweep finds whether an agent follows another.
 
 ghost use Rattle.std.specs.Prelude.{◌≡◌, ◌≢◌, ℕ, ◌+◌, ◌<◌, ◌≤◌, ◌⊎◌, ◌↔◌, IfOk, IfSome, IfNone, MatchOption, length, slice_index, Some, None, All, IsTrue, false, EachIndex};
-ghost use Rattle.fleet_grid.specs.Ground.{is_passable};
+ghost use Rattle.fleet_grid.specs.Ground.{is_passable, cell_index};
 ghost use Rattle.fleet_model.specs.declared.limits.TheConstants.{MAX_AGENTS, MAX_HORIZON};
+ghost use Rattle.fleet_plan.specs.Apart.{IsApart, HasFollowing, IsTakenFrom};
+ghost use Rattle.fleet_plan.specs.Plan.{cell_of};
 ghost use Rattle.fleet_plan.specs.FirstFault.{GoesRight, IsFirstConflict, HasNoConflict};
 ghost use Rattle.fleet_plan.specs.Rings.{IsBlank, NamesAgents, ahead_of, walk_of, IsOnRing, IsLeastOnRing, LeadsTo, AreClosed, HasWalked};
 ghost use Rattle.fleet_plan.specs.Sweep.{StandOnMap, StandOnPlaces, IsFirstMeeting, IsEntered, IsAhead, AreAhead, Exchange, IsFirstExchange, HasNone, IsFirstAhead, IsFreeAhead, OthersStandAt, HasIn, EntersAgent, NamesLeavers, NamesMovers, AreAgentsSettled, AreOtherAgentsSettled, AreFresh, IsSweep, HasComeTo, HasLookedAhead, HaveArrived};
@@ -355,20 +357,36 @@ impl Sweep {
         ensures { IfOk result (λ found. MatchOption found (HasNoConflict plan.now)
             (IsFirstConflict plan.now)) }
     {
-        // Agents in one place are on one cell: a law of the map.
-        cells_have_places_of_their_own();
         let end = plan.steps() + 1;
-        let places = self.places.as_mut_slice();
-        fill_places(plan, grid, 0, places);
-        self.next.copy_from_slice(places);
-        if let Some((i, j)) = first_meeting(&mut self.table, places)? {
-            return Ok(Some(Conflict::Vertex { time: 0, i, j }));
+        let begun = self.begin(plan, grid)?;
+        if begun.is_some() {
+            return Ok(begun);
         }
         for time in 0..end {
             let found = self.step(plan, grid, time)?;
             if found.is_some() {
                 return Ok(found);
             }
+        }
+        Ok(None)
+    }
+
+    /// The first conflict of a plan, if it is at time 0. If it is not, the sweep has come to that time.
+    fn begin(&mut self, plan: &Plan, grid: &Grid) -> Result<Option<Conflict>, AllocError>
+        requires on_map { StandOnMap grid.now plan.now }
+        requires fresh { AreFresh plan.now self.old }
+        ensures { IfOk result (λ found. MatchOption found (HasComeTo grid.now plan.now 0 self.new)
+            (IsFirstConflict plan.now)) }
+    {
+        // Agents in one place are on one cell: a law of the map.
+        cells_have_places_of_their_own();
+        // The plan that is asked shows that there are few agents.
+        let _agents = plan.agents();
+        let places = self.places.as_mut_slice();
+        fill_places(plan, grid, 0, places);
+        self.next.copy_from_slice(places);
+        if let Some((i, j)) = first_meeting(&mut self.table, places)? {
+            return Ok(Some(Conflict::Vertex { time: 0, i, j }));
         }
         Ok(None)
     }
@@ -442,6 +460,67 @@ impl Sweep {
     }
 }
 
+impl Sweep {
+    /// Whether no agent follows another, in a plan without conflict. Takes memory for the parts of the map on which the
+    /// agents stand.
+    fn is_apart(&mut self, plan: &Plan, grid: &Grid) -> Result<bool, AllocError>
+        requires on_map { StandOnMap grid.now plan.now }
+        requires fresh { AreFresh plan.now self.old }
+        requires free { HasNoConflict plan.now }
+        ensures { IfOk result (λ apart. IsTrue apart ↔ IsApart plan.now) }
+    {
+        // There is no conflict, so the sweep begins, and comes to each time.
+        self.begin(plan, grid)?;
+        for time in 0..plan.steps() {
+            if self.has_following(plan, grid, time) {
+                return Ok(false);
+            }
+            self.step(plan, grid, time)?;
+        }
+        Ok(true)
+    }
+
+    /// Whether some agent follows another in the step after `time`, to which the sweep has come.
+    fn has_following(&self, plan: &Plan, grid: &Grid, time: u32) -> bool
+        requires on_map { StandOnMap grid.now plan.now }
+        requires time { time ≤ MAX_HORIZON }
+        requires swept { HasComeTo grid.now plan.now time self.now }
+        ensures { IsTrue result ↔ HasFollowing plan.now time }
+    {
+        // Agents in one place are on one cell: a law of the map.
+        cells_have_places_of_their_own();
+        let places = self.places.as_slice();
+        for &i in self.agents.as_slice() {
+            let place = next_place(plan, grid, i, time);
+            if is_taken_from(&self.table, places, i, place) {
+                return true;
+            }
+        }
+        false
+    }
+}
+
+/// The place of agent `i` at the time after `time`.
+fn next_place(plan: &Plan, grid: &Grid, i: u16, time: u32) -> usize
+    requires on_map { StandOnMap grid.now plan.now }
+    requires agent { i < length plan.now }
+    requires time { time ≤ MAX_HORIZON }
+    ensures { result ≡ cell_index grid.now (cell_of plan.now i (time + 1)) }
+{
+    grid.cell_index(plan.cell(i, time + 1))
+}
+
+/// Whether an agent other than `i` is in the place.
+fn is_taken_from(table: &Table<u16>, places: &[usize], i: u16, place: usize) -> bool
+    requires { IsEntered table.now places.now }
+    ensures { IsTrue result ↔ IsTakenFrom places.now i place }
+{
+    match occupant(table, places, place) {
+        Some(j) => j != i,
+        None => false,
+    }
+}
+
 /// All agents.
 fn agents_of(alloc: Global, plan: &Plan) -> Result<Vec<u16>, AllocError>
     ensures { IfOk result (λ agents. Covers plan.now 0 agents.items) }
@@ -465,6 +544,17 @@ pub(crate) fn first_conflict(
     let _width = grid.width();
     let mut sweep = Sweep::new(alloc, plan)?;
     sweep.run(plan, grid)
+}
+
+/// Whether no agent follows another, in a plan without conflict whose agents stay on the map. Takes memory for the
+/// agents, and for the parts of the map on which they stand.
+pub(crate) fn nobody_follows(alloc: Global, plan: &Plan, grid: &Grid) -> Result<bool, AllocError>
+    requires on_map { StandOnMap grid.now plan.now }
+    requires free { HasNoConflict plan.now }
+    ensures { IfOk result (λ apart. IsTrue apart ↔ IsApart plan.now) }
+{
+    let mut sweep = Sweep::new(alloc, plan)?;
+    sweep.is_apart(plan, grid)
 }
 
 // Rings of agents in one step, each of which goes to the cell of the next one.

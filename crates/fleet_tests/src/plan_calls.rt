@@ -3,13 +3,13 @@
 use crate::due::{due_bytes, due_numbers};
 use crate::fleets::{
     ALL_BYTES, LAST_BYTES, PAIR_BYTES, PAIR_MAP, PAIR_PLAN, PAIR_SCEN, ROW_MAP, ROW_SCEN,
-    STAYING_BYTES, accepted_of, problem,
+    STAYING_BYTES, accepted_of, checked_of, problem,
 };
 use fleet_adg::{Deps, ProgramBytes, compile, compile_bytes, compile_dwell, thin, thin_bytes};
 use fleet_code::{encode, encode2, view};
 use fleet_grid::Grid;
 use fleet_model::ProgramView;
-use fleet_plan::{Checked, Plan, write_plan};
+use fleet_plan::{Checked, Plan, is_apart, write_plan};
 use fleet_scen::Instance;
 use fleet_search::{SumOfCosts, best_in_orders, bound, first_in_orders, plan};
 use fleet_verify::Accepted;
@@ -93,6 +93,25 @@ fn plans_are_made_and_compiled(rt: HostRuntime) -> Result<(), Fail> {
     let (grid, instance) = problem(rt.alloc(), PAIR_MAP, PAIR_SCEN)?;
     let checked = plan(rt.alloc(), &grid, &instance, 1024)?;
     due_compiled(&rt, rt.alloc(), &checked)
+}
+
+/// The pair's plan in which the second agent waits for one step, before it sets out.
+const WAITING_PLAN: &[u8] = b"1,0 2,0 3,0\n0,0 0,0 1,0 2,0\n";
+
+/// Whether the plan is apart is due.
+fn due_apart(rt: &impl Abort, alloc: Global, checked: &Checked<'_>, due: bool) -> Result<(), Fail> {
+    assert!(*rt; is_apart(alloc, checked)? == due);
+    Ok(())
+}
+
+#[test]
+fn plans_are_apart_if_nobody_follows(rt: HostRuntime) -> Result<(), Fail> {
+    let alloc = rt.alloc();
+    let (grid, instance) = problem(alloc, PAIR_MAP, PAIR_SCEN)?;
+    let following = checked_of(alloc, PAIR_PLAN, &grid, &instance)?;
+    due_apart(&rt, alloc, &following, false)?;
+    let waiting = checked_of(alloc, WAITING_PLAN, &grid, &instance)?;
+    due_apart(&rt, alloc, &waiting, true)
 }
 
 /// The row's program without the awaits that others imply, which is made at once too.

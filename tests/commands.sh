@@ -65,4 +65,8 @@ rest m s p l a b --map-out: error: a value is required for '--map-out <FILE>' bu
 dispatch m s p --ahead 0: error: invalid value '0' for '--ahead <K>': 0 is not in 1..=255
 dispatch m s p --ahead 256: error: invalid value '256' for '--ahead <K>': 256 is not in 1..=255
 dispatch m s p --unnumbered=1: error: unexpected value '1' for '--unnumbered' found; no more were expected
+dispatch m s p --run=: error: invalid value for '--run <WORD>': not 1 to 64 printable bytes without a blank
+dispatch m s p --run é: error: invalid value for '--run <WORD>': not 1 to 64 printable bytes without a blank
+dispatch m s p --run 12345678901234567890123456789012345678901234567890123456789012345: error: invalid value for '--run <WORD>': not 1 to 64 printable bytes without a blank
+dispatch m s p --skip-wrong=1: error: unexpected value '1' for '--skip-wrong' found; no more were expected
 EOF

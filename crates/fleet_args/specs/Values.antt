@@ -1,5 +1,7 @@
 -- The values that the words of a command give to its arguments.
-use Rattle.std.specs.Prelude.{◌≡◌, ℕ, Bool, false, List, [], ◌∷◌, MatchOption, Option, None, codes, find, map, option_and_then, option_map, unwrap_or}
+use Rattle.std.specs.Prelude.{◌≡◌, ◌&&◌, ℕ, Bool, false, List, [], ◌∷◌, MatchOption, Option, None, codes, find, length, map, nat_lt, option_and_then, option_map, unwrap_or}
+use Rattle.std.specs.List.{list_all}
+use Rattle.std.specs.Char.{is_ascii_graphic}
 use Rattle.std.specs.{Borrow.Bor, Option.option_map_or, Str.bytes_eq, Str.Parse.ParsesUnsigned}
 use Rattle.clap.specs.Words.{ReadsOne, Row, Text, first_of, one_of, rows_of, found_of}
 use Rattle.clap.specs.declared.parser.ArgMatches.{ArgMatches}
@@ -24,6 +26,10 @@ pub record AreNames (names : OptionNames) : Type 0 where
 -- what the text names
 abbrev pub named_in : {A : Type 0} → List (Text × A) → Text → Option A
 named_in names text = option_map (λ n. n.1) (find (λ n. bytes_eq text n.0) names)
+
+-- it is the name of a run: 1 to 64 printable bytes, none of which is a blank
+abbrev pub is_run_name : Text → Bool
+is_run_name text = nat_lt 0 (length text) && (nat_lt (length text) 65 && list_all is_ascii_graphic text)
 
 -- ---- The value of an argument, by the rows that `clap` defines for the words. By its definition words that lack a
 -- text which a command needs have a fault, as have those in which an option has a text that it does not take; so a text

@@ -1,10 +1,11 @@
 //! The forms of words and options, how `clap` takes them, and the values that were given for them.
 
 ghost use Rattle.std.specs.Prelude.{◌≡◌, IfOk, false, fold, map};
+ghost use Rattle.std.specs.{List.list_all, Char.is_ascii_graphic};
 ghost use Rattle.clap.specs.Words.{app_of, rule_of, with_rule};
 ghost use Rattle.clap.specs.declared.builder.Command.TheViews.{out-Command as fields_of};
 ghost use Rattle.fleet_args.specs.Arguments.{IsApp, app_for, parser_for, rule_for, said, told};
-ghost use Rattle.fleet_args.specs.Values.{IsFlag, IsNumberIfUsed, IsText, IsTextIfUsed, best_names, deps_names, named_by, rows_in};
+ghost use Rattle.fleet_args.specs.Values.{IsFlag, IsNumberIfUsed, IsText, IsTextIfUsed, best_names, deps_names, is_run_name, named_by, rows_in};
 
 use crate::commands::{Best, help_of};
 use clap::builder::ValueParser;
@@ -167,6 +168,25 @@ pub(crate) fn used_best(matches: &ArgMatches<'_>, id: &str) -> Option<Best>
         "cost" => Some(Best::Cost),
         _ => None,
     }
+}
+
+/// The greatest number of bytes of the name of a run.
+const MAX_RUN_NAME: usize = 64;
+
+/// Whether it is the name of a run: 1 to 64 printable bytes, none of which is a blank.
+pub(crate) fn is_run_name(text: &str) -> bool
+    ensures { result ≡ is_run_name text.now }
+{
+    let bytes = text.as_bytes();
+    let has_length = !bytes.is_empty() && bytes.len() <= MAX_RUN_NAME;
+    has_length && are_printable(bytes)
+}
+
+/// Whether the bytes are printable, and none is a blank.
+fn are_printable(bytes: &[u8]) -> bool
+    ensures { result ≡ list_all is_ascii_graphic bytes.now }
+{
+    bytes.iter().all(|b| b.is_ascii_graphic())
 }
 
 /// Whether a flag was used.

@@ -1,13 +1,14 @@
 //! The command line, and the request that its words make.
 
-ghost use Rattle.std.specs.Prelude.{◌≡◌, true, find, map, option_map, string_bytes, IfOk};
+ghost use Rattle.std.specs.Prelude.{◌≡◌, ◌∷◌, [], if◌then◌else◌, true, find, map, option_map, string_bytes, IfOk};
 ghost use Rattle.std.specs.Str.{bytes_eq};
 ghost use Rattle.clap.specs.Words.{App, app_of, is_simple_and_free, kind_of};
-ghost use Rattle.fleet_args.specs.Commands.{fleet, with_commands};
-ghost use Rattle.fleet_args.specs.Request.{IsStopOf, Parses, ReadsFleet, command_and_rest};
+ghost use Rattle.fleet_args.specs.Commands.{AsksCommand, IsCommandName, fleet, with_commands};
+ghost use Rattle.fleet_args.specs.Request.{IsStopOf, Parses, ReadsFleet, TakesRun, command_and_rest, run_fault};
+ghost use Rattle.clap.specs.declared.error.ErrorKind.TheVariants.{ValueValidation};
 ghost use Rattle.fleet_args.specs.{Arguments.own, Arguments.said, Values.AreNames, Values.rows_in};
 
-use crate::arguments::{CommandText, OptionNames, command_of};
+use crate::arguments::{CommandText, OptionNames, command_of, is_run_name, used_text};
 use crate::commands::{Request, commands, request_by};
 use clap::error::ErrorKind;
 use clap::{ArgMatches, Command};
@@ -91,6 +92,46 @@ fn own_command<'a>(
         .bin_name(text.line)
 }
 
+/// Whether the name of a run is one, if it was given.
+fn takes_run(matches: &ArgMatches<'_>) -> bool
+    ensures { run_fault (rows_in matches.now) ≡ (if result then [] else ValueValidation ∷ []) }
+{
+    match used_text(matches, "run") {
+        Some(run) => is_run_name(run),
+        None => true,
+    }
+}
+
+/// What is said of a wrong name of a run.
+const WRONG_RUN: &str =
+    "error: invalid value for '--run <WORD>': not 1 to 64 printable bytes without a blank\n\n\
+     For more information, try '--help'.\n";
+
+/// The stop at a wrong name of a run.
+fn wrong_run(alloc: Global) -> WordStop
+    ensures { IsStopOf ValueValidation result }
+{
+    match String::from_str(alloc, WRONG_RUN) {
+        Ok(text) => WordStop::Usage(text),
+        Err(_) => WordStop::OutOfMemory,
+    }
+}
+
+/// The request of the command of this name, by its matches, or the stop at a wrong name of a run.
+fn request_in<'a>(
+    alloc: Global,
+    name: &str,
+    matches: &ArgMatches<'a>,
+) -> Result<Request<'a>, WordStop>
+    requires { IsCommandName name.now }
+    ensures { TakesRun (rows_in matches.now) (AsksCommand name.now) result }
+{
+    if takes_run(matches) {
+        return Ok(request_by(name, matches));
+    }
+    Err(wrong_run(alloc))
+}
+
 /// The names that options take.
 fn option_names() -> OptionNames<'static>
     ensures { AreNames result }
@@ -106,7 +147,7 @@ fn option_names() -> OptionNames<'static>
 /// whole command line.
 ///
 /// Errors: `Usage` and `Help` only if that definition does not take the words, and `Help` only if they ask for help or
-/// for the version; `OutOfMemory`.
+/// for the version; `Usage` too if it takes them and they give a run a name that is none; `OutOfMemory`.
 pub fn read_words<'a>(alloc: Global, words: &'a [String]) -> Result<Request<'a>, WordStop>
     ensures { ReadsFleet (map string_bytes words.entry.now) result }
 {
@@ -119,7 +160,7 @@ pub fn read_words<'a>(alloc: Global, words: &'a [String]) -> Result<Request<'a>,
         };
     };
     match matches_by(alloc, own_command(alloc, names, text), rest) {
-        Ok(matches) => Ok(request_by(text.name, &matches)),
+        Ok(matches) => request_in(alloc, text.name, &matches),
         Err(stop) => Err(stop),
     }
 }

@@ -1,6 +1,6 @@
-use Rattle.std.proofs.Common.{Err, Ok, map, refl, string_bytes, sym}
-use Rattle.fleet_args.specs.{Arguments.own, Arguments.said, Commands.fleet}
-use Rattle.fleet_args.proofs.{NoCommand.unnamed, RequestLemmas.free, RequestLemmas.is_name, RequestLemmas.reads}
+use Rattle.std.proofs.Common.{Err, map, refl, string_bytes, sym}
+use Rattle.fleet_args.specs.{Arguments.own, Arguments.said, Commands.AsksCommand, Commands.fleet, Values.rows_in}
+use Rattle.fleet_args.proofs.{NoCommand.unnamed, RequestLemmas.free, RequestLemmas.is_name, RequestLemmas.reads, RequestLemmas.takes, RequestLemmas.takes_not}
 use Rattle.fleet_args.proofs.request.read_words.Goals as goal
 
 pub matches_by-requires : goal.matches_by-requires
@@ -18,16 +18,16 @@ pub matches_by-requires-2 : goal.matches_by-requires-2
 matches_by-requires-2 c =
     (own c.option_names-names.result (said c.in-Some.text.now), free c.option_names-names.result (map string_bytes c.args.words.now) _ c.in-Some.ensures, c.own_command.ensures)
 
-pub request_by-requires : goal.request_by-requires
-request_by-requires c = is_name (map string_bytes c.args.words.now) _ c.in-Some.ensures
+pub request_in-requires : goal.request_in-requires
+request_in-requires c = is_name (map string_bytes c.args.words.now) _ c.in-Some.ensures
 
 pub returns-in-Err-matches_by : goal.returns-in-Err-matches_by
 returns-in-Err-matches_by c =
-    reads c.option_names-names.result (map string_bytes c.args.words.now) _ c.in-Some.ensures c.option_names-names.ensures (Err c.in-Err-matches_by.stop)
-    (c.in-Err-matches_by.ensures (own c.option_names-names.result (said c.in-Some.text.now)) c.own_command.ensures)
+    let stops = c.in-Err-matches_by.ensures (own c.option_names-names.result (said c.in-Some.text.now)) c.own_command.ensures in
+    reads c.option_names-names.result (map string_bytes c.args.words.now) _ c.in-Some.ensures c.option_names-names.ensures (Err c.in-Err-matches_by.stop) (takes_not _ _ _ stops)
 
 pub returns-in-Ok-matches_by : goal.returns-in-Ok-matches_by
 returns-in-Ok-matches_by c =
-    let takes = c.in-Ok-matches_by.ensures (own c.option_names-names.result (said c.in-Some.text.now)) c.own_command.ensures in
-    reads c.option_names-names.result (map string_bytes c.args.words.now) _ c.in-Some.ensures c.option_names-names.ensures (Ok c.request_by.result)
-    (takes.0, rw takes.1 at c.request_by.ensures)
+    let found = c.in-Ok-matches_by.ensures (own c.option_names-names.result (said c.in-Some.text.now)) c.own_command.ensures in
+    reads c.option_names-names.result (map string_bytes c.args.words.now) _ c.in-Some.ensures c.option_names-names.ensures c.request_in.result
+    (takes (own c.option_names-names.result (said c.in-Some.text.now)) (map string_bytes c.in-Some.rest.now) (rows_in c.in-Ok-matches_by.matches) (AsksCommand (said c.in-Some.text.now).0) _ found.0 found.1 c.request_in.ensures)

@@ -25,3 +25,4 @@ mod StreamLemmas
 pub mod Stood
 mod BreakLemmas
 mod CostLemmas
+mod HeadLemmas

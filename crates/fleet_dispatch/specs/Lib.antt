@@ -19,3 +19,4 @@ pub mod Standing
 pub mod Breaks
 pub mod Costs
 pub mod DeadRobot
+pub mod LogHead

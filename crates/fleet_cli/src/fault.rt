@@ -31,21 +31,35 @@ pub(crate) use or_refuse;
 
 /// Every refusal of the program but usage and help. `File` names the file that cannot be read or written, and is `-`
 /// for the standard streams.
-#[derive(Drop)]
+#[derive(Debug, Drop, Error)]
 pub enum Fault<'a> {
+    #[error(transparent)]
     Map(MapFault),
+    #[error(transparent)]
     Scen(ScenFault),
+    #[error(transparent)]
     Text(TextFault),
+    #[error(transparent)]
     Check(PlanFault),
+    #[error(transparent)]
     Search(PlanStop),
+    #[error(transparent)]
     Hex(HexFault),
+    #[error(transparent)]
     Load(LoadFault),
+    #[error(transparent)]
     Compile(CompileFault),
+    #[error(transparent)]
     Verify(VerifyFault),
+    #[error(transparent)]
     Run(RunFault),
+    #[error(transparent)]
     Dispatch(DispatchFault),
+    #[error(transparent)]
     Times(TimesFault),
+    #[error("out of memory")]
     Memory,
+    #[error("the file {0} cannot be read or written")]
     File(&'a str),
 }
 

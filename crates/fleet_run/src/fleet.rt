@@ -21,6 +21,7 @@ use fleet_text::TraceOut;
 use fleet_verify::{Accepted, ready_moves_are_apart, runs_arrive, runs_end, ticks_are_safe};
 use std::alloc::Global;
 use std::marker::Model;
+use thiserror::Error;
 
 /// The agents of an accepted program, on their way. As a value it is the accepted program, the configuration, in which
 /// each agent has a place and a number of finished actions, and how many agents ticks have looked at.
@@ -51,7 +52,8 @@ pub struct StartRefusal<'g, P: ProgramView> {
 }
 
 /// An agent that is reported to have carried out an order, and had none.
-#[derive(Clone, Copy)]
+#[derive(Clone, Copy, Debug, Error)]
+#[error("agent {agent} had no order")]
 pub struct NotSent {
     pub agent: u16,
 }

@@ -8,11 +8,14 @@ ghost use Rattle.fleet_run.specs.HoldText.{agents_of, tick_of, IsTickLine};
 
 use fleet_text::{cut, is_dash, next_line, plain_number_of};
 use std::marker::Model;
+use thiserror::Error;
 
 /// How a source failed: it broke off, or the line that was asked for is no tick's.
-#[derive(Clone, Copy, Debug, PartialEq, Eq)]
+#[derive(Clone, Copy, Debug, PartialEq, Eq, Error)]
 pub enum SourceFault {
+    #[error("the holds broke off")]
     Broken,
+    #[error("a line of the holds is no tick")]
     Text,
 }
 

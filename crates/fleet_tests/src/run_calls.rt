@@ -1,6 +1,6 @@
 //! Fleets that are ticked and driven, a rehearsal that is stuck, and the sources of both.
 
-ghost use Rattle.std.specs.Prelude.{◌≡◌, All, IfOk, length};
+ghost use Rattle.std.specs.Prelude.{◌≡◌, ◌<◌, All, IfOk, length};
 ghost use Rattle.std.specs.List.Sorted.{IsStrictlyIncreasing};
 
 use crate::due::due_bytes;
@@ -8,10 +8,10 @@ use crate::fleets::{DEADLOCK_BYTES, accepted_of, pair, pair_fleet, problem, star
 use fleet_adg::rest;
 use fleet_code::{encode, view};
 use fleet_grid::Grid;
-use fleet_model::{Place, ProgramView};
+use fleet_model::{Dir, Place, ProgramView, Step};
 use fleet_run::{
-    End, Fleet, HoldList, HoldSource, HoldText, Rehearsal, Report, RunFault, SourceFault, Tick,
-    VecOut, WriteOut, drive, rehearse,
+    End, Fleet, HoldList, HoldSource, HoldText, NotSent, Rehearsal, Report, RunFault, SourceFault,
+    Tick, VecOut, WriteOut, drive, rehearse,
 };
 use fleet_scen::Instance;
 use std::alloc::{AllocError, Global};
@@ -159,6 +159,59 @@ fn fleets_are_ticked(rt: HostRuntime) -> Result<(), Fail> {
     let (grid, instance, program) = pair(rt.alloc())?;
     let fleet = pair_fleet(rt.alloc(), program, &grid, &instance)?;
     due_ticks(&rt, rt.alloc(), fleet)
+}
+
+/// What robots of the pair report: who has carried out an order; the first of them that had none, if there is one; and
+/// after it who has an order, which leads east, and how many actions both have finished.
+type PairReport = ([bool; 2], Option<u16>, [bool; 2], [u32; 2]);
+
+/// Agent 1 has no order until agent 0 has left the cell that it enters.
+const REPORTS: [PairReport; 5] = [
+    ([false, false], None, [true, false], [0, 0]),
+    ([true, true], Some(1), [true, false], [0, 0]),
+    ([true, false], None, [true, true], [1, 0]),
+    ([true, true], None, [false, true], [2, 1]),
+    ([false, true], None, [false, false], [2, 2]),
+];
+
+/// Whether the agent has an order that leads east.
+fn goes_east<P: ProgramView>(fleet: &Fleet<'_, P>, i: u16) -> bool
+    requires { i < length (P.program fleet.now.accepted.program) }
+{
+    matches!(fleet.order(i), Some(Step::Go(Dir::East)))
+}
+
+/// Whether the report is taken, or refused for that agent, and the pair stands so after it.
+fn confirms<P: ProgramView>(fleet: &mut Fleet<'_, P>, report: &PairReport) -> bool
+    requires { length (P.program fleet.old.accepted.program) ≡ 2 }
+    ensures { length (P.program fleet.new.accepted.program) ≡ 2 }
+{
+    let (done, idle, orders, counts) = *report;
+    let refused = match fleet.confirm(&done) {
+        Ok(()) => None,
+        Err(NotSent { agent }) => Some(agent),
+    };
+    fleet.apart();
+    refused == idle
+        && [goes_east(fleet, 0), goes_east(fleet, 1)] == orders
+        && [fleet.count(0), fleet.count(1)] == counts
+}
+
+/// The reports of the table, one after another.
+fn confirm_pair<P: ProgramView>(rt: &impl Abort, fleet: &mut Fleet<'_, P>)
+    requires { length (P.program fleet.old.accepted.program) ≡ 2 }
+{
+    for report in &REPORTS {
+        assert!(*rt; confirms(fleet, report));
+    }
+}
+
+#[test]
+fn reports_are_confirmed(rt: HostRuntime) -> Result<(), Fail> {
+    let (grid, instance, program) = pair(rt.alloc())?;
+    let mut fleet = pair_fleet(rt.alloc(), program, &grid, &instance)?;
+    confirm_pair(&rt, &mut fleet);
+    Ok(())
 }
 
 /// A row of 1,025 cells.

@@ -2,13 +2,13 @@
 
 use crate::due::due_bytes;
 use fleet_adg::{CompileFault, ThinFault};
-use fleet_cli::{AutoFault, FileFault};
+use fleet_cli::{AutoFault, Fault, FileFault};
 use fleet_code::{EncodeFault, HexFault, LoadFault};
 use fleet_dispatch::{DispatchFault, TimesFault};
 use fleet_grid::MapFault;
 use fleet_model::{Cell, OutOfMemory, Visit};
 use fleet_plan::{Conflict, PlanFault, TextFault};
-use fleet_run::RunFault;
+use fleet_run::{NotSent, RunFault, SourceFault};
 use fleet_scen::ScenFault;
 use fleet_search::{PlanStop, SearchFault};
 use fleet_verify::VerifyFault;
@@ -183,6 +183,8 @@ fn put_run_faults(text: &mut String) -> Result<(), AllocError> {
             RunFault::HoldLimit,
         ],
     )?;
+    put_all(text, &[SourceFault::Broken, SourceFault::Text])?;
+    put_all(text, &[NotSent { agent: 1 }])?;
     put_all(
         text,
         &[
@@ -225,6 +227,19 @@ fn put_dispatch_faults(text: &mut String) -> Result<(), AllocError> {
     )
 }
 
+/// .. of commands, which say what refused them.
+fn put_command_faults(text: &mut String) -> Result<(), AllocError> {
+    put_all(
+        text,
+        &[
+            Fault::Map(MapFault::RowCount),
+            Fault::Times(TimesFault::Dead),
+            Fault::Memory,
+            Fault::File("out"),
+        ],
+    )
+}
+
 /// .. of all of these.
 fn put_faults(alloc: Global, text: &mut String) -> Result<(), AllocError> {
     put_text_faults(text)?;
@@ -232,7 +247,8 @@ fn put_faults(alloc: Global, text: &mut String) -> Result<(), AllocError> {
     put_plan_faults(text)?;
     put_verify_faults(alloc, text)?;
     put_run_faults(text)?;
-    put_dispatch_faults(text)
+    put_dispatch_faults(text)?;
+    put_command_faults(text)
 }
 
 const SENTENCES: &[u8] = b"out of memory
@@ -302,6 +318,9 @@ the holds broke off at tick 1
 line 2 of the holds is no tick
 the text cannot be written
 the holds have more ticks than a run takes
+the holds broke off
+a line of the holds is no tick
+agent 1 had no order
 out of memory
 the map: a side of the map is 0 or above 4096
 the scenario: the first line that is not empty is no version line
@@ -324,6 +343,10 @@ out of memory
 what is broken is no list of actions of the program
 line 1 says no cost of an agent or an action of the program
 what is dead is no agent and its cells
+there are fewer rows than the header says
+what is dead is no agent and its cells
+out of memory
+the file out cannot be read or written
 ";
 
 #[test]

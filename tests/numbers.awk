@@ -50,6 +50,8 @@ END {
         print substr(text, 2) > (to "/changed")
         n = split(text, path, " ")
         if (n - 1 > steps) steps = n - 1
+        for (t = 1; t <= n; t++) cell[i, t] = path[t]
+        ends[i] = n
         # From the front: a change of cell is a move, and the time after the last one is the cost.
         last = 0
         stays = 0
@@ -62,5 +64,15 @@ END {
         cost += last
         if (last) waits += waits_here
     }
-    printf "conflict-free\nagents %d\nsteps %d\ncost %d\nbound %d\nmoves %d\nwaits %d\n", agents, steps, cost, (cost < bound ? -1 : bound), moves, waits > (to "/want")
+    printf "conflict-free\nagents %d\nsteps %d\ncost %d\nbound %d\nmoves %d\nwaits %d\napart %s\n", agents, steps, cost, (cost < bound ? -1 : bound), moves, waits, (follows() ? "no" : "yes") > (to "/want")
 }
+
+# Whether some agent is at some time where another was one time before: each agent with each other one.
+function follows(   i, j, t) {
+    for (i = 0; i < agents; i++)
+        for (j = 0; j < agents; j++)
+            for (t = 1; i != j && t <= steps; t++)
+                if (where(i, t + 1) == where(j, t)) return 1
+    return 0
+}
+function where(i, t) { return cell[i, t > ends[i] ? ends[i] : t] }

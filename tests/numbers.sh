@@ -3,8 +3,9 @@
 #     sh tests/numbers.sh FLEET [COUNT]
 # Each of the COUNT (10,000) cases is a map of 2 to 8 cells a side with blocked cells, agents on it, and the plan that
 # `fleet` makes for them, in which all agents wait together now and then, and go on standing on their goals for a
-# while. numbers.awk counts its costs, moves and waits cell by cell, and the distances by a flood from each goal. Cases
-# without a plan are left out. The last line says how many were compared; status 1 if a number differed.
+# while. numbers.awk counts its costs, moves and waits cell by cell, and the distances by a flood from each goal, and
+# looks of each two agents whether the one follows the other. Cases without a plan are left out. The last line says how
+# many were compared; status 1 if a number differed.
 
 fleet=$1 count=${2:-10000}
 here=$(cd "$(dirname "$0")" && pwd) || exit 2

@@ -1,14 +1,14 @@
 -- What the commands print that write neither a file nor a run.
-use Rattle.std.specs.Prelude.{◌≡◌, ℕ, List, [], ◌∷◌, ◌++◌, length, slice_get, option_map, unwrap_or, Option, codes, decimal, Result, Err, ◌≢◌, Bool, true, false, Some, None, ◌⊎◌, ⊤}
+use Rattle.std.specs.Prelude.{◌≡◌, ℕ, List, [], ◌∷◌, ◌++◌, length, slice_get, option_map, unwrap_or, Option, codes, decimal, Result, Err, ◌≢◌, Bool, true, false, IsTrue, ◌↔◌, Some, None, ◌⊎◌, ⊤}
 use Rattle.fleet_model.specs.declared.{geometry.Cell.Cell, task.Task.Task, program.Visit.Visit, program.ActionId.ActionId}
 use Rattle.fleet_model.specs.{Program.origin, Program.Program, Program.total_moves, Program.total_awaits, Machine.Holds, Breaking.AreBreakingHolds}
 use Rattle.fleet_grid.specs.Ground.{Ground, passable_cells, is_passable}
 use Rattle.fleet_cli.specs.Steps.{IsPlannedFor, IsPlanningRefusal, AcceptsProgram, IsAcceptRefusal, IsLoadRefusal}
 use Rattle.fleet_text.specs.{Sink.FailsAfter, Sink.SinkState, Sink.IsUnwritten, Sink.IsDelivered, Words.pair_text, Words.line_text}
 use Rattle.fleet_args.specs.declared.{commands.CheckRequest.CheckRequest, commands.PlanRequest.PlanRequest, commands.TimesRequest.TimesRequest}
-use Rattle.fleet_cli.specs.declared.{files.FileTexts.FileTexts, fault.Fault.Fault, steps.Problem.Problem}
+use Rattle.fleet_cli.specs.declared.{files.FileTexts.FileTexts, fault.Fault.Fault, steps.Problem.Problem, print_commands.Asked.Asked}
 use Rattle.fleet_cli.specs.declared.fault.Fault.TheVariants as f
-use Rattle.fleet_plan.specs.{Plan.Plan, Plan.steps, Plan.IsConflictFree, Numbers.sum_of_costs, Numbers.moves_in_plan, Numbers.waits_in_plan}
+use Rattle.fleet_plan.specs.{Plan.Plan, Plan.steps, Plan.IsConflictFree, Apart.IsApart, Checked.CheckedParts, Numbers.sum_of_costs, Numbers.moves_in_plan, Numbers.waits_in_plan}
 use Rattle.fleet_search.specs.Bound.{IsBound}
 use Rattle.fleet_plan.specs.{PlanText.IsPlanText, PlanText.IsFirstTextFault, PlanText.plan_text, FirstFault.IsFirstPlanFault}
 use Rattle.fleet_plan.specs.declared.text_fault.TextFault.TheVariants as t
@@ -41,18 +41,29 @@ instance_text g tasks =
     line_text (codes "map" ∷ decimal g.width ∷ decimal g.height ∷ [])
     ++ (count_lines ((codes "ground", passable_cells g) ∷ (codes "agents", length tasks) ∷ []) ++ task_lines tasks)
 
--- `conflict-free`, then the agents and the steps, each with its number; if the bound is given, then also the sum of
--- costs, the bound, the moves and the waits
-abbrev pub check_text : Plan → Option ℕ → List ℕ
-check_text plan None = report (codes "conflict-free") ((codes "agents", length plan) ∷ (codes "steps", steps plan) ∷ [])
-check_text plan (Some bound) =
-    report (codes "conflict-free") ((codes "agents", length plan) ∷ (codes "steps", steps plan) ∷ (codes "cost", sum_of_costs plan) ∷ (codes "bound", bound)
-    ∷ (codes "moves", moves_in_plan plan) ∷ (codes "waits", waits_in_plan plan) ∷ [])
+-- `apart yes` or `apart no`
+abbrev pub apart_line : Bool → List ℕ
+apart_line true = line_text (codes "apart" ∷ codes "yes" ∷ [])
+apart_line false = line_text (codes "apart" ∷ codes "no" ∷ [])
 
--- the bound, if the numbers are asked for: the sum of the distances from the starts to the goals
-abbrev pub IsAskedBound : Ground → List Task → Bool → Option ℕ → Type 0
-IsAskedBound g tasks numbers None = numbers ≡ false
-IsAskedBound g tasks numbers (Some bound) = (numbers ≡ true) × IsBound (is_passable g) tasks bound
+-- `conflict-free`, then the agents, the steps, the sum of costs, the bound, the moves and the waits, each with its
+-- number, and whether no agent follows another
+abbrev pub numbers_text : Plan → Asked → List ℕ
+numbers_text plan asked =
+    report (codes "conflict-free") ((codes "agents", length plan) ∷ (codes "steps", steps plan) ∷ (codes "cost", sum_of_costs plan) ∷ (codes "bound", asked.bound)
+    ∷ (codes "moves", moves_in_plan plan) ∷ (codes "waits", waits_in_plan plan) ∷ []) ++ apart_line asked.apart
+
+-- `conflict-free`, then the agents and the steps, each with its number; if more is asked for, then also the others
+abbrev pub check_text : Plan → Option Asked → List ℕ
+check_text plan None = report (codes "conflict-free") ((codes "agents", length plan) ∷ (codes "steps", steps plan) ∷ [])
+check_text plan (Some asked) = numbers_text plan asked
+
+-- the bound and whether the plan is apart, if the numbers are asked for: the bound is the sum of the distances from the
+-- starts to the goals
+abbrev pub AreAsked : CheckedParts → Bool → Option Asked → Type 0
+AreAsked checked numbers None = numbers ≡ false
+AreAsked checked numbers (Some asked) =
+    (numbers ≡ true) × IsBound (is_passable checked.grid) checked.instance asked.bound × (IsTrue asked.apart ↔ IsApart checked.plan)
 
 -- the bytes of the problem stand for this plan, and it is free of conflict for it
 abbrev pub IsFreePlan : Problem → Plan → Type 0
@@ -66,11 +77,11 @@ IsPlanRefusal problem (f.Check fault) =
 IsPlanRefusal problem f.Memory = ⊤
 IsPlanRefusal problem _ = ⊥
 
--- What `check` answers. The plan is free of conflict; this is printed with its numbers, and with its bound if that is
--- asked for
+-- What `check` answers. The plan is free of conflict; this is printed with its numbers, and with what else is asked for
 abbrev pub AnswersCheck : CheckRequest → Problem → (out out' : SinkState) → Result ℕ Fault → Type 0
 AnswersCheck r problem out out' result =
-    ((paths : Plan) × (bound : Option ℕ) × IsFreePlan problem paths × IsAskedBound problem.grid problem.instance r.numbers bound × Prints (check_text paths bound) out out' result)
+    ((paths : Plan) × (asked : Option Asked) × IsFreePlan problem paths × AreAsked (record { plan = paths; grid = problem.grid; instance = problem.instance }) r.numbers asked
+    × Prints (check_text paths asked) out out' result)
     ⊎ Refuses (IsPlanRefusal problem) out out' result
 
 -- what `plan` answers: a plan that is made agent by agent and is free of conflict

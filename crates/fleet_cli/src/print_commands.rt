@@ -3,7 +3,7 @@
 ghost use Rattle.std.specs.Prelude.{IfOk, ◌≤◌};
 ghost use Rattle.fleet_text.specs.Sink.{IsWorking, TakesAll};
 ghost use Rattle.fleet_cli.specs.Output.{Prints};
-ghost use Rattle.fleet_cli.specs.PrintCommands.{task_lines, instance_text, check_text, IsAskedBound, AnswersCheck, AnswersPlan, ReportsRefused, AnswersVerify, AnswersList, TellsTimetable, TellsTimes, TellsReached, AnswersTimes};
+ghost use Rattle.fleet_cli.specs.PrintCommands.{task_lines, instance_text, apart_line, numbers_text, check_text, AreAsked, AnswersCheck, AnswersPlan, ReportsRefused, AnswersVerify, AnswersList, TellsTimetable, TellsTimes, TellsReached, AnswersTimes};
 ghost use Rattle.fleet_model.specs.declared.program.ActionId.{ActionId};
 ghost use Rattle.fleet_verify.specs.Broken.{IsBrokenBy};
 
@@ -14,7 +14,7 @@ use fleet_args::{CheckRequest, PlanRequest, TimesRequest};
 use fleet_dispatch::{breaks_of, costs_of};
 use fleet_grid::Grid;
 use fleet_model::{OutOfMemory, ProgramView, total_awaits, total_moves};
-use fleet_plan::{Checked, Plan, check, read_plan, write_plan};
+use fleet_plan::{Checked, Plan, check, is_apart, read_plan, write_plan};
 use fleet_run::{put_program, put_reached, put_times, write_holds};
 use fleet_scen::Instance;
 use fleet_search::bound;
@@ -69,12 +69,52 @@ pub(crate) fn do_instance<'a, O: Flush>(problem: &Problem, out: &mut O) -> Resul
     hand_on(out, printed)
 }
 
-/// Writes that the plan is free of conflict, with its agents and steps and, if its bound is given, its other numbers.
-fn put_check<O: TraceOut>(out: &mut O, plan: &Plan, bound: Option<u32>) -> Result<(), OutFault>
+/// What is printed of a plan only if it is asked for.
+#[derive(Clone, Copy)]
+struct Asked {
+    /// The sum of the distances from the starts to the goals.
+    bound: u32,
+    /// Whether no agent follows another.
+    apart: bool,
+}
+
+/// Writes whether no agent follows another.
+fn put_apart<O: TraceOut>(out: &mut O, apart: bool) -> Result<(), OutFault>
     requires { IsWorking (O.state out.old) }
-    ensures { TakesAll (O.state out.old) (O.state out.new) result (check_text plan.now bound) }
+    ensures { TakesAll (O.state out.old) (O.state out.new) result (apart_line apart) }
 {
-    match bound {
+    if apart {
+        put_line(out, &[Word::Text("apart"), Word::Text("yes")])
+    } else {
+        put_line(out, &[Word::Text("apart"), Word::Text("no")])
+    }
+}
+
+/// Writes the numbers of a plan: its agents, its steps, its sum of costs, its bound, its moves and its waits, and then
+/// whether no agent follows another.
+#[tactic(auto, using(fleet_text::proofs::SinkLemmas::takes_then, fleet_text::proofs::SinkLemmas::takes_err_then))]
+fn put_numbers<O: TraceOut>(out: &mut O, plan: &Plan, asked: Asked) -> Result<(), OutFault>
+    requires { IsWorking (O.state out.old) }
+    ensures { TakesAll (O.state out.old) (O.state out.new) result (numbers_text plan.now asked) }
+{
+    let counts = [
+        ("agents", plan.agents() as u64),
+        ("steps", plan.steps() as u64),
+        ("cost", plan.sum_of_costs() as u64),
+        ("bound", asked.bound as u64),
+        ("moves", plan.moves() as u64),
+        ("waits", plan.waits() as u64),
+    ];
+    put_report(out, "conflict-free", &counts)?;
+    put_apart(out, asked.apart)
+}
+
+/// Writes that the plan is free of conflict, with its agents and steps and, if more is asked for, its other numbers.
+fn put_check<O: TraceOut>(out: &mut O, plan: &Plan, asked: Option<Asked>) -> Result<(), OutFault>
+    requires { IsWorking (O.state out.old) }
+    ensures { TakesAll (O.state out.old) (O.state out.new) result (check_text plan.now asked) }
+{
+    match asked {
         None => put_report(
             out,
             "conflict-free",
@@ -83,40 +123,31 @@ fn put_check<O: TraceOut>(out: &mut O, plan: &Plan, bound: Option<u32>) -> Resul
                 ("steps", plan.steps() as u64),
             ],
         ),
-        Some(bound) => put_report(
-            out,
-            "conflict-free",
-            &[
-                ("agents", plan.agents() as u64),
-                ("steps", plan.steps() as u64),
-                ("cost", plan.sum_of_costs() as u64),
-                ("bound", bound as u64),
-                ("moves", plan.moves() as u64),
-                ("waits", plan.waits() as u64),
-            ],
-        ),
+        Some(asked) => put_numbers(out, plan, asked),
     }
 }
 
-/// The sum of the distances from the starts to the goals, if the numbers are asked for.
-fn asked_bound(
+/// The sum of the distances from the starts to the goals, and whether no agent follows another, if the numbers are
+/// asked for.
+fn asked_of(
     alloc: Global,
     checked: &Checked<'_>,
     numbers: bool,
-) -> Result<Option<u32>, OutOfMemory>
-    ensures { IfOk result (IsAskedBound checked.now.grid checked.now.instance numbers) }
+) -> Result<Option<Asked>, OutOfMemory>
+    ensures { IfOk result (AreAsked checked.now numbers) }
 {
     if numbers {
-        let sum = bound(alloc, checked)?;
-        Ok(Some(sum))
+        let bound = bound(alloc, checked)?;
+        let apart = is_apart(alloc, checked)?;
+        Ok(Some(Asked { bound, apart }))
     } else {
         Ok(None)
     }
 }
 
 /// The command `check`: judges the plan, and prints to `out` that it is free of conflict, with its agents and its steps
-/// and, if they are asked for, its sum of costs, the sum of the distances to the goals, its moves and its waits.
-/// Answers 0. A plan's first fault is a refusal.
+/// and, if they are asked for, its sum of costs, the sum of the distances to the goals, its moves and its waits, and
+/// whether no agent follows another. Answers 0. A plan's first fault is a refusal.
 #[inline(never)]
 pub(crate) fn do_check<'a, O: Flush>(
     alloc: Global,
@@ -132,8 +163,8 @@ pub(crate) fn do_check<'a, O: Flush>(
         Ok(checked) => checked,
         Err(refusal) => return Err(Fault::Check(refusal.fault)),
     };
-    let bound = asked_bound(alloc, &checked, request.numbers)?;
-    let printed = put_check(out, checked.plan(), bound);
+    let asked = asked_of(alloc, &checked, request.numbers)?;
+    let printed = put_check(out, checked.plan(), asked);
     hand_on(out, printed)
 }
 

@@ -144,7 +144,7 @@ const REQUESTS: &[Asked] = &[
             plan: "plan",
             numbers: true,
         }),
-        b"conflict-free\nagents 2\nsteps 2\ncost 4\nbound 4\nmoves 4\nwaits 0\n",
+        b"conflict-free\nagents 2\nsteps 2\ncost 4\nbound 4\nmoves 4\nwaits 0\napart no\n",
     ),
     (
         "plan",

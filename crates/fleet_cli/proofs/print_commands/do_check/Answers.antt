@@ -8,7 +8,6 @@ returns-in-Err-check g c = inr (_, refl, (_, rw c.deref.ensures.value at c.in-Ok
 pub returns : goal.returns
 returns g c =
     let made = c.in-Ok-check.ensures.checked in
-    let same = ap (λ k. k.plan) made in
-    let bound = rw (ap (λ k. k.grid) made, ap (λ k. k.instance) made) at c.in_ok-bound.ensures in
+    let asked = rw made at c.in_ok-asked.ensures in
     let text = rw c.deref.ensures.value at c.in-Ok.ensures.found in
-    inl (c.in-Ok-check.checked.plan, _, (rw same text, rw same c.in-Ok-check.ensures.right), bound, c.hand_on.ensures _ _ (rw c.plan.ensures.value at c.put_check-printed.ensures))
+    inl (_, _, (text, c.in-Ok-check.ensures.right), asked, c.hand_on.ensures _ _ (rw (c.plan.ensures.value, ap (λ k. k.plan) made) at c.put_check-printed.ensures))

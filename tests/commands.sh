@@ -65,5 +65,4 @@ rest m s p l a b --map-out: error: a value is required for '--map-out <FILE>' bu
 dispatch m s p --ahead 0: error: invalid value '0' for '--ahead <K>': 0 is not in 1..=255
 dispatch m s p --ahead 256: error: invalid value '256' for '--ahead <K>': 256 is not in 1..=255
 dispatch m s p --unnumbered=1: error: unexpected value '1' for '--unnumbered' found; no more were expected
-dispatch m s p --skip-wrong=1: error: unexpected value '1' for '--skip-wrong' found; no more were expected
 EOF

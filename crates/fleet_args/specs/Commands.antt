@@ -66,7 +66,7 @@ commands =
     (codes "thin", for_program (word (codes "out") ∷ agents ∷ [])) ∷
     (codes "migrate", word (codes "program") ∷ word (codes "out") ∷ []) ∷
     (codes "list", word (codes "program") ∷ []) ∷
-    (codes "dispatch", for_program (agents ∷ numbers (codes "ahead") 1 255 ∷ flag (codes "unnumbered") ∷ texts (codes "run") ∷ flag (codes "skip-wrong") ∷ texts (codes "resume") ∷ texts (codes "log") ∷ [])) ∷
+    (codes "dispatch", for_program (agents ∷ numbers (codes "ahead") 1 255 ∷ flag (codes "unnumbered") ∷ texts (codes "resume") ∷ texts (codes "log") ∷ [])) ∷
     (codes "times", for_program (agents ∷ texts (codes "costs") ∷ texts (codes "broken") ∷ [])) ∷
     (codes "rest", for_program (word (codes "reports") ∷ word (codes "scen_out") ∷ word (codes "program_out") ∷ agents ∷ texts (codes "without") ∷ texts (codes "map-out") ∷ texts (codes "others-out") ∷ [])) ∷
     []
@@ -117,8 +117,7 @@ AsksCommand name rows (r.Migrate q) = (name ≡ codes "migrate") × IsText rows 
 AsksCommand name rows (r.List q) = (name ≡ codes "list") × IsText rows (codes "program") q.program
 AsksCommand name rows (r.Dispatch q) =
     (name ≡ codes "dispatch") × AsksProgram rows q.subject × IsNumberOr 1 rows (codes "ahead") q.ahead
-    × IsFlag rows (codes "unnumbered") q.unnumbered × IsTextIfUsed rows (codes "run") q.run
-    × IsFlag rows (codes "skip-wrong") q.skip_wrong × IsTextIfUsed rows (codes "resume") q.resume
+    × IsFlag rows (codes "unnumbered") q.unnumbered × IsTextIfUsed rows (codes "resume") q.resume
     × IsTextIfUsed rows (codes "log") q.log
 AsksCommand name rows (r.Times q) =
     (name ≡ codes "times") × AsksProgram rows q.subject × IsTextIfUsed rows (codes "costs") q.costs

@@ -121,8 +121,7 @@ pub struct ListRequest<'a> {
     pub program: &'a str,
 }
 
-/// `fleet dispatch MAP SCEN PROGRAM [--agents K] [--ahead K] [--unnumbered] [--run WORD] [--skip-wrong] [--resume FILE]
-/// [--log FILE]`
+/// `fleet dispatch MAP SCEN PROGRAM [--agents K] [--ahead K] [--unnumbered] [--resume FILE] [--log FILE]`
 #[derive(Clone, Copy)]
 pub struct DispatchRequest<'a> {
     pub subject: ProgramFor<'a>,
@@ -130,10 +129,6 @@ pub struct DispatchRequest<'a> {
     pub ahead: u16,
     /// Whether orders and reports name agents alone, without the numbers of actions.
     pub unnumbered: bool,
-    /// The name with which the lines of this run begin, 1 to 64 printable bytes: no name of a file.
-    pub run: Option<&'a str>,
-    /// Whether the dispatch goes on after a wrong line, which it says on standard error.
-    pub skip_wrong: bool,
     /// The log after whose reports the dispatch goes on. It is read.
     pub resume: Option<&'a str>,
     /// The log behind which each report is put. It is written.
@@ -222,10 +217,6 @@ const AHEAD: Argument = argument!("ahead", Form::Numbers(1, u8::MAX as u32));
 
 const UNNUMBERED: Argument = argument!("unnumbered", Form::Flag);
 
-const RUN: Argument = argument!("run", Form::Text);
-
-const SKIP_WRONG: Argument = argument!("skip-wrong", Form::Flag);
-
 const RESUME: Argument = argument!("resume", Form::Text);
 
 const COSTS: Argument = argument!("costs", Form::Text);
@@ -252,7 +243,7 @@ macro_rules! argument_rows {
 }
 
 /// What help says of each argument.
-static ARGUMENTS: [(Argument, (&str, &str)); 27] = argument_rows![
+static ARGUMENTS: [(Argument, (&str, &str)); 25] = argument_rows![
     MAP, "MAP", "Map file (MovingAI), each side 1 to 4096";
     SCEN, "SCEN", "Scenario file (MovingAI), one line per agent";
     PLAN, "PLAN", "Plan text: a line per agent, its cells x,y at times 0, 1, 2 ..";
@@ -279,8 +270,6 @@ static ARGUMENTS: [(Argument, (&str, &str)); 27] = argument_rows![
     AHEAD, "K", "How many orders an agent may have at most that it has not reported, 1 to 255 [default: 1]";
     UNNUMBERED, "",
         "Orders and reports name agents alone: go AGENT FROM TO, and a report that comes twice counts twice";
-    RUN, "WORD", "The name of this run: orders and reports begin with it; lines of other runs are passed over";
-    SKIP_WRONG, "", "Say a wrong line on standard error and go on";
     RESUME, "FILE",
         "Goes on after the reports in this file: takes them first, and then prints the orders that are open";
     COSTS, "FILE",
@@ -338,7 +327,7 @@ static COMMANDS: [CommandText; 14] = command_rows![
         "Writes a program to OUT in version 2 of the bytes, and prints how many they are";
     "list", [PROGRAM],
         "Prints any program as text: a line for each agent, and after it one for each of its actions";
-    "dispatch", [MAP, SCEN, PROGRAM, AGENTS, AHEAD, UNNUMBERED, RUN, SKIP_WRONG, RESUME, LOG],
+    "dispatch", [MAP, SCEN, PROGRAM, AGENTS, AHEAD, UNNUMBERED, RESUME, LOG],
         "Dispatches robots: prints go AGENT:N FROM TO as each move may begin, and reads a line for each report of \
          which moves are done";
     "times", [MAP, SCEN, PROGRAM, AGENTS, COSTS, BROKEN],
@@ -437,8 +426,6 @@ fn program_request<'a>(name: &str, matches: &ArgMatches<'a>) -> Request<'a>
             subject: program_in(matches),
             ahead: used_number(matches, "ahead").unwrap_or(1),
             unnumbered: used(matches, "unnumbered"),
-            run: used_text(matches, "run"),
-            skip_wrong: used(matches, "skip-wrong"),
             resume: used_text(matches, "resume"),
             log: used_text(matches, "log"),
         }),

@@ -25,4 +25,3 @@ mod StreamLemmas
 pub mod Stood
 mod BreakLemmas
 mod CostLemmas
-mod HeadLemmas

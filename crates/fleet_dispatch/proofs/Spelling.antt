@@ -24,7 +24,7 @@ number_spelled word n e = go (plain_number word) refl e
     ]
 
 -- a text with a byte in it
-pub cut_at : (word : Bytes) (end b : ℕ) → end < length word → get_or word end 0 ≡ b → word ≡ take end word ++ b ∷ drop (end + 1) word
+cut_at : (word : Bytes) (end b : ℕ) → end < length word → get_or word end 0 ≡ b → word ≡ take end word ++ b ∷ drop (end + 1) word
 cut_at word end b inside e =
     sym (take-append-drop (end + 1) word) ∙ ap (λ (x : Bytes). x ++ drop (end + 1) word) (take_more word end 0 inside ∙ ap (λ (x : ℕ). take end word ++ x ∷ []) e)
     ∙ append_assoc (take end word) (b ∷ []) (drop (end + 1) word)

@@ -19,4 +19,3 @@ pub mod Standing
 pub mod Breaks
 pub mod Costs
 pub mod DeadRobot
-pub mod LogHead

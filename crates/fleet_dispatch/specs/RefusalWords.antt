@@ -1,10 +1,8 @@
 -- The line of a dispatch that stopped before its end, and that of times that are not told.
-use Rattle.std.specs.Prelude.{ℕ, Bool, true, false, List, [], ◌∷◌, codes, decimal}
+use Rattle.std.specs.Prelude.{ℕ, Bool, true, false, List, [], ◌∷◌, codes}
 use Rattle.fleet_text.specs.Refusals.{memory_words, named, named_at, named_by}
 use Rattle.fleet_dispatch.specs.declared.fault.DispatchFault.{DispatchFault}
 use Rattle.fleet_dispatch.specs.declared.fault.DispatchFault.TheVariants as d
-use Rattle.fleet_dispatch.specs.declared.setting.Setting.{Setting}
-use Rattle.fleet_dispatch.specs.declared.setting.Setting.TheVariants as s
 use Rattle.fleet_dispatch.specs.declared.times_fault.TimesFault.{TimesFault}
 use Rattle.fleet_dispatch.specs.declared.times_fault.TimesFault.TheVariants as t
 
@@ -28,17 +26,6 @@ is_dispatch_failure d.Write = true
 is_dispatch_failure (d.LogWrite line) = true
 is_dispatch_failure d.Input = true
 is_dispatch_failure _ = false
-
--- the name of a setting
-abbrev pub setting_name : Setting → List ℕ
-setting_name s.Program = codes "program"
-setting_name s.Run = codes "run"
-setting_name s.Ahead = codes "ahead"
-setting_name s.Form = codes "form"
-
--- the words of the line of a setting in which a log's dispatch differs
-abbrev pub setting_words : Setting → List (List ℕ)
-setting_words setting = codes "dispatch" ∷ decimal 10 ∷ codes "Settings" ∷ setting_name setting ∷ []
 
 -- the words of the line of a refusal of times
 abbrev pub times_words : TimesFault → List (List ℕ)

@@ -18,8 +18,7 @@
 //! is the floor that borrows such an input, such an output and a log, and the dispatch over it. `fault` and
 //! `times_fault` have the refusals. `led` has the laws: what robots do that carry out the orders is a schedule, k
 //! orders ahead or one. `standing` has where they stand after the reports of a log, `breaks` reads in which actions
-//! they break down, `costs` what their actions cost, and `dead_robot` which one is dead and where. `log_head` has the
-//! first line of a log, which says the settings of its dispatch, and `setting` the refusal of a log with another one.
+//! they break down, `costs` what their actions cost, and `dead_robot` which one is dead and where.
 #![tactic(auto)]
 
 mod breaks;
@@ -31,7 +30,6 @@ mod floor;
 mod form;
 mod hearing;
 mod led;
-mod log_head;
 mod log_text;
 mod number;
 mod orders;
@@ -43,7 +41,6 @@ mod report_log;
 mod report_text;
 mod reports_to;
 mod run;
-mod setting;
 mod standing;
 mod standings;
 mod stream_floor;
@@ -58,7 +55,6 @@ pub use fault::DispatchFault;
 pub use floor::{Floor, HearFault};
 pub use form::ReportForm;
 pub use led::dispatches_lead_safely;
-pub use log_head::{CHECKSUM, LogHead, checksum_of, difference, head_in, read_head, write_head};
 pub use pace::Pace;
 pub use replay::lead_on;
 pub use report::{Report, Reported};
@@ -66,7 +62,6 @@ pub use report_log::{NoLog, ReportLog, SinkLog};
 pub use report_text::LineKind;
 pub use reports_to::ReportsTo;
 pub use run::{DispatchReport, MAX_REPORTS, Session, run_session, start_session};
-pub use setting::Setting;
 pub use standing::{MOST_AHEAD, reports_lead_as_runs_do, standings_after};
 pub use stream_floor::{Outset, StreamFloor, dispatch_led, dispatch_logged, dispatch_over};
 pub use times_fault::TimesFault;
